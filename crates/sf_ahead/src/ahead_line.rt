@@ -24,11 +24,13 @@ enum Met {
     Fault,
 }
 
-/// A line that reads on while a write waits. What it has read so it keeps, up to 16 MiB, and gives it to later
-/// reads, in order and each byte once; an end of input or a fault that it met is told once the bytes before it
-/// are taken. Beyond 16 MiB, or where there is no memory for more, it waits until it can write.
+/// A line that reads on while a write waits. What it has read so it keeps, up to 16 MiB, and gives
+/// it to later reads, in order and each byte once; an end of input or a fault that it met is told
+/// once the bytes before it are taken. Beyond 16 MiB, or where there is no memory for more, it
+/// waits until it can write.
 ///
-/// It takes memory only while a write waits, and gives that back once all that was read ahead is taken.
+/// It takes memory only while a write waits, and gives that back once all that was read ahead is
+/// taken.
 #[derive(Debug, Drop)]
 pub struct AheadLine<D: Duplex> {
     below: D,
@@ -154,8 +156,8 @@ impl<D: Duplex> AheadLine<D> {
         self.kept.truncate(ahead);
     }
 
-    /// Makes room for a piece more. Taken bytes are forgotten once they are a quarter of the others, so that a
-    /// byte moves four times at most, whatever the order of reads and writes.
+    /// Makes room for a piece more. Taken bytes are forgotten once they are a quarter of the
+    /// others, so that a byte moves four times at most, whatever the order of reads and writes.
     fn make_room(&mut self) -> Result<(), AllocError>
         ensures room { OnOk result (vec_len self.new.kept + 65536 ≤ vec_capacity self.new.kept) }
         ensures ahead { ahead_of self.new ≡ ahead_of self.old }

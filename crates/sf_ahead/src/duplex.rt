@@ -14,8 +14,8 @@ pub enum Ready {
     Write,
 }
 
-/// Bytes in and bytes out, where it can be told that a write would wait. Where it tells its bytes, it goes on
-/// telling them.
+/// Bytes in and bytes out, where it can be told that a write would wait. Where it tells its bytes,
+/// it goes on telling them.
 pub trait Duplex {
     /// The bytes that are still to be read, where they are told.
     ghost incoming: { Self → Option (List ℕ) };
@@ -35,7 +35,8 @@ pub trait Duplex {
         ensures outgoing { outgoing self.new ≡ outgoing self.old };
 
     /// Writes some of the bytes from their front, at least one if there is one, and doesn't wait:
-    /// where it would have to, it writes nothing and answers nothing. Nor does a fault write anything.
+    /// where it would have to, it writes nothing and answers nothing. Nor does a fault write
+    /// anything.
     fn try_write(&mut self, bytes: &[u8]) -> Result<Option<usize>, LineFault>
         ensures within { IfOk result (λ wrote. IfSome wrote (λ n. n ≤ length bytes.now)) }
         ensures some { 0 < length bytes.now → IfOk result (λ wrote. IfSome wrote (λ n. 0 < n)) }
@@ -46,7 +47,8 @@ pub trait Duplex {
         ensures err { OnErr result (outgoing self.new ≡ outgoing self.old) }
         ensures incoming { incoming self.new ≡ incoming self.old };
 
-    /// Waits until some can be written, or, where that is asked too, some can be read. It moves nothing.
+    /// Waits until some can be written, or, where that is asked too, some can be read. It moves
+    /// nothing.
     fn wait(&mut self, reads: bool) -> Result<Ready, LineFault>
         ensures asked { result ≡ Ok Ready.Read → IsTrue reads }
         ensures incoming { incoming self.new ≡ incoming self.old }

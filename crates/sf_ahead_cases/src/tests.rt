@@ -24,8 +24,8 @@ enum Fails {
     Wait,
 }
 
-/// Two halves in memory, of a client that takes bytes once so many that it sends were read, or once its server
-/// waits for nothing else.
+/// Two halves in memory, of a client that takes bytes once so many that it sends were read, or once
+/// its server waits for nothing else.
 #[derive(Drop)]
 struct Halves<'a> {
     input: &'a [u8],
@@ -36,7 +36,8 @@ struct Halves<'a> {
     /// How many bytes are to be read before a write, and how many of these are missing.
     between: usize,
     missing: usize,
-    /// How often it was read, how many bytes were written, and how often it was waited to write alone.
+    /// How often it was read, how many bytes were written, and how often it was waited to write
+    /// alone.
     reads: usize,
     written: usize,
     waits_alone: usize,
@@ -106,7 +107,8 @@ impl<'a> Duplex for Halves<'a> {
     }
 }
 
-/// Blocks of 64256 bytes, of which no two neighbours are the same, nor any two at a distance of 16 or 64 KiB.
+/// Blocks of 64256 bytes, of which no two neighbours are the same, nor any two at a distance of 16
+/// or 64 KiB.
 fn blocks(alloc: Global, count: usize) -> Result<Vec<u8>, Fail> {
     let mut block = Vec::new(alloc);
     for k in 0..64256usize {
@@ -190,8 +192,8 @@ fn a_write_reads_on(rt: HostRuntime) {
     has_failed(&rt, &line, 0);
 }
 
-/// The end of the input is told once the bytes before it are taken, and again from then on, and isn't asked for
-/// again.
+/// The end of the input is told once the bytes before it are taken, and again from then on, and
+/// isn't asked for again.
 #[test]
 fn the_end_is_told_last(rt: HostRuntime) {
     let mut line = AheadLine::new(rt.alloc(), Halves::new(b"abcd", 3, 5));
@@ -207,7 +209,8 @@ fn the_end_is_told_last(rt: HostRuntime) {
     has_failed(&rt, &line, 0);
 }
 
-/// A fault that was met while reading ahead is told once the bytes before it are taken, and fails no write.
+/// A fault that was met while reading ahead is told once the bytes before it are taken, and fails
+/// no write.
 #[test]
 fn a_fault_is_told_last(rt: HostRuntime) {
     let mut halves = Halves::new(b"abcd", 4, 5);
@@ -261,8 +264,8 @@ fn gives<L: Line>(rt: &impl Abort, alloc: Global, line: &mut L, want: &[u8]) -> 
     Ok(())
 }
 
-/// A client sends so many bytes before it takes any. It waits for its server's memory where these are more than
-/// 16 MiB.
+/// A client sends so many bytes before it takes any. It waits for its server's memory where these
+/// are more than 16 MiB.
 fn sends(
     rt: &impl Abort,
     alloc: Global,
@@ -289,7 +292,8 @@ fn sixteen_mebibytes(rt: HostRuntime) -> Result<(), Fail> {
     sends(&rt, alloc, &input, MOST + 1, MOST, 1)
 }
 
-/// Each write reads as many bytes on as were taken since the one before, so that some are always ahead.
+/// Each write reads as many bytes on as were taken since the one before, so that some are always
+/// ahead.
 #[test]
 fn always_ahead(rt: HostRuntime) -> Result<(), Fail> {
     let alloc = rt.alloc();

@@ -45,7 +45,8 @@ strings_of (request.Rename old new) = length old + length new
 strings_of (request.PosixRename old new) = length old + length new
 strings_of (request.Link old new) = length old + length new
 
--- the most bytes of a request's strings: a packet has up to 262144, and what else stands in one takes less than 64
+-- the most bytes of a request's strings: a packet has up to 262144, and what else stands in one
+-- takes less than 64
 abbrev pub most_strings : ℕ
 most_strings = 262080
 
@@ -127,7 +128,8 @@ Gets session old (Err why) new = (new ≡ old)
     × (((output : List ℕ) × IsSentBy old session output × MayMissReply output why)
     ⊎ IsUntaken session old why new)
 
--- A request's packet was fed, turns led to its reply, and that was taken, and was all that the session was sent.
+-- A request's packet was fed, turns led to its reply, and that was taken, and was all that the
+-- session was sent.
 abbrev pub IsAnswered : ℕ → ℕ → WireRequest → EngineView → Reply → EngineView → Type 0
 IsAnswered session moment q old r new = (wrote : EngineView)
     × Converses session moment (packet (request_body id q)) old (Ok tt) wrote × Gets session wrote (Ok r) new
@@ -160,7 +162,8 @@ abbrev pub Greets : ℕ → ℕ → EngineView → Result (Unit {0}) TreeFault �
 Greets session moment old (Ok done) new = GreetsSession session moment old new
 Greets session moment old (Err why) new = IsUngreeted session moment old why new
 
--- A session was closed, if it was there, and then turns were made of it, which write an answer that waits.
+-- A session was closed, if it was there, and then turns were made of it, which write an answer that
+-- waits.
 abbrev pub IsClosed : ℕ → ℕ → EngineView → EngineView → Type 0
 IsClosed session moment old new = (closed : EngineView) × (turns : ℕ)
     × (came left : Result Happened EngineFault) × EventLeads old (event.Close session) came closed

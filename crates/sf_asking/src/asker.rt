@@ -13,7 +13,8 @@ use sf_trees::{Server, TreeFault};
 use std::alloc::Global;
 use std::marker::Model;
 
-/// How many bytes the strings of a request may have, so that its packet isn't too long for a session.
+/// How many bytes the strings of a request may have, so that its packet isn't too long for a
+/// session.
 const MOST_STRINGS: usize = 262080;
 
 /// An engine whose sessions ask, all at one moment.

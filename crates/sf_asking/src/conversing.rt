@@ -124,8 +124,9 @@ fn greet(engine: &mut Engine, session: u64, moment: u32) -> Result<(), TreeFault
     Ok(())
 }
 
-/// Closes a session. Where an answer waits, as after a turn that found no memory for it, further turns write it, so
-/// that the session leaves. Only one whose call is blocked, or for which there is no memory still, stays.
+/// Closes a session. Where an answer waits, as after a turn that found no memory for it, further
+/// turns write it, so that the session leaves. Only one whose call is blocked, or for which there
+/// is no memory still, stays.
 pub(crate) fn close(engine: &mut Engine, session: u64, moment: u32)
     ensures { IsClosed session moment engine.old engine.new }
 {

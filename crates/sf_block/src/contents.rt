@@ -326,8 +326,8 @@ fn spliced(alloc: Global, old: &[u8], place: usize, bytes: &[u8]) -> Result<Byte
     ByteString::from_vec(block)
 }
 
-/// Puts blocks that were copied in the places of the same ones, which share a write's bytes, so that
-/// those go. A run is put in. It takes no memory.
+/// Puts blocks that were copied in the places of the same ones, which share a write's bytes, so
+/// that those go. A run is put in. It takes no memory.
 fn settle(blocks: &mut Blocks, runs: &mut Runs, filling: &mut Filling, len: u64)
     requires held { IsHeld blocks.old filling.old.from filling.old.bytes }
     requires fits { filling.old.from + length filling.old.bytes / 4096 < 2 ^ 64 }

@@ -4,8 +4,8 @@ use Rattle.std.specs.List.{count_by}
 use Rattle.sf_call.specs.declared.record.Record.{Record}
 use Rattle.sf_call.specs.declared.record.Record.TheVariants.{Did, Left}
 
--- the records that are kept, the oldest first; how many more there is room for; how many are kept at
--- most, if not all; and how many calls' records went
+-- the records that are kept, the oldest first; how many more there is room for; how many are kept
+-- at most, if not all; and how many calls' records went
 pub record BookView : Type 0 where
   pub records : List Record
   pub room : ℕ
@@ -22,7 +22,8 @@ abbrev pub excess : Option ℕ → List Record → ℕ
 excess None records = 0
 excess (Some n) records = length records - n
 
--- A record is put at the end. What is more than is kept goes from the front, and its calls are counted.
+-- A record is put at the end. What is more than is kept goes from the front, and its calls are
+-- counted.
 abbrev pub kept_of : Option ℕ → List Record → List Record
 kept_of keep records = drop (excess keep records) records
 

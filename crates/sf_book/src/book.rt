@@ -8,8 +8,8 @@ use sf_call::Record;
 use std::alloc::{AllocError, Global};
 use std::marker::Model;
 
-/// The records of a history, in the order in which they were put. Room is reserved before a record is
-/// put, so that putting can't fail.
+/// The records of a history, in the order in which they were put. Room is reserved before a record
+/// is put, so that putting can't fail.
 #[derive(Drop)]
 pub struct Book {
     // Those that went stand at the front, as leavings of no session, until room is made.
@@ -75,8 +75,9 @@ impl Book {
         self.entries.capacity() - self.entries.len()
     }
 
-    /// Makes room for so many records. It takes memory only where there is less, and then for as many
-    /// more as are kept, or three times as many where records go, so that their places are given back seldom.
+    /// Makes room for so many records. It takes memory only where there is less, and then for as
+    /// many more as are kept, or three times as many where records go, so that their places are
+    /// given back seldom.
     pub fn reserve(&mut self, n: usize) -> Result<(), AllocError>
         ensures records { self.new ≡ record self.old { room = self.new.room } }
         ensures ok { OnOk result (n ≤ self.new.room) }

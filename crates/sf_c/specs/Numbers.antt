@@ -94,7 +94,8 @@ replies_of (Ok happened.Closed) = 0
 replies_of (Ok happened.Sent) = 0
 replies_of (Err fault) = 0
 
--- So many turns of a session were made, each of which leads to another one, and they wrote so many replies.
+-- So many turns of a session were made, each of which leads to another one, and they wrote so many
+-- replies.
 abbrev pub HasTurned : ℕ → ℕ → EngineView → Event → EngineView → Type 0
 HasTurned zero replies old turn new = (new ≡ old) × (replies ≡ 0)
 HasTurned (suc made) replies old turn new = (mid : EngineView) × (r : Result Happened EngineFault)

@@ -151,7 +151,8 @@ answer_bytes (reply.Data bytes) = bytes
 answer_bytes (reply.Names entries) = names_told entries
 answer_bytes _ = []
 
--- What is told of a call: its numbers, the bytes of its parts one behind another, and how many each has.
+-- What is told of a call: its numbers, the bytes of its parts one behind another, and how many each
+-- has.
 abbrev pub IsRecounted : ℕ → ℕ → ℕ → Request → Reply → Recounted → Type 0
 IsRecounted number session moment q a r =
     (r.told ≡ record {
@@ -191,7 +192,8 @@ TellsParts engine at old told new = (kept : Record) × (r : Recounted)
     × (slice_get engine.core.records at ≡ Some kept) × Recounts kept r × (told ≡ r.told)
     × (new ≡ take (length old) r.bytes.items ++ drop (length r.bytes.items) old)
 
--- how many records are kept; the one at a place was told, or there is none there, or no memory to tell it
+-- how many records are kept; the one at a place was told, or there is none there, or no memory to
+-- tell it
 abbrev pub TellsRecord : EngineView → ℕ → RecordParts → List ℕ → ℤ → RecordParts → List ℕ → Type 0
 TellsRecord engine at before old n told new = ((n ≡ pos (length engine.core.records)) × TellsParts engine at old told new)
     ⊎ (((n ≡ negsuc 0) ⊎ ((n ≡ pos (length engine.core.records)) × (slice_get engine.core.records at ≡ None)))

@@ -14,7 +14,8 @@ use Rattle.sf_c.specs.declared.trees.At.{At}
 use Rattle.sf_c.specs.declared.trees.Leaf.{Leaf}
 use Rattle.sf_c.specs.Records.{attributes_told}
 
--- The number of a refusal, below 0: those of an engine, further ones, and from -100 on the codes of statuses.
+-- The number of a refusal, below 0: those of an engine, further ones, and from -100 on the codes of
+-- statuses.
 abbrev pub tree_fault_number : TreeFault → ℤ
 tree_fault_number fault.OutOfMemory = negsuc 0
 tree_fault_number fault.Sessions = negsuc 2
@@ -66,7 +67,8 @@ leaf_of found file = record {
   contents = length found.contents.items;
 }
 
--- Both stand one behind another in the room, if that is large enough for both; else it is as it was.
+-- Both stand one behind another in the room, if that is large enough for both; else it is as it
+-- was.
 abbrev pub HasBoth : List ℕ → List ℕ → List ℕ → List ℕ → Type 0
 HasBoth path contents old new =
     (length path + length contents ≤ length old

@@ -1,8 +1,9 @@
 //! The engine as a library for C.
 //!
-//! Start with `lucernetick_turn`. Each function takes an engine as a `Held` (`held.rt`), makes one event
-//! of what it is given, and answers the engine again and a number: `specs/Numbers.antt` says which, for
-//! what the engine answered. Those for trees make many (`specs/Trees.antt`), and what a walk finds is a
+//! Start with `lucernetick_turn`. Each function takes an engine as a `Held` (`held.rt`), makes one
+//! event of what it is given, and answers the engine again and a number: `specs/Numbers.antt` says
+//! which, for what the engine answered. Those for trees make many (`specs/Trees.antt`), and what a
+//! walk finds is a
 //! `Kept` (`kept.rt`). `bindings/c/lucernetick.c` has the functions of `include/lucernetick.h`,
 //! which call these.
 #![tactic(auto)]
@@ -111,8 +112,8 @@ pub extern "C" fn lucernetick_turn(alloc: Global, held: &mut Held, session: u64,
     answer(alloc, held, &Event::Turn(session, moment))
 }
 
-/// Turns of a session, until one leads to no other, or `most` replies were written. Tells whether anything
-/// moved.
+/// Turns of a session, until one leads to no other, or `most` replies were written. Tells whether
+/// anything moved.
 #[unsafe(no_mangle)]
 pub extern "C" fn lucernetick_settle(
     alloc: Global,
@@ -283,7 +284,8 @@ pub extern "C" fn lucernetick_write_file(
     tell_made(made, at)
 }
 
-/// Gives the file at the old path the new one too. Directories on its way are made where they are missing.
+/// Gives the file at the old path the new one too. Directories on its way are made where they are
+/// missing.
 #[unsafe(no_mangle)]
 pub extern "C" fn lucernetick_link(
     alloc: Global,
@@ -302,8 +304,8 @@ pub extern "C" fn lucernetick_link(
     tell_made(made, at)
 }
 
-/// Walks the whole tree, and puts what it finds in place of nothing. Where it stops, that is the entry at which
-/// that was, or none.
+/// Walks the whole tree, and puts what it finds in place of nothing. Where it stops, that is the
+/// entry at which that was, or none.
 #[unsafe(no_mangle)]
 pub extern "C" fn lucernetick_walk(
     alloc: Global,
@@ -325,8 +327,8 @@ pub extern "C" fn lucernetick_walk(
     tell_made(walked, at)
 }
 
-/// Tells one of the entries that a walk found, by their places, and how many these are. The bytes are copied into
-/// the room, if there is room for all.
+/// Tells one of the entries that a walk found, by their places, and how many these are. The bytes
+/// are copied into the room, if there is room for all.
 #[unsafe(no_mangle)]
 pub extern "C" fn lucernetick_tree_entry(
     alloc: Global,

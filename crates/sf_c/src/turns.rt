@@ -44,8 +44,8 @@ fn replies_of(outcome: Result<Happened, EngineFault>) -> u64
     }
 }
 
-/// Turns, as many as lead to `most` replies at most, until one leads to no other: what came of that one,
-/// if there was one.
+/// Turns, as many as lead to `most` replies at most, until one leads to no other: what came of that
+/// one, if there was one.
 fn follow(
     engine: &mut Engine,
     session: u64,

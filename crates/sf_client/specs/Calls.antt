@@ -48,7 +48,8 @@ Closes {X} Script n xs (Err f) = (ys : List Exchange) × (r : Reply)
     × (Script ys (Err f) ⊎ ((x : X) × Script ys (Ok x) × EndsCallBy r f))
     × (xs ≡ ys ++ asked (request.Close (be64 n)) r ∷ [])
 
--- A request that opens a handle, what is done by it, and CLOSE. There is no CLOSE only where no handle was opened.
+-- A request that opens a handle, what is done by it, and CLOSE. There is no CLOSE only where no
+-- handle was opened.
 abbrev pub ByHandle : {X : Type 0} → WireRequest → (ℕ → List Exchange → Result X ClientFault
     → Type 0) → List Exchange → Result X ClientFault → Type 0
 ByHandle opening Script xs (Ok x) = (n : ℕ) × (ys : List Exchange) × Closes (Script n) n ys (Ok x)
@@ -205,7 +206,8 @@ EndsAfter n first v f w =
     ⊎ (((f ≡ fault.Stream) × Broke v w) ⊎ ((f ≡ fault.Protocol)
     × Unanswered v [] (request.Close (be64 n)) [] w))
 
--- What CLOSE did to what came of a call by a handle. After a fault of the line or of the protocol it isn't sent.
+-- What CLOSE did to what came of a call by a handle. After a fault of the line or of the protocol
+-- it isn't sent.
 abbrev pub ClosesAfter : {X : Type 0} → ℕ → Result X ClientFault → ClientView → Result X ClientFault
     → ClientView → Type 0
 ClosesAfter n (Ok x) v (Ok y) w =

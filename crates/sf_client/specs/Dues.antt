@@ -30,8 +30,8 @@ due_of (request.Rename old new) = due.Success
 due_of (request.PosixRename old new) = due.Success
 due_of (request.Link old new) = due.Success
 
--- Whether the reply is the due one: STATUS OK, a handle, one byte at least and no more than were asked for, one name at
--- least, or attributes.
+-- Whether the reply is the due one: STATUS OK, a handle, one byte at least and no more than were
+-- asked for, one name at least, or attributes.
 abbrev pub is_answer : Due → Reply → Bool
 is_answer due.Success (reply.Status Success) = true
 is_answer due.Handle (reply.Handle number) = true

@@ -147,8 +147,8 @@ impl<L: Line + Drop> Client<L> {
         }
     }
 
-    /// Takes the first of the replies that are due. Nothing where it is dropped, refuses, or finds no
-    /// memory.
+    /// Takes the first of the replies that are due. Nothing where it is dropped, refuses, or finds
+    /// no memory.
     pub(crate) fn take_on(
         &mut self,
         ahead: &mut Ahead,

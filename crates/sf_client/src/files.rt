@@ -51,7 +51,8 @@ const TO_WRITE: OpenFlags = OpenFlags {
     exclusive: false,
 };
 
-/// The fault that a call tells after a fault and its CLOSE: the first one, unless the client failed.
+/// The fault that a call tells after a fault and its CLOSE: the first one, unless the client
+/// failed.
 fn told_after(first: ClientFault, closing: Result<(), ClientFault>) -> ClientFault
     ensures { result ≡ first_fault first closing }
 {

@@ -1,6 +1,6 @@
-//! The client against the server, both over memory. A server over memory wants its input whole: so it
-//! is first given the requests that the client should send, and the client then its replies. What the
-//! client sent is compared with what the server was given.
+//! The client against the server, both over memory. A server over memory wants its input whole: so
+//! it is first given the requests that the client should send, and the client then its replies.
+//! What the client sent is compared with what the server was given.
 
 use sf_cases::{StillClock, hex_packets, whole};
 use sf_client::{Client, ClientFault};

@@ -16,8 +16,8 @@ pub record Copiers : Type 0 where
   pub writer : ℕ → Option ℕ
   pub left : ℕ → ℕ
 
--- A call that copies holds its file, and has as many blocks left as that; no other file is held; and
--- of a file that no call holds nothing is left.
+-- A call that copies holds its file, and has as many blocks left as that; no other file is held;
+-- and of a file that no call holds nothing is left.
 pub record AreCopies (s : Copiers) : Type 0 where
   pub some : (n : ℕ) (c : Copying) → s.copying_of n ≡ Some c → 0 < c.left
   pub left : (n : ℕ) (c : Copying) → s.copying_of n ≡ Some c → s.left c.file ≡ c.left

@@ -7,10 +7,11 @@ use Rattle.sf_call.specs.declared.call.Call.{Call}
 use Rattle.sf_call.specs.declared.record.Record.{Record}
 use Rattle.sf_inode.specs.Stores.{StoreState}
 
--- the records that are kept, the oldest first; how many are kept at most, if not all; and how many calls' records went; how many
--- call numbers and session numbers were given, from 1 on; the joined sessions by rising number, each with the number of its
--- unanswered call; the unanswered calls by rising number; how many look-ups were made; and the store, of which no clauses but
--- those of the history and of a blocked step speak
+-- the records that are kept, the oldest first; how many are kept at most, if not all; and how many
+-- calls' records went; how many call numbers and session numbers were given, from 1 on; the joined
+-- sessions by rising number, each with the number of its unanswered call; the unanswered calls by
+-- rising number; how many look-ups were made; and the store, of which no clauses but those of the
+-- history and of a blocked step speak
 pub record CoreView : Type 0 where
   pub records : List Record
   pub keep : Option ℕ
@@ -22,7 +23,8 @@ pub record CoreView : Type 0 where
   pub look_ups : ℕ
   pub store : StoreState
 
--- what a core has for a session: it never joined or has left, it is at rest, or it has an unanswered call
+-- what a core has for a session: it never joined or has left, it is at rest, or it has an
+-- unanswered call
 pub data LaneState : Type 0 where
   Gone : LaneState
   Idle : LaneState

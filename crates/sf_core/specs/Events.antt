@@ -64,7 +64,8 @@ pub record LooksOnly (v w : CoreView) (most : ℕ) : Type 0 where
   pub more : v.look_ups ≤ w.look_ups
   pub few : w.look_ups ≤ v.look_ups + most
 
--- the state of one session's lane is another; those of all others, and the counts of sessions and calls, stay
+-- the state of one session's lane is another; those of all others, and the counts of sessions and
+-- calls, stay
 pub record SetsSlot (v w : CoreView) (session : ℕ) (slot : LaneState) : Type 0 where
   pub own : lane_state w session ≡ slot
   pub others : (s : ℕ) → s ≢ session → lane_state w s ≡ lane_state v s
@@ -256,9 +257,9 @@ IsOfOther v session (Did number s moment request given) = (c : Call) × (s ≢ s
     × (Did number s moment request given ≡ did c given)
 IsOfOther v session (Left s) = ⊥
 
--- The call is decided: its record is the last of those added. A WRITE that is carried out so has one
--- block at most. Want of memory is told in place of a
--- reply of the tree, after the records before it, only where that takes memory.
+-- The call is decided: its record is the last of those added. A WRITE that is carried out so has
+-- one block at most. Want of memory is told in place of a reply of the tree, after the records
+-- before it, only where that takes memory.
 pub record Decides (b : Before) (a : After) (c : Call) (given : Reply) : Type 0 where
   pub own : OwnCall b.core b.lane c
   pub undecided : waiting_reply c ≡ None

@@ -34,8 +34,8 @@ abbrev pub is_write : Request → Bool
 is_write (request.Write handle offset bytes) = true
 is_write other = false
 
--- Whether a session's call is decided as it begins: it walks nothing, is no WRITE, and no call holds
--- a file that it reads or sets.
+-- Whether a session's call is decided as it begins: it walks nothing, is no WRITE, and no call
+-- holds a file that it reads or sets.
 abbrev pub is_at_once : StoreState → ℕ → Request → Bool
 is_at_once s session request =
     walks_nothing (route_of request)

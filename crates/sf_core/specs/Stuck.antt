@@ -16,8 +16,8 @@ is_onward (Blocked holder) = false
 is_onward (Answered given) = true
 is_onward Stranger = false
 
--- The session has an unanswered call, and each step that its lane may make moves the call, or answers
--- it.
+-- The session has an unanswered call, and each step that its lane may make moves the call, or
+-- answers it.
 pub record CanGoOn (v : CoreView) (session : ℕ) : Type 0 where
   pub call : Call
   pub slot : lane_state v session ≡ Busy call

@@ -87,7 +87,8 @@ abbrev pub block_copied : PartsView → ℕ → ℕ → ℕ → PartsView
 block_copied p number node zero = write_finished p number node
 block_copied p number node (suc k) = part_copied p number node (suc k)
 
--- the call of the number copies: as much is left of its file as its stage tells, and its reply waits
+-- the call of the number copies: as much is left of its file as its stage tells, and its reply
+-- waits
 pub record CopiesNow (p : PartsView) (number node left : ℕ) : Type 0 where
   pub call : Call
   pub there : call_at p.calls number ≡ Some call

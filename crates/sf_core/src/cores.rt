@@ -129,8 +129,8 @@ impl Core {
         })
     }
 
-    /// A call of the lane begins, under the next number. It has made no step. Room is made for its record,
-    /// and for its number where it is overtaken.
+    /// A call of the lane begins, under the next number. It has made no step. Room is made for its
+    /// record, and for its number where it is overtaken.
     pub fn begin(&mut self, lane: &mut Lane, request: Request, moment: u32) -> Result<(), CoreFault>
         requires { lane.old.call ≡ None }
         ensures ok { OnOk result (CallBegins self.old self.new lane.old request moment) }
@@ -158,8 +158,9 @@ impl Core {
         Ok(())
     }
 
-    /// A call of the lane, under the next number. One that walks nothing and waits for nobody, and is
-    /// no WRITE, is answered at once, by the one step that it takes; any other begins, as by `begin`.
+    /// A call of the lane, under the next number. One that walks nothing and waits for nobody, and
+    /// is no WRITE, is answered at once, by the one step that it takes; any other begins, as by
+    /// `begin`.
     pub fn call(
         &mut self,
         lane: &mut Lane,
@@ -215,8 +216,8 @@ impl Core {
         let _parts = &self.parts;
     }
 
-    /// Steps of the lane's call, one after the other, up to one that doesn't move, and `most` at most: what
-    /// came of the last one is told. Between them nothing comes from other sessions.
+    /// Steps of the lane's call, one after the other, up to one that doesn't move, and `most` at
+    /// most: what came of the last one is told. Between them nothing comes from other sessions.
     #[inline(always)]
     pub fn walk(&mut self, lane: &mut Lane, most: u64) -> Step
         requires call { IsSome lane.old.call }
@@ -294,8 +295,8 @@ impl Core {
         self.parts.folded()
     }
 
-    /// How many calls there are: those that are recorded, whether or not their records are kept, and
-    /// those under way.
+    /// How many calls there are: those that are recorded, whether or not their records are kept,
+    /// and those under way.
     pub fn calls(&self) -> u64
         ensures { result ≡ self.now.drawn }
     {

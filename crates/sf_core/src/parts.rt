@@ -399,8 +399,8 @@ impl Parts {
         left
     }
 
-    /// Steps of a WRITE that copies, so many at most: the one that copies the last block fetches its
-    /// reply.
+    /// Steps of a WRITE that copies, so many at most: the one that copies the last block fetches
+    /// its reply.
     pub(crate) fn copy_on(&mut self, session: u64, number: u64, most: u64) -> Option<Reply>
         requires { IsCopyingOn self.old number }
         ensures some { IfSome result (λ given. EndsCopying self.old self.new session number most

@@ -1,5 +1,5 @@
-//! When walks through one tree are coupled: each call on its way holds the directory that it has come
-//! to, and takes the next one before it frees that. Definitions and their laws, and no code.
+//! When walks through one tree are coupled: each call on its way holds the directory that it has
+//! come to, and takes the next one before it frees that. Definitions and their laws, and no code.
 //!
 //! Start with `specs/Walks.antt`: `AreWalks` says of the `Walkers` (where paths lead, how far each
 //! call has come, who holds each node) that what a call has walked leads to what it holds, and that

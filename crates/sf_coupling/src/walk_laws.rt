@@ -34,8 +34,8 @@ pub fn let_go_kept()
         → HandsOver s.holder new.holder n (s.spots n) [] → AreWalks new }
 {}
 
-/// Who wants the root, or a spot one name past its own, which another call holds, wants the first spot of that
-/// call: so it waits above all that the other one does.
+/// Who wants the root, or a spot one name past its own, which another call holds, wants the first
+/// spot of that call: so it waits above all that the other one does.
 pub fn waits_above()
     ensures { (s : Walkers) → AreWalks s → (n m : ℕ) → n ≢ m → (spot : Spot)
         → IsFrom (s.spots n) spot → (top : Spot) (ends : List Spot) → s.spots m ≡ top ∷ ends

@@ -1,4 +1,5 @@
--- Two sessions on one tree, byte by byte: the first makes a directory; the second asks for it, and has to wait.
+-- Two sessions on one tree, byte by byte: the first makes a directory; the second asks for it, and
+-- has to wait.
 use Rattle.std.specs.Prelude.{ℕ, List, [], ◌∷◌, ◌++◌, codes, Vec, Ok}
 use Rattle.std.specs.Global.{Global}
 use Rattle.sf_reply.specs.declared.reply.Reply.TheVariants as reply

@@ -48,7 +48,8 @@ HasMoved (stage.At walked node) moves = moves ≡ walked + 1
 HasMoved (stage.Ends common old new) moves = moves + common.walked ≡ old.walked + new.walked + 1
 HasMoved (stage.Copies node blocks) moves = 0 < moves
 
--- A session whose call is under way as is told: the core has the call, and so many steps are left to it at most.
+-- A session whose call is under way as is told: the core has the call, and so many steps are left
+-- to it at most.
 pub record IsGoing (v : CoreView) (s : ℕ) (x : SessionView) (told : Walking) (p : SeatState) : Type 0 where
   pub lane : LaneView
   pub call : Call
@@ -110,7 +111,8 @@ pub record Agrees (w : World) (e : EngineView) : Type 0 where
       → SeatAgrees e.core (i + 1) t p
   pub nobody : (s : ℕ) → (s ≡ 0) ⊎ (length w.sessions < s) → lane_state e.core s ≡ Gone
 
--- The trace is lawful. Its order is a legal history, and the core's. What the engine keeps is what the trace leaves.
+-- The trace is lawful. Its order is a legal history, and the core's. What the engine keeps is what
+-- the trace leaves.
 pub record Fits (e : EngineView) (trace : List TraceEntry) : Type 0 where
   pub world : World
   pub tells : ReachesWorld trace world
@@ -130,8 +132,9 @@ abbrev pub passage : EngineView → List Record → List Record → EngineView �
 passage old history added new =
     record { old = old.core; history = history; added = added; new = new.core }
 
--- The engine fits each trace that it fitted, followed by the event's entry, which leads on from where the trace led. What the event did
--- to the core is the step of the session's call, and so much work at most.
+-- The engine fits each trace that it fitted, followed by the event's entry, which leads on from
+-- where the trace led. What the event did to the core is the step of the session's call, and so
+-- much work at most.
 abbrev pub GoesOnTrace : EngineView → Event → Result Happened EngineFault → EngineView → Type 0
 GoesOnTrace old event result new = (trace : List TraceEntry) → (fits : Fits old trace)
     → (added : List Record)
@@ -140,20 +143,22 @@ GoesOnTrace old event result new = (trace : List TraceEntry) → (fits : Fits ol
     × IsStep event result (passage old fits.world.records added new)
     × IsWork event (passage old fits.world.records added new)
 
--- The same event again and again, say turns of a session at one moment: so many times the call goes on by it, and then a last time,
--- which has this result. Where the last is refused, it changes nothing.
+-- The same event again and again, say turns of a session at one moment: so many times the call goes
+-- on by it, and then a last time, which has this result. Where the last is refused, it changes
+-- nothing.
 unfoldable pub HasTurns : ℕ → EngineView → Event → Result Happened EngineFault → EngineView → Type 0
 HasTurns zero e turn r e' = GoesOnTrace e turn r e' × OnErr r (e' ≡ e)
 HasTurns (suc n) e turn r e' = (mid : EngineView) × (h : Happened)
     × GoesOnTrace e turn (Ok h) mid × (goes_on h ≡ true) × HasTurns n mid turn r e'
 
--- The engine fits each trace that it fitted, followed by one entry for each event, so many of them refused.
+-- The engine fits each trace that it fitted, followed by one entry for each event, so many of them
+-- refused.
 abbrev pub RunsTrace : EngineView → List Event → ℕ → EngineView → Type 0
 RunsTrace old events refused new = (trace : List TraceEntry) → Fits old trace
     → (entries : List TraceEntry) × AreEntries events entries refused × Fits new (trace ++ entries)
 
--- what a session's output is, by each trace that the engine fits: it follows what was sent, and both are the transcript of what the
--- session was answered
+-- what a session's output is, by each trace that the engine fits: it follows what was sent, and
+-- both are the transcript of what the session was answered
 abbrev pub IsSentBy : EngineView → ℕ → List ℕ → Type 0
 IsSentBy e session output = (trace : List TraceEntry) → (fits : Fits e trace)
     → (t : SessionState) × IsSession fits.world session t × (transcript t.answers ≡ t.sent ++ output)

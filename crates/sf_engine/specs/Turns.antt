@@ -265,7 +265,8 @@ pub record Finding : Type 0 where
 abbrev pub finding : Bool → ℕ → Finding
 finding closed m = record { closed = closed; moment = m }
 
--- Turns, one after the other: so many after which the call goes on, and a last one that came to this. Refused, it changes nothing.
+-- Turns, one after the other: so many after which the call goes on, and a last one that came to
+-- this. Refused, it changes nothing.
 unfoldable pub TurnsGive : ℕ → Stand → Finding → Result Happened EngineFault → Stand → Type 0
 TurnsGive zero a f (Ok r) b = TurnGives a f.closed f.moment r b
 TurnsGive zero a f (Err e) b = (b ≡ a) × (e ≡ fault.OutOfMemory) × MayRefuseTurn a.place

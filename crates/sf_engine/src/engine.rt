@@ -158,8 +158,8 @@ impl Engine {
         }
     }
 
-    /// Appends to the bytes that a session has not read, as the event `Feed` of them does, without a copy for the
-    /// event. A slice has fewer than 2^63 bytes.
+    /// Appends to the bytes that a session has not read, as the event `Feed` of them does, without
+    /// a copy for the event. A slice has fewer than 2^63 bytes.
     pub fn feed(&mut self, session: u64, bytes: &[u8]) -> Result<Happened, EngineFault>
         requires { length bytes.now < 2 ^ 63 }
         ensures fits { (fed : Vec ℕ) → fed.items ≡ bytes.now
@@ -172,8 +172,8 @@ impl Engine {
         feed_seat(&mut self.seats[at], bytes)
     }
 
-    /// Turns of a session at a moment, as long as its call is on its way to its reply. What came of the last
-    /// one is told. One packet is read at most.
+    /// Turns of a session at a moment, as long as its call is on its way to its reply. What came of
+    /// the last one is told. One packet is read at most.
     pub fn turns(&mut self, session: u64, moment: u32) -> Result<Happened, EngineFault>
         ensures { (n : ℕ) × HasTurns n self.old (Event.Turn session moment) result self.new
             × (goes_on_at result ≡ true → 2 ^ 64 - 2 ≤ n) }
@@ -218,9 +218,9 @@ impl Engine {
         any
     }
 
-    /// Rounds, up to where no call is under way: in each, every session whose call is under way makes
-    /// one step, by rising number, which is a turn at the moment 0. How many there were is told.
-    /// Answers wait for later turns. Needs no memory, and isn't refused.
+    /// Rounds, up to where no call is under way: in each, every session whose call is under way
+    /// makes one step, by rising number, which is a turn at the moment 0. How many there were is
+    /// told. Answers wait for later turns. Needs no memory, and isn't refused.
     pub fn run_all(&mut self) -> u64
         ensures rounds { HasRounds result self.old self.new }
         ensures few { IsWithinBounds result self.old }
@@ -247,8 +247,8 @@ impl Engine {
         refused
     }
 
-    /// What a session is to be sent: all that it was answered, without the bytes that were sent. It stays
-    /// readable after the session left.
+    /// What a session is to be sent: all that it was answered, without the bytes that were sent. It
+    /// stays readable after the session left.
     pub fn output(&self, session: u64) -> Option<&[u8]>
         ensures sent { IfSome result (λ output. IsSentBy self.now session output.now) }
         ensures unknown { IfNone result (IsUnknownSession self.now session) }
@@ -260,8 +260,8 @@ impl Engine {
         Some(seat.session.output())
     }
 
-    /// Whether a session rests with no whole packet unread, and no wrong length: a turn would come to `Idle`. A number
-    /// without a session wants none.
+    /// Whether a session rests with no whole packet unread, and no wrong length: a turn would come
+    /// to `Idle`. A number without a session wants none.
     pub fn wants_bytes(&self, session: u64) -> bool
         ensures { WantsBytesBy self.now session result }
     {

@@ -1,9 +1,10 @@
 //! Many sessions on one core, by events, without threads.
 //!
-//! Start with `Engine::apply` in `engine.rt`: an event comes, and what came of it is told. Events, their
-//! results and the records that they added are a trace. `specs/Worlds.antt` says what a trace tells of
-//! each session, `specs/Traces.antt` is the law of results (`Leads`: from which world an entry leads to
-//! which), and `specs/Fits.antt` says when an engine fits a trace: that is the main theorem, which `new`,
+//! Start with `Engine::apply` in `engine.rt`: an event comes, and what came of it is told. Events,
+//! their results and the records that they added are a trace. `specs/Worlds.antt` says what a trace
+//! tells of each session, `specs/Traces.antt` is the law of results (`Leads`: from which world an
+//! entry leads to which), and `specs/Fits.antt` says when an engine fits a trace: that is the main
+//! theorem, which `new`,
 //! `apply`, `feed`, `turns`, `run` and `output` carry. `specs/Works.antt` has the steps and the work of a turn, and
 //! `trace_laws.rt` what every lawful trace tells. One session's turns are in `seat.rt`, whose contracts
 //! (`specs/Turns.antt`) name no trace. `Engine::turns` is many turns at once. No trace is kept when the

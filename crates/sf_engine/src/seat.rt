@@ -308,7 +308,8 @@ impl SeatState {
         }
     }
 
-    /// Writes the reply of a call that has just been decided. Where memory is wanting its answer waits.
+    /// Writes the reply of a call that has just been decided. Where memory is wanting its answer
+    /// waits.
     #[inline(always)]
     fn write_on(
         &mut self,
@@ -339,7 +340,8 @@ impl SeatState {
         }
     }
 
-    /// Closing: a session that rests leaves at once. Whether it goes on to its answer first is told with the state.
+    /// Closing: a session that rests leaves at once. Whether it goes on to its answer first is told
+    /// with the state.
     fn close(self, core: &mut Core, session: &mut Session) -> (SeatState, bool)
         requires { IsSeatState core.old session.old self }
         ensures { AddsRecords core.old core.new (λ h added.

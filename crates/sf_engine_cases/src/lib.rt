@@ -1,4 +1,5 @@
-//! Cases for the engine: rows of events, with what came of each and the bytes that each session is sent.
+//! Cases for the engine: rows of events, with what came of each and the bytes that each session is
+//! sent.
 //!
 //! Start with `tests/sessions.rt`: several sessions on one tree, and how they are closed.
 //! `requests.rt`, `files.rt` and `links.rt` beside it have one session's requests, `renames.rt` calls

@@ -65,8 +65,8 @@ fn behind(alloc: Global, front: &str, texts: &[&str]) -> Result<Vec<u8>, Fail> {
 }
 
 /// NAME with an entry for each of these lines, whose last byte is its name: of a directory, or of a
-/// file without bytes, that was made at the moment 100. The head is the packet's length, its type, its
-/// id, and how many lines there are.
+/// file without bytes, that was made at the moment 100. The head is the packet's length, its type,
+/// its id, and how many lines there are.
 fn listing(alloc: Global, head: &str, lines: &[&[u8]]) -> Result<Vec<u8>, Fail> {
     let mut packet = hex_bytes(alloc, head)?;
     for line in lines {
@@ -180,7 +180,8 @@ fn are_answered(rt: &impl Abort, engine: &mut Engine, by: &[Steps], want: &[u8])
     is_sent(rt, engine, 1, want);
 }
 
-/// A session opens on an engine of its own, and is fed these bytes at once. Its packets are answered so, and its output is this.
+/// A session opens on an engine of its own, and is fed these bytes at once. Its packets are
+/// answered so, and its output is this.
 fn is_served_whole(rt: &impl Abort, alloc: Global, input: Vec<u8>, by: &[Steps], want: &[u8]) {
     let mut engine = made(rt, alloc);
     opens(rt, &mut engine, 1);

@@ -39,8 +39,8 @@ fn marks(read: bool) -> Marks {
     }
 }
 
-/// A store whose names are texts. Its methods compare what the store tells with what a test wants, so that the tests
-/// are lists of them.
+/// A store whose names are texts. Its methods compare what the store tells with what a test wants,
+/// so that the tests are lists of them.
 #[derive(Drop)]
 struct Ground {
     store: Store,
@@ -206,8 +206,8 @@ impl Ground {
         }
     }
 
-    /// The names in the root after one of them, so many at most. Each is found, and leads to the node that stands
-    /// beside it.
+    /// The names in the root after one of them, so many at most. Each is found, and leads to the
+    /// node that stands beside it.
     fn lists(&mut self, rt: &impl Abort, after: Option<&[u8]>, most: usize, want: &[&[u8]]) {
         let last = match after {
             Some(text) => Some(given(rt, name(self.alloc, text))),
@@ -429,8 +429,8 @@ fn numbered(number: u64) -> [u8; 5] {
     [b'/', digit(1000), digit(100), digit(10), digit(1)]
 }
 
-/// Lists the root 32 names at a time. Each name is that of the next number from `first` on, `step` apart, and is
-/// found where its node is.
+/// Lists the root 32 names at a time. Each name is that of the next number from `first` on, `step`
+/// apart, and is found where its node is.
 fn lists_all(rt: &impl Abort, ground: &mut Ground, first: u64, step: u64) {
     let root = ground.root();
     let mut want = first;

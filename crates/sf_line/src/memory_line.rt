@@ -36,8 +36,8 @@ impl Pieces {
     }
 }
 
-/// A line that gives the bytes of a slice and keeps what is written, both in pieces, so that
-/// bytes can be cut at every place. It keeps its calls too, and one fails only where there is no memory.
+/// A line that gives the bytes of a slice and keeps what is written, both in pieces, so that bytes
+/// can be cut at every place. It keeps its calls too, and one fails only where there is no memory.
 #[derive(Debug, Drop)]
 pub struct MemoryLine<'a> {
     input: &'a [u8],

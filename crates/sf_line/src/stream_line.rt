@@ -47,8 +47,8 @@ fn write_some<W: Write>(writer: &mut W, bytes: &[u8]) -> Option<usize>
 
 /// A line over any reader and any writer. It tells their bytes where they do, and not its calls.
 ///
-/// A call that a signal interrupts is made again, some thousand times. Nothing is flushed: sockets and standard output
-/// keep nothing back, and whoever gives a writer that does flushes it.
+/// A call that a signal interrupts is made again, some thousand times. Nothing is flushed: sockets
+/// and standard output keep nothing back, and whoever gives a writer that does flushes it.
 #[derive(Debug, Drop)]
 pub struct StreamLine<R, W> {
     reader: R,

@@ -10,7 +10,8 @@ use Rattle.sf_path.specs.Order.{parent}
 abbrev pub parts : List ℕ → List (List ℕ)
 parts text = slice_split (λ b. b == slash) text
 
--- where a part leads from a path: an empty part and `.` nowhere, `..` to the parent, a name to what it names
+-- where a part leads from a path: an empty part and `.` nowhere, `..` to the parent, a name to what
+-- it names
 abbrev pub with_part : Path → List ℕ → Path
 with_part path part =
     if bytes_eq part (codes "") || bytes_eq part (codes ".") then path
@@ -21,7 +22,8 @@ with_part path part =
 abbrev pub norm : List ℕ → Path
 norm text = fold with_part [] (parts text)
 
--- the lowest fault of a text: its own length; the length of a part, also of one that `..` would drop; a byte 0
+-- the lowest fault of a text: its own length; the length of a part, also of one that `..` would
+-- drop; a byte 0
 abbrev pub fault_of : List ℕ → Option PathFault
 fault_of text =
     if nat_lt 4096 (length text) then Some TooLong

@@ -11,16 +11,17 @@ use std::alloc::{AllocError, Global};
 use std::cmp::Ordering;
 use std::marker::Model;
 
-/// How many bytes of a name need no block of memory of their own. With them a name takes 64 bytes, and the
-/// blocks of an ordered map of names are such as the C library gives back.
+/// How many bytes of a name need no block of memory of their own. With them a name takes 64 bytes,
+/// and the blocks of an ordered map of names are such as the C library gives back.
 const SHORT_NAME: usize = 40;
 
-/// The name of a file or a directory: 1 to 255 bytes without a slash and a byte 0, and neither `.` nor `..`.
-/// It need not be UTF-8.
+/// The name of a file or a directory: 1 to 255 bytes without a slash and a byte 0, and neither `.`
+/// nor `..`. It need not be UTF-8.
 #[derive(Debug)]
 pub struct Name {
-    /// What `head_of` makes of the bytes. Names whose heads differ stand in the order of their heads, so that
-    /// a search among many names looks at one number of most of them; names of fewer than 8 bytes are their heads.
+    /// What `head_of` makes of the bytes. Names whose heads differ stand in the order of their
+    /// heads, so that a search among many names looks at one number of most of them; names of fewer
+    /// than 8 bytes are their heads.
     head: u64,
     bytes: SmallVec<u8, SHORT_NAME>,
 }

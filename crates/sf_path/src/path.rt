@@ -15,8 +15,8 @@ use std::cmp::Ordering;
 use std::marker::Model;
 use std::sync::ArcSlice;
 
-/// The names from the root to a file or a directory. The root has none. They have counted owners, so that a path is
-/// shared and not copied.
+/// The names from the root to a file or a directory. The root has none. They have counted owners,
+/// so that a path is shared and not copied.
 #[derive(Debug)]
 pub struct Path {
     // None for the root, which takes no memory.
@@ -74,10 +74,11 @@ impl Path {
         }
     }
 
-    /// The path that a text stands for: its parts between slashes, without the empty ones and `.`, and without each `..`
-    /// and the name before it (draft-ietf-secsh-filexfer-02, section 6.2, with the root as the default directory). Nothing
-    /// is looked up. Of the text's own faults the lowest is answered, before memory is asked for. Time and memory are in
-    /// proportion to the text.
+    /// The path that a text stands for: its parts between slashes, without the empty ones and `.`,
+    /// and without each `..` and the name before it (draft-ietf-secsh-filexfer-02, section 6.2,
+    /// with the root as the default directory). Nothing is looked up. Of the text's own faults the
+    /// lowest is answered, before memory is asked for. Time and memory are in proportion to the
+    /// text.
     pub fn parse(alloc: Global, text: &[u8]) -> Result<Path, PathFault>
         ensures path { IfOk result (λ path. path ≡ norm text.now) }
         ensures names { IfOk result IsPath }
@@ -171,8 +172,8 @@ impl Path {
         self.front(alloc, self.len().saturating_sub(1))
     }
 
-    /// One more owner of the same names, which takes no memory. It fails where the owners can't be counted: at 2^63
-    /// of them.
+    /// One more owner of the same names, which takes no memory. It fails where the owners can't be
+    /// counted: at 2^63 of them.
     pub fn share(&self) -> Result<Path, AllocError>
         ensures { IfOk result (λ copy. copy ≡ self.now) }
     {

@@ -14,8 +14,8 @@ pub fn normal_text_again()
         ≡ (if nat_lt 4096 (length (text_of names)) then Some TooLong else None) }
 {}
 
-/// A slash before a text changes nothing but the fault of its length, and that only at 4096 bytes, which it makes one too
-/// many.
+/// A slash before a text changes nothing but the fault of its length, and that only at 4096 bytes,
+/// which it makes one too many.
 pub fn slash_before()
     ensures path { (text : List ℕ) → norm (slash ∷ text) ≡ norm text }
     ensures fault { (text : List ℕ)

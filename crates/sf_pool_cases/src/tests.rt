@@ -1,4 +1,5 @@
-//! Transcripts of sessions that made directories, right and wrong ones, beside the history of a core.
+//! Transcripts of sessions that made directories, right and wrong ones, beside the history of a
+//! core.
 
 use sf_audit::{AnsweredCall, AuditFault, GatherFault, Transcript, audit, gather};
 use sf_call::{Answer, Request};

@@ -40,7 +40,8 @@ no_owner = record { uid = 0; gid = 0 }
 abbrev pub no_times : Times
 no_times = record { atime = 0; mtime = 0 }
 
--- size, uid, gid, permissions in octal, atime and mtime, with single spaces between them and a newline after them
+-- size, uid, gid, permissions in octal, atime and mtime, with single spaces between them and a
+-- newline after them
 abbrev pub stat_text : Attrs → List ℕ
 stat_text attrs =
     decimal (or_zero attrs.size) ++ 32 ∷ decimal (unwrap_or attrs.owner no_owner).uid

@@ -51,8 +51,8 @@ ServingComesTo start now failed failed' (Ok cause) = ServesLine start now cause
 ServingComesTo start now failed failed' (Err fault) =
     StopsEarly start now fault × IsServeFault fault failed failed'
 
--- No engine could be made, and nothing was read or written; or a line was served on a new one, which keeps so many records, and
--- that came to this.
+-- No engine could be made, and nothing was read or written; or a line was served on a new one,
+-- which keeps so many records, and that came to this.
 abbrev pub SessionEnds : (keep : ℕ) → (start now : EngineView → IoState) → (failed failed' : ℕ)
     → Result Cause ServeFault → Type 0
 SessionEnds keep start now failed failed' outcome =

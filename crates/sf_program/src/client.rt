@@ -12,9 +12,9 @@ use sf_reply::Entry;
 use std::alloc::{AllocError, Global};
 use std::io::{self, Write};
 
-/// Does the command over a line to a server, with `bytes` as what `put` sends, writes what it prints
-/// to `output` and the one line of a fault to `errors`, and answers the exit status: 0 where it was
-/// done, else 1.
+/// Does the command over a line to a server, with `bytes` as what `put` sends, writes what it
+/// prints to `output` and the one line of a fault to `errors`, and answers the exit status: 0 where
+/// it was done, else 1.
 pub fn run_client<L: Line + Drop, O: Write, E: Write>(
     alloc: Global,
     line: L,

@@ -16,7 +16,8 @@ use std::thread::{self, Threads};
 /// How many bytes are carried at once.
 pub const PIECE: usize = 1 << 18;
 
-/// Writes all of the bytes, by as many writes as it takes. An error leaves a beginning of them written.
+/// Writes all of the bytes, by as many writes as it takes. An error leaves a beginning of them
+/// written.
 fn write_all<W: Write>(to: &mut W, bytes: &[u8]) -> io::Result<()>
     ensures all { OnOk result (Appends (W.contents to.old) (W.contents to.new) bytes.now) }
     ensures retried { IfErr result (λ e. error_kind e ≢ ErrorKind.Interrupted) }
@@ -37,9 +38,9 @@ fn write_all<W: Write>(to: &mut W, bytes: &[u8]) -> io::Result<()>
     Err(ErrorKind::TimedOut.into())
 }
 
-/// Carries all that a reader gives to a writer, in one buffer of `PIECE` bytes, to the end of the input.
-/// A call that a signal interrupts is made again. After an error the writer has a beginning of what the
-/// reader gave.
+/// Carries all that a reader gives to a writer, in one buffer of `PIECE` bytes, to the end of the
+/// input. A call that a signal interrupts is made again. After an error the writer has a beginning
+/// of what the reader gave.
 pub fn carry<R: Read, W: Write>(alloc: Global, from: &mut R, to: &mut W) -> io::Result<()>
     ensures all { OnOk result (IfSome (R.remaining from.old)
         (Appends (W.contents to.old) (W.contents to.new))) }
@@ -69,15 +70,16 @@ fn send(rt: &HostRuntime, stream: &UnixStream) -> io::Result<()> {
     told
 }
 
-/// Tells whoever reads standard output of its end, where that is a socket, as OpenSSH's `sftp` makes it.
+/// Tells whoever reads standard output of its end, where that is a socket, as OpenSSH's `sftp`
+/// makes it.
 fn end_output(rt: &HostRuntime) {
     if let Ok(output) = rt.stdout().as_fd().try_clone_to_owned() {
         let _ = UnixStream::from(output).shutdown(Shutdown::Write);
     }
 }
 
-/// Carries what comes from the socket to standard output, and tells that of the end. Where it can't be
-/// written, the socket is shut, so that `send` ends too.
+/// Carries what comes from the socket to standard output, and tells that of the end. Where it can't
+/// be written, the socket is shut, so that `send` ends too.
 fn receive(rt: &HostRuntime, stream: &UnixStream) -> io::Result<()> {
     let received = carry(rt.alloc(), &mut &*stream, &mut rt.stdout());
     end_output(rt);

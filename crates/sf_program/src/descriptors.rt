@@ -18,8 +18,8 @@ const TRIES: u32 = 1024;
 /// How many bytes a pipe takes without waiting, once it takes any (POSIX's PIPE_BUF, on Linux).
 const PIPE_ROOM: usize = 4096;
 
-/// How long a client may take to read before more is read from it. Most read at once, and reading on costs more
-/// than to wait.
+/// How long a client may take to read before more is read from it. Most read at once, and reading
+/// on costs more than to wait.
 const PATIENCE_MILLISECONDS: i32 = 10;
 
 /// Standard output as the system names it. Opening that gives a pipe anew, with modes of its own.
@@ -38,8 +38,8 @@ fn asked(fd: RawFd, events: i16) -> pollfd {
     }
 }
 
-/// What the descriptor shows, within so many milliseconds, where it is asked whether it can be written to: 0
-/// where it would wait.
+/// What the descriptor shows, within so many milliseconds, where it is asked whether it can be
+/// written to: 0 where it would wait.
 fn shown(fd: RawFd, milliseconds: i32) -> i16 {
     let mut all = [asked(fd, POLLOUT)];
     if poll(&mut all, milliseconds) > 0 {
@@ -66,7 +66,8 @@ enum Output {
     Socket(UnixStream),
     /// A pipe that was opened anew, so that its writes don't wait and those of its other users do.
     Pipe(File),
-    /// Anything else: a file, a terminal, or a pipe that can't be opened. It is asked before each write.
+    /// Anything else: a file, a terminal, or a pipe that can't be opened. It is asked before each
+    /// write.
     Other(Stdout),
 }
 
@@ -81,8 +82,8 @@ fn socket_output(rt: &HostRuntime) -> Option<UnixStream> {
     Some(socket)
 }
 
-/// A pipe where standard output is one. One that nobody reads any more isn't opened, since that would wait for
-/// a reader.
+/// A pipe where standard output is one. One that nobody reads any more isn't opened, since that
+/// would wait for a reader.
 fn pipe_output(rt: &HostRuntime) -> Option<File> {
     let found = fs::metadata(rt, OUTPUT).ok()?;
     if !found.file_type().is_fifo() || shown(rt.stdout().as_raw_fd(), 0) & POLLERR != 0 {
@@ -131,7 +132,8 @@ impl Output {
     }
 }
 
-/// A reader with a descriptor, and what is written to. It tells no bytes, since descriptors tell none.
+/// A reader with a descriptor, and what is written to. It tells no bytes, since descriptors tell
+/// none.
 #[derive(Drop)]
 pub struct Descriptors<R> {
     reader: StreamLine<R, Sink>,

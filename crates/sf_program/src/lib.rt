@@ -1,11 +1,12 @@
 //! What each command of `sftpd` does. The words of the command line are read by `sftpd` itself.
 //!
-//! Start with `stdio.rt`: it serves one session on standard input and output; its contract says when
-//! the exit status is 0, and `specs/Statuses.antt` which status each end has. `server.rt` serves many
-//! sessions at a Unix socket (`listening.rt`), and `totals.rt` tells what they came to; `connection.rt`
-//! carries standard streams to such a socket, and `client.rt` runs one command on it. `descriptors.rt`
-//! asks the system's streams whether they would wait, for lines that read ahead. `clock.rt` tells the
-//! moment of a call. All else is in the crates below; the promises are those of `serve_one` of
+//! Start with `stdio.rt`: it serves one session on standard input and output; its contract says
+//! when the exit status is 0, and `specs/Statuses.antt` which status each end has. `server.rt`
+//! serves many sessions at a Unix socket (`listening.rt`), and `totals.rt` tells what they came to;
+//! `connection.rt` carries standard streams to such a socket, and `client.rt` runs one command on
+//! it. `descriptors.rt` asks the system's streams whether they would wait, for lines that read
+//! ahead. `clock.rt` tells the moment of a call. All else is in the crates below; the promises are
+//! those of `serve_one` of
 //! `sf_serving` and of `serve` of `sf_pool`.
 #![tactic(auto)]
 

@@ -7,8 +7,8 @@ use std::os::unix::net::{UnixListener, UnixStream};
 use std::time::Duration;
 use std::{fs, thread};
 
-/// How often a connection is asked for before the server gives up, and how long it waits in between.
-/// A system that is short of descriptors has some again once sessions have ended.
+/// How often a connection is asked for before the server gives up, and how long it waits in
+/// between. A system that is short of descriptors has some again once sessions have ended.
 const TRIES: u32 = 1000;
 
 const PAUSE_MILLISECONDS: u64 = 10;

@@ -60,11 +60,12 @@ impl ServerFault {
     }
 }
 
-/// How many accepted connections wait for a worker at most. Further ones wait in the system's queue.
+/// How many accepted connections wait for a worker at most. Further ones wait in the system's
+/// queue.
 const WAITING: usize = 256;
 
-/// Accepts so many connections, or until nobody takes them, and sends them to the workers. Tells whether
-/// connections could be had.
+/// Accepts so many connections, or until nobody takes them, and sends them to the workers. Tells
+/// whether connections could be had.
 fn accept_all<T: Wait>(
     rt: &HostRuntime,
     threads: &T,
@@ -132,8 +133,8 @@ fn serve_core<T: Threads + Wait + Sync>(
     })
 }
 
-/// Serves the connections to a listener, and writes what they came to where it was asked for a number of
-/// sessions.
+/// Serves the connections to a listener, and writes what they came to where it was asked for a
+/// number of sessions.
 pub fn serve_on<T: Threads + Wait + Sync, W: Write>(
     rt: &HostRuntime,
     threads: &T,

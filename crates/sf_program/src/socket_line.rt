@@ -33,9 +33,9 @@ impl Write for Sender {
     }
 }
 
-/// A line over a Unix stream. What is written is gathered, and sent before the line reads, once there is no more
-/// room, and when it is dropped: so who waits for a reply gets it, and many replies go by one write. While it can't
-/// send, it reads on, and keeps what it read for later.
+/// A line over a Unix stream. What is written is gathered, and sent before the line reads, once
+/// there is no more room, and when it is dropped: so who waits for a reply gets it, and many
+/// replies go by one write. While it can't send, it reads on, and keeps what it read for later.
 ///
 /// It tells no bytes, since a stream tells none.
 #[derive(Drop)]

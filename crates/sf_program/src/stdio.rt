@@ -16,9 +16,9 @@ use sf_serving::serve_one;
 use sf_session::{Cause, Clock, ServeFault};
 use std::alloc::Global;
 
-/// Serves one session over a line, on an engine of its own that keeps the last `keep` records of its
-/// calls; writes the one line of an early end to `errors`; and answers the exit status: 0 at the end
-/// of the input, else 1.
+/// Serves one session over a line, on an engine of its own that keeps the last `keep` records of
+/// its calls; writes the one line of an early end to `errors`; and answers the exit status: 0 at
+/// the end of the input, else 1.
 pub fn run_stdio<L: Line, C: Clock, E: Line>(
     alloc: Global,
     keep: usize,

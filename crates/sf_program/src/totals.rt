@@ -55,8 +55,8 @@ fn write_totals<W: Write>(sessions: u64, calls: u64, folded: u64, output: &mut W
     output.flush()
 }
 
-/// Compares what sessions were told, and the workers' shares, with the history of the core. Where both agree
-/// with it, it writes how many sessions and calls there were.
+/// Compares what sessions were told, and the workers' shares, with the history of the core. Where
+/// both agree with it, it writes how many sessions and calls there were.
 pub fn tell<W: Write>(
     alloc: Global,
     core: Core,

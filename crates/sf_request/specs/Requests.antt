@@ -131,7 +131,8 @@ Asks body (Unknown id) =
 Asks body NoVersion = (length body < 5) × BeginsInit body
 Asks body NoId = (length body < 5) × (BeginsInit body → ⊥)
 
--- The spelling that is sent: the bits of the flags that are set, and no other; attributes without other flags and pairs.
+-- The spelling that is sent: the bits of the flags that are set, and no other; attributes without
+-- other flags and pairs.
 abbrev pub fields_text : WireRequest → List ℕ
 fields_text (request.Open filename flags attrs) =
     string filename ++ be32 (bits_of flags) ++ attrs_text attrs

@@ -1,4 +1,5 @@
-//! Writing requests. Room for the whole packet is reserved first, so that nothing after it can fail.
+//! Writing requests. Room for the whole packet is reserved first, so that nothing after it can
+//! fail.
 
 ghost use Rattle.std.specs.Prelude.{◌≡◌, ◌+◌, ◌<◌, ◌≤◌, ◌^◌, ◌++◌, length, OnOk, OnErr, IsOk};
 ghost use Rattle.bytes.specs.Filled.{UsesSpare};

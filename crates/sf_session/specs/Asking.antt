@@ -62,8 +62,8 @@ handle_call (wire.FSetStat handle attrs) =
 handle_call (wire.ReadDir handle) = option_map call.ReadDir (handle_number handle)
 handle_call request = None
 
--- The call that a request asks for, if its paths have no fault and its handle is a number. LSTAT is STAT: there are no
--- symbolic links. REALPATH asks for none.
+-- The call that a request asks for, if its paths have no fault and its handle is a number. LSTAT is
+-- STAT: there are no symbolic links. REALPATH asks for none.
 abbrev pub call_of : WireRequest → Option Request
 call_of (wire.Open text flags attrs) =
     option_map (λ path. call.Open path flags attrs) (path_at text)

@@ -21,8 +21,8 @@ use Rattle.sf_session.specs.declared.session.Next.{Next}
 use Rattle.sf_session.specs.declared.session.Next.TheVariants as next
 use Rattle.sf_session.specs.Asking.{AsksFor, FitsPacket}
 
--- What a session shows: the bytes that were fed and not yet asked for, those to be sent, whether its first
--- packet was answered, the id of the request that it waits for, and why it ended.
+-- What a session shows: the bytes that were fed and not yet asked for, those to be sent, whether
+-- its first packet was answered, the id of the request that it waits for, and why it ended.
 pub record SessionView : Type 0 where
   pub unread : List ℕ
   pub output : List ℕ

@@ -296,8 +296,8 @@ impl Session {
         self.output.as_slice()
     }
 
-    /// Drops the first bytes to be sent, since they were. Takes no memory. A session that has no whole
-    /// packet unread, waits for no answer and has sent all keeps a small buffer, or none.
+    /// Drops the first bytes to be sent, since they were. Takes no memory. A session that has no
+    /// whole packet unread, waits for no answer and has sent all keeps a small buffer, or none.
     pub fn take_front(&mut self, n: usize)
         requires { n ≤ length self.old.output }
         ensures { self.new ≡ record self.old { output = drop n self.old.output } }
@@ -306,9 +306,10 @@ impl Session {
         self.let_go();
     }
 
-    /// Where it is drained, waits for no answer and has sent all, it keeps a small buffer for a few calls more, and no
-    /// other: one that stays would lie above memory that was freed, and the C library could give none of
-    /// that back. While packets are unread it keeps it for their replies.
+    /// Where it is drained, waits for no answer and has sent all, it keeps a small buffer for a few
+    /// calls more, and no other: one that stays would lie above memory that was freed, and the C
+    /// library could give none of that back. While packets are unread it keeps it for their
+    /// replies.
     fn let_go(&mut self)
         ensures { self.new ≡ self.old }
     {

@@ -23,7 +23,8 @@ abbrev pub goes_on_by : Bool → Option ℕ → Bool
 goes_on_by whole (Some byte) = byte == 47
 goes_on_by whole None = whole
 
--- Whether the byte at this place is the last one of a name, before a slash or, if the last name counts, at the end.
+-- Whether the byte at this place is the last one of a name, before a slash or, if the last name
+-- counts, at the end.
 abbrev pub ends_name : Bool → List ℕ → ℕ → Bool
 ends_name whole path at = is_of_name (slice_get path at) && goes_on_by whole (slice_get path (at + 1))
 
@@ -72,7 +73,8 @@ MakesTo session whole path zero deeds result = IsNothing deeds result
 MakesTo session whole path (suc n) deeds result = Then (MakesTo session whole path n)
     (λ done. MakesAt session whole path n) deeds result
 
--- The directories on the way to a path are made where they are missing, and its own if the last name counts.
+-- The directories on the way to a path are made where they are missing, and its own if the last
+-- name counts.
 abbrev pub MakesWay : ℕ → Bool → List ℕ → List Deed → Result (Unit {0}) Refused → Type 0
 MakesWay session whole path deeds result = MakesTo session whole path (length path) deeds result
 

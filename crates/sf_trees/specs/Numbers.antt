@@ -77,7 +77,8 @@ abbrev pub is_linked_at : Option Found → Bool
 is_linked_at (Some found) = is_linked found
 is_linked_at None = false
 
--- The mark of a name: the atime that is told of a file that has several, which is a place of one of these; else its own place.
+-- The mark of a name: the atime that is told of a file that has several, which is a place of one of
+-- these; else its own place.
 abbrev pub IsMarkIf : Bool → ℕ → List Found → Found → ℕ → List Deed → ℕ → Type 0
 IsMarkIf true session all found at deeds mark = (attrs : Attrs)
     × (deeds ≡ Asks session (request.Stat found.name.path.items) (Ok (reply.Attrs attrs)) ∷ [])
@@ -114,7 +115,8 @@ both (Ok x) (Ok done) = Ok x
 both (Ok x) (Err why) = Err why
 both (Err why) back = Err why
 
--- It is tried by a session of its own, and whatever comes of that, all times are set back by the other one.
+-- It is tried by a session of its own, and whatever comes of that, all times are set back by the
+-- other one.
 pub record HasMarked (session : ℕ) (found : List Found) (deeds : List Deed) (result : Result (List ℕ) Refused) : Type 0 where
   pub marking : ℕ
   pub tried : List Deed

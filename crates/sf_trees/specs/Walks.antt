@@ -66,7 +66,8 @@ pub record IsLast (why : Refused) (deeds : List Deed) : Type 0 where
   pub parts : deeds ≡ before ++ Asks session q came ∷ []
   pub is : IsCame why came
 
--- A walk stops for want of memory, at a file that is too large, or at what its last request came to.
+-- A walk stops for want of memory, at a file that is too large, or at what its last request came
+-- to.
 abbrev pub IsWhy : Refused → List Deed → Type 0
 IsWhy why deeds = (why.fault ≡ fault.OutOfMemory)
     ⊎ (((size : ℕ) × (most_contents < size) × (why.fault ≡ fault.TooLarge size)) ⊎ IsLast why deeds)
@@ -84,7 +85,8 @@ abbrev pub Looking : {R : Type 0} → ℕ → (List Deed → R → Type 0) → L
 Looking session P deeds (Ok x) = AreLooks session deeds × P deeds x
 Looking session P deeds (Err why) = Halts session deeds why
 
--- A number so far, and the next byte of its text: a digit, while the number isn't too long, or a space before it.
+-- A number so far, and the next byte of its text: a digit, while the number isn't too long, or a
+-- space before it.
 abbrev pub is_digit : ℕ → Bool
 is_digit b = nat_lt 47 b && nat_lt b 58
 
@@ -251,8 +253,8 @@ WalksOn session old waited deeds new = (more : List Found) × (below : List Seen
     × (new ≡ old ++ more) × AreLookedAt session more deeds below
     × (map seen waited ++ below ≡ map (λ f. seen f.name) more)
 
--- The root was asked for, and each of these was looked at, in order. They are the root and, for each directory among
--- them, all that its listing told.
+-- The root was asked for, and each of these was looked at, in order. They are the root and, for
+-- each directory among them, all that its listing told.
 pub record IsTree (session : ℕ) (deeds : List Deed) (found : List Found) : Type 0 where
   pub attrs : Attrs
   pub looks : List Deed

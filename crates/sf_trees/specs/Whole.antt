@@ -19,8 +19,8 @@ leaf_path found = found.name.path.items
 abbrev pub AreInOrder : List Found → Type 0
 AreInOrder found = IsSortedByKey leaf_path (slice_cmp nat_cmp) found
 
--- The tree was walked; these are what was found, in the order of their paths, and then marks told which names are of one
--- file.
+-- The tree was walked; these are what was found, in the order of their paths, and then marks told
+-- which names are of one file.
 pub record HasWalked (session : ℕ) (found : List Found) (deeds : List Deed) (marked : Result (List ℕ) Refused) : Type 0 where
   pub first : List Deed
   pub second : List Deed

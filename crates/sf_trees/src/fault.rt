@@ -29,7 +29,8 @@ pub enum TreeFault {
     Reply,
 }
 
-/// Which request it was, by the type of its packet, and how many bytes of the path that was given it was on.
+/// Which request it was, by the type of its packet, and how many bytes of the path that was given
+/// it was on.
 #[derive(Clone, Copy, Debug, PartialEq, Eq)]
 pub struct Place {
     pub kind: u32,

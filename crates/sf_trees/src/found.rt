@@ -31,8 +31,8 @@ pub struct TreeWalk {
     pub stopped: Option<FoundName>,
 }
 
-/// What a walk found, in the order of the paths, and the number of each: of a file one from 1 on, which all its names
-/// share; 0 of a directory.
+/// What a walk found, in the order of the paths, and the number of each: of a file one from 1 on,
+/// which all its names share; 0 of a directory.
 #[derive(Drop)]
 pub struct FoundTree {
     pub found: Vec<Found>,

@@ -1,7 +1,8 @@
 //! Trees, made and walked by requests of sessions.
 //!
-//! Start with `walk`: `specs/Whole.antt` says what it finds, and `specs/Makings.antt` what the other functions
-//! make. Both speak of what was done on a `Server`, which is a list of deeds (`specs/Deeds.antt`).
+//! Start with `walk`: `specs/Whole.antt` says what it finds, and `specs/Makings.antt` what the
+//! other functions make. Both speak of what was done on a `Server`, which is a list of deeds
+//! (`specs/Deeds.antt`).
 #![tactic(auto)]
 
 mod fault;

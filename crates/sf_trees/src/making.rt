@@ -44,8 +44,8 @@ fn goes_on_by(whole: bool, byte: Option<u8>) -> bool
     }
 }
 
-/// Whether the byte at this place is the last one of a name, before a slash or, if the last name counts, at
-/// the end.
+/// Whether the byte at this place is the last one of a name, before a slash or, if the last name
+/// counts, at the end.
 fn ends_name(whole: bool, path: &[u8], at: usize) -> bool
     requires { at + 1 ≤ length path.now }
     ensures { result ≡ ends_name whole path.now at }
@@ -135,7 +135,8 @@ fn make_if<S: Server>(
     Ok(())
 }
 
-/// Makes the directories on the way to a path where they are missing, and its own if the last name counts.
+/// Makes the directories on the way to a path where they are missing, and its own if the last name
+/// counts.
 fn make_way<S: Server>(
     server: &mut S,
     session: u64,
@@ -359,7 +360,8 @@ pub fn write_file<S: Server>(server: &mut S, path: &[u8], contents: &[u8]) -> Re
     made
 }
 
-/// Gives the file at the old path the new one too. Directories on its way are made where they are missing.
+/// Gives the file at the old path the new one too. Directories on its way are made where they are
+/// missing.
 pub fn link<S: Server>(server: &mut S, old: &[u8], new: &[u8]) -> Result<(), Refused>
     ensures { Does S.reaches server.old server.new (Links old.now new.now) result }
 {

@@ -1,8 +1,9 @@
 //! Which names are of one file.
 //!
-//! No reply tells it. So each name of a file that has several gets an atime of its own, its place in the list;
-//! then the names of one file all show the last one, by which they are known; and then all get their times back.
-//! The marks are set by a session of their own, so that wherever that fails another one can set the times back.
+//! No reply tells it. So each name of a file that has several gets an atime of its own, its place
+//! in the list; then the names of one file all show the last one, by which they are known; and then
+//! all get their times back. The marks are set by a session of their own, so that wherever that
+//! fails another one can set the times back.
 
 ghost use Rattle.std.specs.Prelude.{◌≡◌, ◌<◌, ◌^◌, ◌++◌, ◌∷◌, ℕ, [], length, slice_get, true, false, IfErr, OnOk};
 ghost use Rattle.sf_trees.specs.Deeds.{Does};
@@ -276,7 +277,8 @@ fn has_links(found: &[Found]) -> bool
     false
 }
 
-/// The marks of all names, by a session of their own. Whatever comes of that, all times are set back.
+/// The marks of all names, by a session of their own. Whatever comes of that, all times are set
+/// back.
 fn mark_by_session<S: Server>(
     server: &mut S,
     session: u64,

@@ -148,8 +148,8 @@ fn walk_by_session<S: Server>(
     walked
 }
 
-/// Walks the whole tree of a server. The tree that is given is empty; where the walk stops, it has the name at
-/// which that was, or none.
+/// Walks the whole tree of a server. The tree that is given is empty; where the walk stops, it has
+/// the name at which that was, or none.
 pub fn walk<S: Server>(server: &mut S, alloc: Global, tree: &mut FoundTree) -> Result<(), Refused>
     ensures { Does S.reaches server.old server.new
         (BySession (λ session. FindsTree session tree.new)) result }

@@ -88,8 +88,8 @@ HasBlocksLeft old new h offset bytes = (blocks_left_at new.nodes h.node ≡ 0)
 abbrev pub node_label : List (Option Node) → ℕ → Option ℕ
 node_label nodes id = option_map (λ (node : Node). node.label) (node_in nodes id)
 
--- The first step of a WRITE by this handle: no other node changes, its file keeps its holder and its
--- label, and so much is left to be copied into it.
+-- The first step of a WRITE by this handle: no other node changes, its file keeps its holder and
+-- its label, and so much is left to be copied into it.
 pub record StartsWriting (old new : StoreState) (h : OpenHandle) (offset : ℕ)
     (bytes : List ℕ) : Type 0 where
   pub others : (i : ℕ) → i ≢ h.node → node_in new.nodes i ≡ node_in old.nodes i

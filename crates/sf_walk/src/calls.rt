@@ -30,8 +30,8 @@ use std::alloc::AllocError;
 /// Answers a call whole, from the root on and without locks, whoever holds the nodes on its way.
 /// Nothing is left to be copied into a file that it reads, writes, cuts or fills up. Its number is
 /// above 0, and no label and no handle of the tree. `NoMemory` changes nothing but the count of
-/// look-ups; it is told in place of success alone, and never where a call makes nothing, and neither
-/// gives nor takes bytes or names.
+/// look-ups; it is told in place of success alone, and never where a call makes nothing, and
+/// neither gives nor takes bytes or names.
 pub fn from_root(store: &mut Store, call: &Call) -> Reply
     requires { (ways : Ways) → IsLocated store.old call.now.request ways
         → IsSettled store.old call.now.session call.now.request ways.path }

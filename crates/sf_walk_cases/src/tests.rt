@@ -41,8 +41,8 @@ enum Manner {
     BySteps,
 }
 
-/// The slow tree, and a store that gets the same calls, as a rule. They are numbered from 1 on, and the moment
-/// of each is a hundred times its number.
+/// The slow tree, and a store that gets the same calls, as a rule. They are numbered from 1 on, and
+/// the moment of each is a hundred times its number.
 #[derive(Drop)]
 struct Pair {
     plain: PlainTree,

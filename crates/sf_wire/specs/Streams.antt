@@ -18,7 +18,8 @@ pub record HasBody (bytes : List ℕ) (len : ℕ) : Type 0 where
   pub is_body : IsBody (drop 4 (take len bytes))
   pub parts : bytes ≡ packet (drop 4 (take len bytes)) ++ drop len bytes
 
--- The cutting of bytes, known what stands at their front: a first body, and the cutting of what follows its packet; or only an end.
+-- The cutting of bytes, known what stands at their front: a first body, and the cutting of what
+-- follows its packet; or only an end.
 abbrev pub CutsAfter : List ℕ → Cut → List (List ℕ) → End → Type 0
 CutsAfter bytes (cut.Whole len) bodies end = (body : List ℕ) × (others : List (List ℕ))
     × (bodies ≡ body ∷ others) × IsBody body × (bytes ≡ packet body ++ drop len bytes)
@@ -39,7 +40,8 @@ Stays bytes (cut.Whole len) = (more : List ℕ) → IsCut (bytes ++ more) (cut.W
 Stays bytes cut.More = Unit {0}
 Stays bytes (cut.Bad cause) = (more : List ℕ) → IsCut (bytes ++ more) (cut.Bad cause)
 
--- The cutting of a stream to which bytes are added: a wrong length stays the end; a rest is cut anew, with what was added.
+-- The cutting of a stream to which bytes are added: a wrong length stays the end; a rest is cut
+-- anew, with what was added.
 abbrev pub GrowsTo : End → List ℕ → List (List ℕ) → End → Type 0
 GrowsTo (More rest) more bodies end = Cuts (rest ++ more) bodies end
 GrowsTo (Bad cause) more bodies end = (bodies ≡ []) × (end ≡ Bad cause)

@@ -1,4 +1,5 @@
-//! Lines are sent by a channel, and what the workers' sessions were told is compared with the history.
+//! Lines are sent by a channel, and what the workers' sessions were told is compared with the
+//! history.
 
 use crossbeam_channel::{Receiver, Sender, unbounded};
 use sf_audit::{Transcript, audit, gather};
@@ -147,8 +148,8 @@ impl StepObserver for TwoCalls {
     }
 }
 
-/// Holds call 2 after its first step, by which it has the root, until call 3 has come to its own first step, and
-/// some time longer: call 3 waits by then, as far as that can be had.
+/// Holds call 2 after its first step, by which it has the root, until call 3 has come to its own
+/// first step, and some time longer: call 3 waits by then, as far as that can be had.
 #[derive(Drop)]
 struct InTheWay {
     seen: AtomicU64,
@@ -360,7 +361,8 @@ fn a_thousand_sessions(rt: HostRuntime) -> Result<(), Fail> {
     Ok(())
 }
 
-/// Of four calls, the last two and the session's leaving have records that are kept. What was told still agrees.
+/// Of four calls, the last two and the session's leaving have records that are kept. What was told
+/// still agrees.
 #[test]
 fn two_folded(rt: HostRuntime) -> Result<(), Fail> {
     let alloc = rt.alloc();

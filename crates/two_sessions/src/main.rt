@@ -1,8 +1,8 @@
 //! Two sessions on one engine, turn by turn: prints each event with what came of it, and then what
 //! each session was sent.
 //!
-//! Start with `schedule`, which has the events: the second session looks for `/a` while the first one makes
-//! it. docs/ENGINE.md explains the program, and what it prints.
+//! Start with `schedule`, which has the events: the second session looks for `/a` while the first
+//! one makes it. docs/ENGINE.md explains the program, and what it prints.
 #![tactic(auto)]
 
 use sf_engine::{Engine, Event};
@@ -15,7 +15,8 @@ const MAKES: &[u8] = b"\0\0\0\x05\x01\0\0\0\x03\0\0\0\x0f\x0e\0\0\0\x07\0\0\0\x0
 /// INIT, and STAT of `/a` under the id 8.
 const LOOKS: &[u8] = b"\0\0\0\x05\x01\0\0\0\x03\0\0\0\x0b\x11\0\0\0\x08\0\0\0\x02/a";
 
-/// Whose turns it is, one after the other. The second session looks before the first one has made `/a`.
+/// Whose turns it is, one after the other. The second session looks before the first one has made
+/// `/a`.
 const TURNS: &[u64] = &[1, 2, 2, 1, 1, 2, 1, 2, 2, 2, 1];
 
 /// The events: both sessions open, are fed their bytes, and take these turns at the moment 100.

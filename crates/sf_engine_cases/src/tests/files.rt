@@ -1,4 +1,5 @@
-//! One session: files and listings. A call by handle, or on the root, makes no move; one on a name of the root makes one.
+//! One session: files and listings. A call by handle, or on the root, makes no move; one on a name
+//! of the root makes one.
 
 use super::*;
 
@@ -233,7 +234,8 @@ fn put_entry(alloc: Global, want: &mut Vec<u8>, n: u8) -> Result<(), Fail> {
     Ok(())
 }
 
-/// What is sent for a listing in two parts, between which the first name goes, and after which the last one goes.
+/// What is sent for a listing in two parts, between which the first name goes, and after which the
+/// last one goes.
 fn listed(alloc: Global) -> Result<Vec<u8>, Fail> {
     let mut want = hex_packets(
         alloc,

@@ -27,7 +27,8 @@ const ASKED_FIRST: [&str; 5] = [
     "00000011 0c 00000006 00000008 0000000000000004",
 ];
 
-/// What follows: posix-rename of `/f` to `/g`, STAT of both, RENAME and a link of the same; links of
+/// What follows: posix-rename of `/f` to `/g`, STAT of both, RENAME and a link of the same; links
+/// of
 /// `/d` to `/e`, of `/f` to `/x/y` and of `/none` to `/none`; REMOVE of `/f`; and the root is listed
 /// anew, opened by the call 15.
 const ASKED_LATER: [&str; 11] = [
@@ -127,8 +128,8 @@ fn links_to(rt: &impl Abort, alloc: Global, engine: &mut Engine, number: u16, re
     assert!(rt; output.get(sent..) == Some(reply), "link {number}");
 }
 
-/// A file has 1024 names at most: with `/f` `/0002` to `/1024`. A name that goes makes room for another
-/// one.
+/// A file has 1024 names at most: with `/f` `/0002` to `/1024`. A name that goes makes room for
+/// another one.
 #[test]
 fn names_of_a_file_end(rt: HostRuntime) {
     let alloc = rt.alloc();

@@ -368,8 +368,8 @@ fn crossing_renames_the_other_way(rt: HostRuntime) {
     was_sent(&rt, alloc, &engine, 3, &[OK_1, OK_2, OK_3, OK_4, ATTRS_A]);
 }
 
-/// In rounds the first session is ahead: five of them until its call is decided, in the last of which
-/// the other one takes the root, and three more. Where no call is under way there is none.
+/// In rounds the first session is ahead: five of them until its call is decided, in the last of
+/// which the other one takes the root, and three more. Where no call is under way there is none.
 #[test]
 fn crossing_renames_in_rounds(rt: HostRuntime) {
     let alloc = rt.alloc();
@@ -383,8 +383,8 @@ fn crossing_renames_in_rounds(rt: HostRuntime) {
     rounds_are(&rt, &mut engine, 0);
 }
 
-/// A directory's `f` and `g` are one file, by what session 3 is told of it: OPENDIR under the id 10, as
-/// the call 5, and READDIR under the id 11. `/a` and `/a/f` were made by its calls 1 and 2.
+/// A directory's `f` and `g` are one file, by what session 3 is told of it: OPENDIR under the id
+/// 10, as the call 5, and READDIR under the id 11. `/a` and `/a/f` were made by its calls 1 and 2.
 fn has_two_names(rt: &impl Abort, alloc: Global, engine: &mut Engine, open_dir: &str) {
     feeds(
         rt,

@@ -25,7 +25,8 @@ fn bytes_one_at_a_time(rt: HostRuntime) -> Result<(), Fail> {
     Ok(())
 }
 
-/// A session that is fed this ends at its first turn, and at each turn after it. It is sent nothing.
+/// A session that is fed this ends at its first turn, and at each turn after it. It is sent
+/// nothing.
 fn ends(rt: &impl Abort, alloc: Global, input: &str, cause: Cause) {
     let mut engine = made(rt, alloc);
     opens(rt, &mut engine, 1);

@@ -204,7 +204,8 @@ fn output_that_was_sent(rt: HostRuntime) {
     );
 }
 
-/// A session wants bytes where it rests and no whole packet is unread; a number without a session wants none.
+/// A session wants bytes where it rests and no whole packet is unread; a number without a session
+/// wants none.
 #[test]
 fn bytes_are_wanted(rt: HostRuntime) {
     let alloc = rt.alloc();
@@ -230,8 +231,8 @@ fn bytes_are_wanted(rt: HostRuntime) {
     assert!(rt; !engine.wants_bytes(3));
 }
 
-/// Where no call is under way there is no round: no session, one that rests with a packet unread, or
-/// one whose call is decided. A call of a session that was closed has its reply all the same.
+/// Where no call is under way there is no round: no session, one that rests with a packet unread,
+/// or one whose call is decided. A call of a session that was closed has its reply all the same.
 #[test]
 fn rounds_of_one_session(rt: HostRuntime) {
     let alloc = rt.alloc();

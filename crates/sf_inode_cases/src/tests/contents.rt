@@ -1,4 +1,5 @@
-//! Each call on small contents and over blocks, with what POSIX says of `pread`, `pwrite` and `ftruncate`.
+//! Each call on small contents and over blocks, with what POSIX says of `pread`, `pwrite` and
+//! `ftruncate`.
 
 ghost use Rattle.std.specs.Prelude.{◌≡◌, ◌+◌, ◌<◌, ◌^◌, length};
 

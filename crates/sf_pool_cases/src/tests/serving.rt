@@ -93,7 +93,8 @@ impl Desk for OwnDesk<'_> {
     }
 }
 
-/// Such a desk that tells what it was asked to begin. It refuses the second call for want of memory.
+/// Such a desk that tells what it was asked to begin. It refuses the second call for want of
+/// memory.
 #[derive(Drop)]
 struct TellingDesk<'a, R: Abort> {
     rt: &'a R,
@@ -259,7 +260,8 @@ fn prompt_replies(rt: HostRuntime) -> Result<(), Fail> {
     Ok(())
 }
 
-/// The calls that began, each at its moment, and the one that the desk refused, whose reply says so.
+/// The calls that began, each at its moment, and the one that the desk refused, whose reply says
+/// so.
 #[test]
 fn begins_and_a_refusal(rt: HostRuntime) -> Result<(), Fail> {
     let alloc = rt.alloc();

@@ -63,7 +63,8 @@ impl Read for PieceReader<'_> {
     }
 }
 
-/// Takes pieces of at most `most` bytes, with an interruption before each, until it has `room` of them.
+/// Takes pieces of at most `most` bytes, with an interruption before each, until it has `room` of
+/// them.
 #[derive(Drop)]
 struct PieceWriter {
     taken: Vec<u8>,
@@ -158,7 +159,8 @@ fn a_reader_fails(rt: HostRuntime) {
     assert_eq!(rt; to.taken.as_slice(), b"abcdefgh".as_slice());
 }
 
-/// A writer that fails, or takes nothing more, in the middle of a piece: what it took is a beginning.
+/// A writer that fails, or takes nothing more, in the middle of a piece: what it took is a
+/// beginning.
 #[test]
 fn a_writer_fails(rt: HostRuntime) {
     let alloc = rt.alloc();

@@ -56,8 +56,8 @@ fn sessions(rt: &HostRuntime, path: &str, inputs: &[Vec<u8>]) -> io::Result<Vec<
     Ok(all)
 }
 
-/// A server of two workers, which keeps so many records, serves these sessions: their replies, and what the
-/// server tells.
+/// A server of two workers, which keeps so many records, serves these sessions: their replies, and
+/// what the server tells.
 fn served<T: Threads + Wait + Abort + Sync>(
     rt: &HostRuntime,
     threads: &T,
@@ -152,7 +152,8 @@ fn folded_calls_are_told(rt: HostRuntime) -> Result<(), Fail> {
     Ok(())
 }
 
-/// The file of a listener that is gone is replaced. Another file, or that of one that listens, is not.
+/// The file of a listener that is gone is replaced. Another file, or that of one that listens, is
+/// not.
 #[test]
 fn left_file_is_replaced(rt: HostRuntime) -> Result<(), Fail> {
     let path = "left.socket";

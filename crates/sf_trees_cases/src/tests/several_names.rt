@@ -2,8 +2,8 @@
 
 use super::*;
 
-/// Two files of two names each and one of one, which differ in their names alone: their atimes are 5, their
-/// mtimes 9.
+/// Two files of two names each and one of one, which differ in their names alone: their atimes are
+/// 5, their mtimes 9.
 fn alike(rt: &impl Abort, alloc: Global) -> Asker {
     let mut asker = asker(rt, alloc);
     let times = Attrs {

@@ -83,8 +83,8 @@ impl Draws {
         path(alloc, self.text())
     }
 
-    /// Where a block ends, a run of blocks, the longest file that 24 bits or 32 count, or the longest
-    /// of all.
+    /// Where a block ends, a run of blocks, the longest file that 24 bits or 32 count, or the
+    /// longest of all.
     fn seam(&mut self) -> u64 {
         match self.below(5) {
             0 => 4096,

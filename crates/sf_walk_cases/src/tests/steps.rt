@@ -244,7 +244,8 @@ fn the_root_does_not_move(rt: HostRuntime) -> Result<(), Fail> {
     Ok(())
 }
 
-/// Takes a rename of a node of the ground through these stages, and decides it: it is a move, and succeeds.
+/// Takes a rename of a node of the ground through these stages, and decides it: it is a move, and
+/// succeeds.
 fn moves(rt: &impl Abort, ground: &mut Ground, request: Request, stages: &[Stage], want: Ways) {
     let mut call = fresh(request);
     assert!(rt; ground.store.is_directory(ground.store.root()));

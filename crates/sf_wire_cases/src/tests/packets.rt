@@ -18,7 +18,8 @@ pub(super) fn is_one_packet(rt: &impl Abort, packet: &[u8]) {
     is_cut(rt, packet, Cut::Whole(packet.len()));
 }
 
-/// What the body of a packet asks, once the `fields` bytes of its type, its id and its fields are there.
+/// What the body of a packet asks, once the `fields` bytes of its type, its id and its fields are
+/// there.
 pub(super) fn asks(
     rt: &impl Abort,
     alloc: Global,

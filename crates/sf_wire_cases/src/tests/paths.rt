@@ -125,7 +125,8 @@ fn fault_numbers_and_words(rt: HostRuntime) -> Result<(), Fail> {
     Ok(())
 }
 
-/// How many names two paths have in common at their front, and whether the other one is all of them.
+/// How many names two paths have in common at their front, and whether the other one is all of
+/// them.
 fn has_front(
     rt: &impl Abort,
     alloc: Global,

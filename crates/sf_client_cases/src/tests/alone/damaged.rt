@@ -26,8 +26,8 @@ fn is_damaged(rt: &impl Abort, alloc: Global, replies: &[&str]) {
     tells(rt, client.stat(b"/f"), Err(ClientFault::Failed));
 }
 
-/// The end of the input, another id, STATUS OK in the place of attributes, a byte after the reply, a
-/// length of 0, one above 262144, and one that the input doesn't hold.
+/// The end of the input, another id, STATUS OK in the place of attributes, a byte after the reply,
+/// a length of 0, one above 262144, and one that the input doesn't hold.
 #[test]
 fn not_the_due_reply(rt: HostRuntime) {
     let alloc = rt.alloc();

@@ -59,8 +59,8 @@ fn get_replies(alloc: Global) -> Result<BytesMut, Fail> {
     Ok(input)
 }
 
-/// FSTAT tells the size; a READ up to it is sent ahead, and after a short piece the others are dropped.
-/// Then a READ that is refused, and CLOSE all the same.
+/// FSTAT tells the size; a READ up to it is sent ahead, and after a short piece the others are
+/// dropped. Then a READ that is refused, and CLOSE all the same.
 #[test]
 fn get(rt: HostRuntime) {
     let alloc = rt.alloc();
