@@ -81,16 +81,24 @@ first_depth r at (IsApart old new c f g is) top ends e =
     ]
 
 -- a call that wants what another holds looks less far down
-pub looks_deeper : (s : Walkers) → AreWalks s → (n m : ℕ) → n ≢ m → (r q : Route) (at there : Stage) → s.spots n ≡ spots_of r at → IsPosition r at → s.spots m ≡ spots_of q there → IsPosition q there
-    → (wanted : Spot) → LooksUp r at wanted.path → Holds (s.spots m) wanted → depth_at r at < depth_at q there
-looks_deeper s walks n m other r q at there own is its has wanted looks held =
-    by (spots_of q there) refl (subst (λ (x : List Spot). Holds x wanted) its held)
+-- a call that walks, and what it holds: its number, its route and where it is on it
+pub record WalkingCall (s : Walkers) : Type 0 where
+  pub number : ℕ
+  pub route : Route
+  pub at : Stage
+  pub holds : s.spots number ≡ spots_of route at
+  pub position : IsPosition route at
+
+pub looks_deeper : (s : Walkers) → AreWalks s → (a b : WalkingCall s) → a.number ≢ b.number → (wanted : Spot) → LooksUp a.route a.at wanted.path → Holds (s.spots b.number) wanted → depth_at a.route a.at < depth_at b.route b.at
+looks_deeper s walks a b other wanted looks held =
+    by (spots_of b.route b.at) refl (subst (λ (x : List Spot). Holds x wanted) b.holds held)
   where
-    by : (spots : List Spot) → spots_of q there ≡ spots → Holds spots wanted → depth_at r at < depth_at q there
+    by : (spots : List Spot) → spots_of b.route b.at ≡ spots → Holds spots wanted → depth_at a.route a.at < depth_at b.route b.at
     by [] e h = absurd h
     by (top ∷ ends) e h =
-        let a = looks_depth r at wanted.path looks is in
-        let b = first_depth q there has top ends e in
-        let same = waits_at_top s walks n m other wanted (subst (λ (x : List Spot). IsFrom x wanted) (sym own) (looks_from r at wanted.path looks is wanted refl)) top ends (its ∙ e) h in
+        let looked = looks_depth a.route a.at wanted.path looks a.position in
+        let first = first_depth b.route b.at b.position top ends e in
+        let from = subst (λ (x : List Spot). IsFrom x wanted) (sym a.holds) (looks_from a.route a.at wanted.path looks a.position wanted refl) in
+        let same = waits_at_top s walks a.number b.number other wanted from top ends (b.holds ∙ e) h in
         let d = ap (λ (p : Path). length p) same in
-        omega (arith, a, b, d)
+        omega (arith, looked, first, d)

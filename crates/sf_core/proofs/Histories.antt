@@ -38,8 +38,29 @@ among_last r [] = inl refl
 among_last r (x ∷ h) = inr (among_last r h)
 
 -- ---- the book
-few : (all folded gone now before rest total : ℕ) → folded ≡ gone → now ≡ before → gone + before ≡ all → all + rest ≡ total → total < 2 ^ 63 → min (folded + now) (2 ^ 64 - 1) ≡ all
-few all folded gone now before rest total a b c d e = omega (arith, a, b, c, d, e)
+-- what is counted of a history of so many calls, when it has one record more: those that the book
+-- has let go, before and now, and those that it still has
+record Counts (all : ℕ) : Type 0 where
+  folded : ℕ
+  gone : ℕ
+  now : ℕ
+  before : ℕ
+  kept : ℕ
+  total : ℕ
+  as_gone : folded ≡ gone
+  as_before : now ≡ before
+  parts : gone + before ≡ all
+  whole : all + kept ≡ total
+  small : total < 2 ^ 63
+
+few : (all : ℕ) (c : Counts all) → min (c.folded + c.now) (2 ^ 64 - 1) ≡ all
+few all c =
+    let as_gone = c.as_gone in
+    let as_before = c.as_before in
+    let parts = c.parts in
+    let whole = c.whole in
+    let small = c.small in
+    omega (arith, as_gone, as_before, parts, whole, small)
 
 -- the book has the history's last records, and counts those before
 pub record IsWritten (b : BookView) (h : List Record) : Type 0 where
@@ -52,9 +73,19 @@ written_put b h r w small = record {
   folded =
       let y : count_by is_call (gone_of b.keep (b.records ++ r ∷ [])) ≡ count_by is_call (gone_of b.keep (kept_of b.keep h ++ r ∷ [])) =
       ap (λ (rs : List Record). count_by is_call (gone_of b.keep (rs ++ r ∷ []))) w.records in
-      few (count_by is_call (gone_of b.keep (h ++ r ∷ []))) b.folded (count_by is_call (gone_of b.keep h)) (count_by is_call (gone_of b.keep (b.records ++ r ∷ [])))
-      (count_by is_call (gone_of b.keep (kept_of b.keep h ++ r ∷ []))) (count_by is_call (kept_of b.keep (h ++ r ∷ []))) (count_by is_call (h ++ r ∷ [])) w.folded y (gone-put b.keep h r)
-      (deeds-split (h ++ r ∷ []) (excess b.keep (h ++ r ∷ []))) small;
+      few (count_by is_call (gone_of b.keep (h ++ r ∷ []))) (record {
+        folded = b.folded;
+        gone = count_by is_call (gone_of b.keep h);
+        now = count_by is_call (gone_of b.keep (b.records ++ r ∷ []));
+        before = count_by is_call (gone_of b.keep (kept_of b.keep h ++ r ∷ []));
+        kept = count_by is_call (kept_of b.keep (h ++ r ∷ []));
+        total = count_by is_call (h ++ r ∷ []);
+        as_gone = w.folded;
+        as_before = y;
+        parts = gone-put b.keep h r;
+        whole = deeds-split (h ++ r ∷ []) (excess b.keep (h ++ r ∷ []));
+        small = small;
+      });
 }
 
 -- ---- the history after an event of one call and of one session: g is the old one, with records or without

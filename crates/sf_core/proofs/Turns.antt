@@ -257,8 +257,10 @@ module _ (p : PartsView) (lane : LaneView) (c : Call) (turn : IsTurn p lane c) w
             told_by h sound holder d.0 d.1 w.advances.other (inl none)
             (inl (record { spot = wants.0; looks = wants.1; leads = wants.2; held = wants.3 ∙ ap Some (sym (sound.ledger.calls holder d.0 d.1).is_number); came = inl d.2 })) (
               not_copying p h sound c.number c turn.at undecided,
-              inr (looks_deeper (walkers_at (terrain p.store) (spots_in p.calls) (walker_of p.store.nodes)) sound.coupled.walks c.number holder w.advances.other (route_of c.request) (route_of d.0.request) c.stage d.0.stage
-                  (spots c.number c turn.at) (sound.coupled.positions c.number c turn.at undecided) (spots holder d.0 d.1) (sound.coupled.positions holder d.0 d.1 none) wants.0 wants.1 wants.4),
+              inr (looks_deeper (walkers_at (terrain p.store) (spots_in p.calls) (walker_of p.store.nodes)) sound.coupled.walks
+                  (record { number = c.number; route = route_of c.request; at = c.stage; holds = spots c.number c turn.at; position = sound.coupled.positions c.number c turn.at undecided })
+                  (record { number = holder; route = route_of d.0.request; at = d.0.stage; holds = spots holder d.0 d.1; position = sound.coupled.positions holder d.0 d.1 none })
+                  w.advances.other wants.0 wants.1 wants.4),
             ) looks_few
         | inr f ↦
             let copies : IsCopying f.0.stage = subst IsCopying (sym f.3) tt in

@@ -213,8 +213,14 @@ module _ (p : PartsView) (h : List Record) (sound : Sound p h) (c : Call) (at : 
   reset_sound start =
       let s = freed c.stage p.store in
       come_sound p h sound c at undecided s stage.Fresh (let_go_keeps [] (nodes_of c.stage) p.store (replay h) sound.history.tree)
-      (reset_keeps p.store (spots_in p.calls) (spots_in (staged p.calls c.number stage.Fresh)) c.number (route_of c.request) c.stage sound.coupled.walks (sound.coupled.positions c.number c at undecided)
-      (spots_were p h sound c at undecided s stage.Fresh) (spots_now p h sound c at undecided s stage.Fresh) (spots_other p h sound c at undecided s stage.Fresh))
+      (reset_keeps p.store (spots_in p.calls) (spots_in (staged p.calls c.number stage.Fresh)) c.number sound.coupled.walks (record {
+        route = route_of c.request;
+        at = c.stage;
+        position = sound.coupled.positions c.number c at undecided;
+        was = spots_were p h sound c at undecided s stage.Fresh;
+        none = spots_now p h sound c at undecided s stage.Fresh;
+        same = spots_other p h sound c at undecided s stage.Fresh;
+      }))
       start (files_let_go [] (nodes_of c.stage) p.store)
       (reset_writers p.store (spots_in p.calls) c.number (route_of c.request) c.stage sound.coupled.walks (sound.coupled.positions c.number c at undecided) (spots_were p h sound c at undecided s stage.Fresh))
 
@@ -278,4 +284,4 @@ module _ (p q : PartsView) (h : List Record) (sound : Sound p h) (c : Call) (at 
         positions = λ m d is. sound.coupled.positions m d (still m d is);
         waiting = λ m d g is some. sound.coupled.waiting m d g (still m d is) some;
       })
-      (copied_still p q c.number (Some c) None sound.copied calls_now (ap copying_at fresh) refl fetched.store)
+      (copied_still p q c.number sound.copied (record { was = Some c; now = None; calls = calls_now; was_none = ap copying_at fresh; now_none = refl; store = fetched.store }))
