@@ -489,19 +489,13 @@ module _ (p : PartsView) (h : List Record) (sound : Sound p h) (fits : p.store.l
   rise = numbers_rise test p.calls sound.ledger.calls_rise
 
   pub all : HelpedAll old b m h numbers
-  all = help_all numbers old b m h (record {
-    sound = back.sound;
-    clear = clear;
-    fits = let e = back.look_ups in omega (arith, e, fits);
-    ready = ready;
-    apart = rising_apart numbers rise;
-  }) helps
+  all = help_all numbers old b m h (record { sound = back.sound; clear = clear; fits = let e = back.look_ups in omega (arith, e, fits) }) ready (rising_apart numbers rise) helps
 
   not_these : (k : ℕ) (d : Call) → call_at p.calls k ≡ Some d → test (k, d) ≡ false → IsStill m (HasCut all.helped) k d
   not_these k d is e = all.others k d (one_is k d is ∙ e) (in_b k d is ∙ ap (λ x. back_if x (Some d)) e)
 
   at_m : call_at m.calls c.number ≡ Some c
-  at_m = still_undecided p m h sound (HasCut all.helped) c.number c (record { at = at; undecided = undecided }) (not_these c.number c at (elim (test (c.number, c)) as (λ y. test (c.number, c) ≡ y → y ≡ false) [
+  at_m = still_undecided p m h sound (HasCut all.helped) c.number (record { call = c; at = at; undecided = undecided }) (not_these c.number c at (elim (test (c.number, c)) as (λ y. test (c.number, c) ≡ y → y ≡ false) [
     | true ↦ λ e. absurd ((tests c.number c e).0 refl)
     | false ↦ λ e. refl
   ] refl))
@@ -606,8 +600,8 @@ module _ (p : PartsView) (h : List Record) (sound : Sound p h) (fits : p.store.l
   }
 
 -- ---- both
--- a call has come to where it decides
-pub record AtDecision (p : PartsView) (h : List Record) (c : Call) (ways : Ways) : Type 0 where
+-- what is so of an undecided call that may be decided where its walk ends
+pub record MayPrepare (p : PartsView) (h : List Record) (c : Call) (ways : Ways) : Type 0 where
   pub sound : Sound p h
   pub fits : p.store.look_ups < 2 ^ 64
   pub at : call_at p.calls c.number ≡ Some c
@@ -617,14 +611,13 @@ pub record AtDecision (p : PartsView) (h : List Record) (c : Call) (ways : Ways)
   pub holds : HoldsParent (route_of c.request) c.stage ways
   pub settled : IsSettled p.store c.session c.request ways.path
 
-pub prepared : (p : PartsView) (h : List Record) (c : Call) (ways : Ways) → AtDecision p h c ways → (m : PartsView) → Overtakes p m c → Prepared p m h c ways
-prepared p h c ways is m overtakes =
-    let sound = is.sound in
-    let o = overtakes (replay h) sound.history.tree in
+pub prepared : (p : PartsView) (h : List Record) (c : Call) (ways : Ways) → MayPrepare p h c ways → (m : PartsView) → Overtakes p m c → Prepared p m h c ways
+prepared p h c ways may m overtakes =
+    let o = overtakes (replay h) may.sound.history.tree in
     elim (moved_by (answer_to (replay h) c.session c.number c.moment c.request).changes) as (λ x. moved_by (answer_to (replay h) c.session c.number c.moment c.request).changes ≡ x → Prepared p m h c ways) [
       | None ↦ λ e.
           let none : o.0 ≡ [] = o.1 ∙ ap (overtaken p.calls c.number) e in
-          prepared_unmoved p h sound c is.at is.undecided ways is.located is.free is.settled e m (subst (λ (ns : List ℕ). HelpsAll (all_set_back p ns) ns m) none o.2)
+          prepared_unmoved p h may.sound c may.at may.undecided ways may.located may.free may.settled e m (subst (λ (ns : List ℕ). HelpsAll (all_set_back p ns) ns m) none o.2)
       | Some x ↦ λ e. by_target x e (target_of c.request) refl
     ] refl
   where
@@ -632,8 +625,8 @@ prepared p h c ways is m overtakes =
     by_target x e (ByHandle handle) f = absurd (none_some x (sym (never_moved (replay h) c.session c.number c.moment c.request (λ old new same. let z : ByHandle handle ≡ OnPaths old new = sym f ∙ same in let k : ⊥ = cc in k)) ∙ e))
     by_target x e (OnPath path) f = absurd (none_some x (sym (never_moved (replay h) c.session c.number c.moment c.request (λ old new same. let z : OnPath path ≡ OnPaths old new = sym f ∙ same in let k : ⊥ = cc in k)) ∙ e))
     by_target x e (OnPaths old new) f =
-        let o = overtakes (replay h) is.sound.history.tree in
-        let from = moved_old h c.number c.session c.moment c.request old new x is.sound.history.legal (is.sound.ledger.calls c.number c is.at).above (is.sound.history.undecided c.number c is.at is.undecided) f e in
-        let moved : moved_by (answer_to (replay h) c.session c.number c.moment c.request).changes ≡ Some old = e ∙ ap Some from.0 in
+        let o = overtakes (replay h) may.sound.history.tree in
+        let is = moved_old h c.number c.session c.moment c.request old new x may.sound.history.legal (may.sound.ledger.calls c.number c may.at).above (may.sound.history.undecided c.number c may.at may.undecided) f e in
+        let moved : moved_by (answer_to (replay h) c.session c.number c.moment c.request).changes ≡ Some old = e ∙ ap Some is.0 in
         let these : o.0 ≡ overtaken p.calls c.number (Some old) = o.1 ∙ ap (overtaken p.calls c.number) moved in
-        prepared_moved p h is.sound is.fits c is.at is.undecided ways is.located is.free is.holds old new f moved from.1 m (subst (λ (ns : List ℕ). HelpsAll (all_set_back p ns) ns m) these o.2)
+        prepared_moved p h may.sound may.fits c may.at may.undecided ways may.located may.free may.holds old new f moved is.1 m (subst (λ (ns : List ℕ). HelpsAll (all_set_back p ns) ns m) these o.2)

@@ -214,7 +214,13 @@ pub call_there : (o : Option Call) → IsSome o → (c : Call) × (o ≡ Some c)
 call_there None h = absurd (let z : ⊥ = cc in z)
 call_there (Some c) h = (c, refl)
 
-pub written_on : {p q : PartsView} {c : Call} {session number most : ℕ} (mid : PartsView) (o : Option Reply) → HasBegunWrite p mid c number → IfSome o (λ given. EndsCopying mid q session number (most - 1) given)
-    → IfNone o (CopiedOn (most - 1) mid number q) → WritesOn p q c session number most o
-written_on mid None begun ends more = UpToThere mid begun more
-written_on mid (Some given) begun ends more = ToTheEnd given mid begun ends
+-- a WRITE that has begun was copied on, up to its end or up to there
+pub record CopiesOn (p q : PartsView) (c : Call) (session number most : ℕ) (o : Option Reply) : Type 0 where
+  pub mid : PartsView
+  pub begun : HasBegunWrite p mid c number
+  pub ends : IfSome o (λ given. EndsCopying mid q session number (most - 1) given)
+  pub more : IfNone o (CopiedOn (most - 1) mid number q)
+
+pub written_on : (p q : PartsView) (c : Call) (session number most : ℕ) (o : Option Reply) → CopiesOn p q c session number most o → WritesOn p q c session number most o
+written_on p q c session number most None w = UpToThere w.mid w.begun w.more
+written_on p q c session number most (Some given) w = ToTheEnd given w.mid w.begun w.ends

@@ -12,11 +12,10 @@ use Rattle.sf_coupling.specs.Walks.{Terrain, Spot, Holds, IsNodeOf, LeadsTo, wal
 use Rattle.sf_coupling.specs.Stepping.{TakesSpot}
 use Rattle.sf_coupling.proofs.Laws.{step_keeps, takes_held, takes_new, holder_is, let_go_keeps}
 use Rattle.sf_walk.specs.declared.walking.Walk.TheVariants.{Moved}
-use Rattle.sf_walk.specs.Routes.{IsPosition, spots_of, nodes_of, terrain}
+use Rattle.sf_walk.specs.Routes.{Route, IsPosition, spots_of, nodes_of, terrain}
 use Rattle.sf_walk.specs.Steps.{Walker, entered, handed_over, let_go, AdvancesTo}
 use Rattle.sf_walk.proofs.Laws.{ground_stays, same_let_go, leads_same, moved_hands, freed_hands}
 use Rattle.sf_core.specs.Sound.{walker_of, writer_of_file}
-use Rattle.sf_core.proofs.Deeper.{WalkingCall}
 use Rattle.sf_core.proofs.Walkers.{walker_holds, free_walks, walks_hands}
 use Rattle.sf_core.proofs.Writers.{SameFiles, no_directory, files_let_go, writers_stay}
 
@@ -79,24 +78,35 @@ module _ (old new : StoreState) (history : List Record) (keeps : Keeps old (repl
   -- who holds a file holds it still
   pub moved_writers : SameFiles old new → (id : ℕ) → writer_of_file new.nodes id ≡ writer_of_file old.nodes id
   moved_writers same =
-      writers_stay w.number (spots_of w.route w.at) (spots_of w.route after) same no_file_was
-      (λ l h file. no_directory old.nodes l file (sym ((ground_stays old new w (Moved after) moves).directory l) ∙ is_directory l h)) hands
+      writers_stay old new w.number (spots_of w.route w.at) (spots_of w.route after) same
+      (record { before = no_file_was; after = λ l h file. no_directory old.nodes l file (sym ((ground_stays old new w (Moved after) moves).directory l) ∙ is_directory l h) }) hands
 
 -- ---- a call is set back: nothing is asked of it
-pub reset_keeps : (s : StoreState) (f f' : ℕ → List Spot) → AreWalks (walkers_at (terrain s) f (walker_of s.nodes)) → (c : WalkingCall (walkers_at (terrain s) f (walker_of s.nodes))) → f' c.number ≡ []
-    → ((m : ℕ) → c.number ≢ m → f' m ≡ f m) → AreWalks (walkers_at (terrain (let_go [] (nodes_of c.stage) s)) f' (walker_of (let_go [] (nodes_of c.stage) s).nodes))
-reset_keeps s f f' walks c none same =
-    let n = c.number in
-    let at = c.stage in
-    walks_on (terrain s) (terrain (let_go [] (nodes_of at) s)) f' (walker_of (let_go [] (nodes_of at) s).nodes) (leads_same s (let_go [] (nodes_of at) s) (same_let_go [] (nodes_of at) s))
-    (let_go_keeps (terrain s) f f' (walker_of s.nodes) (walker_of (let_go [] (nodes_of at) s).nodes) n walks none same
-    (subst (λ (x : List Spot). HandsOver (walker_of s.nodes) (walker_of (let_go [] (nodes_of at) s).nodes) n x []) (sym c.spots)
-    (walks_hands s (let_go [] (nodes_of at) s) n (spots_of c.route at) [] (same_let_go [] (nodes_of at) s).directory (λ l h. absurd h.holds) (freed_hands c.route at c.position s n))))
+-- a call that holds spots of its route, and holds none then
+pub record LetsGo (f f' : ℕ → List Spot) (n : ℕ) : Type 0 where
+  pub route : Route
+  pub at : Stage
+  pub position : IsPosition route at
+  pub was : f n ≡ spots_of route at
+  pub none : f' n ≡ []
+  pub same : (m : ℕ) → n ≢ m → f' m ≡ f m
 
-pub reset_writers : (s : StoreState) (f : ℕ → List Spot) → AreWalks (walkers_at (terrain s) f (walker_of s.nodes)) → (c : WalkingCall (walkers_at (terrain s) f (walker_of s.nodes)))
-    → (id : ℕ) → writer_of_file (let_go [] (nodes_of c.stage) s).nodes id ≡ writer_of_file s.nodes id
-reset_writers s f walks c =
-    writers_stay c.number (spots_of c.route c.stage) [] (files_let_go [] (nodes_of c.stage) s)
-    (λ l h file.
-    let leads = walks.leads c.number h.spot (subst (λ (x : List Spot). Holds x h.spot) (sym c.spots) h.holds) in
-    no_directory s.nodes l file (ap (is_directory_at s.nodes) (sym h.node) ∙ leads.directory)) (λ l h file. h.holds) (freed_hands c.route c.stage c.position s c.number)
+pub reset_keeps : (s : StoreState) (f f' : ℕ → List Spot) (n : ℕ) → AreWalks (walkers_at (terrain s) f (walker_of s.nodes)) → (g : LetsGo f f' n)
+    → AreWalks (walkers_at (terrain (let_go [] (nodes_of g.at) s)) f' (walker_of (let_go [] (nodes_of g.at) s).nodes))
+reset_keeps s f f' n walks g =
+    let at = g.at in
+    let after = let_go [] (nodes_of at) s in
+    walks_on (terrain s) (terrain after) f' (walker_of after.nodes) (leads_same s after (same_let_go [] (nodes_of at) s))
+    (let_go_keeps (terrain s) f f' (walker_of s.nodes) (walker_of after.nodes) n walks g.none g.same
+    (subst (λ (x : List Spot). HandsOver (walker_of s.nodes) (walker_of after.nodes) n x []) (sym g.was)
+    (walks_hands s after n (spots_of g.route at) [] (same_let_go [] (nodes_of at) s).directory (λ l h. absurd h.holds) (freed_hands g.route at g.position s n))))
+
+pub reset_writers : (s : StoreState) (f : ℕ → List Spot) (n : ℕ) (route : Route) (at : Stage) → AreWalks (walkers_at (terrain s) f (walker_of s.nodes)) → IsPosition route at → f n ≡ spots_of route at
+    → (id : ℕ) → writer_of_file (let_go [] (nodes_of at) s).nodes id ≡ writer_of_file s.nodes id
+reset_writers s f n route at walks is own =
+    writers_stay s (let_go [] (nodes_of at) s) n (spots_of route at) [] (files_let_go [] (nodes_of at) s) (record {
+      before = λ l h file.
+          let leads = walks.leads n h.spot (subst (λ (x : List Spot). Holds x h.spot) (sym own) h.holds) in
+          no_directory s.nodes l file (ap (is_directory_at s.nodes) (sym h.node) ∙ leads.directory);
+      after = λ l h file. h.holds;
+    }) (freed_hands route at is s n)

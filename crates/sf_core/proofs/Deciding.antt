@@ -85,10 +85,17 @@ no_directory t q label o e f g =
 take_next : (p : Path) (i : ℕ) (n : Name) → i < length p → slice_get p i ≡ Some n → take (i + 1) p ≡ take i p ++ n ∷ []
 take_next p i n h g = ap (λ j. take j p) (add-one i) ∙ take-suc p i [] h ∙ ap (λ (x : Name). take i p ++ x ∷ []) (get_or_from_slice_get p i n [] g)
 
-module _ (s : StoreState) (t : Tree) (keeps : Keeps s t) (path : Path) (w node : ℕ) (short : w < length path) (leads : walk (child_of s.nodes) s.root (take w path) ≡ Some node) where
-  next_walk : (name : Name) → slice_get path w ≡ Some name → walk (child_of s.nodes) s.root (take (w + 1) path) ≡ child_of s.nodes node name
-  next_walk name e = ap (walk (child_of s.nodes) s.root) (take_next path w name short e) ∙ walk_on s t keeps (take w path) node name leads
+-- the name of a path behind so many
+record NameBehind (path : Path) (walked : ℕ) : Type 0 where
+  name : Name
+  short : walked < length path
+  is : slice_get path walked ≡ Some name
 
+next_walk : (s : StoreState) (t : Tree) → Keeps s t → (path : Path) (w : ℕ) (n : NameBehind path w) (node : ℕ) → walk (child_of s.nodes) s.root (take w path) ≡ Some node
+    → walk (child_of s.nodes) s.root (take (w + 1) path) ≡ child_of s.nodes node n.name
+next_walk s t keeps path w n node leads = ap (walk (child_of s.nodes) s.root) (take_next path w n.name n.short n.is) ∙ walk_on s t keeps (take w path) node n.name leads
+
+module _ (s : StoreState) (t : Tree) (keeps : Keeps s t) (path : Path) (w node : ℕ) (short : w < length path) (leads : walk (child_of s.nodes) s.root (take w path) ≡ Some node) where
   nothing_next : (o : Option Name) → slice_get path w ≡ o → w + 1 < length path → LeadsNowhere s.nodes node o → is_directory t (take (w + 1) path) ≡ false
   nothing_next None e more h = absurd (found_some w path short e)
     where
@@ -100,9 +107,9 @@ module _ (s : StoreState) (t : Tree) (keeps : Keeps s t) (path : Path) (w node :
       elim (child_of s.nodes node name) as (λ o. child_of s.nodes node name ≡ o → is_directory t (take (w + 1) path) ≡ false) [
         | None ↦ λ f. no_label t (take (w + 1) path)
             (label_found s t keeps (take (w + 1) path)
-            ∙ ap (λ (o : Option ℕ). option_map (λ (x : Node). x.label) (option_and_then (node_in s.nodes) o)) (next_walk name e ∙ f))
+            ∙ ap (λ (o : Option ℕ). option_map (λ (x : Node). x.label) (option_and_then (node_in s.nodes) o)) (next_walk s t keeps path w (record { name = name; short = short; is = e }) node leads ∙ f))
         | Some child ↦ λ f.
-            let found = next_walk name e ∙ f in
+            let found = next_walk s t keeps path w (record { name = name; short = short; is = e }) node leads ∙ f in
             let it = reached_node s t keeps (take (w + 1) path) child found in
             let label = label_found s t keeps (take (w + 1) path) ∙ ap (λ (o : Option ℕ). option_map (λ (x : Node). x.label) (option_and_then (node_in s.nodes) o)) found ∙ ap (option_map (λ (x : Node). x.label)) it.1 in
             let file : is_directory_content it.0.content ≡ false = sym (ap (λ (o : Option Node). option_map_or (λ (x : Node). is_directory_content x.content) o false) it.1) ∙ h child f in

@@ -80,26 +80,25 @@ first_depth r at (IsApart old new c f g is) top ends e =
       | false ↦ omega (arith, a, b, x)
     ]
 
--- a call that stands where its stage on its route is
+-- a call that wants what another holds looks less far down
+-- a call that walks, and what it holds: its number, its route and where it is on it
 pub record WalkingCall (s : Walkers) : Type 0 where
   pub number : ℕ
   pub route : Route
-  pub stage : Stage
-  pub spots : s.spots number ≡ spots_of route stage
-  pub position : IsPosition route stage
+  pub at : Stage
+  pub holds : s.spots number ≡ spots_of route at
+  pub position : IsPosition route at
 
--- a call that wants what another holds looks less far down
-pub looks_deeper : (s : Walkers) → AreWalks s → (c d : WalkingCall s) → c.number ≢ d.number → (wanted : Spot) → LooksUp c.route c.stage wanted.path → Holds (s.spots d.number) wanted
-    → depth_at c.route c.stage < depth_at d.route d.stage
-looks_deeper s walks c d other wanted looks held =
-    by (spots_of d.route d.stage) refl (subst (λ (x : List Spot). Holds x wanted) d.spots held)
+pub looks_deeper : (s : Walkers) → AreWalks s → (a b : WalkingCall s) → a.number ≢ b.number → (wanted : Spot) → LooksUp a.route a.at wanted.path → Holds (s.spots b.number) wanted → depth_at a.route a.at < depth_at b.route b.at
+looks_deeper s walks a b other wanted looks held =
+    by (spots_of b.route b.at) refl (subst (λ (x : List Spot). Holds x wanted) b.holds held)
   where
-    by : (spots : List Spot) → spots_of d.route d.stage ≡ spots → Holds spots wanted → depth_at c.route c.stage < depth_at d.route d.stage
+    by : (spots : List Spot) → spots_of b.route b.at ≡ spots → Holds spots wanted → depth_at a.route a.at < depth_at b.route b.at
     by [] e h = absurd h
     by (top ∷ ends) e h =
-        let a = looks_depth c.route c.stage wanted.path looks c.position in
-        let b = first_depth d.route d.stage d.position top ends e in
-        let from = subst (λ (x : List Spot). IsFrom x wanted) (sym c.spots) (looks_from c.route c.stage wanted.path looks c.position wanted refl) in
-        let same = waits_at_top s walks c.number d.number other wanted from top ends (d.spots ∙ e) h in
+        let looked = looks_depth a.route a.at wanted.path looks a.position in
+        let first = first_depth b.route b.at b.position top ends e in
+        let from = subst (λ (x : List Spot). IsFrom x wanted) (sym a.holds) (looks_from a.route a.at wanted.path looks a.position wanted refl) in
+        let same = waits_at_top s walks a.number b.number other wanted from top ends (b.holds ∙ e) h in
         let d = ap (λ (p : Path). length p) same in
-        omega (arith, a, b, d)
+        omega (arith, looked, first, d)

@@ -33,15 +33,14 @@ use Rattle.sf_core.proofs.BlockSteps.{end_ground, end_sound}
 abbrev pub IsStill : PartsView → Type 0 → ℕ → Call → Type 0
 IsStill q why m d = (call_at q.calls m ≡ Some d) ⊎ (IsCopying d.stage × (call_at q.calls m ≡ Some (at_stage stage.Fresh d)) × why)
 
--- the reason is one for another
-pub still_for : (q : PartsView) (one both : Type 0) → (one → both) → (m : ℕ) (d : Call) → IsStill q one m d → IsStill q both m d
-still_for q one both f m d (inl at) = inl at
-still_for q one both f m d (inr x) = inr (x.0, x.1, f x.2)
+pub still_on : (q s : PartsView) (one other : Type 0) (m : ℕ) (d : Call) → IsStill q one m d → ((x : Call) → call_at q.calls m ≡ Some x → IsStill s other m x) → IsStill s (one ⊎ other) m d
+still_on q s one other m d (inl at) next = elim (next d at) [ inl there ↦ inl there | inr x ↦ inr (x.0, x.1, inr x.2) ]
+still_on q s one other m d (inr x) next = elim (next (at_stage stage.Fresh d) x.1) [ inl at ↦ inr (x.0, at, inl x.2) | inr y ↦ absurd y.0 ]
 
--- one thing happened after another
-pub still_on : (q s : PartsView) (why : Type 0) (m : ℕ) (d : Call) → IsStill q why m d → ((x : Call) → call_at q.calls m ≡ Some x → IsStill s why m x) → IsStill s why m d
-still_on q s why m d (inl at) next = next d at
-still_on q s why m d (inr x) next = elim (next (at_stage stage.Fresh d) x.1) [ inl at ↦ inr (x.0, at, x.2) | inr y ↦ absurd y.0 ]
+-- it was so for one reason, and so for another that follows from it
+pub still_for : (s : PartsView) (one other : Type 0) → (one → other) → (m : ℕ) (d : Call) → IsStill s one m d → IsStill s other m d
+still_for s one other f m d (inl at) = inl at
+still_for s one other f m d (inr x) = inr (x.0, x.1, f x.2)
 
 copies_not : (g : Stage) → copying_at g ≡ None → IsCopying g → ⊥
 copies_not stage.Fresh none copies = copies
@@ -53,14 +52,15 @@ copies_not (stage.Copies node left) none copies = let z : ⊥ = cc in z
 pub not_copying : (p : PartsView) (h : List Record) → Sound p h → (m : ℕ) (d : Call) → call_at p.calls m ≡ Some d → waiting_reply d ≡ None → IsCopying d.stage → ⊥
 not_copying p h sound m d at undecided copies = copies_not d.stage (none_copied (route_of d.request) d.stage (sound.coupled.positions m d at undecided)) copies
 
--- the call of a number is undecided
-pub record IsUndecided (p : PartsView) (n : ℕ) (c : Call) : Type 0 where
-  pub at : call_at p.calls n ≡ Some c
-  pub undecided : waiting_reply c ≡ None
+-- a call that is undecided
+pub record UndecidedCall (p : PartsView) (m : ℕ) : Type 0 where
+  pub call : Call
+  pub at : call_at p.calls m ≡ Some call
+  pub undecided : waiting_reply call ≡ None
 
-pub still_undecided : (p q : PartsView) (h : List Record) → Sound p h → (why : Type 0) (m : ℕ) (d : Call) → IsUndecided p m d → IsStill q why m d → call_at q.calls m ≡ Some d
-still_undecided p q h sound why m d is (inl e) = e
-still_undecided p q h sound why m d is (inr f) = absurd (not_copying p h sound m d is.at is.undecided f.0)
+pub still_undecided : (p q : PartsView) (h : List Record) → Sound p h → (why : Type 0) (m : ℕ) (d : UndecidedCall p m) → IsStill q why m d.call → call_at q.calls m ≡ Some d.call
+still_undecided p q h sound why m d (inl e) = e
+still_undecided p q h sound why m d (inr f) = absurd (not_copying p h sound m d.call d.at d.undecided f.0)
 
 -- look-ups were made for a call, and at most one WRITE was finished, where the call cuts a file
 pub record Readied (p q : PartsView) (h : List Record) (most : ℕ) (r : Request) : Type 0 where

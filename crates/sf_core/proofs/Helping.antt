@@ -45,7 +45,7 @@ use Rattle.sf_core.specs.Stepping.{freed, ServesCall, HelpState, HelpsAll}
 use Rattle.sf_core.proofs.Maps.{some_eq, none_some}
 use Rattle.sf_core.proofs.Updates.{Updates, updates_answered}
 use Rattle.sf_core.proofs.LookUps.{looks_fit, looks_between}
-use Rattle.sf_core.proofs.Finished.{IsStill, still_for, still_on, still_undecided, Readied, readied}
+use Rattle.sf_core.proofs.Finished.{still_for, IsStill, still_on, still_undecided, Readied, readied}
 use Rattle.sf_core.proofs.Spared.{keeps_after, leads_still, directory_still, own_either}
 use Rattle.sf_core.proofs.Recorded.{new_to, helped as helped_sound}
 use Rattle.sf_core.proofs.Numbers.{AreApart}
@@ -281,16 +281,22 @@ nothing_led old p h sound fits = record {
 }
 
 -- look-ups were made before, so many as the record's paths have names, and perhaps a WRITE was finished
-readied_led : {old : Path} {p mid q : PartsView} {h : List Record} (c : Call) (given : Reply) → p.store.look_ups < 2 ^ 64 → Readied p mid h (path_names c.request) c.request → AreLed old mid q h (did c given ∷ []) → q.store.look_ups ≡ mid.store.look_ups
-    → AreLed old p q h (did c given ∷ [])
-readied_led {p = p} {mid = mid} c given fits r led e =
-    let same = walk_same p.store mid.store r.ground in
-    let looks = looks_between p.store mid.store (path_names c.request) fits r.looks in
+-- a core that was made ready for a call: what is left of a WRITE that it cuts was copied
+record ReadiedFor (p : PartsView) (h : List Record) (c : Call) : Type 0 where
+  mid : PartsView
+  fits : p.store.look_ups < 2 ^ 64
+  readied : Readied p mid h (path_names c.request) c.request
+
+readied_led : (old : Path) (p q : PartsView) (h : List Record) (c : Call) (given : Reply) → (x : ReadiedFor p h c) → AreLed old x.mid q h (did c given ∷ []) → q.store.look_ups ≡ x.mid.store.look_ups → AreLed old p q h (did c given ∷ [])
+readied_led old p q h c given x led e =
+    let r = x.readied in
+    let same = walk_same p.store x.mid.store r.ground in
+    let looks = looks_between p.store x.mid.store (path_names c.request) x.fits r.looks in
     record {
       sound = led.sound;
       sure = led.sure;
-      walks = λ x aside. led.walks x aside ∙ same x;
-      directory = λ x l aside w dir. led.directory x l aside (same x ∙ w) (r.ground.directory l ∙ dir);
+      walks = λ y aside. led.walks y aside ∙ same y;
+      directory = λ y l aside w dir. led.directory y l aside (same y ∙ w) (r.ground.directory l ∙ dir);
       stood = λ m s hold. r.stood m s (led.stood m s hold);
       sessions = led.sessions ∙ r.sessions;
       drawn = led.drawn ∙ r.drawn;
@@ -335,16 +341,15 @@ still_fresh : (q : PartsView) (why : Type 0) (m : ℕ) (d : Call) → d.stage �
 still_fresh q why m d fresh (inl at) = at
 still_fresh q why m d fresh (inr f) = absurd (subst IsCopying fresh f.0)
 
--- the calls of these numbers may be carried out, one after the other
-pub record MayHelp (old : Path) (p : PartsView) (h : List Record) (ns : List ℕ) : Type 0 where
+-- what the helped calls' events ask of a core: a sound history, nobody at the old path, and numbers
+-- for the look-ups
+pub record MayHelp (old : Path) (p : PartsView) (h : List Record) : Type 0 where
   pub sound : Sound p h
   pub clear : IsClear p old
   pub fits : p.store.look_ups < 2 ^ 64
-  pub ready : (n : ℕ) → is_one_of n ns ≡ true → IsReady p old n
-  pub apart : AreApart ns
 
-pub help_all : (ns : List ℕ) (old : Path) (p q : PartsView) (h : List Record) → MayHelp old p h ns → HelpsAll p ns q → HelpedAll old p q h ns
-help_all [] old p q h may helps = record {
+pub help_all : (ns : List ℕ) (old : Path) (p q : PartsView) (h : List Record) → MayHelp old p h → ((n : ℕ) → is_one_of n ns ≡ true → IsReady p old n) → AreApart ns → HelpsAll p ns q → HelpedAll old p q h ns
+help_all [] old p q h may ready apart helps = record {
   helped = [];
   led = subst (λ (x : PartsView). AreLed old p x h []) (sym helps) (nothing_led old p h may.sound may.fits);
   records = none_recorded p;
@@ -352,11 +357,9 @@ help_all [] old p q h may helps = record {
   these = λ n e. let z : ⊥ = cc in absurd z;
   others = λ m d ne at. inl (ap (λ (x : PartsView). call_at x.calls m) helps ∙ at);
 }
-help_all (n ∷ ns) old p q h may helps =
+help_all (n ∷ ns) old p q h may ready apart helps =
     let sound = may.sound in
-    let fits = may.fits in
-    let apart = may.apart in
-    let r = may.ready n (ap (λ b. b || is_one_of n ns) (eq-eqb n n refl)) in
+    let r = ready n (ap (λ b. b || is_one_of n ns) (eq-eqb n n refl)) in
     let c = r.call in
     let own = sound.ledger.calls n c r.at in
     let is = own.is_number in
@@ -364,33 +367,29 @@ help_all (n ∷ ns) old p q h may helps =
     let step = helps.1 c r.at r.fresh (own.copied r.undecided ∙ copied old (route_of c.request) c.request r.below) in
     let f = step.0 in
     let before = readied p f h sound c step.1 in
-    let in_f : call_at f.calls n ≡ Some c = still_undecided p f h sound (cuts_file c.request ≡ true) n c (record { at = r.at; undecided = r.undecided }) (before.each n c r.at) in
+    let in_f : call_at f.calls n ≡ Some c = still_undecided p f h sound (cuts_file c.request ≡ true) n (record { call = c; at = r.at; undecided = r.undecided }) (before.each n c r.at) in
     let at : call_at f.calls c.number ≡ Some c = ap (call_at f.calls) is ∙ in_f in
     let given = step.2 in
     let done : HelpState f mid c c.number given.0 = subst (λ k. HelpState f mid c k given.0) (sym is) given.1 in
     let clear_f : IsClear f old = λ m s hold. may.clear m s (before.stood m s hold) in
-    let fits_f = looks_fit p.store f.store (path_names c.request) before.looks fits in
+    let fits_f = looks_fit p.store f.store (path_names c.request) before.looks may.fits in
     let led = one_led old f h before.sound clear_f c at r.undecided r.fresh r.below fits_f mid given.0 done in
-    let one = readied_led c given.0 fits before led done.look_ups in
+    let one = readied_led old p mid h c given.0 (record { mid = f; fits = may.fits; readied = before }) led done.look_ups in
     let now = calls_now old f h before.sound clear_f c at r.undecided r.fresh r.below fits_f mid given.0 done in
     let same : (m : ℕ) → m ≢ n → call_at mid.calls m ≡ call_at f.calls m = λ m ne. now.rest m (λ e. ne (e ∙ is)) in
     let here : call_at mid.calls n ≡ Some (with_reply given.0 c) = ap (call_at mid.calls) (sym is) ∙ now.now_is in
     let there : (m : ℕ) (x : Call) → m ≢ n → call_at p.calls m ≡ Some x → waiting_reply x ≡ None → call_at mid.calls m ≡ Some x =
-    λ m x ne at_x none. same m ne ∙ still_undecided p f h sound (cuts_file c.request ≡ true) m x (record { at = at_x; undecided = none }) (before.each m x at_x) in
-    let all = help_all ns old mid q (h ++ did c given.0 ∷ []) (record {
-      sound = one.sound;
-      clear = λ m s hold. may.clear m s (one.stood m s hold);
-      fits = one.fits;
-      ready = λ m here. let x = may.ready m (or_right (nat_eq m n) (is_one_of m ns) here) in
-          record { call = x.call; at = there m x.call (not_there m n ns here apart.0) x.at x.undecided; undecided = x.undecided; fresh = x.fresh; below = x.below };
-      apart = apart.1;
-    }) helps.2 in
+    λ m x ne at_x none. same m ne ∙ still_undecided p f h sound (cuts_file c.request ≡ true) m (record { call = x; at = at_x; undecided = none }) (before.each m x at_x) in
+    let all = help_all ns old mid q (h ++ did c given.0 ∷ []) (record { sound = one.sound; clear = λ m s hold. may.clear m s (one.stood m s hold); fits = one.fits })
+    (λ m here. let x = ready m (or_right (nat_eq m n) (is_one_of m ns) here) in
+    record { call = x.call; at = there m x.call (not_there m n ns here apart.0) x.at x.undecided; undecided = x.undecided; fresh = x.fresh; below = x.below })
+    apart.1 helps.2 in
     record {
       helped = did c given.0 ∷ all.helped;
       led = led_on old p mid q h (did c given.0) all.helped one all.led;
       records = one_recorded p n ns c given.0 all.helped r.at r.undecided
           (records_on p.calls mid.calls ns all.helped (λ m d later at_d none.
-          let x = may.ready m (or_right (nat_eq m n) (is_one_of m ns) later) in
+          let x = ready m (or_right (nat_eq m n) (is_one_of m ns) later) in
           let in_mid = there m x.call (not_there m n ns later apart.0) x.at x.undecided in
           (x.call, x.at, x.undecided, λ g. ap (λ (y : Call). did y g) (some_eq d x.call (sym at_d ∙ in_mid)))) all.records);
       numbers = let x : c.number ∷ filter_map record_number all.helped ≡ n ∷ ns = (ap (λ k. k ∷ filter_map record_number all.helped) is) ∙ ap (λ (ks : List ℕ). n ∷ ks) all.numbers in x;
@@ -404,7 +403,7 @@ help_all (n ∷ ns) old p q h may helps =
                   subst (λ (x : Call). IsAmong (did x given.0) (did c given.0 ∷ all.helped)) same_call (among_first (did c given.0) all.helped),
                 )
             | false ↦ λ e later.
-                let x = may.ready m (or_right (nat_eq m n) (is_one_of m ns) later) in
+                let x = ready m (or_right (nat_eq m n) (is_one_of m ns) later) in
                 let undecided_d : waiting_reply d ≡ None = ap waiting_reply (some_eq d x.call (sym at_d ∙ x.at)) ∙ x.undecided in
                 let w = all.these m later d (there m d (not_there m n ns later apart.0) at_d undecided_d) in
                 (w.0, w.1, among_later (did d w.0) (did c given.0) all.helped w.2)
@@ -412,7 +411,7 @@ help_all (n ∷ ns) old p q h may helps =
       others = λ m d ne at_d.
           let both = or_false (nat_eq m n) (is_one_of m ns) ne in
           let not_n : m ≢ n = λ e. let x = sym (eq-eqb m n e) ∙ both.0 in let z : ⊥ = cc in z in
-          let cut = HasCut (did c given.0 ∷ all.helped) in
-          still_on f q cut m d (still_for f (cuts_file c.request ≡ true) cut (λ e. (did c given.0, among_first (did c given.0) all.helped, e)) m d (before.each m d at_d))
-          (λ x at_x. still_for q (HasCut all.helped) cut (λ e. (e.0, among_later e.0 (did c given.0) all.helped e.1, e.2)) m x (all.others m x both.1 (same m not_n ∙ at_x)));
+          still_for q (cuts_file c.request ≡ true ⊎ HasCut all.helped) (HasCut (did c given.0 ∷ all.helped))
+          (λ e. elim e [ inl cuts ↦ (did c given.0, among_first (did c given.0) all.helped, cuts) | inr had ↦ (had.0, among_later had.0 (did c given.0) all.helped had.1, had.2) ]) m d
+          (still_on f q (cuts_file c.request ≡ true) (HasCut all.helped) m d (before.each m d at_d) (λ x at_x. all.others m x both.1 (same m not_n ∙ at_x)));
     }

@@ -1,5 +1,5 @@
 -- The history grows by one record.
-use Rattle.std.specs.Prelude.{◌≡◌, ◌≢◌, ◌<◌, ◌≤◌, ◌+◌, ◌^◌, ℕ, is_none, Bool, List, [], ◌∷◌, ◌++◌, length, Option, Some, None, refl}
+use Rattle.std.specs.Prelude.{◌≡◌, ◌≢◌, ◌<◌, ◌≤◌, ◌+◌, ◌-◌, ◌^◌, ℕ, min, is_none, Bool, List, [], ◌∷◌, ◌++◌, length, Option, Some, None, refl}
 use Rattle.std.specs.List.{AllByRecursion, count_by}
 use Rattle.std.proofs.Common.{sym, ap, subst, ◌∙◌, inl, inr, arith}
 use Rattle.sf_reply.specs.declared.reply.Reply.{Reply}
@@ -38,6 +38,30 @@ among_last r [] = inl refl
 among_last r (x ∷ h) = inr (among_last r h)
 
 -- ---- the book
+-- what is counted of a history of so many calls, when it has one record more: those that the book
+-- has let go, before and now, and those that it still has
+record Counts (all : ℕ) : Type 0 where
+  folded : ℕ
+  gone : ℕ
+  now : ℕ
+  before : ℕ
+  kept : ℕ
+  total : ℕ
+  as_gone : folded ≡ gone
+  as_before : now ≡ before
+  parts : gone + before ≡ all
+  whole : all + kept ≡ total
+  small : total < 2 ^ 63
+
+few : (all : ℕ) (c : Counts all) → min (c.folded + c.now) (2 ^ 64 - 1) ≡ all
+few all c =
+    let as_gone = c.as_gone in
+    let as_before = c.as_before in
+    let parts = c.parts in
+    let whole = c.whole in
+    let small = c.small in
+    omega (arith, as_gone, as_before, parts, whole, small)
+
 -- the book has the history's last records, and counts those before
 pub record IsWritten (b : BookView) (h : List Record) : Type 0 where
   pub records : b.records ≡ kept_of b.keep h
@@ -49,9 +73,19 @@ written_put b h r w small = record {
   folded =
       let y : count_by is_call (gone_of b.keep (b.records ++ r ∷ [])) ≡ count_by is_call (gone_of b.keep (kept_of b.keep h ++ r ∷ [])) =
       ap (λ (rs : List Record). count_by is_call (gone_of b.keep (rs ++ r ∷ []))) w.records in
-      let put = gone-put b.keep h r in
-      let split = deeds-split (h ++ r ∷ []) (excess b.keep (h ++ r ∷ [])) in
-      omega (arith, w.folded, y, put, split, small);
+      few (count_by is_call (gone_of b.keep (h ++ r ∷ []))) (record {
+        folded = b.folded;
+        gone = count_by is_call (gone_of b.keep h);
+        now = count_by is_call (gone_of b.keep (b.records ++ r ∷ []));
+        before = count_by is_call (gone_of b.keep (kept_of b.keep h ++ r ∷ []));
+        kept = count_by is_call (kept_of b.keep (h ++ r ∷ []));
+        total = count_by is_call (h ++ r ∷ []);
+        as_gone = w.folded;
+        as_before = y;
+        parts = gone-put b.keep h r;
+        whole = deeds-split (h ++ r ∷ []) (excess b.keep (h ++ r ∷ []));
+        small = small;
+      });
 }
 
 -- ---- the history after an event of one call and of one session: g is the old one, with records or without

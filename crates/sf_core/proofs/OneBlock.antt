@@ -25,13 +25,20 @@ use Rattle.sf_core.specs.Events.{IsOfOneBlock}
 use Rattle.sf_core.specs.Writing.{CopiesOne}
 
 -- what a handle opens in the tree
-opens_file : (t : Tree) (session number : ℕ) (x : Handle) (meta : Metadata) (z : Content) → handle_in t session number ≡ Some x → object_of t.objects x.label ≡ Some (object_in meta z)
-    → {handle : Handle} {m : Metadata} {contents : List ℕ} → opened t session number ≡ OpenFile handle m contents → (handle ≡ x) × (contents ≡ bytes_in z)
-opens_file t session number x meta z here object {handle = handle} {m = m} {contents = contents} e =
-    elim z as (λ y. opened_object x (Some (object_in meta y)) ≡ OpenFile handle m contents → (handle ≡ x) × (contents ≡ bytes_in y)) [
+-- a handle that is open in a tree, and what its label leads to
+record HandleTo (t : Tree) (session number : ℕ) : Type 0 where
+  handle : Handle
+  metadata : Metadata
+  content : Content
+  is_open : handle_in t session number ≡ Some handle
+  leads : object_of t.objects handle.label ≡ Some (object_in metadata content)
+
+opens_file : (t : Tree) (session number : ℕ) (x : HandleTo t session number) (handle : Handle) (m : Metadata) (contents : List ℕ) → opened t session number ≡ OpenFile handle m contents → (handle ≡ x.handle) × (contents ≡ bytes_in x.content)
+opens_file t session number x handle m contents e =
+    elim x.content as (λ y. opened_object x.handle (Some (object_in x.metadata y)) ≡ OpenFile handle m contents → (handle ≡ x.handle) × (contents ≡ bytes_in y)) [
       | content.Directory es ↦ λ f. absurd (let k : ⊥ = cc in k)
       | content.File f ↦ λ f. (cc, cc)
-    ] (sym (ap (opened_by t) here ∙ ap (opened_object x) object) ∙ e)
+    ] (sym (ap (opened_by t) x.is_open ∙ ap (opened_object x.handle) x.leads) ∙ e)
 
 module _ (s : StoreState) (t : Tree) (keeps : Keeps s t) (session number : ℕ) where
   -- a write by a handle starts in the tree where it starts in the store
@@ -41,7 +48,7 @@ module _ (s : StoreState) (t : Tree) (keeps : Keeps s t) (session number : ℕ) 
       let node = keeps.led session number x at in
       let here : handle_in t session number ≡ Some (shown_handle session x) = keeps.shows.by.handles session number ∙ ap (option_map (shown_handle session)) at in
       let object : object_of t.objects x.label ≡ Some (object_in node.0.metadata node.0.content) = ap (object_of t.objects) (sym node.1.1) ∙ object_there s t keeps x.node node.0 node.1.0 in
-      let f = opens_file t session number (shown_handle session x) node.0.metadata node.0.content here object opens in
+      let f = opens_file t session number (record { handle = shown_handle session x; metadata = node.0.metadata; content = node.0.content; is_open = here; leads = object }) handle m contents opens in
       let stored : contents ≡ bytes_of s.nodes x.node = f.1 ∙ sym (ap (λ (o : Option Node). option_map_or (λ (y : Node). bytes_in y.content) o []) node.1.0) in
       ap (λ (y : Handle). start_of y contents offset) f.0 ∙ ap (λ (b : List ℕ). if x.marks.append then length b else offset) stored
 

@@ -152,7 +152,7 @@ module _ (p q : PartsView) (h : List Record) (sound : Sound p h) (c : Call) (giv
   writers_same : (l : ℕ) → writer_of_file q.store.nodes l ≡ writer_of_file records.mid.nodes l
   writers_same l =
       ap (λ (s : StoreState). writer_of_file s.nodes l) records.store
-      ∙ writers_stay c.number (spots_of (route_of c.request) c.stage) [] (files_let_go [] (nodes_of c.stage) records.mid) no_own (λ i own. absurd own.holds)
+      ∙ writers_stay records.mid (let_go [] (nodes_of c.stage) records.mid) c.number (spots_of (route_of c.request) c.stage) [] (files_let_go [] (nodes_of c.stage) records.mid) (record { before = no_own; after = λ i own. absurd own.holds })
       (freed_hands (route_of c.request) c.stage (sound.coupled.positions c.number c at undecided) records.mid c.number) l
 
   copied_now : Copied q

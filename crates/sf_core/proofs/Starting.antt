@@ -122,7 +122,7 @@ module _ (p q : PartsView) (h : List Record) (sound : Sound p h) (session : ℕ)
         | inr ne ↦ sound.coupled.waiting m d g (sym (calls.rest m ne) ∙ at) some
       ];
     };
-    copied = copied_still p q sound.copied calls refl refl begun.store;
+    copied = copied_still p q (p.drawn + 1) sound.copied (record { was = None; now = Some c; calls = calls; was_none = refl; now_none = refl; store = begun.store });
     ledger =
         ledger_changed p q sound.ledger (p.drawn + 1) session None (Some c) (Some None) (Some (Some (p.drawn + 1))) calls sessions
         (λ m d ne at e. none_some m (some_eq None (Some m) (sym idle ∙ ap (session_at p.sessions) (sym e) ∙ (sound.ledger.calls m d at).session)))

@@ -127,15 +127,14 @@ furthest v zero = inl (λ s c below busy. absurd (omega (arith, below)))
 furthest v (suc n) = one_more v n (lane_state v n) refl (furthest v n)
 
 -- ---- it goes on
-onward : (v : CoreView) {n : ℕ} → ((s : ℕ) (c : Call) → lane_state v s ≡ Busy c → s < n) → (f : Furthest v n) → (lane : LaneView) → OwnCall v lane f.call → (h : List Record) (s : Step) (a : After)
-    → TakesStep (record { core = v; history = h; lane = lane }) s a → is_onward s ≡ true
-onward v fit f lane own h Moved a steps = refl
-onward v fit f lane own h (Blocked holder) a steps =
-    let b = steps.0.1 in
-    let same = one_call v lane.session lane.session steps.0.0 f.call refl b.own.slot own.slot in
-    absurd (f.first b.other b.call (fit b.other b.call b.slot) b.slot (subst (λ (z : Call). IsBehind z b.call) same b.deeper))
-onward v fit f lane own h (Answered given) a steps = refl
-onward v fit f lane own h Stranger a steps = absurd (steps.0 f.call own)
+onward : (b : Before) (n : ℕ) → ((s : ℕ) (c : Call) → lane_state b.core s ≡ Busy c → s < n) → (f : Furthest b.core n) → OwnCall b.core b.lane f.call → (s : Step) (a : After) → TakesStep b s a → is_onward s ≡ true
+onward b n fit f own Moved a steps = refl
+onward b n fit f own (Blocked holder) a steps =
+    let k = steps.0.1 in
+    let same = one_call b.core b.lane.session b.lane.session steps.0.0 f.call refl k.own.slot own.slot in
+    absurd (f.first k.other k.call (fit k.other k.call k.slot) k.slot (subst (λ (z : Call). IsBehind z k.call) same k.deeper))
+onward b n fit f own (Answered given) a steps = refl
+onward b n fit f own Stranger a steps = absurd (steps.0 f.call own)
 
 pub never_stuck : (p : PartsView) → IsCore p → IsNeverStuck (core_of p)
 never_stuck p core session call at =
@@ -155,7 +154,7 @@ never_stuck p core session call at =
           own = sym (ap (λ (c : Call). c.session) same) ∙ o.2;
           steps = λ lane own s w lane' steps.
               let g = steps core.history core.sound.history in
-              onward (core_of p) fit f lane own core.history s (record { core = w; added = g.0; lane = lane' }) g.2;
+              onward (record { core = core_of p; history = core.history; lane = lane }) (p.joins + 1) fit f own s (record { core = w; added = g.0; lane = lane' }) g.2;
         }
 
 -- ---- what is left

@@ -254,13 +254,12 @@ module _ (p : PartsView) (lane : LaneView) (c : Call) (turn : IsTurn p lane c) w
             let d = the_holder wants.0 wants.4 in
             let spots : (n : ℕ) (x : Call) → call_at p.calls n ≡ Some x → spots_in p.calls n ≡ spots_of (route_of x.request) x.stage = λ n x at. ap (λ (o : Option Call). option_map_or spots_at o []) at in
             let none = not_decided h sound d.0 wants.0 d.1 d.2 in
-            let walkers = walkers_at (terrain p.store) (spots_in p.calls) (walker_of p.store.nodes) in
             told_by h sound holder d.0 d.1 w.advances.other (inl none)
             (inl (record { spot = wants.0; looks = wants.1; leads = wants.2; held = wants.3 ∙ ap Some (sym (sound.ledger.calls holder d.0 d.1).is_number); came = inl d.2 })) (
               not_copying p h sound c.number c turn.at undecided,
-              inr (looks_deeper walkers sound.coupled.walks
-                  (record { number = c.number; route = route_of c.request; stage = c.stage; spots = spots c.number c turn.at; position = sound.coupled.positions c.number c turn.at undecided })
-                  (record { number = holder; route = route_of d.0.request; stage = d.0.stage; spots = spots holder d.0 d.1; position = sound.coupled.positions holder d.0 d.1 none })
+              inr (looks_deeper (walkers_at (terrain p.store) (spots_in p.calls) (walker_of p.store.nodes)) sound.coupled.walks
+                  (record { number = c.number; route = route_of c.request; at = c.stage; holds = spots c.number c turn.at; position = sound.coupled.positions c.number c turn.at undecided })
+                  (record { number = holder; route = route_of d.0.request; at = d.0.stage; holds = spots holder d.0 d.1; position = sound.coupled.positions holder d.0 d.1 none })
                   w.advances.other wants.0 wants.1 wants.4),
             ) looks_few
         | inr f ↦

@@ -36,7 +36,6 @@ use Rattle.sf_core.proofs.Updates.{one_by, Updates, updates_set, updates_removed
 use Rattle.sf_core.proofs.Walkers.{walker_is, walker_holds}
 use Rattle.sf_core.proofs.Writers.{SameFiles, none_copied, same_copying, still_copying, files_let_go, files_moved, files_looked, copied_on, copied_still, copied_same}
 use Rattle.sf_core.proofs.SparedFiles.{file_there, file_writer}
-use Rattle.sf_core.proofs.Deeper.{WalkingCall}
 use Rattle.sf_core.proofs.Coupled.{walks_on, moved_keeps, moved_writers, reset_keeps, reset_writers}
 use Rattle.sf_core.proofs.Ledgers.{Follows, ledger_follows}
 use Rattle.sf_core.proofs.Ledgers.Follows.{Stays, Goes}
@@ -213,18 +212,17 @@ module _ (p : PartsView) (h : List Record) (sound : Sound p h) (c : Call) (at : 
       → Sound (record { store = freed c.stage p.store; book = p.book; sessions = p.sessions; calls = staged p.calls c.number stage.Fresh; drawn = p.drawn; joins = p.joins }) h
   reset_sound start =
       let s = freed c.stage p.store in
-      let walking : WalkingCall (walkers_at (terrain p.store) (spots_in p.calls) (walker_of p.store.nodes)) = record {
-        number = c.number;
-        route = route_of c.request;
-        stage = c.stage;
-        spots = spots_were p h sound c at undecided s stage.Fresh;
-        position = sound.coupled.positions c.number c at undecided;
-      } in
       come_sound p h sound c at undecided s stage.Fresh (let_go_keeps [] (nodes_of c.stage) p.store (replay h) sound.history.tree)
-      (reset_keeps p.store (spots_in p.calls) (spots_in (staged p.calls c.number stage.Fresh)) sound.coupled.walks walking
-      (spots_now p h sound c at undecided s stage.Fresh) (spots_other p h sound c at undecided s stage.Fresh))
+      (reset_keeps p.store (spots_in p.calls) (spots_in (staged p.calls c.number stage.Fresh)) c.number sound.coupled.walks (record {
+        route = route_of c.request;
+        at = c.stage;
+        position = sound.coupled.positions c.number c at undecided;
+        was = spots_were p h sound c at undecided s stage.Fresh;
+        none = spots_now p h sound c at undecided s stage.Fresh;
+        same = spots_other p h sound c at undecided s stage.Fresh;
+      }))
       start (files_let_go [] (nodes_of c.stage) p.store)
-      (reset_writers p.store (spots_in p.calls) sound.coupled.walks walking)
+      (reset_writers p.store (spots_in p.calls) c.number (route_of c.request) c.stage sound.coupled.walks (sound.coupled.positions c.number c at undecided) (spots_were p h sound c at undecided s stage.Fresh))
 
   -- who waits, waits for a spot that another call holds, the one that its next names lead to; or for
   -- a file that another call copies into
@@ -286,4 +284,4 @@ module _ (p q : PartsView) (h : List Record) (sound : Sound p h) (c : Call) (at 
         positions = λ m d is. sound.coupled.positions m d (still m d is);
         waiting = λ m d g is some. sound.coupled.waiting m d g (still m d is) some;
       })
-      (copied_still p q sound.copied calls_now (ap copying_at fresh) refl fetched.store)
+      (copied_still p q c.number sound.copied (record { was = Some c; now = None; calls = calls_now; was_none = ap copying_at fresh; now_none = refl; store = fetched.store }))

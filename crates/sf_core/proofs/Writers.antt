@@ -137,11 +137,15 @@ files_moved n was now node s =
     (files_trans (entered was s) held (handed_over n was now node (entered was s)) (files_held (Some n) (entered was s) node) (files_let_go (nodes_of now) (nodes_of was) held))
 
 -- what is handed over are no files: each file has the holder that it had
-pub writers_stay : {s t : StoreState} (n : ℕ) (was now : List Spot) → SameFiles s t → ((l : ℕ) → IsNodeOf was l → is_file_at s.nodes l ≡ true → ⊥) → ((l : ℕ) → IsNodeOf now l → is_file_at s.nodes l ≡ true → ⊥)
-    → HandsOver (holder_of s.nodes) (holder_of t.nodes) n was now → (id : ℕ) → writer_of_file t.nodes id ≡ writer_of_file s.nodes id
-writers_stay {s = s} {t = t} n was now same before after hands id =
+-- no file is among what a call holds, before and after
+pub record HoldsNoFile (s : StoreState) (was now : List Spot) : Type 0 where
+  pub before : (l : ℕ) → IsNodeOf was l → is_file_at s.nodes l ≡ true → ⊥
+  pub after : (l : ℕ) → IsNodeOf now l → is_file_at s.nodes l ≡ true → ⊥
+
+pub writers_stay : (s t : StoreState) (n : ℕ) (was now : List Spot) → SameFiles s t → HoldsNoFile s was now → HandsOver (holder_of s.nodes) (holder_of t.nodes) n was now → (id : ℕ) → writer_of_file t.nodes id ≡ writer_of_file s.nodes id
+writers_stay s t n was now same none hands id =
     elim (is_file_at s.nodes id) as (λ b. is_file_at s.nodes id ≡ b → writer_of_file t.nodes id ≡ writer_of_file s.nodes id) [
-      | true ↦ λ e. λ i. if same.file id i then hands.rest id (λ h. before id h e) (λ h. after id h e) i else None
+      | true ↦ λ e. λ i. if same.file id i then hands.rest id (λ h. none.before id h e) (λ h. none.after id h e) i else None
       | false ↦ λ e. ap (λ (b : Bool). if b then holder_of t.nodes id else None) (same.file id ∙ e) ∙ sym (ap (λ (b : Bool). if b then holder_of s.nodes id else None) e)
     ] refl
 
@@ -172,11 +176,20 @@ copied_on p q copied same still files writers = record {
 }
 
 -- nor does one that leaves the store, and no call but one that copies neither before nor after
-pub copied_still : (p q : PartsView) {n : ℕ} {was now : Option Call} → Copied p → Updates p.calls q.calls n was now → copied_by was ≡ None → copied_by now ≡ None → q.store ≡ p.store → Copied q
-copied_still p q {n = n} {was = was} {now = now} copied u was_none now_none store =
-    copied_on p q copied (same_copying p.calls q.calls n was now u was_none now_none)
-    (λ m c node left at is. (still_copying p.calls q.calls n was now u was_none now_none m c node left at is).1)
-    (subst (SameFiles p.store) (sym store) (files_itself p.store)) (λ id. ap (λ (s : StoreState). writer_of_file s.nodes id) store)
+-- an event of one call that copies nothing, before and after it, and that leaves the store
+pub record CopiesNothing (p q : PartsView) (n : ℕ) : Type 0 where
+  pub was : Option Call
+  pub now : Option Call
+  pub calls : Updates p.calls q.calls n was now
+  pub was_none : copied_by was ≡ None
+  pub now_none : copied_by now ≡ None
+  pub store : q.store ≡ p.store
+
+pub copied_still : (p q : PartsView) (n : ℕ) → Copied p → CopiesNothing p q n → Copied q
+copied_still p q n copied u =
+    copied_on p q copied (same_copying p.calls q.calls n u.was u.now u.calls u.was_none u.now_none)
+    (λ m c node left at is. (still_copying p.calls q.calls n u.was u.now u.calls u.was_none u.now_none m c node left at is).1)
+    (subst (SameFiles p.store) (sym u.store) (files_itself p.store)) (λ id. ap (λ (s : StoreState). writer_of_file s.nodes id) u.store)
 
 -- the calls are the same, and so is the store
 pub copied_same : (p q : PartsView) → Copied p → q.store ≡ p.store → q.calls ≡ p.calls → Copied q

@@ -59,22 +59,35 @@ marked s t k = record {
 }
 
 -- what is so is kept, where handles stay
-pub keeps_marked : (s new : StoreState) (t after : Tree) (step : EntryMap) (marks : Marks) → Keeps s t → Shows (view_of new) after
-    → ((x : ℕ) (m : Name) → child_of new.nodes x m ≡ step x m) → ((i : ℕ) → marks_of new.nodes i ≡ marks i) → new.sessions ≡ s.sessions → after.handles ≡ t.handles
-    → IsMarked step marks (links after.names) (times_open t) (open_handle_at s) → InOrder new.nodes → Keeps new after
-keeps_marked s new t after step marks k shows steps says sessions handles m ordered =
+-- What an event leaves of a store and its tree: the tree is shown, and the store's entries and marks
+-- are these.
+pub record LeavesMarked (s new : StoreState) (t after : Tree) : Type 0 where
+  pub step : EntryMap
+  pub marks : Marks
+  pub shows : Shows (view_of new) after
+  pub steps : (x : ℕ) (m : Name) → child_of new.nodes x m ≡ step x m
+  pub says : (i : ℕ) → marks_of new.nodes i ≡ marks i
+  pub sessions : new.sessions ≡ s.sessions
+  pub handles : after.handles ≡ t.handles
+  pub marked : IsMarked step marks (links after.names) (times_open t) (open_handle_at s)
+  pub ordered : InOrder new.nodes
+
+pub keeps_marked : (s new : StoreState) (t after : Tree) → Keeps s t → LeavesMarked s new t after → Keeps new after
+keeps_marked s new t after k w =
+    let sessions = w.sessions in
+    let handles = w.handles in
     let is : IsMarked (child_of new.nodes) (marks_of new.nodes) (links after.names) (times_open t) (open_handle_at s) =
-    subst (λ (w : EntryMap × Marks). IsMarked w.0 w.1 (links after.names) (times_open t) (open_handle_at s)) (sym (λ i. ((λ x n. steps x n i), (λ x. says x i)))) m in
+    subst (λ (e : EntryMap × Marks). IsMarked e.0 e.1 (links after.names) (times_open t) (open_handle_at s)) (sym (λ i. ((λ x n. w.steps x n i), (λ x. w.says x i)))) w.marked in
     let alike : (session number : ℕ) → open_handle_at new session number ≡ open_handle_at s session number = λ session number. ap (λ (hs : List (ℕ × List (ℕ × OpenHandle))). open_handle_at (with_sessions s hs) session number) sessions in
     record {
-      shows = shows;
-      entries = ordered;
+      shows = w.shows;
+      entries = w.ordered;
       linked = λ id node at. is.linked id node.label node.names node.opens (ap (option_map mark_of) at);
       bare = λ id node at e. is.bare id node.label node.opens (ap (option_map mark_of) at ∙ (λ i. Some (node.label, e i, node.opens)));
       counted = λ id node at. is.counted id node.label node.names node.opens (ap (option_map mark_of) at) ∙ ap (λ (hs : List (ℕ × Handle)). count_by (λ (e : ℕ × Handle). nat_eq e.1.label node.label) hs) (sym handles);
       led = λ session number h e.
-          let w = is.led session number h (sym (alike session number) ∙ e) in
-          let f = marks_found new.nodes h.node h.label w.0 w.1 w.2 in
+          let own = is.led session number h (sym (alike session number) ∙ e) in
+          let f = marks_found new.nodes h.node h.label own.0 own.1 own.2 in
           (f.0, (f.1, f.2));
       sessions = subst (λ (x : List (ℕ × List (ℕ × OpenHandle))). T (is_sorted nat_cmp x)) (sym sessions) k.sessions;
       handles = λ session hs e. k.handles session hs (sym (ap (λ (x : List (ℕ × List (ℕ × OpenHandle))). handles_of (with_sessions s x) session) sessions) ∙ e);

@@ -116,26 +116,52 @@ opened_stays : (names opens : ℕ) → nat_eq opens 0 ≡ false → nat_eq names
 opened_stays names opens e = ap (λ b. nat_eq names 0 && b) e ∙ elim (nat_eq names 0) as (λ b. b && false ≡ false) [ true ↦ refl | false ↦ refl ]
 
 -- a kept store with another entry, whose node then has a name less
-pub keeps_forgotten : (s mid : StoreState) (t after : Tree) (step : EntryMap) (c : ℕ) (node : Node) → Keeps s t → node_in mid.nodes c ≡ Some node → InOrder mid.nodes → ((x : ℕ) (m : Name) → child_of mid.nodes x m ≡ step x m)
-    → ((i : ℕ) → marks_of mid.nodes i ≡ marks_of s.nodes i) → mid.sessions ≡ s.sessions → IsBare step c → ((id l o : ℕ) → marks_of s.nodes id ≡ Some (l, 0, o) → IsBare (child_of s.nodes) id → IsBare step id)
-    → ((label : ℕ) → label ≢ node.label → links after.names label ≡ links t.names label) → node.names - 1 ≡ links after.names node.label → after.handles ≡ t.handles → Shows (view_of (forgotten mid c)) after → Keeps (forgotten mid c) after
-keeps_forgotten s mid t after step c node k here ordered steps marks sessions gone bares others own handles shows =
-    let bare : IsBare (child_of mid.nodes) c = λ m. steps c m ∙ gone m in
+-- A node loses a name: the store in which it is without its entry, the entries then, and what is so of
+-- the node and of the tree.
+pub record LosesName (s : StoreState) (t after : Tree) : Type 0 where
+  pub mid : StoreState
+  pub step : EntryMap
+  pub id : ℕ
+  pub node : Node
+  pub here : node_in mid.nodes id ≡ Some node
+  pub ordered : InOrder mid.nodes
+  pub steps : (x : ℕ) (m : Name) → child_of mid.nodes x m ≡ step x m
+  pub marks : (i : ℕ) → marks_of mid.nodes i ≡ marks_of s.nodes i
+  pub sessions : mid.sessions ≡ s.sessions
+  pub gone : IsBare step id
+  pub bares : (i l o : ℕ) → marks_of s.nodes i ≡ Some (l, 0, o) → IsBare (child_of s.nodes) i → IsBare step i
+  pub others : (label : ℕ) → label ≢ node.label → links after.names label ≡ links t.names label
+  pub own : node.names - 1 ≡ links after.names node.label
+  pub handles : after.handles ≡ t.handles
+  pub shows : Shows (view_of (forgotten mid id)) after
+
+pub keeps_forgotten : (s : StoreState) (t after : Tree) → Keeps s t → (f : LosesName s t after) → Keeps (forgotten f.mid f.id) after
+keeps_forgotten s t after k f =
+    let mid = f.mid in
+    let step = f.step in
+    let c = f.id in
+    let node = f.node in
+    let here = f.here in
+    let bare : IsBare (child_of mid.nodes) c = λ m. f.steps c m ∙ f.gone m in
     let unnamed = edited without_name mid c in
-    let at : marks_of s.nodes c ≡ Some (mark_of node) = sym (marks c) ∙ ap (option_map mark_of) here in
+    let at : marks_of s.nodes c ≡ Some (mark_of node) = sym (f.marks c) ∙ ap (option_map mark_of) here in
     let was = mark_node s.nodes c (mark_of node) at in
-    keeps_marked s (forgotten mid c) t after step (λ i. cond (nat_eq c i) (mark_left mid c node here bare) (marks_of s.nodes i)) k shows
-    (λ x m. steps_forgotten mid c node here bare x m ∙ steps x m)
-    (λ i. marks_forgotten mid c node here bare i ∙ ap (cond (nat_eq c i) (mark_left mid c node here bare)) (marks i))
-    (kept_released (λ (x : StoreState). x.sessions) unnamed c (node_in unnamed.nodes c) (λ _. refl) ∙ sessions)
-    handles
-    (marked_left (child_of s.nodes) step (marks_of s.nodes) (links t.names) (links after.names) (times_open t) (open_handle_at s) (marked s t k) c node.label node.names node.opens at
-    (node.names - 1) (is_unused (without_name node)) gone bares
-    (λ id l b o other e. others l (λ same.
-    let w = mark_node s.nodes id (l, b, o) e in
-    same_apart c id other (one_node s t k c id was.0 w.0 was.1 w.1 (ap (λ (z : Mark). z.0) was.2 ∙ sym same ∙ sym (ap (λ (z : Mark). z.0) w.2)))))
-    own (opened_stays (node.names - 1) node.opens) (counted_handle s t k))
-    (in_order_forgotten mid c node here bare ordered)
+    keeps_marked s (forgotten mid c) t after k (record {
+      step = step;
+      marks = λ i. cond (nat_eq c i) (mark_left mid c node here bare) (marks_of s.nodes i);
+      shows = f.shows;
+      steps = λ x m. steps_forgotten mid c node here bare x m ∙ f.steps x m;
+      says = λ i. marks_forgotten mid c node here bare i ∙ ap (cond (nat_eq c i) (mark_left mid c node here bare)) (f.marks i);
+      sessions = kept_released (λ (x : StoreState). x.sessions) unnamed c (node_in unnamed.nodes c) (λ _. refl) ∙ f.sessions;
+      handles = f.handles;
+      marked = marked_left (child_of s.nodes) step (marks_of s.nodes) (links t.names) (links after.names) (times_open t) (open_handle_at s) (marked s t k) c node.label node.names node.opens at
+          (node.names - 1) (is_unused (without_name node)) f.gone f.bares
+          (λ id l b o other e. f.others l (λ same.
+          let w = mark_node s.nodes id (l, b, o) e in
+          same_apart c id other (one_node s t k c id was.0 w.0 was.1 w.1 (ap (λ (z : Mark). z.0) was.2 ∙ sym same ∙ sym (ap (λ (z : Mark). z.0) w.2)))))
+          f.own (opened_stays (node.names - 1) node.opens) (counted_handle s t k);
+      ordered = in_order_forgotten mid c node here bare f.ordered;
+    })
 
 -- an entry changes no node's marks
 pub marks_entries : (f : Content → Content) (s : StoreState) (d : ℕ) (above : Node) → node_in s.nodes d ≡ Some above → (i : ℕ) → marks_of (edited (with_content f) s d).nodes i ≡ marks_of s.nodes i

@@ -36,18 +36,23 @@ module _ (f : Node → Node) (s : StoreState) (t : Tree) (id : ℕ) (node : Node
     (entries : (m : Name) → child_in (f node).content m ≡ child_in node.content m) (same : mark_of (f node) ≡ mark_of node) (own : IsInOrder (f node).content) where
   keeps_by : (after : Tree) → after.names ≡ t.names → after.handles ≡ t.handles → Shows (view_of (edited f s id)) after → Keeps (edited f s id) after
   keeps_by after names handles shows =
-      keeps_marked s (edited f s id) t after (child_of s.nodes) (marks_of s.nodes) k shows
-      (entry_same s.nodes (edited f s id).nodes id node (f node) here (node_in-edited f s id node here) entries)
-      (marks_same s.nodes (edited f s id).nodes id node (f node) here (node_in-edited f s id node here) same)
-      refl handles
-      (marked_same (child_of s.nodes) (child_of s.nodes) (marks_of s.nodes) (links t.names) (links after.names) (times_open t) (open_handle_at s) (marked s t k) (λ i l o e bare. bare) (λ label. ap (λ (ns : List (Path × ℕ)). links ns label) names))
-      (in_order_put s.nodes (edited f s id).nodes id (Some (f node)) k.entries (node_in-edited f s id node here) own)
+      keeps_marked s (edited f s id) t after k (record {
+        step = child_of s.nodes;
+        marks = marks_of s.nodes;
+        shows = shows;
+        steps = entry_same s.nodes (edited f s id).nodes id node (f node) here (node_in-edited f s id node here) entries;
+        says = marks_same s.nodes (edited f s id).nodes id node (f node) here (node_in-edited f s id node here) same;
+        sessions = refl;
+        handles = handles;
+        marked = marked_same (child_of s.nodes) (child_of s.nodes) (marks_of s.nodes) (links t.names) (links after.names) (times_open t) (open_handle_at s) (marked s t k) (λ i l o e bare. bare) (λ label. ap (λ (ns : List (Path × ℕ)). links ns label) names);
+        ordered = in_order_put s.nodes (edited f s id).nodes id (Some (f node)) k.entries (node_in-edited f s id node here) own;
+      })
 
   -- another object of the node
   pub keeps_edited : is_some (directory_metadata (object_in node.metadata node.content)) ≡ is_some (directory_metadata (object_in (f node).metadata (f node).content))
       → Keeps (edited f s id) (changed t (SetObject node.label (object_in (f node).metadata (f node).content)))
   keeps_edited kind = keeps_by (changed t (SetObject node.label (object_in (f node).metadata (f node).content))) refl refl
-      (shows_edited f s t id node k.shows here entries (ap (λ (w : Mark). w.0) same) kind)
+      (shows_edited f s t id k.shows (record { node = node; here = here; entries = entries; label = ap (λ (w : Mark). w.0) same; kind = kind }))
 
   -- the same object
   pub keeps_unseen : shown_node (f node) ≡ shown_node node → Keeps (edited f s id) t
@@ -100,4 +105,14 @@ keeps_left left s t id k = keeps_always (with_content (with_left left)) s t id k
     (λ node e. λ i. (node.label, object_left left node.metadata node.content i))
 
 pub keeps_looked : (s : StoreState) (t : Tree) → Keeps s t → Keeps (looked_up s) t
-keeps_looked s t k = keeps_marked s (looked_up s) t t (child_of s.nodes) (marks_of s.nodes) k k.shows (λ x m. refl) (λ i. refl) refl refl (marked s t k) k.entries
+keeps_looked s t k = keeps_marked s (looked_up s) t t k (record {
+  step = child_of s.nodes;
+  marks = marks_of s.nodes;
+  shows = k.shows;
+  steps = λ x m. refl;
+  says = λ i. refl;
+  sessions = refl;
+  handles = refl;
+  marked = marked s t k;
+  ordered = k.entries;
+})

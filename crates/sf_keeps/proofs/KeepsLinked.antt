@@ -142,17 +142,23 @@ module _ (s : StoreState) (t : Tree) (k : Keeps s t) (p : Path) (d : ℕ) (n : N
 
   pub keeps_linked : Keeps (linked s d n c) after
   keeps_linked =
-      keeps_marked s (linked s d n c) t after step (λ i. cond (nat_eq c i) (Some (node.label, min (node.names + 1) (2 ^ 64 - 1), node.opens)) (marks_of s.nodes i)) k
-      (subst (λ (v : View). Shows v after) (sym view_linked)
-      (shows_linked (view_of s) t k.shows p d n c node.label (object_in node.metadata node.content) at is free (ap (option_map shown_node) here) is_file bare none))
-      (λ x m. ap (λ (v : View). v.step x m) view_linked) marks refl refl
-      (marked_left (child_of s.nodes) step (marks_of s.nodes) (links t.names) (links after.names) (times_open t) (open_handle_at s) (marked s t k) c node.label node.names node.opens (ap (option_map mark_of) here)
-      (min (node.names + 1) (2 ^ 64 - 1)) false (bare_more (child_of s.nodes) d n c c apart bare) (λ id l o e. bare_more (child_of s.nodes) d n c id (away s t k p d to.0 at to.2 id l o e))
-      (λ id l b o ne e. omega (
-        arith,
-        links_more t.names l (p ++ n ∷ []) node.label none,
-        is_link_other l node.label (λ same.
-            let w = mark_node s.nodes id (l, b, o) e in same_apart c id ne (one_node s t k c id node w.0 here w.1 (same ∙ sym (ap (λ (z : Mark). z.0) w.2)))),
-      ))
-      own (λ _. refl) (counted_handle s t k))
-      (in_order_put mid.nodes (linked s d n c).nodes c (Some (with_name node)) ordered_mid (node_in-edited with_name mid c node still) (node_in_order mid.nodes c node ordered_mid still))
+      keeps_marked s (linked s d n c) t after k (record {
+        step = step;
+        marks = λ i. cond (nat_eq c i) (Some (node.label, min (node.names + 1) (2 ^ 64 - 1), node.opens)) (marks_of s.nodes i);
+        shows = subst (λ (v : View). Shows v after) (sym view_linked)
+            (shows_linked (view_of s) t k.shows p d n c node.label (object_in node.metadata node.content) at is free (ap (option_map shown_node) here) is_file bare none);
+        steps = λ x m. ap (λ (v : View). v.step x m) view_linked;
+        says = marks;
+        sessions = refl;
+        handles = refl;
+        marked = marked_left (child_of s.nodes) step (marks_of s.nodes) (links t.names) (links after.names) (times_open t) (open_handle_at s) (marked s t k) c node.label node.names node.opens (ap (option_map mark_of) here)
+            (min (node.names + 1) (2 ^ 64 - 1)) false (bare_more (child_of s.nodes) d n c c apart bare) (λ id l o e. bare_more (child_of s.nodes) d n c id (away s t k (record { path = p; id = d; node = to.0; leads = at; is_node = to.2 }) id l o e))
+            (λ id l b o ne e. omega (
+              arith,
+              links_more t.names l (p ++ n ∷ []) node.label none,
+              is_link_other l node.label (λ same.
+                  let w = mark_node s.nodes id (l, b, o) e in same_apart c id ne (one_node s t k c id node w.0 here w.1 (same ∙ sym (ap (λ (z : Mark). z.0) w.2)))),
+            ))
+            own (λ _. refl) (counted_handle s t k);
+        ordered = in_order_put mid.nodes (linked s d n c).nodes c (Some (with_name node)) ordered_mid (node_in-edited with_name mid c node still) (node_in_order mid.nodes c node ordered_mid still);
+      })

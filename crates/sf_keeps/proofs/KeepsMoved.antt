@@ -64,7 +64,7 @@ module _ (s : StoreState) (t : Tree) (po : Path) (od : ℕ) (on : Name) (c : ℕ
   new = pn ++ nn ∷ []
 
   to_away : (id l o : ℕ) → marks_of s.nodes id ≡ Some (l, 0, o) → nat_eq nd id ≡ false
-  to_away = away s t k pn nd to.0 at_to to.2
+  to_away = away s t k (record { path = pn; id = nd; node = to.0; leads = at_to; is_node = to.2 })
 
   bares : (id l o : ℕ) → marks_of s.nodes id ≡ Some (l, 0, o) → IsBare (child_of s.nodes) id → IsBare moved id
   bares id l o e = bare_moved (child_of s.nodes) od on nd nn c id (to_away id l o e)
@@ -85,10 +85,18 @@ module _ (s : StoreState) (t : Tree) (po : Path) (od : ℕ) (on : Name) (c : ℕ
       λ name rest. k.shows.by.names (new ++ name ∷ rest) ∙ ap (option_and_then (label_by (view_of s).shown)) (below_new name rest ∙ ap (option_and_then (λ y. walk (child_of s.nodes) y (name ∷ rest))) none) in
       let free = free_name (view_of s) t k.shows pn nd nn at_to none in
       subst (λ (x : StoreState). Keeps x after) (sym is)
-      (keeps_marked s (moved_entry s (spot od on) (spot nd nn) c) t after moved (marks_of s.nodes) k (subst (λ (x : StoreState). Shows (view_of x) after) is shows)
-      (λ x m. ap (λ (v : View). v.step x m) is_view) marks_moved refl refl
-      (marked_same (child_of s.nodes) moved (marks_of s.nodes) (links t.names) (links after.names) (times_open t) (open_handle_at s) (marked s t k) bares
-      (λ label. counted_paths nothing label ∙ links_same t.names label new free)) ordered_moved)
+      (keeps_marked s (moved_entry s (spot od on) (spot nd nn) c) t after k (record {
+        step = moved;
+        marks = marks_of s.nodes;
+        shows = subst (λ (x : StoreState). Shows (view_of x) after) is shows;
+        steps = λ x m. ap (λ (v : View). v.step x m) is_view;
+        says = marks_moved;
+        sessions = refl;
+        handles = refl;
+        marked = marked_same (child_of s.nodes) moved (marks_of s.nodes) (links t.names) (links after.names) (times_open t) (open_handle_at s) (marked s t k) bares
+            (λ label. counted_paths nothing label ∙ links_same t.names label new free);
+        ordered = ordered_moved;
+      }))
 
   -- ---- in the place of another
   module _ (target : ℕ) (stood_at : child_of s.nodes nd nn ≡ Some target) (is_bare : option_map_or (λ (it : Node). is_bare_content it.content) (node_in s.nodes target) false ≡ true) (other : c ≡ target → ⊥) where
@@ -124,10 +132,20 @@ module _ (s : StoreState) (t : Tree) (po : Path) (od : ℕ) (on : Name) (c : ℕ
     keeps_replaced =
         let is = is_relinked s t k.shows po od on pn nd nn c from.0 to.0 to.1 at_from from.1 there at_to to.2 to.3 not_inside k.entries target gone.0 stood_at gone.1 bare in
         subst (λ (x : StoreState). Keeps x after) (sym is)
-        (keeps_forgotten s (moved_entry s (spot od on) (spot nd nn) c) t after moved target gone.0 k
-        (target_there s t k.shows po od on pn nd nn c from.0 to.0 to.1 at_from from.1 there at_to to.2 to.3 not_inside k.entries target gone.0 stood_at gone.1 bare) ordered_moved
-        (λ x m. ap (λ (v : View). v.step x m) is_view)
-        marks_moved refl
-        (bare_moved (child_of s.nodes) od on nd nn c target (bare_apart (child_of s.nodes) nd target nn target stood_at bare) bare) bares
-        (λ label apart. omega (arith, counted_paths nothing label, links_less t.names label new gone.0.label at_new, is_link_other label gone.0.label (λ same. apart (sym same))))
-        own refl (subst (λ (x : StoreState). Shows (view_of x) after) is shows_there))
+        (keeps_forgotten s t after k (record {
+          mid = moved_entry s (spot od on) (spot nd nn) c;
+          step = moved;
+          id = target;
+          node = gone.0;
+          here = target_there s t k.shows po od on pn nd nn c from.0 to.0 to.1 at_from from.1 there at_to to.2 to.3 not_inside k.entries target gone.0 stood_at gone.1 bare;
+          ordered = ordered_moved;
+          steps = λ x m. ap (λ (v : View). v.step x m) is_view;
+          marks = marks_moved;
+          sessions = refl;
+          gone = bare_moved (child_of s.nodes) od on nd nn c target (bare_apart (child_of s.nodes) nd target nn target stood_at bare) bare;
+          bares = bares;
+          others = λ label apart. omega (arith, counted_paths nothing label, links_less t.names label new gone.0.label at_new, is_link_other label gone.0.label (λ same. apart (sym same)));
+          own = own;
+          handles = refl;
+          shows = subst (λ (x : StoreState). Shows (view_of x) after) is shows_there;
+        }))

@@ -23,7 +23,7 @@ use Rattle.sf_inode.specs.Stores.{StoreState, node_in, child_of, shown_node, sho
 use Rattle.sf_keeps.specs.Keeps.{view_of, Keeps, times_open}
 use Rattle.sf_keeps.proofs.Sound.{IsBare}
 use Rattle.sf_keeps.proofs.Shown.{nat_eq_apart, same_apart}
-use Rattle.sf_keeps.proofs.StoreLaws.{node_in-edited, step_changed, more_says, view_taken, shows_inserted, shows_unlinked_gone, shows_unlinked_used}
+use Rattle.sf_keeps.proofs.StoreLaws.{NodeOnPath, InsertsNode, node_in-edited, step_changed, more_says, view_taken, shows_inserted, shows_unlinked_gone, shows_unlinked_used}
 use Rattle.sf_keeps.proofs.Openings.{closed_label, entry_node, unopened, both_zero, path_label, path_named, one_entry, used_still, labelled_object, object_there}
 use Rattle.sf_keeps.proofs.Whole.{one_more, free_name}
 use Rattle.sf_keeps.proofs.Counted.{Mark, mark_of, mark_same, marks_of, marked, keeps_marked}
@@ -32,12 +32,13 @@ use Rattle.sf_keeps.proofs.Forgotten.{directory_at, entry_above, bare_at, mark_n
 use Rattle.sf_keeps.proofs.InOrder.{InOrder, IsInOrder, node_in_order, in_order_put, less_in_order, more_in_order}
 
 -- a node that a path leads to is not one without a name
-pub away : (s : StoreState) (t : Tree) (k : Keeps s t) (p : Path) (d : ℕ) (above : Node) → walk (child_of s.nodes) s.root p ≡ Some d → node_in s.nodes d ≡ Some above
-    → (id l o : ℕ) → marks_of s.nodes id ≡ Some (l, 0, o) → nat_eq d id ≡ false
-away s t k p d above at here id l o e = nat_eq_apart d id (λ same.
-    let is : ◌≡◌ {A = Mark} (mark_of above) (l, 0, o) = mark_same (mark_of above) (l, 0, o) (sym (ap (option_map mark_of) here) ∙ ap (marks_of s.nodes) same ∙ e) in
+-- what a path leads to has a name, so it is no node without one
+pub away : (s : StoreState) (t : Tree) (k : Keeps s t) (p : NodeOnPath s) (id l o : ℕ) → marks_of s.nodes id ≡ Some (l, 0, o) → nat_eq p.id id ≡ false
+away s t k p id l o e = nat_eq_apart p.id id (λ same.
+    let above = p.node in
+    let is : ◌≡◌ {A = Mark} (mark_of above) (l, 0, o) = mark_same (mark_of above) (l, 0, o) (sym (ap (option_map mark_of) p.is_node) ∙ ap (marks_of s.nodes) same ∙ e) in
     let none : above.names ≡ 0 = ap (λ (z : Mark). z.1) is in
-    absurd (omega (arith, path_named s t k p d above here at, none)))
+    absurd (omega (arith, path_named s t k p.path p.id above p.is_node p.leads, none)))
 
 -- a node's label has an object
 labelled_node : (s : StoreState) (t : Tree) (k : Keeps s t) (id l b o : ℕ) → marks_of s.nodes id ≡ Some (l, b, o) → object_of t.objects l ≡ None → ⊥
@@ -73,10 +74,23 @@ keeps_unlinked s t p d n c k at there is_bare =
     ] refl in
     let is : unlinked s d n ≡ forgotten mid c = ap (unlinked_from s d n) there in
     subst (λ (x : StoreState). Keeps x after) (sym is)
-    (keeps_forgotten s mid t after step c node.0 k here (in_order_entries (less_content n) s d above.0 above.1 k.entries (less_in_order n above.0.content ordered)) (λ x m. ap (λ (v : View). v.step x m) (view_taken s d n above.0 ordered above.1)) (marks_entries (less_content n) s d above.0 above.1) refl
-    (bare_less (child_of s.nodes) d n c bare) (λ id l o e. bare_less (child_of s.nodes) d n id)
-    (λ l other. omega (arith, links_less t.names l (p ++ n ∷ []) node.0.label at_path, is_link_other l node.0.label (λ same. other (sym same))))
-    own refl (subst (λ (x : StoreState). Shows (view_of x) after) is shows))
+    (keeps_forgotten s t after k (record {
+      mid = mid;
+      step = step;
+      id = c;
+      node = node.0;
+      here = here;
+      ordered = in_order_entries (less_content n) s d above.0 above.1 k.entries (less_in_order n above.0.content ordered);
+      steps = λ x m. ap (λ (v : View). v.step x m) (view_taken s d n above.0 ordered above.1);
+      marks = marks_entries (less_content n) s d above.0 above.1;
+      sessions = refl;
+      gone = bare_less (child_of s.nodes) d n c bare;
+      bares = λ id l o e. bare_less (child_of s.nodes) d n id;
+      others = λ l other. omega (arith, links_less t.names l (p ++ n ∷ []) node.0.label at_path, is_link_other l node.0.label (λ same. other (sym same)));
+      own = own;
+      handles = refl;
+      shows = subst (λ (x : StoreState). Shows (view_of x) after) is shows;
+    }))
 
 -- ---- a new node
 new_bare : (kind : FileType) (m : Name) → child_in (new_content kind) m ≡ None
@@ -130,14 +144,21 @@ keeps_inserted old new t p d n c made k did at is_dir free fresh =
     let q : Path = p ++ n ∷ [] in
     let free_path = free_name (view_of old) t k.shows p d n at free in
     let after = changed t (NewPath q made.label (object_in made.metadata (new_content made.file_type))) in
-    keeps_marked old new t after (changed_step (child_of old.nodes) d n (Some c))
-    (λ i. cond (nat_eq c i) (Some (made.label, 1, 0)) (marks_of old.nodes i)) k
-    (shows_inserted old new t p d n c (new_node made) w.0 w.1 did k.shows at w.2 w.3 none bare fresh)
-    (steps_new old new d n c (new_node made) w.0 w.1 did w.2 w.3 bare) (marks_new old new d n c (new_node made) w.0 w.1 did w.2 w.3 bare) did.sessions refl
-    (marked_new (child_of old.nodes) d n c made.label (marks_of old.nodes) (links t.names) (links after.names) (times_open t) (open_handle_at old) (marked old t k) (ap (option_map mark_of) did.fresh) bare_c
-    (nat_eq_apart d c (λ e. let g = ap (node_in old.nodes) e in let h = did.fresh in let i = w.2 in cc))
-    (away old t k p d w.0 at w.2)
-    (λ id l b o e. omega (arith, links_more t.names l q made.label free_path, is_link_other l made.label (λ same. labelled_node old t k id l b o e (ap (object_of t.objects) (sym same) ∙ fresh))))
-    (omega (arith, links_more t.names made.label q made.label free_path, is_link_itself made.label, none_linked t.names made.label k.shows.ordered.names (λ z e. labelled_object old t k z made.label e fresh)))
-    (unopened old t k made.label fresh))
-    (in_order_new old new d n c (new_node made) w.0 w.1 did w.2 w.3 bare k.entries (new_in_order made.file_type))
+    let above : NodeOnPath old = record { path = p; id = d; node = w.0; leads = at; is_node = w.2 } in
+    let inserts : InsertsNode old new = record { above = above; entries = w.1; directory = w.3; name = n; free = none; id = c; node = new_node made; inserted = did; bare = bare } in
+    keeps_marked old new t after k (record {
+      step = changed_step (child_of old.nodes) d n (Some c);
+      marks = λ i. cond (nat_eq c i) (Some (made.label, 1, 0)) (marks_of old.nodes i);
+      shows = shows_inserted old new t inserts k.shows fresh;
+      steps = steps_new old new d n c (new_node made) w.0 w.1 did w.2 w.3 bare;
+      says = marks_new old new d n c (new_node made) w.0 w.1 did w.2 w.3 bare;
+      sessions = did.sessions;
+      handles = refl;
+      marked = marked_new (child_of old.nodes) d n c made.label (marks_of old.nodes) (links t.names) (links after.names) (times_open t) (open_handle_at old) (marked old t k) (ap (option_map mark_of) did.fresh) bare_c
+          (nat_eq_apart d c (λ e. let g = ap (node_in old.nodes) e in let h = did.fresh in let i = w.2 in cc))
+          (away old t k above)
+          (λ id l b o e. omega (arith, links_more t.names l q made.label free_path, is_link_other l made.label (λ same. labelled_node old t k id l b o e (ap (object_of t.objects) (sym same) ∙ fresh))))
+          (omega (arith, links_more t.names made.label q made.label free_path, is_link_itself made.label, none_linked t.names made.label k.shows.ordered.names (λ z e. labelled_object old t k z made.label e fresh)))
+          (unopened old t k made.label fresh);
+      ordered = in_order_new old new d n c (new_node made) w.0 w.1 did w.2 w.3 bare k.entries (new_in_order made.file_type);
+    })

@@ -116,29 +116,68 @@ view_taken s d n node ordered here =
 
 -- ---- another object
 -- a change of a node that keeps its entries and its label is a change of its object
-pub shows_edited : (f : Node → Node) (s : StoreState) (t : Tree) (id : ℕ) (node : Node) → Shows (view_of s) t → node_in s.nodes id ≡ Some node
-    → ((m : Name) → child_in (f node).content m ≡ child_in node.content m) → (f node).label ≡ node.label
-    → is_some (directory_metadata (object_in node.metadata node.content)) ≡ is_some (directory_metadata (object_in (f node).metadata (f node).content))
-    → Shows (view_of (edited f s id)) (changed t (SetObject node.label (object_in (f node).metadata (f node).content)))
-shows_edited f s t id node h here entries label kind =
+-- a node that is edited: its entries stay, and so do its label and its kind
+pub record EditsNode (f : Node → Node) (s : StoreState) (id : ℕ) : Type 0 where
+  pub node : Node
+  pub here : node_in s.nodes id ≡ Some node
+  pub entries : (m : Name) → child_in (f node).content m ≡ child_in node.content m
+  pub label : (f node).label ≡ node.label
+  pub kind : is_some (directory_metadata (object_in node.metadata node.content)) ≡ is_some (directory_metadata (object_in (f node).metadata (f node).content))
+
+pub shows_edited : (f : Node → Node) (s : StoreState) (t : Tree) (id : ℕ) → Shows (view_of s) t → (e : EditsNode f s id)
+    → Shows (view_of (edited f s id)) (changed t (SetObject e.node.label (object_in (f e.node).metadata (f e.node).content)))
+shows_edited f s t id h e =
+    let node = e.node in
+    let here = e.here in
     let o = object_in (f node).metadata (f node).content in
     let put = node_in-edited f s id node here in
     along (with_shown (view_of s) id (Some (node.label, o))) (view_of (edited f s id)) (changed t (SetObject node.label o))
-    (entry_same s.nodes (edited f s id).nodes id node (f node) here put entries)
-    (λ x. shown_changed s.nodes (edited f s id).nodes id node (f node) here put x ∙ ap (λ (l : ℕ). changed_shown (shown_of s.nodes) id (Some (l, o)) x) label)
+    (entry_same s.nodes (edited f s id).nodes id node (f node) here put e.entries)
+    (λ x. shown_changed s.nodes (edited f s id).nodes id node (f node) here put x ∙ ap (λ (l : ℕ). changed_shown (shown_of s.nodes) id (Some (l, o)) x) e.label)
     refl (λ a b. refl)
-    (shows_set (view_of s) t h id node.label (object_in node.metadata node.content) o (ap (option_map shown_node) here) kind)
+    (shows_set (view_of s) t h id node.label (object_in node.metadata node.content) o (ap (option_map shown_node) here) e.kind)
 
 pub kind_metadata : (m k : Metadata) (c : Content) → is_some (directory_metadata (object_in m c)) ≡ is_some (directory_metadata (object_in k c))
 kind_metadata m k (content.Directory es) = refl
 kind_metadata m k (content.File contents) = refl
 
 -- ---- a new node with its entry
-pub shows_inserted : (old new : StoreState) (t : Tree) (p : Path) (d : ℕ) (n : Name) (c : ℕ) (node above : Node) (es : List (Name × ℕ)) → Inserted old new (new_entry d n c) node → Shows (view_of old) t
-    → walk (child_of old.nodes) old.root p ≡ Some d → node_in old.nodes d ≡ Some above → above.content ≡ content.Directory es → lookup (same_name n) es ≡ None
-    → ((m : Name) → child_in node.content m ≡ None) → object_of t.objects node.label ≡ None
-    → Shows (view_of new) (changed t (NewPath (p ++ n ∷ []) node.label (object_in node.metadata node.content)))
-shows_inserted old new t p d n c node above es did h at here dir free bare fresh =
+-- a node that a path leads to
+pub record NodeOnPath (s : StoreState) : Type 0 where
+  pub path : Path
+  pub id : ℕ
+  pub node : Node
+  pub leads : walk (child_of s.nodes) s.root path ≡ Some id
+  pub is_node : node_in s.nodes id ≡ Some node
+
+-- a new node without entries was put under a name of a directory that had no such name
+pub record InsertsNode (old new : StoreState) : Type 0 where
+  pub above : NodeOnPath old
+  pub entries : List (Name × ℕ)
+  pub directory : above.node.content ≡ content.Directory entries
+  pub name : Name
+  pub free : lookup (same_name name) entries ≡ None
+  pub id : ℕ
+  pub node : Node
+  pub inserted : Inserted old new (new_entry above.id name id) node
+  pub bare : (m : Name) → child_in node.content m ≡ None
+
+pub shows_inserted : (old new : StoreState) (t : Tree) (i : InsertsNode old new) → Shows (view_of old) t → object_of t.objects i.node.label ≡ None
+    → Shows (view_of new) (changed t (NewPath (i.above.path ++ i.name ∷ []) i.node.label (object_in i.node.metadata i.node.content)))
+shows_inserted old new t inserts h fresh =
+    let p = inserts.above.path in
+    let d = inserts.above.id in
+    let n = inserts.name in
+    let c = inserts.id in
+    let node = inserts.node in
+    let above = inserts.above.node in
+    let es = inserts.entries in
+    let did = inserts.inserted in
+    let at = inserts.above.leads in
+    let here = inserts.above.is_node in
+    let dir = inserts.directory in
+    let free = inserts.free in
+    let bare = inserts.bare in
     let o = object_in node.metadata node.content in
     let more = with_content (more_content n c) above in
     let mid = (entry_put old d n c).nodes in

@@ -7,7 +7,7 @@ use Rattle.sf_inode.specs.declared.node.Node.{Node}
 use Rattle.sf_inode.specs.declared.node.Content.{Content}
 use Rattle.sf_inode.specs.declared.node.Content.TheVariants as content
 use Rattle.sf_inode.specs.Nodes.{object_in, less_content, more_content, with_content, without_name, is_unused}
-use Rattle.sf_inode.specs.Stores.{StoreState, node_in, child_of, shown_node, shown_of, holder_of, with_nodes, edited, edited_by, entry_taken, entry_put, released_if, forgotten, unlinked, unlinked_from, moved_entry, relinked, relinked_from, Inserted, spot, new_entry}
+use Rattle.sf_inode.specs.Stores.{StoreState, EntryKey, node_in, child_of, shown_node, shown_of, holder_of, with_nodes, edited, edited_by, entry_taken, entry_put, released_if, forgotten, unlinked, unlinked_from, moved_entry, relinked, relinked_from, Inserted, spot, new_entry}
 use Rattle.sf_keeps.proofs.Shown.{nat_eq_apart, same_apart}
 use Rattle.sf_keeps.proofs.StoreLaws.{node_in-set, object_less}
 
@@ -114,11 +114,11 @@ sight_unlinked s dir n i (Some c) e other = sight_forgotten (entry_taken s dir n
 pub unlinked_alike : (s : StoreState) (dir : ℕ) (n : Name) (i : ℕ) → child_of s.nodes dir n ≢ Some i → Alike (unlinked s dir n).nodes s.nodes i
 unlinked_alike s dir n i other = alike (unlinked s dir n).nodes s.nodes i (sight_unlinked s dir n i (child_of s.nodes dir n) refl other)
 
-sight_relinked : (s : StoreState) (dir : ℕ) (n : Name) (to : ℕ) (m : Name) (i : ℕ) (o r : Option ℕ) → child_of s.nodes to m ≡ r → child_of s.nodes to m ≢ Some i → sights (relinked_from s (spot dir n) (spot to m) o r).nodes i ≡ sights s.nodes i
-sight_relinked s dir n to m i None r e other = refl
-sight_relinked s dir n to m i (Some id) None e other = sight_taken (entry_put s to m id) dir n i ∙ sight_put s to m id i
-sight_relinked s dir n to m i (Some id) (Some c) e other =
-    sight_forgotten (moved_entry s (spot dir n) (spot to m) id) c i (not_there (child_of s.nodes to m) c i e other) ∙ sight_taken (entry_put s to m id) dir n i ∙ sight_put s to m id i
+sight_relinked : (s : StoreState) (from into : EntryKey) (i : ℕ) (o r : Option ℕ) → child_of s.nodes into.dir into.name ≡ r → child_of s.nodes into.dir into.name ≢ Some i → sights (relinked_from s from into o r).nodes i ≡ sights s.nodes i
+sight_relinked s from into i None r e other = refl
+sight_relinked s from into i (Some id) None e other = sight_taken (entry_put s into.dir into.name id) from.dir from.name i ∙ sight_put s into.dir into.name id i
+sight_relinked s from into i (Some id) (Some c) e other =
+    sight_forgotten (moved_entry s from into id) c i (not_there (child_of s.nodes into.dir into.name) c i e other) ∙ sight_taken (entry_put s into.dir into.name id) from.dir from.name i ∙ sight_put s into.dir into.name id i
 
 pub relinked_alike : (s : StoreState) (dir : ℕ) (n : Name) (to : ℕ) (m : Name) (i : ℕ) → child_of s.nodes to m ≢ Some i → Alike (relinked s dir n to m).nodes s.nodes i
-relinked_alike s dir n to m i other = alike (relinked s dir n to m).nodes s.nodes i (sight_relinked s dir n to m i (child_of s.nodes dir n) (child_of s.nodes to m) refl other)
+relinked_alike s dir n to m i other = alike (relinked s dir n to m).nodes s.nodes i (sight_relinked s (spot dir n) (spot to m) i (child_of s.nodes dir n) (child_of s.nodes to m) refl other)

@@ -13,4 +13,5 @@ returns-in-Some c = λ d at. let e = c.in-Some.ensures.decided d at in AtOnce c.
 
 pub returns-in-None : goal.returns-in-None
 returns-in-None c = λ d at.
-    written_on c.write.new.self c.copy_on.result (c.in-None.ensures.begun d at) c.copy_on.ensures.some c.copy_on.ensures.none
+    written_on c.args.self.now c.copy_on.new.self d c.args.session c.args.number c.args.most c.copy_on.result
+    (record { mid = c.write.new.self; begun = c.in-None.ensures.begun d at; ends = c.copy_on.ensures.some; more = c.copy_on.ensures.none })
