@@ -30,18 +30,21 @@ runs_cut old new f g len n are same kept = λ k run at.
       bytes = λ i lt. r.bytes i lt ∙ sym (same (k * 32768 + i) (omega (arith, w.0, lt)));
     }
 
--- bytes were written
-pub runs_noted : (old new : List (ℕ × List ℕ)) (f g : ℕ → List ℕ) (len start : ℕ) (bytes : List ℕ) → 0 < length bytes → AreRuns old f len
-    → ((i : ℕ) → (i < start) ⊎ (start + length bytes ≤ i) → byte_in g i ≡ byte_in f i)
-    → ((i : ℕ) → start ≤ i → i < start + length bytes → byte_in g i ≡ get_or bytes (i - start) 0)
+-- bytes were written: the others are as they were
+pub record Wrote (f g : ℕ → List ℕ) (start : ℕ) (bytes : List ℕ) : Type 0 where
+  pub some : 0 < length bytes
+  pub kept : (i : ℕ) → (i < start) ⊎ (start + length bytes ≤ i) → byte_in g i ≡ byte_in f i
+  pub laid : (i : ℕ) → start ≤ i → i < start + length bytes → byte_in g i ≡ get_or bytes (i - start) 0
+
+pub runs_noted : (old new : List (ℕ × List ℕ)) {f g : ℕ → List ℕ} (len : ℕ) {start : ℕ} {bytes : List ℕ} → AreRuns old f len → Wrote f g start bytes
     → ((k : ℕ) (run : List ℕ) → run_in new k ≡ Some run → IsNoted old start bytes k run) → AreRuns new g (max len (start + length bytes))
-runs_noted old new f g len start bytes some are kept laid noted = λ k run at. elim (noted k run at) [
+runs_noted old new len {start = start} {bytes = bytes} are wrote noted = λ k run at. elim (noted k run at) [
   | inl w ↦
       let r = are k run w.0 in
       record {
         whole = r.whole;
         within = omega (arith, r.within);
-        bytes = λ i lt. r.bytes i lt ∙ sym (kept (k * 32768 + i) (elim w.1 [ inl before ↦ inl (omega (arith, before, lt)) | inr behind ↦ inr (omega (arith, behind)) ]));
+        bytes = λ i lt. r.bytes i lt ∙ sym (wrote.kept (k * 32768 + i) (elim w.1 [ inl before ↦ inl (omega (arith, before, lt)) | inr behind ↦ inr (omega (arith, behind)) ]));
       }
   | inr w ↦
       record {
@@ -50,15 +53,19 @@ runs_noted old new f g len start bytes some are kept laid noted = λ k run at. e
         bytes = λ i lt.
             ap (λ (x : List ℕ). get_or x i 0) w.0
             ∙ ap (λ j. get_or bytes j 0) (omega (arith, w.2))
-            ∙ sym (laid (k * 32768 + i) (omega (arith, w.2)) (omega (arith, w.1, w.2, lt)));
+            ∙ sym (wrote.laid (k * 32768 + i) (omega (arith, w.2)) (omega (arith, w.1, w.2, lt)));
       }
 ]
 
--- a run was put in whose blocks are in their places
-pub runs_held : (old new : List (ℕ × List ℕ)) (blocks : List (ℕ × List (List ℕ))) (g : ℕ → List ℕ) (first : ℕ) (bytes : List ℕ) (len end : ℕ)
-    → AreRuns old g len → IsHeld blocks first bytes → (0 < length bytes → first + length bytes / 4096 ≤ end) → ((k : ℕ) → k < end → g k ≡ block_in blocks k)
+-- copies of blocks that are in their places
+pub record InPlace (blocks : List (ℕ × List (List ℕ))) (g : ℕ → List ℕ) (first : ℕ) (bytes : List ℕ) : Type 0 where
+  pub held : IsHeld blocks first bytes
+  pub same : (j : ℕ) → j < length bytes / 4096 → g (first + j) ≡ block_in blocks (first + j)
+
+-- a run of them was put in
+pub runs_held : (old new : List (ℕ × List ℕ)) {blocks : List (ℕ × List (List ℕ))} {g : ℕ → List ℕ} {first : ℕ} {bytes : List ℕ} (len : ℕ) → AreRuns old g len → InPlace blocks g first bytes
     → ((k : ℕ) (run : List ℕ) → run_in new k ≡ Some run → (run_in old k ≡ Some run) ⊎ IsRunOf first bytes len k run) → AreRuns new g len
-runs_held old new blocks g first bytes len end are held ends same put = λ k run at. elim (put k run at) [
+runs_held old new {g = g} {first = first} {bytes = bytes} len are copies put = λ k run at. elim (put k run at) [
   | inl was ↦ are k run was
   | inr is ↦
       record {
@@ -67,7 +74,6 @@ runs_held old new blocks g first bytes len end are held ends same put = λ k run
         bytes = λ i lt.
             let j = i / 4096 in
             let few : j < length bytes / 4096 = omega (arith, lt, is.whole) in
-            let last : first + length bytes / 4096 ≤ end = ends (omega (arith, is.whole)) in
             let cut : i ≡ j * 4096 + i % 4096 = omega arith in
             let block : first + j ≡ (k * 32768 + i) / 4096 = omega (arith, is.at) in
             let place : i % 4096 ≡ (k * 32768 + i) % 4096 = omega arith in
@@ -75,8 +81,8 @@ runs_held old new blocks g first bytes len end are held ends same put = λ k run
             ∙ ap (λ n. get_or bytes n 0) cut
             ∙ sym (get_or-drop (j * 4096) bytes (i % 4096) 0)
             ∙ sym (get_or-take 4096 (drop (j * 4096) bytes) (i % 4096) 0 (omega arith))
-            ∙ sym (ap (λ (b : List ℕ). get_or b (i % 4096) 0) (held.are j few))
-            ∙ sym (ap (λ (b : List ℕ). get_or b (i % 4096) 0) (same (first + j) (omega (arith, few, last))))
+            ∙ sym (ap (λ (b : List ℕ). get_or b (i % 4096) 0) (copies.held.are j few))
+            ∙ sym (ap (λ (b : List ℕ). get_or b (i % 4096) 0) (copies.same j few))
             ∙ ap (λ n. get_or (g n) (i % 4096) 0) block
             ∙ ap (λ n. get_or (g ((k * 32768 + i) / 4096)) n 0) place;
       }

@@ -28,28 +28,34 @@ front_sent a b bytes rest (sent, whole, wrote) =
     let front = ap (take (length sent)) whole ∙ take-append_seam sent rest in
     (length sent, subst (Appends a b) (sym front) wrote)
 
--- the writer took all that the reader gave
-abbrev pub Carried : (a b c d : Option (List ℕ)) → Type 0
-Carried a b c d = (given : List ℕ) × Consumes a b given × Appends c d given
+-- the writer took all that the reader gave: from a to b it was read, from c to d written
+pub record Carried (a b c d : Option (List ℕ)) : Type 0 where
+  pub given : List ℕ
+  pub read : Consumes a b given
+  pub wrote : Appends c d given
 
 -- the writer took a beginning of what the reader gave
 abbrev pub CarriedFront : (a b c d : Option (List ℕ)) → Type 0
 CarriedFront a b c d = (given : List ℕ) × Consumes a b given × TakesFront c d given
 
 pub none_carried : (a c : Option (List ℕ)) → Carried a a c c
-none_carried a c = ([], Consumes-nil a, Appends-nil c)
+none_carried a c = record { given = []; read = Consumes-nil a; wrote = Appends-nil c }
 
-pub more_carried : (a b c d y z : Option (List ℕ)) (bytes : List ℕ) → Carried a b c d → Consumes b y bytes → Appends d z bytes → Carried a y c z
-more_carried a b c d y z bytes (given, read, wrote) read' wrote' =
-    (given ++ bytes, Consumes-trans a b y given bytes read read', Appends-trans c d z given bytes wrote wrote')
+pub more_carried : {a b c d : Option (List ℕ)} (y z : Option (List ℕ)) (bytes : List ℕ) → Carried a b c d → Consumes b y bytes → Appends d z bytes → Carried a y c z
+more_carried {a} {b} {c} {d} y z bytes so_far read wrote = record {
+  given = so_far.given ++ bytes;
+  read = Consumes-trans a b y so_far.given bytes so_far.read read;
+  wrote = Appends-trans c d z so_far.given bytes so_far.wrote wrote;
+}
 
-pub kept_carried : (a b c d y : Option (List ℕ)) → Carried a b c d → Keeps b y → Carried a y c d
-kept_carried a b c d y (given, read, wrote) kept = (given, Consumes-kept a b y given read kept, wrote)
+pub kept_carried : {a b c d : Option (List ℕ)} (y : Option (List ℕ)) → Carried a b c d → Keeps b y → Carried a y c d
+kept_carried {a} {b} y so_far kept = record { given = so_far.given; read = Consumes-kept a b y so_far.given so_far.read kept; wrote = so_far.wrote }
 
-pub front_carried : (a b c d : Option (List ℕ)) → Carried a b c d → CarriedFront a b c d
-front_carried a b c d (given, read, wrote) = (given, read, (length given, subst (Appends c d) (sym (take-length given)) wrote))
+pub front_carried : {a b c d : Option (List ℕ)} → Carried a b c d → CarriedFront a b c d
+front_carried {c = c} {d = d} so_far = (so_far.given, so_far.read, (length so_far.given, subst (Appends c d) (sym (take-length so_far.given)) so_far.wrote))
 
-pub more_front : (a b c d y z : Option (List ℕ)) (bytes : List ℕ) → Carried a b c d → Consumes b y bytes → TakesFront d z bytes → CarriedFront a y c z
-more_front a b c d y z bytes (given, read, wrote) read' (n, wrote') =
-    let both = Appends-trans c d z given (take n bytes) wrote wrote' in
-    (given ++ bytes, Consumes-trans a b y given bytes read read', (length given + n, subst (Appends c z) (sym (take-append-add given bytes n)) both))
+pub more_front : {a b c d : Option (List ℕ)} (y z : Option (List ℕ)) (bytes : List ℕ) → Carried a b c d → Consumes b y bytes → TakesFront d z bytes → CarriedFront a y c z
+more_front {a} {b} {c} {d} y z bytes so_far read (n, wrote) =
+    let given = so_far.given in
+    let both = Appends-trans c d z given (take n bytes) so_far.wrote wrote in
+    (given ++ bytes, Consumes-trans a b y given bytes so_far.read read, (length given + n, subst (Appends c z) (sym (take-append-add given bytes n)) both))

@@ -71,17 +71,16 @@ invariant_of-self-then-not-copied c =
     let put : (k : ℕ) → block_now c.put.new.self (inside.first + 1) left k ≡ old k = now_put inside.blocks c.put.new.self inside.first inside.fresh.items left block is c.put.ensures in
     let new : ℕ → List ℕ = block_now c.settle.new.blocks (inside.first + 1) left in
     let same : (k : ℕ) → new k ≡ old k = λ k. now_same c.put.new.self c.settle.new.blocks (inside.first + 1) left c.settle.ensures.same k ∙ put k in
+    let end = end_put inside.blocks c.put.new.self inside.first block c.put.ensures inside.filling c.push-copied.new.self c.push-copied.result c.self.invariant.6 full bytes pushed.first pushed.later c.self.invariant.5 in
     let none : length c.settle.new.filling.bytes ≡ 0 = ap (λ (x : List ℕ). length x) c.settle.ensures.empty in (
       λ k. omega (arith, ap (λ (b : List ℕ). length b) (same k), c.self.invariant.0 k),
       λ i le. ap (λ (b : List ℕ). get_or b (i % 4096) 0) (same (i / 4096)) ∙ c.self.invariant.1 i le,
       λ k from to. c.settle.ensures.kept k (c.put.ensures.kept k (c.self.invariant.2 k (omega (arith, from)) (omega (arith, to, count)))),
       omega (arith, c.self.invariant.3, count),
-      runs_held inside.runs c.settle.new.runs c.put.new.self new c.push-copied.new.self.from c.push-copied.new.self.bytes inside.len (inside.first + 1)
-          (runs_same inside.runs old new inside.len same c.self.invariant.4)
-          (held_put inside.blocks c.put.new.self inside.first block c.put.ensures inside.filling c.push-copied.new.self c.push-copied.result c.self.invariant.6 full bytes pushed.first pushed.later place c.self.invariant.5)
-          (λ some. end_put inside.blocks c.put.new.self inside.first block c.put.ensures inside.filling c.push-copied.new.self c.push-copied.result c.self.invariant.6 full bytes pushed.first pushed.later c.self.invariant.5)
-          (λ k lt. now_before c.settle.new.blocks (inside.first + 1) left k lt ∙ c.settle.ensures.same k)
-          c.settle.ensures.runs,
+      runs_held inside.runs c.settle.new.runs inside.len (runs_same inside.runs old new inside.len same c.self.invariant.4) (record {
+        held = held_put inside.blocks c.put.new.self inside.first block c.put.ensures inside.filling c.push-copied.new.self c.push-copied.result c.self.invariant.6 full bytes pushed.first pushed.later place c.self.invariant.5;
+        same = λ j few. now_before c.settle.new.blocks (inside.first + 1) left (c.push-copied.new.self.from + j) (omega (arith, few, end)) ∙ c.settle.ensures.same (c.push-copied.new.self.from + j);
+      }) c.settle.ensures.runs,
       held_none c.settle.new.blocks c.settle.new.filling.from c.settle.new.filling.bytes none,
       λ some. absurd (omega (arith, some, none)),
       λ empty. none,

@@ -32,10 +32,12 @@ invariant_of-self-2 c =
       λ k from to. c.in_ok-make_places.ensures.there k from (omega (arith, to, count)),
       omega (arith, reach, c.requires.fits),
       subst (λ n. AreRuns c.make_places.new.runs (block_now new (start / 4096) fresh) n) (sym most)
-          (runs_noted inside.runs c.make_places.new.runs (block_in old) (block_now new (start / 4096) fresh) inside.len start bytes c.requires.some
-          (runs_same inside.runs (block_now old inside.first inside.fresh.items) (block_in old) inside.len (λ k. sym (was k)) c.self.invariant.4)
-          (now_kept new old start bytes fresh c.requires.some c.in_ok-make_places.ensures.same count laid)
-          (now_laid new old start bytes fresh c.requires.some c.in_ok-make_places.ensures.same count laid)
+          (runs_noted inside.runs c.make_places.new.runs inside.len
+          (runs_same inside.runs (block_now old inside.first inside.fresh.items) (block_in old) inside.len (λ k. sym (was k)) c.self.invariant.4) (record {
+            some = c.requires.some;
+            kept = now_kept new old start bytes fresh c.requires.some c.in_ok-make_places.ensures.same count laid;
+            laid = now_laid new old start bytes fresh c.requires.some c.in_ok-make_places.ensures.same count laid;
+          })
           c.in_ok-make_places.ensures.noted),
       held_none new c.in_ok-filling.filling.from c.in_ok-filling.filling.bytes nothing,
       λ some. absurd (omega (arith, some, nothing)),
