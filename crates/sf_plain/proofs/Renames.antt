@@ -66,27 +66,27 @@ carried_there old new e there is =
     ∙ ap (option_map (labelled e.1)) (sym is)
 
 -- what is carried of one entry more, from the end
-carried_last : (old new : Path) (names left rest : List (Path × ℕ)) (e : Path × ℕ) (there : Option Path) → left ≡ rest ++ e ∷ [] → there ≡ option_map (λ (r : Path). new ++ r) (after_front old e.0)
+carried_last : {left : List (Path × ℕ)} {there : Option Path} (old new : Path) (names rest : List (Path × ℕ)) (e : Path × ℕ) → left ≡ rest ++ e ∷ [] → there ≡ option_map (λ (r : Path). new ++ r) (after_front old e.0)
     → with_entries names (filter_map (carried old new) left) ≡ with_entries names (filter_map (carried old new) rest ++ cons_option (option_map (labelled e.1) there) [])
-carried_last old new names left rest e there more is =
+carried_last {left} {there} old new names rest e more is =
     ap (λ (es : List (Path × ℕ)). with_entries names es)
     (ap (filter_map (carried old new)) more ∙ filter_map-append (carried old new) rest (e ∷ [])
     ∙ ap (λ o. filter_map (carried old new) rest ++ cons_option o []) (carried_there old new e there is))
 
 -- one name more is looked at: where it begins with the old path, it is put at the new one
-pub carries_one : (old new : Path) (names next left rest whole : List (Path × ℕ)) (e : Path × ℕ) (there : Path) → left ≡ rest ++ e ∷ []
+pub carries_one : {next left whole : List (Path × ℕ)} {there : Path} (old new : Path) (names rest : List (Path × ℕ)) (e : Path × ℕ) → left ≡ rest ++ e ∷ []
     → Some there ≡ option_map (λ (r : Path). new ++ r) (after_front old e.0) → next ≡ insert_entry path_cmp names there e.1
     → with_entries names (filter_map (carried old new) left) ≡ whole → with_entries next (filter_map (carried old new) rest) ≡ whole
-carries_one old new names next left rest whole e there more is put so_far =
+carries_one {there = there} old new names rest e more is put so_far =
     ap (λ (ns : List (Path × ℕ)). with_entries ns (filter_map (carried old new) rest)) put
     ∙ sym (with_last names (filter_map (carried old new) rest) (there, e.1))
-    ∙ sym (carried_last old new names left rest e (Some there) more is) ∙ so_far
+    ∙ sym (carried_last old new names rest e more is) ∙ so_far
 
-pub carries_none : (old new : Path) (names left rest whole : List (Path × ℕ)) (e : Path × ℕ) → left ≡ rest ++ e ∷ []
+pub carries_none : {left whole : List (Path × ℕ)} (old new : Path) (names rest : List (Path × ℕ)) (e : Path × ℕ) → left ≡ rest ++ e ∷ []
     → None ≡ option_map (λ (r : Path). new ++ r) (after_front old e.0)
     → with_entries names (filter_map (carried old new) left) ≡ whole → with_entries names (filter_map (carried old new) rest) ≡ whole
-carries_none old new names left rest whole e more is so_far =
-    sym (carried_last old new names left rest e None more is ∙ ap (λ (es : List (Path × ℕ)). with_entries names es) (append-nil (filter_map (carried old new) rest))) ∙ so_far
+carries_none old new names rest e more is so_far =
+    sym (carried_last old new names rest e more is ∙ ap (λ (es : List (Path × ℕ)). with_entries names es) (append-nil (filter_map (carried old new) rest))) ∙ so_far
 
 -- changes after changes
 pub done_then : (tree : Tree) (first second : List Change) → done tree (first ++ second) ≡ done (done tree first) second

@@ -12,9 +12,9 @@ not_false true _ = refl
 not_false false other = absurd (other refl)
 
 -- a front that is no directory makes the way faulty
-pub way_fails : (tree : Tree) (path front : Path) (n : ℕ) (found : Option (ℕ × Metadata))
+pub way_fails : {front : Path} {found : Option (ℕ × Metadata)} (tree : Tree) (path : Path) (n : ℕ)
     → n < length path → front ≡ take n path → found ≡ directory_at tree front → is_some found ≡ false → is_faulty_way tree path ≡ true
-way_fails tree path front n found lt is looked none =
+way_fails tree path n lt is looked none =
     not_false (is_faulty_way tree path) (λ passes.
     let there : is_directory tree (take n path) ≡ true = (open_way tree path).0 passes n lt in
     let absent : is_directory tree (take n path) ≡ false = ap (is_directory tree) (sym is) ∙ ap (λ (o : Option (ℕ × Metadata)). is_some o) (sym looked) ∙ none in
@@ -28,7 +28,7 @@ one_more f n before last k lt =
     ] refl
 
 -- one directory more on the way
-pub way_goes_on : (tree : Tree) (path front : Path) (n : ℕ) (found : Option (ℕ × Metadata)) → ((k : ℕ) → k < n → is_directory tree (take k path) ≡ true)
+pub way_goes_on : {front : Path} {found : Option (ℕ × Metadata)} (tree : Tree) (path : Path) (n : ℕ) → ((k : ℕ) → k < n → is_directory tree (take k path) ≡ true)
     → front ≡ take n path → found ≡ directory_at tree front → is_some found ≡ true → (k : ℕ) → k < n + 1 → is_directory tree (take k path) ≡ true
-way_goes_on tree path front n found before is looked there =
+way_goes_on tree path n before is looked there =
     one_more (λ k. is_directory tree (take k path)) n before (ap (is_directory tree) (sym is) ∙ ap (λ (o : Option (ℕ × Metadata)). is_some o) (sym looked) ∙ there)

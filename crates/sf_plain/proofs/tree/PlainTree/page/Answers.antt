@@ -7,24 +7,24 @@ use Rattle.sf_plain.proofs.tree.PlainTree.page.Goals as goal
 
 pub names-preserved-in_ok-push : goal.names-preserved-in_ok-push
 names-preserved-in_ok-push c =
-    page_turn _ _ _ _ (c.in-Some.path.now, c.in-Some.label.now) _ _ _ c.in-Some-2.entry c.in-Some-2.name c.in_ok-entry.field-0 c.names.invariant
-    (rest_more deref_pair _ _ _ (c.in-Some.path, c.in-Some.label) c.in-Some.is c.next.ensures.steps) (omega arith) c.in_ok-entry.ensures.entry c.in-Some-2.is c.in_ok-entry.ensures.name c.in_ok-push.ensures.items
+    page_turn {n = (c.in-Some.path.now, c.in-Some.label.now)} c.names.invariant
+    (rest_more deref_pair _ _ _ (c.in-Some.path, c.in-Some.label) c.in-Some.is c.next.ensures.steps) (omega arith) (record { given = c.in_ok-entry.ensures.entry; is = c.in-Some-2.is; named = c.in_ok-entry.ensures.name }) c.in_ok-push.ensures.items
 
 pub names-preserved-in_ok-push-2 : goal.names-preserved-in_ok-push-2
 names-preserved-in_ok-push-2 c =
-    page_turn _ _ _ _ (c.in-Some.path.now, c.in-Some.label.now) _ _ _ c.in-Some-2.entry c.in-Some-2.name c.in_ok-entry.field-0 c.names.invariant
-    (rest_more deref_pair _ _ _ (c.in-Some.path, c.in-Some.label) c.in-Some.is c.next.ensures.steps) (omega arith) c.in_ok-entry.ensures.entry c.in-Some-2.is c.in_ok-entry.ensures.name c.in_ok-push.ensures.items
+    page_turn {n = (c.in-Some.path.now, c.in-Some.label.now)} c.names.invariant
+    (rest_more deref_pair _ _ _ (c.in-Some.path, c.in-Some.label) c.in-Some.is c.next.ensures.steps) (omega arith) (record { given = c.in_ok-entry.ensures.entry; is = c.in-Some-2.is; named = c.in_ok-entry.ensures.name }) c.in_ok-push.ensures.items
 
 pub returns-clause-entries : goal.returns-clause-entries
 returns-clause-entries c =
     elim c.match-next.branch [
-      | in-None w ↦ page_ends _ _ _ _ _ c.names.invariant (rest_all deref_pair _ _ _ w.in-None.is c.next.ensures.steps)
-      | in-Some+then-len-eq-MAX_ENTRIES w ↦ page_full _ _ _ _ _ c.names.invariant (omega (arith, w.len.ensures, w.if-len-eq-MAX_ENTRIES.true))
+      | in-None w ↦ page_ends c.names.invariant (rest_all deref_pair _ _ _ w.in-None.is c.next.ensures.steps)
+      | in-Some+then-len-eq-MAX_ENTRIES w ↦ page_full c.names.invariant (omega (arith, w.len.ensures, w.if-len-eq-MAX_ENTRIES.true))
     ]
 
 pub returns-clause-last : goal.returns-clause-last
 returns-clause-last c =
     elim c.match-next.branch [
-      | in-None w ↦ last_ends _ _ _ _ _ c.names.invariant (rest_all deref_pair _ _ _ w.in-None.is c.next.ensures.steps)
-      | in-Some+then-len-eq-MAX_ENTRIES w ↦ last_full _ _ _ _ _ c.names.invariant (omega (arith, w.len.ensures, w.if-len-eq-MAX_ENTRIES.true))
+      | in-None w ↦ last_ends c.names.invariant (rest_all deref_pair _ _ _ w.in-None.is c.next.ensures.steps)
+      | in-Some+then-len-eq-MAX_ENTRIES w ↦ last_full c.names.invariant (omega (arith, w.len.ensures, w.if-len-eq-MAX_ENTRIES.true))
     ]
