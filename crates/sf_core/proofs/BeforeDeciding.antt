@@ -28,7 +28,7 @@ use Rattle.sf_call.specs.Calls.{answer_to}
 use Rattle.sf_call.specs.Histories.{after, replay, IsNewNumber, IsAmong}
 use Rattle.sf_call.specs.Unanswered.{at_stage, with_reply}
 use Rattle.sf_call.proofs.Laws.{after_front-append, append-after_front}
-use Rattle.sf_laws.proofs.Laws.{unmoved_labels, moved_changes, moved_old, never_moved, spared_labels}
+use Rattle.sf_laws.proofs.Laws.{NewCall, unmoved_labels, moved_changes, moved_old, never_moved, spared_labels}
 use Rattle.sf_inode.specs.declared.node.Node.{Node}
 use Rattle.sf_inode.specs.Stores.{StoreState, node_in, child_of, holder_of, is_directory_at}
 use Rattle.sf_keeps.specs.Steps.{walk}
@@ -537,7 +537,7 @@ module _ (p : PartsView) (h : List Record) (sound : Sound p h) (fits : p.store.l
         let above = (now.ledger.calls c.number c at_m).above in
         let fresh = now.history.undecided c.number c at_m undecided in
         label_after m.store mid (h ++ all.helped) c.number c.session c.moment c.request given now.history.legal above fresh now.history.tree served stays path
-        (spared_labels (h ++ all.helped) c.number c.session c.moment c.request old new path now.history.legal above fresh paths label_some (ap (after_front old) (sym same_path) ∙ clear holder the.spot held_in_b) not_new)
+        (spared_labels (record { history = h ++ all.helped; session = c.session; number = c.number; moment = c.moment; request = c.request; legal = now.history.legal; above = above; fresh = fresh }) old new path paths label_some (ap (after_front old) (sym same_path) ∙ clear holder the.spot held_in_b) not_new)
 
   -- ---- both paths lead where they led
   aside_old : (q r : Path) → q ++ r ≡ old → IsAside old q
@@ -626,7 +626,17 @@ prepared p h c ways may m overtakes =
     by_target x e (OnPath path) f = absurd (none_some x (sym (never_moved (replay h) c.session c.number c.moment c.request (λ old new same. let z : OnPath path ≡ OnPaths old new = sym f ∙ same in let k : ⊥ = cc in k)) ∙ e))
     by_target x e (OnPaths old new) f =
         let o = overtakes (replay h) may.sound.history.tree in
-        let is = moved_old h c.number c.session c.moment c.request old new x may.sound.history.legal (may.sound.ledger.calls c.number c may.at).above (may.sound.history.undecided c.number c may.at may.undecided) f e in
+        let call : NewCall = record {
+          history = h;
+          session = c.session;
+          number = c.number;
+          moment = c.moment;
+          request = c.request;
+          legal = may.sound.history.legal;
+          above = (may.sound.ledger.calls c.number c may.at).above;
+          fresh = may.sound.history.undecided c.number c may.at may.undecided;
+        } in
+        let is = moved_old call old new x f e in
         let moved : moved_by (answer_to (replay h) c.session c.number c.moment c.request).changes ≡ Some old = e ∙ ap Some is.0 in
         let these : o.0 ≡ overtaken p.calls c.number (Some old) = o.1 ∙ ap (overtaken p.calls c.number) moved in
         prepared_moved p h may.sound may.fits c may.at may.undecided ways may.located may.free may.holds old new f moved is.1 m (subst (λ (ns : List ℕ). HelpsAll (all_set_back p ns) ns m) these o.2)

@@ -98,7 +98,7 @@ nested_either from to nested =
 module _ (h : List Record) (number session moment : ℕ) (r : Request) (old x : Path) (legal : IsLegal h) (above : 0 < number) (fresh : IsNewNumber number h) (aside : IsAside old x) where
   lies_labels : (g : Target) → target_of r ≡ g → LiesBelow old (route_at g) → label_at (apply (replay h) session number moment r).tree.names x ≡ label_at (replay h).names x
   lies_labels (ByHandle handle) e below = absurd below
-  lies_labels (OnPath path) e below = below_labels (replay h) session number moment r old path below.0 below.1 x e below.2 aside
+  lies_labels (OnPath path) e below = below_labels (record { tree = replay h; session = session; number = number; moment = moment; request = r }) old path x e (record { name = below.0; rest = below.1; is = below.2 }) aside
   lies_labels (OnPaths from to) e below = by (is_rooted from to) (are_nested from to) refl below
     where
       by : (a b : Bool) → are_nested from to ≡ b → LiesBelow old (if a then NoPath else if b then Along from else Between from to) → label_at (apply (replay h) session number moment r).tree.names x ≡ label_at (replay h).names x
@@ -108,7 +108,7 @@ module _ (h : List Record) (number session moment : ℕ) (r : Request) (old x : 
             | None ↦ λ none. ap (λ (changes : List Change). label_at (done (replay h) changes).names x)
                 (unmoved_nested (replay h) session number moment r from to e (λ path label. named_way h path label legal) none (nested_either from to nested))
             | Some p ↦ λ moved.
-                let is = (moved_old h number session moment r from to p legal above fresh e moved).1 in
+                let is = (moved_old (record { history = h; session = session; number = number; moment = moment; request = r; legal = legal; above = above; fresh = fresh }) from to p e moved).1 in
                 absurd (nested_none from to nested is.not_inside is.not_around)
           ] refl
       by false false is low =

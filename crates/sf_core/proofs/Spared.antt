@@ -215,7 +215,7 @@ module _ (old mid : StoreState) (history : List Record) (n session moment : ℕ)
         let marks : node.label ≡ was.label = (subst (λ (o : Option Node). IsAsBefore (λ holder label. (holder ≡ None) × (label ≡ n)) o node) at (stays.node l node now)).1 in
         let before = object_there old (replay history) keeps l was at in
         let after_is = ap (object_of (apply (replay history) session n moment r).tree.objects) (sym marks) ∙ object_there mid (apply (replay history) session n moment r).tree e.tree l node now in
-        let kind = kinds_stay history n session moment was.label r (object_in was.metadata was.content) (object_in node.metadata node.content) legal above fresh before after_is in
+        let kind = kinds_stay (record { history = history; session = session; number = n; moment = moment; request = r; legal = legal; above = above; fresh = fresh }) was.label (object_in was.metadata was.content) (object_in node.metadata node.content) before after_is in
         directory_is mid.nodes l node now ∙ directory_kind node.metadata node.content (kind ∙ kind_directory was.metadata was.content content_was)
   ]
 

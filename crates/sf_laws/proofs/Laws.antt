@@ -12,6 +12,8 @@ use Rattle.sf_call.specs.Histories.{IsLegal, IsLegalAfter, replay}
 use Rattle.sf_laws.specs.Own.{IsOwnPath}
 use Rattle.sf_laws.proofs.OwnChanges.{own, other_paths}
 use Rattle.sf_laws.specs.Examples.{a, b, history}
+-- a call that may follow a history, as the lemmas below take it
+pub use Rattle.sf_laws.proofs.NewCalls.{CallOn, NewCall, IsStrictlyBelow}
 -- no request makes a file of a directory or a directory of a file
 pub use Rattle.sf_laws.proofs.SameKinds.{kinds_stay}
 -- What a rename moves is its old path, where a move may be made. A call on two paths that moves

@@ -1,3 +1,4 @@
+mod NewCalls
 mod LeftAlone
 mod Shapes
 mod OwnChanges

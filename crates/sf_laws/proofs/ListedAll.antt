@@ -83,14 +83,22 @@ taken (suc n) x (e ∷ es) sorted is = elim is [
   ]
 ]
 
-pub listing_complete : (tree : Tree) (last : Option Name) (directory : Path) (name : Name) (label : ℕ) (object : Object) → IsOrderedTree tree
-    → label_at tree.names (directory ++ name ∷ []) ≡ Some label → object_of tree.objects label ≡ Some object → is_past last name ≡ true
-    → Contains (listing tree last directory) (entry_of name (links tree.names label) object)
-    ⊎ ((length (listing tree last directory) ≡ MAX_ENTRIES) × AllByRecursion (λ listed. is_lt (name_cmp listed name) ≡ true) (names_of (listing tree last directory)))
-listing_complete tree last directory name label object o at there past =
-    elim (taken 32 (entry_of name (links tree.names label) object) (listed tree last directory tree.names) (in_order tree last directory tree.names o.names)
-    (found tree last directory name object past tree.names label at there)) [
-      | inl is ↦ inl (contained (entry_of name (links tree.names label) object) (listing tree last directory) is)
+-- a name of a directory, and the object that it leads to
+pub record NamedObject (tree : Tree) (directory : Path) : Type 0 where
+  pub name : Name
+  pub label : ℕ
+  pub object : Object
+  pub at : label_at tree.names (directory ++ name ∷ []) ≡ Some label
+  pub there : object_of tree.objects label ≡ Some object
+
+pub listing_complete : (tree : Tree) (last : Option Name) (directory : Path) (n : NamedObject tree directory) → IsOrderedTree tree → is_past last n.name ≡ true
+    → Contains (listing tree last directory) (entry_of n.name (links tree.names n.label) n.object)
+    ⊎ ((length (listing tree last directory) ≡ MAX_ENTRIES) × AllByRecursion (λ listed. is_lt (name_cmp listed n.name) ≡ true) (names_of (listing tree last directory)))
+listing_complete tree last directory n o past =
+    let entry = entry_of n.name (links tree.names n.label) n.object in
+    elim (taken 32 entry (listed tree last directory tree.names) (in_order tree last directory tree.names o.names)
+    (found tree last directory n.name n.object past tree.names n.label n.at n.there)) [
+      | inl is ↦ inl (contained entry (listing tree last directory) is)
       | inr full ↦ inr full
     ]
 

@@ -1,5 +1,5 @@
 -- What a rename moves, which labels stay, and which requests leave a move possible.
-use Rattle.std.proofs.Common.{true, false, ◌≡◌, ◌≢◌, ◌<◌, ◌⊎◌, ℕ, List, [], ◌∷◌, ◌++◌, length, Option, Some, None, IsSome, is_some, refl, sym, ap, ◌∙◌, subst, inl, inr, arith, length-append}
+use Rattle.std.proofs.Common.{true, false, ◌≡◌, ◌≢◌, ◌⊎◌, ℕ, List, [], ◌∷◌, ◌++◌, length, Option, Some, None, IsSome, is_some, refl, sym, ap, ◌∙◌, subst, inl, inr, arith, length-append}
 use Rattle.std.proofs.lemmas.List.{append-nil, take_all, take-append-le}
 use Rattle.sf_path.specs.Names.{Name, Path}
 use Rattle.sf_path.specs.Order.{parent}
@@ -10,7 +10,6 @@ use Rattle.sf_call.specs.Attributes.{Object}
 use Rattle.sf_call.specs.Attributes.Object.{Directory, File}
 use Rattle.sf_call.specs.declared.request.Request.{Request}
 use Rattle.sf_call.specs.declared.request.Request.TheVariants as request
-use Rattle.sf_call.specs.declared.record.Record.{Record}
 use Rattle.sf_call.specs.Requests.{Target, target_of}
 use Rattle.sf_call.specs.Requests.Target.{ByHandle, OnPath, OnPaths}
 use Rattle.sf_call.specs.Tree.{Tree, FoundObject, label_at, object_of, directory_at, is_directory_object, is_directory, is_faulty_way, look_up, found_object, found_place, found_at, after_front}
@@ -19,11 +18,11 @@ use Rattle.sf_call.specs.Changes.{Change, done, touch, moved_by}
 use Rattle.sf_call.specs.Changes.Change.{SetObject, NewPath, NewName, GonePath, Move, OpenHandle, SetHandle, CloseHandle}
 use Rattle.sf_call.specs.Allowed.{AreAllowed, IsMove}
 use Rattle.sf_call.specs.Calls.{answer_to, apply, moves}
-use Rattle.sf_call.specs.Histories.{replay, IsNewNumber, IsLegal}
 use Rattle.sf_call.proofs.Laws.{after_front-append, append-after_front, front_itself, place_label, place_free, open_way, is_directory_label, is_directory_is, is_there_directory, allowed_changes, rename_cases, posix_rename_cases, link_cases, link_to_cases}
 use Rattle.sf_laws.specs.LeftAlone.{BeginsWithEither}
 use Rattle.sf_laws.specs.Own.{IsOwnPath}
 use Rattle.sf_laws.proofs.OwnChanges.{IsOwnChange, AreOwn, own, other_paths}
+use Rattle.sf_laws.proofs.NewCalls.{CallOn, NewCall, IsStrictlyBelow, tree_before, outcome_of, tree_after}
 use Rattle.sf_laws.proofs.StillMoves.{still_after}
 
 -- ---- own paths by the target
@@ -217,11 +216,10 @@ module _ (tree : Tree) (session number moment : ℕ) (r : Request) (old new : Pa
       ]
     ]
 
-pub moved_old : (history : List Record) (number session moment : ℕ) (r : Request) (old new p : Path) → IsLegal history → 0 < number → IsNewNumber number history
-    → target_of r ≡ OnPaths old new → moved_by (answer_to (replay history) session number moment r).changes ≡ Some p → (p ≡ old) × IsMove (replay history) old new
-moved_old history number session moment r old new p legal above fresh e some =
-    let moved = moved_changes (replay history) session number moment r old new e p some in
-    (moved.0, (subst (AreAllowed number (replay history)) moved.1 (allowed_changes history number session moment r legal above fresh)).0)
+pub moved_old : (c : NewCall) (old new p : Path) → target_of c.request ≡ OnPaths old new → moved_by (outcome_of c).changes ≡ Some p → (p ≡ old) × IsMove (tree_before c) old new
+moved_old c old new p e some =
+    let moved = moved_changes (tree_before c) c.session c.number c.moment c.request old new e p some in
+    (moved.0, (subst (AreAllowed c.number (tree_before c)) moved.1 (allowed_changes c.history c.number c.session c.moment c.request c.legal c.above c.fresh)).0)
 
 -- two own paths of a request that is no rename are one
 one_own : (t : Target) (p q : Path) → ((old new : Path) → t ≢ OnPaths old new) → IsOfTarget t p → IsOfTarget t q → p ≡ q
@@ -269,32 +267,28 @@ outside : (old new q : Path) → after_front old q ≡ None → after_front new 
 outside old new q not_old not_new (inl is) = let no = ap (λ (o : Option Path). is_some o) not_old in cc
 outside old new q not_old not_new (inr is) = let no = ap (λ (o : Option Path). is_some o) not_new in cc
 
-pub spared_labels : (history : List Record) (number session moment : ℕ) (r : Request) (old new q : Path) → IsLegal history → 0 < number → IsNewNumber number history
-    → target_of r ≡ OnPaths old new → IsSome (label_at (replay history).names q) → after_front old q ≡ None → q ≢ new
-    → label_at (apply (replay history) session number moment r).tree.names q ≡ label_at (replay history).names q
-spared_labels history number session moment r old new q legal above fresh e some not_old other =
+pub spared_labels : (c : NewCall) (old new q : Path) → target_of c.request ≡ OnPaths old new → IsSome (label_at (tree_before c).names q) → after_front old q ≡ None → q ≢ new
+    → label_at (tree_after c).names q ≡ label_at (tree_before c).names q
+spared_labels c old new q e some not_old other =
     by_move (moved_by changes) refl where
       changes : List Change
-      changes = (answer_to (replay history) session number moment r).changes
+      changes = (outcome_of c).changes
 
-      by_move : (o : Option Path) → moved_by changes ≡ o → label_at (done (replay history) changes).names q ≡ label_at (replay history).names q
-      by_move None none = unmoved_labels (replay history) session number moment r old new e none q some
+      by_move : (o : Option Path) → moved_by changes ≡ o → label_at (done (tree_before c) changes).names q ≡ label_at (tree_before c).names q
+      by_move None none = unmoved_labels (tree_before c) c.session c.number c.moment c.request old new e none q some
       by_move (Some p) moved =
-          let may = (moved_old history number session moment r old new p legal above fresh e moved).1 in
-          labels_by_target (replay history) session number moment r (OnPaths old new) q e
-          (λ is. outside old new q not_old (nor_below (replay history) old new q may some other) is)
+          let may = (moved_old c old new p e moved).1 in
+          labels_by_target (tree_before c) c.session c.number c.moment c.request (OnPaths old new) q e
+          (λ is. outside old new q not_old (nor_below (tree_before c) old new q may some other) is)
 
-pub below_labels : (tree : Tree) (session number moment : ℕ) (r : Request) (old path : Path) (name : Name) (rest : Path) (q : Path)
-    → target_of r ≡ OnPath path → after_front old path ≡ Some (name ∷ rest) → ((n : Name) (s : Path) → after_front old q ≢ Some (n ∷ s))
-    → label_at (apply tree session number moment r).tree.names q ≡ label_at tree.names q
-below_labels tree session number moment r old path name rest q e below not_below =
-    labels_by_target tree session number moment r (OnPath path) q e (λ same. not_below name rest (ap (after_front old) same ∙ below))
+pub below_labels : (c : CallOn) (old path q : Path) → target_of c.request ≡ OnPath path → IsStrictlyBelow old path → ((n : Name) (s : Path) → after_front old q ≢ Some (n ∷ s))
+    → label_at (apply c.tree c.session c.number c.moment c.request).tree.names q ≡ label_at c.tree.names q
+below_labels c old path q e below not_below =
+    labels_by_target c.tree c.session c.number c.moment c.request (OnPath path) q e (λ same. not_below below.name below.rest (ap (after_front old) same ∙ below.is))
 
 -- ---- which requests leave a move possible
 
-pub still_move : (history : List Record) (number session moment : ℕ) (r : Request) (old new path : Path) (name : Name) (rest : Path)
-    → IsLegal history → 0 < number → IsNewNumber number history → target_of r ≡ OnPath path → after_front old path ≡ Some (name ∷ rest)
-    → IsMove (replay history) old new → IsMove (apply (replay history) session number moment r).tree old new
-still_move history number session moment r old new path name rest legal above fresh e below may =
-    still_after history number session moment r old new legal above fresh
-    (λ q own. (name, rest, ap (after_front old) (own_of r (OnPath path) q e own) ∙ below)) may
+pub still_move : (c : NewCall) (old new path : Path) → target_of c.request ≡ OnPath path → IsStrictlyBelow old path → IsMove (tree_before c) old new → IsMove (tree_after c) old new
+still_move c old new path e below may =
+    still_after c old new
+    (λ q own. record { name = below.name; rest = below.rest; is = ap (after_front old) (own_of c.request (OnPath path) q e own) ∙ below.is }) may

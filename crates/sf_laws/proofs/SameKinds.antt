@@ -1,20 +1,17 @@
 -- No request makes a file of a directory or a directory of a file.
-use Rattle.std.proofs.Common.{◌≡◌, ◌≢◌, ◌<◌, ◌⊎◌, ℕ, true, false, cond, List, [], ◌∷◌, Option, Some, None, option_map, refl, sym, ap, ◌∙◌, subst, inl, inr}
+use Rattle.std.proofs.Common.{◌≡◌, ◌≢◌, ◌⊎◌, ℕ, true, false, cond, List, [], ◌∷◌, Option, Some, None, option_map, refl, sym, ap, ◌∙◌, subst, inl, inr}
 use Rattle.std.specs.Ordering.{nat_cmp, is_eq}
 use Rattle.std.specs.Cmp.{nat_cmp_total, tied_itself}
 use Rattle.std.specs.Map.{set_value}
 use Rattle.std.specs.BTreeMap.{is_at}
 use Rattle.std.specs.FinMap.{nat_cmp-IsAntisymmetric}
 use Rattle.sf_call.specs.declared.metadata.FileType.{FileType}
-use Rattle.sf_call.specs.declared.request.Request.{Request}
-use Rattle.sf_call.specs.declared.record.Record.{Record}
 use Rattle.sf_call.specs.Attributes.{Object}
 use Rattle.sf_call.specs.Tree.{Tree, object_of, is_used, kept}
 use Rattle.sf_call.specs.Changes.{Change, changed, done}
 use Rattle.sf_call.specs.Changes.Change.{SetObject, NewPath, NewName, GonePath, Move, OpenHandle, SetHandle, CloseHandle}
 use Rattle.sf_call.specs.Allowed.{file_type_of, IsSetRightly, MayChange, AreAllowed}
-use Rattle.sf_call.specs.Calls.{answer_to, apply}
-use Rattle.sf_call.specs.Histories.{replay, IsNewNumber, IsLegal}
+use Rattle.sf_laws.proofs.NewCalls.{NewCall, tree_before, outcome_of, tree_after}
 use Rattle.sf_call.proofs.Laws.{is_equal, set_there, none_set, other_put, other_set, object_kept, no_object, allowed_changes}
 
 module _ (number label : ℕ) (other : label ≢ number) (kind : FileType) where
@@ -75,13 +72,13 @@ same_kind : (before after : Object) (o : Option Object) → o ≡ Some after →
 same_kind before after o some (inl is) = let kinds : Some (file_type_of after) ≡ Some (file_type_of before) = ap (option_map file_type_of) (sym some) ∙ is in cc
 same_kind before after o some (inr none) = let same : Some after ≡ None = sym some ∙ none in cc
 
-pub kinds_stay : (history : List Record) (number session moment label : ℕ) (request : Request) (before after : Object) → IsLegal history → 0 < number → IsNewNumber number history
-    → object_of (replay history).objects label ≡ Some before → object_of (apply (replay history) session number moment request).tree.objects label ≡ Some after → file_type_of after ≡ file_type_of before
-kinds_stay history number session moment label request before after legal above new was is =
-    let apart : label ≢ number = λ same.
-    let none : object_of (replay history).objects number ≡ None = no_object history number legal above new in
-    let some : object_of (replay history).objects number ≡ Some before = ap (object_of (replay history).objects) (sym same) ∙ was in cc in
-    same_kind before after (object_of (apply (replay history) session number moment request).tree.objects label) is
-    (kind_done number label apart (file_type_of before) (replay history) (answer_to (replay history) session number moment request).changes
-    (allowed_changes history number session moment request legal above new)
+pub kinds_stay : (c : NewCall) (label : ℕ) (before after : Object) → object_of (tree_before c).objects label ≡ Some before → object_of (tree_after c).objects label ≡ Some after → file_type_of after ≡ file_type_of before
+kinds_stay c label before after was is =
+    let tree = tree_before c in
+    let apart : label ≢ c.number = λ same.
+    let none : object_of tree.objects c.number ≡ None = no_object c.history c.number c.legal c.above c.fresh in
+    let some : object_of tree.objects c.number ≡ Some before = ap (object_of tree.objects) (sym same) ∙ was in cc in
+    same_kind before after (object_of (tree_after c).objects label) is
+    (kind_done c.number label apart (file_type_of before) tree (outcome_of c).changes
+    (allowed_changes c.history c.number c.session c.moment c.request c.legal c.above c.fresh)
     (inl (ap (option_map file_type_of) was)))

@@ -1,18 +1,15 @@
 -- A move that may be made may still be made after changes below its old path.
-use Rattle.std.proofs.Common.{◌≡◌, ◌≢◌, ◌<◌, ℕ, true, false, cond, List, [], ◌∷◌, ◌++◌, take, Option, Some, None, is_some, option_map, refl, sym, ap, ◌∙◌}
+use Rattle.std.proofs.Common.{◌≡◌, ◌≢◌, ℕ, true, false, cond, List, [], ◌∷◌, ◌++◌, take, Option, Some, None, is_some, option_map, refl, sym, ap, ◌∙◌}
 use Rattle.sf_path.specs.Names.{Name, Path}
 use Rattle.sf_path.specs.Order.{same_name}
-use Rattle.sf_call.specs.declared.request.Request.{Request}
-use Rattle.sf_call.specs.declared.record.Record.{Record}
 use Rattle.sf_call.specs.Attributes.{Object}
 use Rattle.sf_call.specs.Tree.{Tree, label_at, object_of, is_directory, after_front}
 use Rattle.sf_call.specs.Changes.{Change, done}
 use Rattle.sf_laws.specs.Own.{IsOwnPath}
 use Rattle.sf_call.specs.Allowed.{file_type_of, IsMove, IsWellFormed}
-use Rattle.sf_call.specs.Calls.{answer_to, apply}
-use Rattle.sf_call.specs.Histories.{replay, IsNewNumber, IsLegal}
 use Rattle.sf_call.proofs.Laws.{open_way, same_name_is, same_name_itself, no_front, is_directory_label, is_directory_is, is_there_directory, named_object, allowed_changes, well_formed, front_itself, directory_by_kind}
 use Rattle.sf_laws.proofs.OwnChanges.{own, other_paths}
+use Rattle.sf_laws.proofs.NewCalls.{NewCall, IsStrictlyBelow, tree_before, outcome_of, tree_after}
 use Rattle.sf_laws.proofs.SameKinds.{kinds_stay}
 
 -- what lies below one of two separate paths doesn't lie below the other
@@ -69,21 +66,19 @@ both_there None b s t same = cc
 both_there (Some x) None s t same = cc
 both_there (Some x) (Some y) s t same = ap Some (same x y refl refl)
 
-pub still_after : (history : List Record) (number session moment : ℕ) (request : Request) (old new : Path) → IsLegal history → 0 < number → IsNewNumber number history
-    → ((path : Path) → IsOwnPath request path → (name : Name) × (rest : Path) × (after_front old path ≡ Some (name ∷ rest)))
-    → IsMove (replay history) old new → IsMove (apply (replay history) session number moment request).tree old new
-still_after history number session moment request old new legal above fresh below may =
-    still (replay history) next old new
-    (λ path not_under. other_paths (replay history) session number request changes (replay history) path
-    (own (replay history) session number moment request) (λ of. let under = below path of in not_under under.0 under.1 under.2))
-    (λ path label was is. both_there (object_of next.objects label) (object_of (replay history).objects label) (after.object path label is) (named_object history path label legal was)
-    (λ x y after_is before_is. kinds_stay history number session moment label request y x legal above fresh before_is after_is))
+pub still_after : (c : NewCall) (old new : Path) → ((path : Path) → IsOwnPath c.request path → IsStrictlyBelow old path) → IsMove (tree_before c) old new → IsMove (tree_after c) old new
+still_after c old new below may =
+    still (tree_before c) next old new
+    (λ path not_under. other_paths (tree_before c) c.session c.number c.request changes (tree_before c) path
+    (own (tree_before c) c.session c.number c.moment c.request) (λ of. let under = below path of in not_under under.name under.rest under.is))
+    (λ path label was is. both_there (object_of next.objects label) (object_of (tree_before c).objects label) (after.object path label is) (named_object c.history path label c.legal was)
+    (λ x y after_is before_is. kinds_stay c label y x before_is after_is))
     may where
       changes : List Change
-      changes = (answer_to (replay history) session number moment request).changes
+      changes = (outcome_of c).changes
 
       next : Tree
-      next = done (replay history) changes
+      next = done (tree_before c) changes
 
       after : IsWellFormed next
-      after = well_formed history number changes legal (allowed_changes history number session moment request legal above fresh)
+      after = well_formed c.history c.number changes c.legal (allowed_changes c.history c.number c.session c.moment c.request c.legal c.above c.fresh)
