@@ -23,7 +23,7 @@ use Rattle.sf_engine.specs.declared.event.Happened.{Happened}
 use Rattle.sf_engine.specs.declared.event.Happened.TheVariants as happened
 use Rattle.sf_engine.specs.declared.event.EngineFault.{EngineFault}
 use Rattle.sf_engine.specs.Worlds.{Response, Version, Locally, ByCall, Refused, ask_behind, Phase, Resting, UnderWay, Decided, Gone, SessionState, World, with_phase}
-use Rattle.sf_engine.specs.Traces.{Turn, Walking, IsSession, IsHelpedRecord, IsAtOnce, DecidesCall, StepLeads, RestLeads, CarriesOut, MoveAdds, walking, TurnLeads, Happens, LeadsBy, with_answer, left_if_closed, leaving, left_by_close, closed_now, fed, sent_more, calls_begun}
+use Rattle.sf_engine.specs.Traces.{Turn, Walking, IsSession, IsHelpedRecord, IsAtOnce, DecidesCall, StepLeads, RestLeads, CarriesOut, walking, TurnLeads, Happens, LeadsBy, with_answer, left_if_closed, leaving, left_by_close, closed_now, fed, sent_more, calls_begun}
 use Rattle.sf_serving.specs.OnEngine.{IsOf}
 use Rattle.sf_serving.specs.Alone.{answers_from, answers_alone, moment_begun, HadMemoryFor, HadMemoryAt}
 
