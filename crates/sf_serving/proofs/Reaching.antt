@@ -1,5 +1,5 @@
 -- What a session alone is answered, from where it opens.
-use Rattle.std.proofs.Common.{◌≡◌, ℕ, List, [], ◌∷◌, ◌++◌, Some, Result, Ok, Err, refl, ap, sym, ◌∙◌, subst, ◌⊎◌, inl, inr, append-nil, append_assoc, map}
+use Rattle.std.proofs.Common.{◌≡◌, ◌+◌, ℕ, List, [], ◌∷◌, ◌++◌, Some, Result, Ok, Err, refl, ap, sym, ◌∙◌, subst, ◌⊎◌, inl, inr, append-nil, append_assoc, map}
 use Rattle.std.specs.List.{AllByRecursion}
 use Rattle.sf_call.specs.declared.record.Record.{Record}
 use Rattle.sf_call.specs.Histories.{replay, IsLegal}
@@ -12,31 +12,34 @@ use Rattle.sf_engine.specs.Worlds.{TraceEntry, ask_behind, Resting, SessionState
 use Rattle.sf_engine.specs.Traces.{IsSession, Happens, LeadsBy, Runs, ReachesWorld, order}
 use Rattle.sf_serving.specs.OnEngine.{IsOf, IsEntryOf}
 use Rattle.sf_serving.specs.Alone.{answers_alone, moment_begun, moments_begun, HadMemoryFor, HadMemoryAt, HadMemoryThroughout, TellsAlone}
-use Rattle.sf_serving.proofs.Standing.{Follows, lone, Stands, stands_alone, leads_on}
+use Rattle.sf_serving.proofs.Standing.{Follows, Spot, onward, lone, Stands, stands_alone, leads_on}
 
 all_front : {A : Type 0} (P : A → Type 0) (xs ys : List A) → AllByRecursion P (xs ++ ys) → AllByRecursion P xs × AllByRecursion P ys
 all_front P [] ys h = (tt, h)
 all_front P (x ∷ xs) ys h = let rest = all_front P xs ys h.1 in ((h.0, rest.0), rest.1)
 
 -- where the session is there, one tree answers it to the end
-pub reaches : (entries : List TraceEntry) (h : List Record) (begun : ℕ) (moments : List ℕ) (t : SessionState) (w' : World) (t' : SessionState) → Runs (lone h begun t) entries w' → AllByRecursion (IsEntryOf 1) entries → Stands t.phase h begun moments t.answers
-    → IsLegal (h ++ order entries) → AllByRecursion HadMemoryFor (order entries) → IsSession w' 1 t' → AllByRecursion HadMemoryAt t'.answers → t'.answers ≡ answers_alone (moments ++ moments_begun entries) (map ask_behind t'.answers)
+pub reaches : (entries : List TraceEntry) (s : Spot) (t : SessionState) (w' : World) (t' : SessionState) → Runs (lone s.records s.begun t) entries w' → AllByRecursion (IsEntryOf 1) entries → Stands t.phase s t.answers
+    → IsLegal (s.records ++ order entries) → AllByRecursion HadMemoryFor (order entries) → IsSession w' 1 t' → AllByRecursion HadMemoryAt t'.answers → t'.answers ≡ answers_alone (s.moments ++ moments_begun entries) (map ask_behind t'.answers)
 unfolding Runs
-reaches [] h begun moments t w' t' runs own stands legal heard is had =
+reaches [] s t w' t' runs own stands legal heard is had =
     let same : Some t ≡ Some t' = (subst (λ (z : World). IsSession z 1 t') runs is).1 in
     let last : t ≡ t' = cc in
-    let S : SessionState → Type 0 = λ z. Stands z.phase h begun moments z.answers in
-    stands_alone t'.phase h begun moments t'.answers had (subst S last stands) ∙ ap (λ (ms : List ℕ). answers_alone ms (map ask_behind t'.answers)) (sym (append-nil moments))
-reaches (e ∷ entries) h begun moments t w' t' runs own stands legal heard is had =
+    let S : SessionState → Type 0 = λ z. Stands z.phase s z.answers in
+    stands_alone t'.phase s t'.answers had (subst S last stands) ∙ ap (λ (ms : List ℕ). answers_alone ms (map ask_behind t'.answers)) (sym (append-nil s.moments))
+reaches (e ∷ entries) s t w' t' runs own stands legal heard is had =
     let parts = all_front HadMemoryFor e.added (order entries) heard in
     let now = moment_begun e.event e.result in
-    let on = leads_on h e.added (order entries) begun moments t runs.0 e.event e.result stands legal parts.0 own.0 runs.1 in
-    let runs' : Runs (lone (h ++ e.added) on.count on.told) entries w' = subst (λ (z : World). Runs z entries w') on.world runs.2 in
-    let legal' : IsLegal ((h ++ e.added) ++ order entries) = subst IsLegal (sym (append_assoc h e.added (order entries))) legal in
-    reaches entries (h ++ e.added) on.count (moments ++ now) on.told w' t' runs' own.1 on.stands legal' parts.1 is had
-    ∙ ap (λ (ms : List ℕ). answers_alone ms (map ask_behind t'.answers)) (append_assoc moments now (moments_begun entries))
+    let on = leads_on s (record { now = e.added; later = order entries; legal = legal; heard = parts.0 }) t runs.0 e.event e.result stands own.0 runs.1 in
+    let runs' : Runs (lone (s.records ++ e.added) (s.begun + on.more) on.told) entries w' = subst (λ (z : World). Runs z entries w') on.world runs.2 in
+    let legal' : IsLegal ((s.records ++ e.added) ++ order entries) = subst IsLegal (sym (append_assoc s.records e.added (order entries))) legal in
+    reaches entries (onward s e.added on.more now) on.told w' t' runs' own.1 on.stands legal' parts.1 is had
+    ∙ ap (λ (ms : List ℕ). answers_alone ms (map ask_behind t'.answers)) (append_assoc s.moments now (moments_begun entries))
 
-stands_new : Stands Resting [] 0 [] []
+abbrev beginning : Spot
+beginning = record { records = []; begun = 0; moments = [] }
+
+stands_new : Stands Resting beginning []
 unfolding replay Follows
 stands_new = (tt, (refl, refl, refl))
 
@@ -71,7 +74,7 @@ module _ (s : ℕ) (w' : World) (t' : SessionState) (is : IsSession w' s t') (ha
   opened : (w : World) (added : List Record) (entries : List TraceEntry) (now : List ℕ) → (s ≡ 1) × (w ≡ lone [] 0 new_state) × (added ≡ []) × (now ≡ [])
       → Runs w entries w' → AllByRecursion (IsEntryOf s) entries → IsLegal (added ++ order entries) → AllByRecursion HadMemoryFor (added ++ order entries) → Comes s (now ++ moments_begun entries) t'
   opened w added entries now new runs own legal heard =
-      let answers = reaches entries [] 0 [] new_state w' t' (subst (λ (z : World). Runs z entries w') new.1 runs) (subst (λ (n : ℕ). AllByRecursion (IsEntryOf n) entries) new.0 own) stands_new
+      let answers = reaches entries beginning new_state w' t' (subst (λ (z : World). Runs z entries w') new.1 runs) (subst (λ (n : ℕ). AllByRecursion (IsEntryOf n) entries) new.0 own) stands_new
       (subst (λ (xs : List Record). IsLegal (xs ++ order entries)) new.2 legal) (subst (λ (xs : List Record). AllByRecursion HadMemoryFor (xs ++ order entries)) new.2 heard)
       (subst (λ (n : ℕ). IsSession w' n t') new.0 is) had in
       (new.0, subst (λ (m : List ℕ). t'.answers ≡ answers_alone (m ++ moments_begun entries) (map ask_behind t'.answers)) (sym new.3) answers)

@@ -19,10 +19,10 @@ use Rattle.sf_serving.specs.declared.host.Went.{Went}
 use Rattle.sf_serving.specs.declared.host.Went.TheVariants as went
 use Rattle.sf_serving.specs.Ends.{IsWhole}
 use Rattle.sf_serving.specs.Hosts.{most_counted, IsOpen, HasSent, Waits, IsFurther, WentTo, with_sent, ended, IsHostFault}
-use Rattle.sf_serving.specs.Serving.{LineView, line_view, Progress, progress, ServedSoFar, Serves, IsInStep, GoesOn, Rests, IsServed, HasWritten, HasWrittenFor, IsSpentFor, IsStopped, IsStop}
+use Rattle.sf_serving.specs.Serving.{LineView, Progress, progress, ServedSoFar, Serves, IsInStep, GoesOn, Rests, IsServed, HasWritten, HasWrittenFor, IsSpentFor, IsStopped, IsStop}
 use Rattle.sf_serving.specs.Rounds.{IsPieceWritten, WritesByPieces, all_sent, SendsAll, SendsSome, EndsByCause, Stops, HasStopped}
 use Rattle.sf_serving.proofs.Fronts.{none_written, taken_more, all_more}
-use Rattle.sf_serving.proofs.Sessions.{newly, further_serves, fed_serves, read_serves, still_serves, ended_serves, ended_same, ended_none, closed_whole, gone_whole, sent_whole, long_answers}
+use Rattle.sf_serving.proofs.Sessions.{IsReadBy, newly, further_serves, fed_serves, read_serves, still_serves, ended_serves, ended_same, ended_none, closed_whole, gone_whole, sent_whole, long_answers}
 
 -- ---- writes
 
@@ -30,26 +30,26 @@ pub writes_none : (l : LineView) → WritesByPieces l l []
 writes_none l = record { incoming = refl; appended = Appends-nil l.outgoing; writes = []; logged = logs_none l.calls; pieces = tt; took = refl }
 
 -- a piece more
-pub writes_some : (a b : LineView) (i' o' : Option (List ℕ)) (c' : Option (List LineCall)) (n : ℕ) (sent rest : List ℕ) → WritesByPieces a b sent → i' ≡ b.incoming → Appends b.outgoing o' (take n rest) → Logs b.calls c' (Write n ∷ []) → n ≤ 65536 → n ≤ length rest
-    → WritesByPieces a (line_view i' o' c') (sent ++ take n rest)
-writes_some a b i' o' c' n sent rest w same appends logs short within =
+pub writes_some : (a b b' : LineView) (n : ℕ) (sent rest : List ℕ) → WritesByPieces a b sent → b'.incoming ≡ b.incoming → Appends b.outgoing b'.outgoing (take n rest) → Logs b.calls b'.calls (Write n ∷ []) → n ≤ 65536 → n ≤ length rest
+    → WritesByPieces a b' (sent ++ take n rest)
+writes_some a b b' n sent rest w same appends logs short within =
     let one : taken (Write n ∷ []) ≡ n = omega arith in
     record {
       incoming = same ∙ w.incoming;
-      appended = Appends-trans a.outgoing b.outgoing o' sent (take n rest) w.appended appends;
+      appended = Appends-trans a.outgoing b.outgoing b'.outgoing sent (take n rest) w.appended appends;
       writes = w.writes ++ Write n ∷ [];
-      logged = logs_more a.calls b.calls c' w.writes (Write n ∷ []) w.logged logs;
+      logged = logs_more a.calls b.calls b'.calls w.writes (Write n ∷ []) w.logged logs;
       pieces = all_more IsPieceWritten w.writes (Write n ∷ []) w.pieces (short, tt);
       took = omega (arith, taken_more w.writes (Write n ∷ []), one, w.took, length-append sent (take n rest), length-take n rest, within);
     }
 
 -- a write that failed
-pub writes_still : (a b : LineView) (i' o' : Option (List ℕ)) (c' : Option (List LineCall)) (sent : List ℕ) → WritesByPieces a b sent → i' ≡ b.incoming → Keeps b.outgoing o' → Logs b.calls c' [] → WritesByPieces a (line_view i' o' c') sent
-writes_still a b i' o' c' sent w same kept logs = record {
+pub writes_still : (a b b' : LineView) (sent : List ℕ) → WritesByPieces a b sent → b'.incoming ≡ b.incoming → Keeps b.outgoing b'.outgoing → Logs b.calls b'.calls [] → WritesByPieces a b' sent
+writes_still a b b' sent w same kept logs = record {
   incoming = same ∙ w.incoming;
-  appended = Appends-kept a.outgoing b.outgoing o' sent w.appended kept;
+  appended = Appends-kept a.outgoing b.outgoing b'.outgoing sent w.appended kept;
   writes = w.writes;
-  logged = subst (λ (l : List LineCall). Logs a.calls c' l) (append-nil w.writes) (logs_more a.calls b.calls c' w.writes [] w.logged logs);
+  logged = subst (λ (l : List LineCall). Logs a.calls b'.calls l) (append-nil w.writes) (logs_more a.calls b.calls b'.calls w.writes [] w.logged logs);
   pieces = w.pieces;
   took = w.took;
 }
@@ -231,14 +231,13 @@ pub record HasRead (n : ℕ) (bytes : List ℕ) (p : Progress) : Type 0 where
   pub in_step : IsInStep p
   pub long : n ≤ length p.told.stream
 
-pub has_read : (T : SessionState → Type 0) (from now : LineView) (i' o' : Option (List ℕ)) (c' : Option (List LineCall)) (n k : ℕ) (bytes : List ℕ) → Serves T from now (Rests n) → Consumes now.incoming i' bytes → length bytes ≡ k → k ≤ 65536 → o' ≡ now.outgoing
-    → Logs now.calls c' (Read k ∷ []) → Serves T from (line_view i' o' c') (HasRead n bytes)
-has_read T from now i' o' c' n k bytes serves consumes count short same logs =
+pub has_read : (T : SessionState → Type 0) (from now now' : LineView) (n k : ℕ) (bytes : List ℕ) → Serves T from now (Rests n) → IsReadBy now now' k bytes → Serves T from now' (HasRead n bytes)
+has_read T from now now' n k bytes serves by =
     let p = serves.0 in
     let on = serves.3.0 in (
       progress p.told bytes p.written,
       serves.1,
-      read_serves from now i' o' c' n k p.told p.unfed p.written bytes serves.2 serves.3 consumes count short same logs,
+      read_serves from now now' n k p bytes serves.2 serves.3 by,
       record { is_open = on.is_open; unfed = refl; sent = on.sent; in_step = on.in_step; long = on.long },
     )
 
@@ -261,31 +260,29 @@ has_fed T T' from now n bytes some feeds serves =
     )
 
 -- some bytes of a piece were read and fed
-pub was_fed : (T T' : SessionState → Type 0) (from now : LineView) (i' o' : Option (List ℕ)) (c' : Option (List LineCall)) (n k : ℕ) (buffer old : List ℕ) (len : ℕ) → Serves T from now (Rests n) → Consumes now.incoming i' (take k buffer) → k ≤ length buffer → length buffer ≡ len → len ≡ 65536
-    → o' ≡ now.outgoing → Logs now.calls c' (Read k ∷ []) → 0 < k → ((t : SessionState) → T t → IsOpen t → T' (fed t (take k (take len (buffer ++ drop (length buffer) old))))) → Serves T' from (line_view i' o' c') (GoesOn (n + 1))
-was_fed T T' from now i' o' c' n k buffer old len serves consumes within filled room same logs some feeds =
-    let count : length (take k buffer) ≡ k = omega (arith, length-take k buffer, within) in
-    has_fed T T' from (line_view i' o' c') n (take k buffer) (omega (arith, count, some)) (λ t tells is_open. front_read (λ (b : List ℕ). T' (fed t b)) k len buffer old filled (feeds t tells is_open))
-    (has_read T from now i' o' c' n k (take k buffer) serves consumes count (omega (arith, within, filled, room)) same logs)
+pub was_fed : (T T' : SessionState → Type 0) (from now now' : LineView) (n k : ℕ) (buffer old : List ℕ) (len : ℕ) → Serves T from now (Rests n) → IsReadBy now now' k (take k buffer) → length buffer ≡ len → 0 < k
+    → ((t : SessionState) → T t → IsOpen t → T' (fed t (take k (take len (buffer ++ drop (length buffer) old))))) → Serves T' from now' (GoesOn (n + 1))
+was_fed T T' from now now' n k buffer old len serves by filled some feeds =
+    has_fed T T' from now' n (take k buffer) (omega (arith, by.count, some)) (λ t tells is_open. front_read (λ (b : List ℕ). T' (fed t b)) k len buffer old filled (feeds t tells is_open)) (has_read T from now now' n k (take k buffer) serves by)
+
+-- what a read of a piece gave
+pub read_by : (now now' : LineView) (k : ℕ) (buffer : List ℕ) → Consumes now.incoming now'.incoming (take k buffer) → k ≤ length buffer → length buffer ≡ 65536 → now'.outgoing ≡ now.outgoing → Logs now.calls now'.calls (Read k ∷ []) → IsReadBy now now' k (take k buffer)
+read_by now now' k buffer consumes within filled same logs = record { consumes = consumes; count = omega (arith, length-take k buffer, within); short = omega (arith, within, filled); same = same; logs = logs }
 
 pub read_stops : (T T' : SessionState → Type 0) (from now : LineView) (n w : ℕ) (bytes : List ℕ) → ((t : SessionState) → T t → T' t) → Serves T from now (HasRead n bytes) → Serves T' from now (Stops serve.OutOfMemory w)
 read_stops T T' from now n w bytes to serves = (serves.0, to serves.0.told serves.1, serves.2, ((λ no. serves.3.in_step), tt))
 
-pub rest_stops : (T : SessionState → Type 0) (from now : LineView) (n w : ℕ) (i' o' : Option (List ℕ)) (c' : Option (List LineCall)) → Serves T from now (Rests n) → Keeps now.incoming i' → o' ≡ now.outgoing → Logs now.calls c' [] → Serves T from (line_view i' o' c') (Stops serve.Line w)
-rest_stops T from now n w i' o' c' serves kept same logs =
-    (serves.0, serves.1, still_serves from now i' o' c' serves.0 serves.2 kept same logs, ((λ no. absurd (no refl)), tt))
+pub rest_stops : (T : SessionState → Type 0) (from now now' : LineView) (n w : ℕ) → Serves T from now (Rests n) → Keeps now.incoming now'.incoming → now'.outgoing ≡ now.outgoing → Logs now.calls now'.calls [] → Serves T from now' (Stops serve.Line w)
+rest_stops T from now now' n w serves kept same logs = (serves.0, serves.1, still_serves from now now' serves.0 serves.2 kept same logs, ((λ no. absurd (no refl)), tt))
 
 -- the end of the input
-pub read_none : (T : SessionState → Type 0) (from now : LineView) (i' o' : Option (List ℕ)) (c' : Option (List LineCall)) (n k : ℕ) (buffer : List ℕ) → Serves T from now (Rests n) → k ≡ 0 → Consumes now.incoming i' (take k buffer) → o' ≡ now.outgoing
-    → Logs now.calls c' (Read k ∷ []) → IsAtEnd i' → Serves T from (line_view i' o' c') (EndsByCause i' Closed)
-read_none T from now i' o' c' n k buffer serves none consumes same logs at_end =
-    let empty : take k buffer ≡ [] = ap (λ (x : ℕ). take x buffer) none in
-    let nothing : Consumes now.incoming i' [] = subst (λ (b : List ℕ). Consumes now.incoming i' b) empty consumes in
+pub read_none : (T : SessionState → Type 0) (from now now' : LineView) (n k : ℕ) (buffer : List ℕ) → Serves T from now (Rests n) → k ≡ 0 → IsReadBy now now' k (take k buffer) → IsAtEnd now'.incoming → Serves T from now' (EndsByCause now'.incoming Closed)
+read_none T from now now' n k buffer serves none by at_end =
     let p = serves.0 in
-    let S = read_serves from now i' o' c' n k p.told p.unfed p.written [] serves.2 serves.3 nothing (sym none) (omega (arith, none)) same logs in (
+    let nothing : IsReadBy now now' k [] = subst (λ (b : List ℕ). IsReadBy now now' k b) (ap (λ (x : ℕ). take x buffer) none) by in (
       progress p.told [] p.written,
       serves.1,
-      S,
+      read_serves from now now' n k p [] serves.2 serves.3 nothing,
       record { fed = refl; whole = closed_whole p.told serves.2.bodies serves.3.1; sent = serves.3.0.sent; in_step = serves.3.0.in_step; at_end = λ e. at_end },
     )
 

@@ -20,7 +20,7 @@ use Rattle.sf_engine.specs.Laws.{pending, asks_of, AreAsked, IsRest, IsRead}
 use Rattle.sf_engine.proofs.Laws.{asked_each}
 use Rattle.sf_serving.specs.Ends.{IsEnd, IsWhole}
 use Rattle.sf_serving.specs.Hosts.{IsFront, IsOpen, HasSent, Waits, IsFurther, with_sent, ended}
-use Rattle.sf_serving.specs.Serving.{LineView, line_view, Progress, progress, IsPromptAt, AreBatched, ServedSoFar, IsInStep, Rests}
+use Rattle.sf_serving.specs.Serving.{LineView, Progress, progress, IsPromptAt, AreBatched, ServedSoFar, IsInStep, Rests}
 use Rattle.sf_serving.specs.Rounds.{WritesByPieces}
 use Rattle.sf_serving.proofs.Fronts.{none_written, front_all, front_same, begun_more, prompt_further, nothing_prompt, prompt_push, prompt_writes, given_more, taken_more, writes_give_none, written_pieces, all_more, batches_none, batches_calls, batches_more, batch_of}
 
@@ -234,41 +234,47 @@ ended_serves from now t unfed written S =
     retold from now t (ended t) unfed unfed written S (read_closed t t.phase refl S.bodies) (ap (λ (b : List ℕ). b ++ unfed) same.stream) (front_same t.stream (ended t).stream same.stream) (front_same t.bodies (ended t).bodies same.bodies) (front_same t.answers (ended t).answers same.answers)
     (subst (λ (a : List Response). AreBatched a S.log) (sym same.answers) S.batches)
 
--- bytes were read, and are not fed yet
-pub read_serves : (from now : LineView) (i' o' : Option (List ℕ)) (c' : Option (List LineCall)) (k n : ℕ) (t : SessionState) (unfed written bytes : List ℕ) → ServedSoFar from now (progress t unfed written) → Rests k (progress t unfed written)
-    → Consumes now.incoming i' bytes → length bytes ≡ n → n ≤ 65536 → o' ≡ now.outgoing → Logs now.calls c' (Read n ∷ []) → ServedSoFar from (line_view i' o' c') (progress t bytes written)
-read_serves from now i' o' c' k n t unfed written bytes S rests consumes count short same logs =
-    let p = progress t unfed written in
-    let p' = progress t bytes written in
-    let none : t.stream ++ unfed ≡ t.stream = ap (λ (b : List ℕ). t.stream ++ b) rests.0.fed ∙ append-nil t.stream in
+-- a line gave these bytes by one read
+pub record IsReadBy (now now' : LineView) (n : ℕ) (bytes : List ℕ) : Type 0 where
+  pub consumes : Consumes now.incoming now'.incoming bytes
+  pub count : length bytes ≡ n
+  pub short : n ≤ 65536
+  pub same : now'.outgoing ≡ now.outgoing
+  pub logs : Logs now.calls now'.calls (Read n ∷ [])
+
+-- they are not fed yet
+pub read_serves : (from now now' : LineView) (k n : ℕ) (p : Progress) (bytes : List ℕ) → ServedSoFar from now p → Rests k p → IsReadBy now now' n bytes → ServedSoFar from now' (progress p.told bytes p.written)
+read_serves from now now' k n p bytes S rests by =
+    let t = p.told in
+    let none : t.stream ++ p.unfed ≡ t.stream = ap (λ (b : List ℕ). t.stream ++ b) rests.0.fed ∙ append-nil t.stream in
     let before : Consumes from.incoming now.incoming t.stream = subst (λ (b : List ℕ). Consumes from.incoming now.incoming b) none S.read in
     let gave : given S.log ≡ length t.stream = S.gave ∙ ap (λ (b : List ℕ). length b) none in
     let one : given (Read n ∷ []) ≡ n = omega arith in
     let zero : taken (Read n ∷ []) ≡ 0 = omega arith in
     record {
       bodies = S.bodies;
-      read = Consumes-trans from.incoming now.incoming i' t.stream bytes before consumes;
-      wrote = subst (λ (o : Option (List ℕ)). Appends from.outgoing o written) (sym same) S.wrote;
+      read = Consumes-trans from.incoming now.incoming now'.incoming t.stream bytes before by.consumes;
+      wrote = subst (λ (o : Option (List ℕ)). Appends from.outgoing o p.written) (sym by.same) S.wrote;
       begun = S.begun;
       log = S.log ++ Read n ∷ [];
-      logged = logs_more from.calls now.calls c' S.log (Read n ∷ []) S.logged logs;
-      gave = omega (arith, given_more S.log (Read n ∷ []), one, length-append t.stream bytes, gave, count);
+      logged = logs_more from.calls now.calls now'.calls S.log (Read n ∷ []) S.logged by.logs;
+      gave = omega (arith, given_more S.log (Read n ∷ []), one, length-append t.stream bytes, gave, by.count);
       took = omega (arith, taken_more S.log (Read n ∷ []), zero, S.took);
-      pieces = all_more _ S.log (Read n ∷ []) S.pieces (short, tt);
-      prompt = prompt_further p p' (S.log ++ Read n ∷ []) (record { stream = front_all t.stream; bodies = front_all t.bodies; answers = front_all t.answers; written = front_all written })
+      pieces = all_more _ S.log (Read n ∷ []) S.pieces (by.short, tt);
+      prompt = prompt_further p (progress t bytes p.written) (S.log ++ Read n ∷ []) (record { stream = front_all t.stream; bodies = front_all t.bodies; answers = front_all t.answers; written = front_all p.written })
           (prompt_push p S.log (Read n) S.prompt (prompt_now from now k p S rests));
       batches = batches_calls t.answers S.log (Read n ∷ []) S.batches;
     }
 
 -- a line that moved no byte and told no call
-pub still_serves : (from now : LineView) (i' o' : Option (List ℕ)) (c' : Option (List LineCall)) (p : Progress) → ServedSoFar from now p → Keeps now.incoming i' → o' ≡ now.outgoing → Logs now.calls c' [] → ServedSoFar from (line_view i' o' c') p
-still_serves from now i' o' c' p S kept same logs = record {
+pub still_serves : (from now now' : LineView) (p : Progress) → ServedSoFar from now p → Keeps now.incoming now'.incoming → now'.outgoing ≡ now.outgoing → Logs now.calls now'.calls [] → ServedSoFar from now' p
+still_serves from now now' p S kept same logs = record {
   bodies = S.bodies;
-  read = Consumes-kept from.incoming now.incoming i' (p.told.stream ++ p.unfed) S.read kept;
+  read = Consumes-kept from.incoming now.incoming now'.incoming (p.told.stream ++ p.unfed) S.read kept;
   wrote = subst (λ (o : Option (List ℕ)). Appends from.outgoing o p.written) (sym same) S.wrote;
   begun = S.begun;
   log = S.log;
-  logged = subst (λ (l : List LineCall). Logs from.calls c' l) (append-nil S.log) (logs_more from.calls now.calls c' S.log [] S.logged logs);
+  logged = subst (λ (l : List LineCall). Logs from.calls now'.calls l) (append-nil S.log) (logs_more from.calls now.calls now'.calls S.log [] S.logged logs);
   gave = S.gave;
   took = S.took;
   pieces = S.pieces;

@@ -9,11 +9,13 @@ use Rattle.sf_call.specs.declared.request.Request.{Request}
 use Rattle.sf_call.specs.declared.record.Record.{Record}
 use Rattle.sf_call.specs.declared.record.Record.TheVariants.{Did, Left}
 use Rattle.sf_call.specs.Tree.{Tree, empty_tree}
-use Rattle.sf_call.specs.Calls.{apply}
+use Rattle.sf_call.specs.Calls.{Applied, apply}
 use Rattle.sf_call.specs.Histories.{after, replay, IsNewNumber, IsAmong, IsLegal, IsLegalAfter, MayFollow}
 use Rattle.sf_call.proofs.Laws.{replay-push, after_told}
 use Rattle.sf_session.specs.declared.asking.Ask.{Ask}
 use Rattle.sf_session.specs.declared.asking.Ask.TheVariants as ask
+use Rattle.sf_session.specs.declared.cause.Cause.{Cause}
+use Rattle.sf_session.specs.declared.cause.Cause.TheVariants.{Closed}
 use Rattle.sf_core.specs.Cores.{last_number}
 use Rattle.sf_engine.specs.declared.event.Event.{Event}
 use Rattle.sf_engine.specs.declared.event.Event.TheVariants as event
@@ -21,7 +23,7 @@ use Rattle.sf_engine.specs.declared.event.Happened.{Happened}
 use Rattle.sf_engine.specs.declared.event.Happened.TheVariants as happened
 use Rattle.sf_engine.specs.declared.event.EngineFault.{EngineFault}
 use Rattle.sf_engine.specs.Worlds.{Response, Version, Locally, ByCall, Refused, ask_behind, Phase, Resting, UnderWay, Decided, Gone, SessionState, World, with_phase}
-use Rattle.sf_engine.specs.Traces.{IsSession, IsHelpedRecord, IsAtOnce, DecidesCall, StepLeads, RestLeads, CarriesOut, MoveAdds, walking, TurnLeads, Happens, LeadsBy, with_answer, left_if_closed, leaving, left_by_close, closed_now, fed, sent_more, calls_begun}
+use Rattle.sf_engine.specs.Traces.{Turn, Walking, IsSession, IsHelpedRecord, IsAtOnce, DecidesCall, StepLeads, RestLeads, CarriesOut, walking, TurnLeads, Happens, LeadsBy, with_answer, left_if_closed, leaving, left_by_close, closed_now, fed, sent_more, calls_begun}
 use Rattle.sf_serving.specs.OnEngine.{IsOf}
 use Rattle.sf_serving.specs.Alone.{answers_from, answers_alone, moment_begun, HadMemoryFor, HadMemoryAt}
 
@@ -158,230 +160,249 @@ next_legal h rs r legal = may_follow [] h rs r legal
 
 -- ---- how it stands
 
+-- the records so far, how many calls began, and at which moments
+pub record Spot : Type 0 where
+  pub records : List Record
+  pub begun : ℕ
+  pub moments : List ℕ
+
+-- after an event that added these records, and at which so many calls began at these moments
+abbrev pub onward : Spot → List Record → ℕ → List ℕ → Spot
+onward s added more now = record { records = s.records ++ added; begun = s.begun + more; moments = s.moments ++ now }
+
 -- its call has no record yet: all before it was answered
-pub record Waits (h : List Record) (begun : ℕ) (moments : List ℕ) (answers : List Response) (m : ℕ) : Type 0 where
+pub record Waits (s : Spot) (answers : List Response) (m : ℕ) : Type 0 where
   pub before : List ℕ
   pub count : ℕ
-  pub moments_are : moments ≡ before ++ m ∷ []
-  pub number : begun ≡ count + 1
+  pub moments_are : s.moments ≡ before ++ m ∷ []
+  pub number : s.begun ≡ count + 1
   pub room : count < last_number
-  pub below : AreBelow begun h
-  pub follows : Follows empty_tree 0 before answers (replay h) count
+  pub below : AreBelow s.begun s.records
+  pub follows : Follows empty_tree 0 before answers (replay s.records) count
 
 -- its call has its record, the last one
-pub record IsTold (h : List Record) (begun : ℕ) (moments : List ℕ) (answers : List Response) (id n m : ℕ) (q : Request) : Type 0 where
+pub record IsTold (s : Spot) (answers : List Response) (id n m : ℕ) (q : Request) : Type 0 where
   pub given : Reply
   pub before : List Record
-  pub last : h ≡ before ++ Did n 1 m q given ∷ []
-  pub below : AreBelow begun before
-  pub follows : Follows empty_tree 0 moments (answers ++ ByCall id n q given ∷ []) (replay h) begun
+  pub last : s.records ≡ before ++ Did n 1 m q given ∷ []
+  pub below : AreBelow s.begun before
+  pub follows : Follows empty_tree 0 s.moments (answers ++ ByCall id n q given ∷ []) (replay s.records) s.begun
 
-abbrev pub Stands : Phase → List Record → ℕ → List ℕ → List Response → Type 0
-Stands Resting h begun moments answers = AreBelow (begun + 1) h × Follows empty_tree 0 moments answers (replay h) begun
-Stands (UnderWay id n m q moves) h begun moments answers = (n ≡ begun) × (Waits h begun moments answers m ⊎ IsTold h begun moments answers id n m q)
-Stands (Decided id n q given) h begun moments answers = AreBelow (begun + 1) h × Follows empty_tree 0 moments (answers ++ ByCall id n q given ∷ []) (replay h) begun
-Stands (Gone cause) h begun moments answers = (tree : Tree) × (count : ℕ) × Follows empty_tree 0 moments answers tree count
+abbrev pub Stands : Phase → Spot → List Response → Type 0
+Stands Resting s answers = AreBelow (s.begun + 1) s.records × Follows empty_tree 0 s.moments answers (replay s.records) s.begun
+Stands (UnderWay id n m q moves) s answers = (n ≡ s.begun) × (Waits s answers m ⊎ IsTold s answers id n m q)
+Stands (Decided id n q given) s answers = AreBelow (s.begun + 1) s.records × Follows empty_tree 0 s.moments (answers ++ ByCall id n q given ∷ []) (replay s.records) s.begun
+Stands (Gone cause) s answers = (tree : Tree) × (count : ℕ) × Follows empty_tree 0 s.moments answers tree count
 
-all_of : (tree : Tree) (begun : ℕ) (moments : List ℕ) (answers rest : List Response) → AllByRecursion HadMemoryAt answers → Follows empty_tree 0 moments (answers ++ rest) tree begun → answers ≡ answers_alone moments (map ask_behind answers)
-all_of tree begun moments answers rest had h =
+front_of : (tree : Tree) (begun : ℕ) (moments : List ℕ) (answers rest : List Response) → AllByRecursion HadMemoryAt answers → Follows empty_tree 0 moments (answers ++ rest) tree begun → answers ≡ answers_alone moments (map ask_behind answers)
+front_of tree begun moments answers rest had h =
     follows_answers empty_tree 0 moments [] answers rest tree begun had h ∙ ap (λ (ms : List ℕ). answers_alone ms (map ask_behind answers)) (append-nil moments)
 
-whole_of : (tree : Tree) (begun : ℕ) (moments later : List ℕ) (answers : List Response) → AllByRecursion HadMemoryAt answers → Follows empty_tree 0 moments answers tree begun → answers ≡ answers_alone (moments ++ later) (map ask_behind answers)
-whole_of tree begun moments later answers had h =
-    follows_answers empty_tree 0 moments later answers [] tree begun had (subst (λ (xs : List Response). Follows empty_tree 0 moments xs tree begun) (sym (append-nil answers)) h)
+whole_of : (tree : Tree) (begun : ℕ) (moments : List ℕ) (answers : List Response) → AllByRecursion HadMemoryAt answers → Follows empty_tree 0 moments answers tree begun → answers ≡ answers_alone moments (map ask_behind answers)
+whole_of tree begun moments answers had h = front_of tree begun moments answers [] had (subst (λ (xs : List Response). Follows empty_tree 0 moments xs tree begun) (sym (append-nil answers)) h)
 
 -- so one tree answers it
-pub stands_alone : (f : Phase) (h : List Record) (begun : ℕ) (moments : List ℕ) (answers : List Response) → AllByRecursion HadMemoryAt answers → Stands f h begun moments answers → answers ≡ answers_alone moments (map ask_behind answers)
-stands_alone Resting h begun moments answers had k =
-    whole_of (replay h) begun moments [] answers had k.1 ∙ ap (λ (ms : List ℕ). answers_alone ms (map ask_behind answers)) (append-nil moments)
-stands_alone (UnderWay id n m q moves) h begun moments answers had (same, inl w) =
-    whole_of (replay h) w.count w.before (m ∷ []) answers had w.follows ∙ ap (λ (ms : List ℕ). answers_alone ms (map ask_behind answers)) (sym w.moments_are)
-stands_alone (UnderWay id n m q moves) h begun moments answers had (same, inr told) = all_of (replay h) begun moments answers (ByCall id n q told.given ∷ []) had told.follows
-stands_alone (Decided id n q given) h begun moments answers had k = all_of (replay h) begun moments answers (ByCall id n q given ∷ []) had k.1
-stands_alone (Gone cause) h begun moments answers had (tree, count, k) =
-    whole_of tree count moments [] answers had k ∙ ap (λ (ms : List ℕ). answers_alone ms (map ask_behind answers)) (append-nil moments)
+pub stands_alone : (f : Phase) (s : Spot) (answers : List Response) → AllByRecursion HadMemoryAt answers → Stands f s answers → answers ≡ answers_alone s.moments (map ask_behind answers)
+stands_alone Resting s answers had k = whole_of (replay s.records) s.begun s.moments answers had k.1
+stands_alone (UnderWay id n m q moves) s answers had (same, inl w) =
+    follows_answers empty_tree 0 w.before (m ∷ []) answers [] (replay s.records) w.count had (subst (λ (xs : List Response). Follows empty_tree 0 w.before xs (replay s.records) w.count) (sym (append-nil answers)) w.follows)
+    ∙ ap (λ (ms : List ℕ). answers_alone ms (map ask_behind answers)) (sym w.moments_are)
+stands_alone (UnderWay id n m q moves) s answers had (same, inr told) = front_of (replay s.records) s.begun s.moments answers (ByCall id n q told.given ∷ []) had told.follows
+stands_alone (Decided id n q given) s answers had k = front_of (replay s.records) s.begun s.moments answers (ByCall id n q given ∷ []) had k.1
+stands_alone (Gone cause) s answers had (tree, count, k) = whole_of tree count s.moments answers had k
 
 -- nothing is added, and no call begins
-still : (f : Phase) (h added : List Record) (begun : ℕ) (moments : List ℕ) (answers : List Response) → added ≡ [] → Stands f h begun moments answers → Stands f (h ++ added) (begun + 0) (moments ++ []) answers
-still f h added begun moments answers none k =
-    let same : begun + 0 ≡ begun = omega arith in
-    let records : h ++ added ≡ h = ap (λ (xs : List Record). h ++ xs) none ∙ append-nil h in
-    subst (λ (x : List Record). Stands f x (begun + 0) (moments ++ []) answers) (sym records)
-    (subst (λ (x : ℕ). Stands f h x (moments ++ []) answers) (sym same) (subst (λ (x : List ℕ). Stands f h begun x answers) (sym (append-nil moments)) k))
+still_there : (s : Spot) (added : List Record) → added ≡ [] → s ≡ onward s added 0 []
+still_there s added none =
+    let same : s.begun + 0 ≡ s.begun = omega arith in
+    let records : s.records ++ added ≡ s.records = ap (λ (xs : List Record). s.records ++ xs) none ∙ append-nil s.records in
+    ap (λ (x : List Record). record { records = x; begun = s.begun; moments = s.moments }) (sym records) ∙ ap (λ (x : ℕ). record { records = s.records ++ added; begun = x; moments = s.moments }) (sym same)
+    ∙ ap (λ (x : List ℕ). record { records = s.records ++ added; begun = s.begun + 0; moments = x }) (sym (append-nil s.moments))
+
+still : (f : Phase) (s : Spot) (added : List Record) (answers : List Response) → added ≡ [] → Stands f s answers → Stands f (onward s added 0 []) answers
+still f s added answers none k = subst (λ (x : Spot). Stands f x answers) (still_there s added none) k
 
 -- ---- its turns
 
--- how the session stands after an event at which a call began at these moments, or none
-abbrev After : List Record → List Record → ℕ → List ℕ → List ℕ → SessionState → Type 0
-After h added begun moments now t' = Stands t'.phase (h ++ added) begun (moments ++ now) t'.answers
+-- how the session stands after an event
+abbrev After : Spot → List Record → ℕ → List ℕ → SessionState → Type 0
+After s added more now t' = Stands t'.phase (onward s added more now) t'.answers
 
-after_by : (h added : List Record) (begun : ℕ) (moments now : List ℕ) (t' u : SessionState) → t' ≡ u → After h added begun moments now u → After h added begun moments now t'
-after_by h added begun moments now t' u e k = subst (λ (z : SessionState). After h added begun moments now z) (sym e) k
+after_by : (s : Spot) (added : List Record) (more : ℕ) (now : List ℕ) (t' u : SessionState) → t' ≡ u → After s added more now u → After s added more now t'
+after_by s added more now t' u e k = subst (λ (z : SessionState). After s added more now z) (sym e) k
 
-rest_goes : (h added : List Record) (begun : ℕ) (moments : List ℕ) (m : ℕ) (t t' : SessionState) (r : Happened) → Stands Resting h begun moments t.answers
-    → RestLeads m (record { world = lone h begun (with_phase t Resting); session = 1; told = with_phase t Resting; added = added; now = t' }) r → After h added (begun + calls_begun r) moments (moment_begun (event.Turn 1 m) (Ok r)) t'
-rest_goes h added begun moments m t t' happened.Idle k g = after_by h added (begun + 0) moments [] t' _ g.2 (still Resting h added begun moments t.answers g.1 k)
-rest_goes h added begun moments m t t' happened.Wrote k g =
-    let more : Follows empty_tree 0 (moments ++ []) (t.answers ++ g.0.answer ∷ []) (replay h) begun =
-    follows_push empty_tree 0 moments t.answers (replay h) begun [] g.0.answer (replay h) begun k.1 (follows_once (lone h begun (with_phase t Resting)) (replay h) g.0.answer g.0.at_once) in
-    after_by h added (begun + 0) moments [] t' _ g.0.now
-    (still Resting h added begun moments (t.answers ++ g.0.answer ∷ []) g.1 (k.0, subst (λ (ms : List ℕ). Follows empty_tree 0 ms (t.answers ++ g.0.answer ∷ []) (replay h) begun) (append-nil moments) more))
-rest_goes h added begun moments m t t' happened.Begun k g =
-    let f = UnderWay g.0.id (begun + 1) m g.0.request 0 in
-    let now : Stands f h (begun + 1) (moments ++ m ∷ []) t.answers = (refl, inl (record { before = moments; count = begun; moments_are = refl; number = refl; room = g.0.room; below = k.0; follows = k.1 })) in
-    let records : h ++ added ≡ h = ap (λ (xs : List Record). h ++ xs) g.1 ∙ append-nil h in
-    after_by h added (begun + 1) moments (m ∷ []) t' _ g.0.now (subst (λ (x : List Record). Stands f x (begun + 1) (moments ++ m ∷ []) t.answers) (sym records) now)
-rest_goes h added begun moments m t t' (happened.Ended cause) k g =
-    after_by h added (begun + 0) moments [] t' _ g.2 (replay h, begun, subst (λ (ms : List ℕ). Follows empty_tree 0 ms t.answers (replay h) begun) (sym (append-nil moments)) k.1)
-rest_goes h added begun moments m t t' r k g = absurd g
+-- it leaves
+gone_after : (s : Spot) (added : List Record) (cause : Cause) (answers : List Response) → Follows empty_tree 0 s.moments answers (replay s.records) s.begun → Stands (Gone cause) (onward s added 0 []) answers
+gone_after s added cause answers h = (replay s.records, s.begun, subst (λ (ms : List ℕ). Follows empty_tree 0 ms answers (replay s.records) s.begun) (sym (append-nil s.moments)) h)
+
+-- a turn of the session alone
+abbrev turn_at : Spot → List Record → (t t' : SessionState) → Turn
+turn_at s added t t' = record { world = lone s.records s.begun t; session = 1; told = t; added = added; now = t' }
+
+rest_goes : (s : Spot) (added : List Record) (m : ℕ) (t t' : SessionState) (r : Happened) → Stands Resting s t.answers → RestLeads m (turn_at s added (with_phase t Resting) t') r → After s added (calls_begun r) (moment_begun (event.Turn 1 m) (Ok r)) t'
+rest_goes s added m t t' happened.Idle k g = after_by s added 0 [] t' _ g.2 (still Resting s added t.answers g.1 k)
+rest_goes s added m t t' happened.Wrote k g =
+    let a = g.0.answer in
+    let more : Follows empty_tree 0 (s.moments ++ []) (t.answers ++ a ∷ []) (replay s.records) s.begun =
+    follows_push empty_tree 0 s.moments t.answers (replay s.records) s.begun [] a (replay s.records) s.begun k.1 (follows_once (lone s.records s.begun t) (replay s.records) a g.0.at_once) in
+    after_by s added 0 [] t' _ g.0.now (still Resting s added (t.answers ++ a ∷ []) g.1 (k.0, subst (λ (ms : List ℕ). Follows empty_tree 0 ms (t.answers ++ a ∷ []) (replay s.records) s.begun) (append-nil s.moments) more))
+rest_goes s added m t t' happened.Begun k g =
+    let f = UnderWay g.0.id (s.begun + 1) m g.0.request 0 in
+    let now : Stands f (record s { begun = s.begun + 1; moments = s.moments ++ m ∷ [] }) t.answers =
+    (refl, inl (record { before = s.moments; count = s.begun; moments_are = refl; number = refl; room = g.0.room; below = k.0; follows = k.1 })) in
+    let records : s.records ++ added ≡ s.records = ap (λ (xs : List Record). s.records ++ xs) g.1 ∙ append-nil s.records in
+    after_by s added 1 (m ∷ []) t' _ g.0.now (subst (λ (x : List Record). Stands f (record { records = x; begun = s.begun + 1; moments = s.moments ++ m ∷ [] }) t.answers) (sym records) now)
+rest_goes s added m t t' (happened.Ended cause) k g = after_by s added 0 [] t' _ g.2 (gone_after s added cause t.answers k.1)
+rest_goes s added m t t' r k g = absurd g
+
+-- what an event adds, and what is added later
+pub record Added (s : Spot) : Type 0 where
+  pub now : List Record
+  pub later : List Record
+  pub legal : IsLegal (s.records ++ (now ++ later))
+  pub heard : AllByRecursion HadMemoryFor now
 
 -- the call's record is added: its reply is the tree's
-module _ (h added rest : List Record) (begun : ℕ) (moments : List ℕ) (u : SessionState) (answers : List Response) (id n m : ℕ) (q : Request) (moves : ℕ) (given : Reply) (same : n ≡ begun) (legal : IsLegal (h ++ (added ++ rest))) (heard : AllByRecursion HadMemoryFor added)
-    (d : CarriesOut (lone h begun u) 1 moves (Did n 1 m q given) added) where
-  own_alone : added ≡ Did n 1 m q given ∷ []
-  own_alone = d.records ∙ ap (λ (xs : List Record). xs ++ Did n 1 m q given ∷ []) (no_helped h begun u d.helped d.of_others)
+module _ (s : Spot) (x : Added s) (u : SessionState) (answers : List Response) (call : Walking) (given : Reply) (same : call.number ≡ s.begun)
+    (d : CarriesOut (lone s.records s.begun u) 1 call.moves (Did call.number 1 call.moment call.request given) x.now) where
+  own_alone : x.now ≡ Did call.number 1 call.moment call.request given ∷ []
+  own_alone = d.records ∙ ap (λ (xs : List Record). xs ++ Did call.number 1 call.moment call.request given ∷ []) (no_helped s.records s.begun u d.helped d.of_others)
 
-  own_may : MayFollow h (Did n 1 m q given)
-  own_may = next_legal h rest (Did n 1 m q given) (subst (λ (xs : List Record). IsLegal (h ++ (xs ++ rest))) own_alone legal)
+  own_may : MayFollow s.records (Did call.number 1 call.moment call.request given)
+  own_may = next_legal s.records x.later (Did call.number 1 call.moment call.request given) (subst (λ (xs : List Record). IsLegal (s.records ++ (xs ++ x.later))) own_alone x.legal)
 
-  told_by : Waits h begun moments answers m → IsTold (h ++ added) (begun + 0) (moments ++ []) answers id n m q
+  told_by : Waits s answers call.moment → IsTold (onward s x.now 0 []) answers call.id call.number call.moment call.request
   unfolding Follows
   told_by w =
-      let had : AllByRecursion HadMemoryFor (Did n 1 m q given ∷ []) = subst (λ (xs : List Record). AllByRecursion HadMemoryFor xs) own_alone heard in
-      let number : n ≡ w.count + 1 = same ∙ w.number in
-      let tells : given ≡ (apply (replay h) 1 n m q).reply = elim own_may.answered [ inl e ↦ e | inr e ↦ absurd (had.0 e) ] in
-      let tree : replay (h ++ Did n 1 m q given ∷ []) ≡ (apply (replay h) 1 n m q).tree =
-      replay-push h (Did n 1 m q given) ∙ ap (λ (y : Reply). after (replay h) (Did n 1 m q y)) tells ∙ after_told (replay h) 1 n m q in
-      let one : Follows (replay h) w.count (m ∷ []) (ByCall id n q given ∷ []) (replay (h ++ Did n 1 m q given ∷ [])) begun = one_call w number tells tree in
-      let all : Follows empty_tree 0 (w.before ++ m ∷ []) (answers ++ ByCall id n q given ∷ []) (replay (h ++ Did n 1 m q given ∷ [])) begun =
-      follows_push empty_tree 0 w.before answers (replay h) w.count (m ∷ []) (ByCall id n q given) (replay (h ++ Did n 1 m q given ∷ [])) begun w.follows one in
-      let none : begun + 0 ≡ begun = omega arith in
-      let told : IsTold (h ++ Did n 1 m q given ∷ []) begun (moments ++ []) answers id n m q = record {
+      let own = Did call.number 1 call.moment call.request given in
+      let reply_to = ByCall call.id call.number call.request given in
+      let due : ℕ → Applied = λ k. apply (replay s.records) 1 k call.moment call.request in
+      let had : AllByRecursion HadMemoryFor (own ∷ []) = subst (λ (xs : List Record). AllByRecursion HadMemoryFor xs) own_alone x.heard in
+      let number : call.number ≡ w.count + 1 = same ∙ w.number in
+      let tells : given ≡ (due call.number).reply = elim own_may.answered [ inl e ↦ e | inr e ↦ absurd (had.0 e) ] in
+      let tree : replay (s.records ++ own ∷ []) ≡ (due call.number).tree =
+      replay-push s.records own ∙ ap (λ (y : Reply). after (replay s.records) (Did call.number 1 call.moment call.request y)) tells ∙ after_told (replay s.records) 1 call.number call.moment call.request in
+      let one : Follows (replay s.records) w.count (call.moment ∷ []) (reply_to ∷ []) (replay (s.records ++ own ∷ [])) s.begun =
+      (call.moment, [], refl, number, w.room, tells ∙ ap (λ (k : ℕ). (due k).reply) number, (refl, tree ∙ ap (λ (k : ℕ). (due k).tree) number, w.number)) in
+      let all : Follows empty_tree 0 (w.before ++ call.moment ∷ []) (answers ++ reply_to ∷ []) (replay (s.records ++ own ∷ [])) s.begun =
+      follows_push empty_tree 0 w.before answers (replay s.records) w.count (call.moment ∷ []) reply_to (replay (s.records ++ own ∷ [])) s.begun w.follows one in
+      let told : IsTold (record { records = s.records ++ own ∷ []; begun = s.begun; moments = s.moments ++ [] }) answers call.id call.number call.moment call.request = record {
         given = given;
-        before = h;
+        before = s.records;
         last = refl;
         below = w.below;
-        follows = subst (λ (ms : List ℕ). Follows empty_tree 0 ms (answers ++ ByCall id n q given ∷ []) (replay (h ++ Did n 1 m q given ∷ [])) begun) (sym (append-nil moments ∙ w.moments_are)) all;
+        follows = subst (λ (ms : List ℕ). Follows empty_tree 0 ms (answers ++ reply_to ∷ []) (replay (s.records ++ own ∷ [])) s.begun) (sym (append-nil s.moments ∙ w.moments_are)) all;
       } in
-      subst (λ (x : ℕ). IsTold (h ++ added) x (moments ++ []) answers id n m q) (sym none) (subst (λ (xs : List Record). IsTold (h ++ xs) begun (moments ++ []) answers id n m q) (sym own_alone) told)
-    where
-      one_call : (w : Waits h begun moments answers m) → n ≡ w.count + 1 → given ≡ (apply (replay h) 1 n m q).reply → replay (h ++ Did n 1 m q given ∷ []) ≡ (apply (replay h) 1 n m q).tree
-          → Follows (replay h) w.count (m ∷ []) (ByCall id n q given ∷ []) (replay (h ++ Did n 1 m q given ∷ [])) begun
-      one_call w number tells tree =
-          (m, [], refl, number, w.room, tells ∙ ap (λ (k : ℕ). (apply (replay h) 1 k m q).reply) number, (refl, tree ∙ ap (λ (k : ℕ). (apply (replay h) 1 k m q).tree) number, w.number))
+      let none : s.begun + 0 ≡ s.begun = omega arith in
+      let P : List Record → ℕ → Type 0 = λ xs k. IsTold (record { records = s.records ++ xs; begun = k; moments = s.moments ++ [] }) answers call.id call.number call.moment call.request in
+      subst (λ (k : ℕ). P x.now k) (sym none) (subst (λ (xs : List Record). P xs s.begun) (sym own_alone) told)
 
-  told_now : Waits h begun moments answers m ⊎ IsTold h begun moments answers id n m q → IsTold (h ++ added) (begun + 0) (moments ++ []) answers id n m q
+  told_now : Waits s answers call.moment ⊎ IsTold s answers call.id call.number call.moment call.request → IsTold (onward s x.now 0 []) answers call.id call.number call.moment call.request
   told_now (inl w) = told_by w
-  told_now (inr told) = absurd (not_last n 1 m q told.given told.before (subst (λ (x : List Record). IsNewNumber n x) told.last new))
-    where
-      new : IsNewNumber n h
-      new = own_may.new_number
+  told_now (inr told) = absurd (not_last call.number 1 call.moment call.request told.given told.before (subst (λ (y : List Record). IsNewNumber call.number y) told.last own_may.new_number))
 
 -- the call is decided as its record tells
-decided_as : (h : List Record) (begun : ℕ) (moments : List ℕ) (answers : List Response) (id n m : ℕ) (q : Request) (given : Reply) → n ≡ begun → IsAmong (Did n 1 m q given) h → IsTold h begun moments answers id n m q → Stands (Decided id n q given) h begun moments answers
-decided_as h begun moments answers id n m q given same among told =
-    let whose : given ≡ told.given = told_last_of begun n 1 m q told.given given told.before (omega (arith, same)) told.below (subst (λ (x : List Record). IsAmong (Did n 1 m q given) x) told.last among) in
-    let low : AreBelow (begun + 1) (told.before ++ Did n 1 m q told.given ∷ []) = below_push begun (begun + 1) told.before (Did n 1 m q told.given) (omega arith) told.below (omega (arith, same)) in
-    (subst (λ (x : List Record). AreBelow (begun + 1) x) (sym told.last) low, subst (λ (y : Reply). Follows empty_tree 0 moments (answers ++ ByCall id n q y ∷ []) (replay h) begun) (sym whose) told.follows)
+decided_as : (s : Spot) (answers : List Response) (id n m : ℕ) (q : Request) (given : Reply) → n ≡ s.begun → IsAmong (Did n 1 m q given) s.records → IsTold s answers id n m q → Stands (Decided id n q given) s answers
+decided_as s answers id n m q given same among told =
+    let whose : given ≡ told.given = told_last_of s.begun n 1 m q told.given given told.before (omega (arith, same)) told.below (subst (λ (x : List Record). IsAmong (Did n 1 m q given) x) told.last among) in
+    let low : AreBelow (s.begun + 1) (told.before ++ Did n 1 m q told.given ∷ []) = below_push s.begun (s.begun + 1) told.before (Did n 1 m q told.given) (omega arith) told.below (omega (arith, same)) in
+    (subst (λ (x : List Record). AreBelow (s.begun + 1) x) (sym told.last) low, subst (λ (y : Reply). Follows empty_tree 0 s.moments (answers ++ ByCall id n q y ∷ []) (replay s.records) s.begun) (sym whose) told.follows)
 
 among_last : (r : Record) (h : List Record) → IsAmong r (h ++ r ∷ [])
 unfolding IsAmong
 among_last r [] = inl refl
 among_last r (x ∷ h) = inr (among_last r h)
 
-decided_goes : (h added rest : List Record) (begun : ℕ) (moments : List ℕ) (t : SessionState) (id n m : ℕ) (q : Request) (moves : ℕ) (given : Reply) → Stands (UnderWay id n m q moves) h begun moments t.answers → IsLegal (h ++ (added ++ rest)) → AllByRecursion HadMemoryFor added
-    → DecidesCall (lone h begun (with_phase t (UnderWay id n m q moves))) 1 moves (Did n 1 m q given) added → Stands (Decided id n q given) (h ++ added) (begun + 0) (moments ++ []) t.answers
-decided_goes h added rest begun moments t id n m q moves given (same, inl w) legal heard (inl there) = absurd (not_among begun n 1 m q given h (omega (arith, same)) w.below there.1)
-decided_goes h added rest begun moments t id n m q moves given (same, inr told) legal heard (inl there) =
-    still (Decided id n q given) h added begun moments t.answers there.0 (decided_as h begun moments t.answers id n m q given same there.1 told)
-decided_goes h added rest begun moments t id n m q moves given k legal heard (inr d) =
-    let own = own_alone h added rest begun moments (with_phase t (UnderWay id n m q moves)) t.answers id n m q moves given k.0 legal heard d in
-    decided_as (h ++ added) (begun + 0) (moments ++ []) t.answers id n m q given (omega (arith, k.0)) (subst (λ (xs : List Record). IsAmong (Did n 1 m q given) (h ++ xs)) (sym own) (among_last (Did n 1 m q given) h))
-    (told_now h added rest begun moments (with_phase t (UnderWay id n m q moves)) t.answers id n m q moves given k.0 legal heard d k.1)
+abbrev under_way : Walking → Phase
+under_way call = UnderWay call.id call.number call.moment call.request call.moves
 
-moved_goes : (h added rest : List Record) (begun : ℕ) (moments : List ℕ) (t t' : SessionState) (id n m : ℕ) (q : Request) (moves : ℕ) → Stands (UnderWay id n m q moves) h begun moments t.answers → IsLegal (h ++ (added ++ rest)) → AllByRecursion HadMemoryFor added
-    → MoveAdds (record { world = lone h begun (with_phase t (UnderWay id n m q moves)); session = 1; told = with_phase t (UnderWay id n m q moves); added = added; now = t' }) (walking id n m q moves)
-    → Stands (UnderWay id n m q (moves + 1)) (h ++ added) (begun + 0) (moments ++ []) t.answers
-moved_goes h added rest begun moments t t' id n m q moves k legal heard (inl none) = still (UnderWay id n m q (moves + 1)) h added begun moments t.answers none.0 k
-moved_goes h added rest begun moments t t' id n m q moves k legal heard (inr first) =
-    (omega (arith, k.0), inr (told_now h added rest begun moments (with_phase t (UnderWay id n m q moves)) t.answers id n m q 0 first.2.0 k.0 legal heard first.2.1 k.1))
+decided_goes : (s : Spot) (x : Added s) (u : SessionState) (answers : List Response) (call : Walking) (given : Reply) → Stands (under_way call) s answers
+    → DecidesCall (lone s.records s.begun u) 1 call.moves (Did call.number 1 call.moment call.request given) x.now → Stands (Decided call.id call.number call.request given) (onward s x.now 0 []) answers
+decided_goes s x u answers call given (same, inl w) (inl there) = absurd (not_among s.begun call.number 1 call.moment call.request given s.records (omega (arith, same)) w.below there.1)
+decided_goes s x u answers call given (same, inr told) (inl there) =
+    still (Decided call.id call.number call.request given) s x.now answers there.0 (decided_as s answers call.id call.number call.moment call.request given same there.1 told)
+decided_goes s x u answers call given k (inr d) =
+    let among = subst (λ (xs : List Record). IsAmong (Did call.number 1 call.moment call.request given) (s.records ++ xs)) (sym (own_alone s x u answers call given k.0 d)) (among_last (Did call.number 1 call.moment call.request given) s.records) in
+    decided_as (onward s x.now 0 []) answers call.id call.number call.moment call.request given (omega (arith, k.0)) among (told_now s x u answers call given k.0 d k.1)
 
 -- a turn of a session whose call is under way
-step_goes : (h added rest : List Record) (begun : ℕ) (moments : List ℕ) (turn : ℕ) (t t' : SessionState) (id n m : ℕ) (q : Request) (moves : ℕ) (r : Happened) → Stands (UnderWay id n m q moves) h begun moments t.answers → IsLegal (h ++ (added ++ rest)) → AllByRecursion HadMemoryFor added
-    → StepLeads (record { world = lone h begun (with_phase t (UnderWay id n m q moves)); session = 1; told = with_phase t (UnderWay id n m q moves); added = added; now = t' }) (walking id n m q moves) r
-    → After h added (begun + calls_begun r) moments (moment_begun (event.Turn 1 turn) (Ok r)) t'
-step_goes h added rest begun moments turn t t' id n m q moves happened.Moved k legal heard g = after_by h added (begun + 0) moments [] t' _ g.2 (moved_goes h added rest begun moments t t' id n m q moves k legal heard g.1)
-step_goes h added rest begun moments turn t t' id n m q moves (happened.Blocked holder) k legal heard g =
-    after_by h added (begun + 0) moments [] t' _ g.2 (still (UnderWay id n m q moves) h added begun moments t.answers g.1 k)
-step_goes h added rest begun moments turn t t' id n m q moves happened.Decided k legal heard g =
-    after_by h added (begun + 0) moments [] t' _ g.2 (decided_goes h added rest begun moments t id n m q moves g.0 k legal heard g.1)
-step_goes h added rest begun moments turn t t' id n m q moves r k legal heard g = absurd g
+step_goes : (s : Spot) (x : Added s) (turn : ℕ) (t t' : SessionState) (call : Walking) (r : Happened) → Stands (under_way call) s t.answers → StepLeads (turn_at s x.now (with_phase t (under_way call)) t') call r
+    → After s x.now (calls_begun r) (moment_begun (event.Turn 1 turn) (Ok r)) t'
+step_goes s x turn t t' call happened.Moved k (few, inl none, now) = after_by s x.now 0 [] t' _ now (still (under_way (record call { moves = call.moves + 1 })) s x.now t.answers none.0 k)
+step_goes s x turn t t' call happened.Moved k (few, inr first, now) =
+    let first_one = record call { moves = 0 } in
+    after_by s x.now 0 [] t' _ now (omega (arith, k.0), inr (told_now s x (with_phase t (under_way call)) t.answers first_one first.2.0 k.0 first.2.1 k.1))
+step_goes s x turn t t' call (happened.Blocked holder) k g = after_by s x.now 0 [] t' _ g.2 (still (under_way call) s x.now t.answers g.1 k)
+step_goes s x turn t t' call happened.Decided k g = after_by s x.now 0 [] t' _ g.2 (decided_goes s x (with_phase t (under_way call)) t.answers call g.0 k g.1)
+step_goes s x turn t t' call r k g = absurd g
 
 -- the reply is written; a session that was closed leaves then
-answer_goes : (closed : Bool) (h added : List Record) (begun : ℕ) (moments : List ℕ) (t : SessionState) (id n : ℕ) (q : Request) (given : Reply) → Stands (Decided id n q given) h begun moments t.answers → added ≡ leaving closed 1
-    → After h added (begun + 0) moments [] (left_if_closed closed (with_answer t (ByCall id n q given)))
-answer_goes true h added begun moments t id n q given k e = (replay h, begun, subst (λ (ms : List ℕ). Follows empty_tree 0 ms (t.answers ++ ByCall id n q given ∷ []) (replay h) begun) (sym (append-nil moments)) k.1)
-answer_goes false h added begun moments t id n q given k e = still Resting h added begun moments (t.answers ++ ByCall id n q given ∷ []) e k
+answer_goes : (closed : Bool) (s : Spot) (added : List Record) (t : SessionState) (id n : ℕ) (q : Request) (given : Reply) → Stands (Decided id n q given) s t.answers → added ≡ leaving closed 1 → After s added 0 [] (left_if_closed closed (with_answer t (ByCall id n q given)))
+answer_goes true s added t id n q given k e = gone_after s added Closed (t.answers ++ ByCall id n q given ∷ []) k.1
+answer_goes false s added t id n q given k e = still Resting s added (t.answers ++ ByCall id n q given ∷ []) e k
 
-turn_goes : (f : Phase) (h added rest : List Record) (begun : ℕ) (moments : List ℕ) (turn : ℕ) (t t' : SessionState) (r : Happened) → Stands f h begun moments t.answers → IsLegal (h ++ (added ++ rest)) → AllByRecursion HadMemoryFor added
-    → TurnLeads turn (record { world = lone h begun (with_phase t f); session = 1; told = with_phase t f; added = added; now = t' }) f r → After h added (begun + calls_begun r) moments (moment_begun (event.Turn 1 turn) (Ok r)) t'
-turn_goes Resting h added rest begun moments turn t t' r k legal heard g = rest_goes h added begun moments turn t t' r k g
-turn_goes (UnderWay id n m q moves) h added rest begun moments turn t t' r k legal heard g = step_goes h added rest begun moments turn t t' id n m q moves r k legal heard g
-turn_goes (Decided id n q given) h added rest begun moments turn t t' r k legal heard g =
-    subst (λ (x : Happened). After h added (begun + calls_begun x) moments (moment_begun (event.Turn 1 turn) (Ok x)) t') (sym g.0)
-    (after_by h added (begun + 0) moments [] t' _ g.2 (answer_goes t.closed h added begun moments t id n q given k g.1))
-turn_goes (Gone cause) h added rest begun moments turn t t' r k legal heard g =
-    subst (λ (x : Happened). After h added (begun + calls_begun x) moments (moment_begun (event.Turn 1 turn) (Ok x)) t') (sym g.0)
-    (after_by h added (begun + 0) moments [] t' _ g.2 (still (Gone cause) h added begun moments t.answers g.1 k))
+turn_goes : (f : Phase) (s : Spot) (x : Added s) (turn : ℕ) (t t' : SessionState) (r : Happened) → Stands f s t.answers → TurnLeads turn (turn_at s x.now (with_phase t f) t') f r → After s x.now (calls_begun r) (moment_begun (event.Turn 1 turn) (Ok r)) t'
+turn_goes Resting s x turn t t' r k g = rest_goes s x.now turn t t' r k g
+turn_goes (UnderWay id n m q moves) s x turn t t' r k g = step_goes s x turn t t' (walking id n m q moves) r k g
+turn_goes (Decided id n q given) s x turn t t' r k g =
+    subst (λ (z : Happened). After s x.now (calls_begun z) (moment_begun (event.Turn 1 turn) (Ok z)) t') (sym g.0) (after_by s x.now 0 [] t' _ g.2 (answer_goes t.closed s x.now t id n q given k g.1))
+turn_goes (Gone cause) s x turn t t' r k g =
+    subst (λ (z : Happened). After s x.now (calls_begun z) (moment_begun (event.Turn 1 turn) (Ok z)) t') (sym g.0) (after_by s x.now 0 [] t' _ g.2 (still (Gone cause) s x.now t.answers g.1 k))
 
-close_goes : (f : Phase) (h added : List Record) (begun : ℕ) (moments : List ℕ) (t : SessionState) → Stands f h begun moments t.answers → added ≡ left_by_close f 1 → After h added (begun + 0) moments [] (closed_now (with_phase t f) f)
-close_goes Resting h added begun moments t k e = (replay h, begun, subst (λ (ms : List ℕ). Follows empty_tree 0 ms t.answers (replay h) begun) (sym (append-nil moments)) k.1)
-close_goes f h added begun moments t k e = still f h added begun moments t.answers e k
+close_goes : (f : Phase) (s : Spot) (added : List Record) (t : SessionState) → Stands f s t.answers → added ≡ left_by_close f 1 → After s added 0 [] (closed_now (with_phase t f) f)
+close_goes Resting s added t k e = gone_after s added Closed t.answers k.1
+close_goes f s added t k e = still f s added t.answers e k
 
 -- ---- one entry more
 
 -- the entry leads to a world with this session, which stands so
-pub record LeadsOn (h added : List Record) (moments now : List ℕ) (w' : World) : Type 0 where
+pub record LeadsOn (s : Spot) (added : List Record) (now : List ℕ) (w' : World) : Type 0 where
   pub told : SessionState
-  pub count : ℕ
-  pub world : w' ≡ lone (h ++ added) count told
-  pub stands : After h added count moments now told
+  pub more : ℕ
+  pub world : w' ≡ lone (s.records ++ added) (s.begun + more) told
+  pub stands : After s added more now told
 
 same_told : (h : List Record) (begun : ℕ) (t u : SessionState) → IsSession (lone h begun t) 1 u → u ≡ t
 same_told h begun t u is = let e : Some t ≡ Some u = is.1 in cc
 
-happens_on : (h added rest : List Record) (begun : ℕ) (moments : List ℕ) (t : SessionState) (w' : World) (ev : Event) (r : Happened) → Stands t.phase h begun moments t.answers → IsLegal (h ++ (added ++ rest)) → AllByRecursion HadMemoryFor added
-    → IsOf 1 ev (Ok r) → Happens (lone h begun t) ev r added w' → LeadsOn h added moments (moment_begun ev (Ok r)) w'
-happens_on h added rest begun moments t w' event.Open r k legal heard own g =
+-- an event that adds nothing, and answers nothing
+stays_on : (s : Spot) (added : List Record) (t t' : SessionState) (now : List ℕ) (w' : World) → now ≡ [] → added ≡ [] → t'.phase ≡ t.phase → t'.answers ≡ t.answers → w' ≡ lone (s.records ++ []) (s.begun + 0) t' → Stands t.phase s t.answers → LeadsOn s added now w'
+stays_on s added t t' now w' none nothing phase answers world k = record {
+  told = t';
+  more = 0;
+  world = world ∙ ap (λ (xs : List Record). lone (s.records ++ xs) (s.begun + 0) t') (sym nothing);
+  stands =
+      let here : Stands t'.phase s t'.answers = subst (λ (f : Phase). Stands f s t'.answers) (sym phase) (subst (λ (xs : List Response). Stands t.phase s xs) (sym answers) k) in
+      subst (λ (ms : List ℕ). After s added 0 ms t') (sym none) (still t'.phase s added t'.answers nothing here);
+}
+
+happens_on : (s : Spot) (x : Added s) (t : SessionState) (w' : World) (ev : Event) (r : Happened) → Stands t.phase s t.answers → IsOf 1 ev (Ok r) → Happens (lone s.records s.begun t) ev r x.now w' → LeadsOn s x.now (moment_begun ev (Ok r)) w'
+happens_on s x t w' event.Open r k own g =
     let mine : Ok r ≡ Ok (happened.Opened 1) = own in
     let first : r ≡ happened.Opened 1 = cc in
     let second : happened.Opened 2 ≡ happened.Opened 1 = sym g.0 ∙ first in absurd cc
-happens_on h added rest begun moments t w' (event.Feed s bytes) r k legal heard own g =
-    let (is, none, (u, session, takes, now)) = subst (λ (x : ℕ). Happens (lone h begun t) (event.Feed x bytes) r added w') own g in
-    let same : fed u bytes.items ≡ fed t bytes.items = ap (λ (z : SessionState). fed z bytes.items) (same_told h begun t u session) in
-    subst (λ (x : Happened). LeadsOn h added moments (moment_begun (event.Feed s bytes) (Ok x)) w') (sym is)
-    (record { told = fed u bytes.items; count = begun + 0; world = now ∙ ap (λ (xs : List Record). lone (h ++ xs) (begun + 0) (fed u bytes.items)) (sym none); stands = after_by h added (begun + 0) moments [] _ _ same (still t.phase h added begun moments t.answers none k) })
-happens_on h added rest begun moments t w' (event.Turn s m) r k legal heard own g =
-    let (u, t', session, leads, now) = subst (λ (x : ℕ). Happens (lone h begun t) (event.Turn x m) r added w') own g in
-    let L : SessionState → Type 0 = λ z. TurnLeads m (record { world = lone h begun t; session = 1; told = z; added = added; now = t' }) z.phase r in
-    let stands = turn_goes t.phase h added rest begun moments m t t' r k legal heard (subst L (same_told h begun t u session) leads) in
-    record { told = t'; count = begun + calls_begun r; world = now; stands = subst (λ (x : ℕ). After h added (begun + calls_begun r) moments (moment_begun (event.Turn x m) (Ok r)) t') (sym own) stands }
-happens_on h added rest begun moments t w' (event.Close s) r k legal heard own g =
-    let (is, (u, session, left, now)) = subst (λ (x : ℕ). Happens (lone h begun t) (event.Close x) r added w') own g in
-    let same = same_told h begun t u session in
-    let mine : added ≡ left_by_close t.phase 1 = subst (λ (z : SessionState). added ≡ left_by_close z.phase 1) same left in
-    subst (λ (x : Happened). LeadsOn h added moments (moment_begun (event.Close s) (Ok x)) w') (sym is)
-    (record { told = closed_now u u.phase; count = begun + 0; world = now; stands = after_by h added (begun + 0) moments [] _ _ (ap (λ (z : SessionState). closed_now z z.phase) same) (close_goes t.phase h added begun moments t k mine) })
-happens_on h added rest begun moments t w' (event.Sent s n) r k legal heard own g =
-    let (is, none, (u, session, fits, now)) = subst (λ (x : ℕ). Happens (lone h begun t) (event.Sent x n) r added w') own g in
-    let same : sent_more u n ≡ sent_more t n = ap (λ (z : SessionState). sent_more z n) (same_told h begun t u session) in
-    subst (λ (x : Happened). LeadsOn h added moments (moment_begun (event.Sent s n) (Ok x)) w') (sym is)
-    (record { told = sent_more u n; count = begun + 0; world = now ∙ ap (λ (xs : List Record). lone (h ++ xs) (begun + 0) (sent_more u n)) (sym none); stands = after_by h added (begun + 0) moments [] _ _ same (still t.phase h added begun moments t.answers none k) })
+happens_on s x t w' (event.Feed n bytes) r k own g =
+    let (is, none, (u, session, takes, now)) = subst (λ (y : ℕ). Happens (lone s.records s.begun t) (event.Feed y bytes) r x.now w') own g in
+    let same = same_told s.records s.begun t u session in
+    stays_on s x.now t (fed u bytes.items) _ w' (ap (λ (y : Happened). moment_begun (event.Feed n bytes) (Ok y)) is) none (ap (λ (z : SessionState). z.phase) same) (ap (λ (z : SessionState). z.answers) same) now k
+happens_on s x t w' (event.Turn n m) r k own g =
+    let (u, t', session, leads, now) = subst (λ (y : ℕ). Happens (lone s.records s.begun t) (event.Turn y m) r x.now w') own g in
+    let L : SessionState → Type 0 = λ z. TurnLeads m (record { world = lone s.records s.begun t; session = 1; told = z; added = x.now; now = t' }) z.phase r in
+    let stands = turn_goes t.phase s x m t t' r k (subst L (same_told s.records s.begun t u session) leads) in
+    record { told = t'; more = calls_begun r; world = now; stands = subst (λ (y : ℕ). After s x.now (calls_begun r) (moment_begun (event.Turn y m) (Ok r)) t') (sym own) stands }
+happens_on s x t w' (event.Close n) r k own g =
+    let (is, (u, session, left, now)) = subst (λ (y : ℕ). Happens (lone s.records s.begun t) (event.Close y) r x.now w') own g in
+    let same = same_told s.records s.begun t u session in
+    let mine : x.now ≡ left_by_close t.phase 1 = subst (λ (z : SessionState). x.now ≡ left_by_close z.phase 1) same left in
+    let stands : After s x.now 0 [] (closed_now u u.phase) = after_by s x.now 0 [] _ _ (ap (λ (z : SessionState). closed_now z z.phase) same) (close_goes t.phase s x.now t k mine) in
+    subst (λ (y : Happened). LeadsOn s x.now (moment_begun (event.Close n) (Ok y)) w') (sym is) (record { told = closed_now u u.phase; more = 0; world = now; stands = stands })
+happens_on s x t w' (event.Sent n count) r k own g =
+    let (is, none, (u, session, fits, now)) = subst (λ (y : ℕ). Happens (lone s.records s.begun t) (event.Sent y count) r x.now w') own g in
+    let same = same_told s.records s.begun t u session in
+    stays_on s x.now t (sent_more u count) _ w' (ap (λ (y : Happened). moment_begun (event.Sent n count) (Ok y)) is) none (ap (λ (z : SessionState). z.phase) same) (ap (λ (z : SessionState). z.answers) same) now k
 
-pub leads_on : (h added rest : List Record) (begun : ℕ) (moments : List ℕ) (t : SessionState) (w' : World) (ev : Event) (r : Result Happened EngineFault) → Stands t.phase h begun moments t.answers → IsLegal (h ++ (added ++ rest)) → AllByRecursion HadMemoryFor added
-    → IsOf 1 ev r → LeadsBy (lone h begun t) ev r added w' → LeadsOn h added moments (moment_begun ev r) w'
-leads_on h added rest begun moments t w' ev (Ok r) k legal heard own g = happens_on h added rest begun moments t w' ev r k legal heard own g
-leads_on h added rest begun moments t w' ev (Err fault) k legal heard own g =
-    let none : begun + 0 ≡ begun = omega arith in
-    let records : h ++ added ≡ h = ap (λ (xs : List Record). h ++ xs) g.1 ∙ append-nil h in
-    record { told = t; count = begun + 0; world = g.2 ∙ ap (λ (xs : List Record). lone xs begun t) (sym records) ∙ ap (λ (n : ℕ). lone (h ++ added) n t) (sym none); stands = still t.phase h added begun moments t.answers g.1 k }
+pub leads_on : (s : Spot) (x : Added s) (t : SessionState) (w' : World) (ev : Event) (r : Result Happened EngineFault) → Stands t.phase s t.answers → IsOf 1 ev r → LeadsBy (lone s.records s.begun t) ev r x.now w' → LeadsOn s x.now (moment_begun ev r) w'
+leads_on s x t w' ev (Ok r) k own g = happens_on s x t w' ev r k own g
+leads_on s x t w' ev (Err fault) k own g =
+    let same : lone s.records s.begun t ≡ lone (s.records ++ []) (s.begun + 0) t = ap (λ (z : Spot). lone z.records z.begun t) (still_there s [] refl) in
+    stays_on s x.now t t [] w' refl g.1 refl refl (g.2 ∙ same) k
