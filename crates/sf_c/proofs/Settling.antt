@@ -66,22 +66,27 @@ turns_lead (suc n) e turn r e' turns =
     let rest = turns_lead n turns.0 turn r e' turns.4 in
     (rest.0, (turns.0, Ok h, (turns.2, tt), lead.0, (0, none, rest.1)), rest.2)
 
+-- Turns were made, each of which led to another one, and wrote so many replies.
+pub record TurnsMade (turn : Event) (a b : EngineView) : Type 0 where
+  pub made : ℕ
+  pub replies : ℕ
+  pub turned : HasTurned made replies a turn b
+
 -- turns, and further ones behind them
-turned_on : (made replies more others : ℕ) (a b c : EngineView) (turn : Event)
-    → HasTurned made replies a turn b → HasTurned more others b turn c → HasTurned (made + more) (replies + others) a turn c
-turned_on zero replies more others a b c turn front back =
+turned_on : {turn : Event} {b c : EngineView} (made replies : ℕ) (a : EngineView) (more : TurnsMade turn b c) → HasTurned made replies a turn b → HasTurned (made + more.made) (replies + more.replies) a turn c
+turned_on {turn} {b} {c} zero replies a more front =
     let no : replies ≡ 0 = front.1 in
-    let m : more ≡ 0 + more = omega arith in
-    let o : others ≡ replies + others = omega arith in
-    let whole = subst (λ (n : ℕ). HasTurned n (replies + others) b turn c) m (subst (λ (n : ℕ). HasTurned more n b turn c) o back) in
-    subst (λ (x : EngineView). HasTurned (0 + more) (replies + others) x turn c) front.0 whole
-turned_on (suc made) replies more others a b c turn front back =
+    let m : more.made ≡ 0 + more.made = omega arith in
+    let o : more.replies ≡ replies + more.replies = omega arith in
+    let whole = subst (λ (n : ℕ). HasTurned n (replies + more.replies) b turn c) m (subst (λ (n : ℕ). HasTurned more.made n b turn c) o more.turned) in
+    subst (λ (x : EngineView). HasTurned (0 + more.made) (replies + more.replies) x turn c) front.0 whole
+turned_on {turn} {b} {c} (suc made) replies a more front =
     let had : replies ≡ replies_of front.1 + front.4.0 = front.4.1 in
-    let both : replies + others ≡ replies_of front.1 + (front.4.0 + others) = omega arith in
-    let count : suc (made + more) ≡ suc made + more = omega arith in
-    let rest = turned_on made front.4.0 more others front.0 b c turn front.4.2 back in
-    let whole : HasTurned (suc (made + more)) (replies + others) a turn c = (front.0, front.1, front.2, front.3, (front.4.0 + others, both, rest)) in
-    subst (λ (n : ℕ). HasTurned n (replies + others) a turn c) count whole
+    let both : replies + more.replies ≡ replies_of front.1 + (front.4.0 + more.replies) = omega arith in
+    let count : suc (made + more.made) ≡ suc made + more.made = omega arith in
+    let rest = turned_on made front.4.0 front.0 more front.4.2 in
+    let whole : HasTurned (suc (made + more.made)) (replies + more.replies) a turn c = (front.0, front.1, front.2, front.3, (front.4.0 + more.replies, both, rest)) in
+    subst (λ (n : ℕ). HasTurned n (replies + more.replies) a turn c) count whole
 
 turned_once : (e e' : EngineView) (turn : Event) (r : Result Happened EngineFault) → EventLeads e turn r e' → leads_on r ≡ true → HasTurned 1 (replies_of r) e turn e'
 turned_once e e' turn r leads on =
@@ -89,39 +94,49 @@ turned_once e e' turn r leads on =
     (e', r, leads, on, (0, all, (refl, refl)))
 
 -- one reply more, by `Engine::turns`
-pub one_more : (made replies n : ℕ) (a b c : EngineView) (turn : Event) (r : Result Happened EngineFault)
-    → HasTurned made replies a turn b → HasTurns n b turn r c → (leads_on r ≡ true) × (replies_of r ≡ 1)
-    → HasTurned (made + (n + 1)) (replies + 1) a turn c
-one_more made replies n a b c turn r before turns wrote =
+pub one_more : {turn : Event} {a b : EngineView} (before : TurnsMade turn a b) (n : ℕ) (r : Result Happened EngineFault) (c : EngineView)
+    → HasTurns n b turn r c → (leads_on r ≡ true) × (replies_of r ≡ 1)
+    → HasTurned (before.made + (n + 1)) (before.replies + 1) a turn c
+one_more {turn} {a} {b} before n r c turns wrote =
     let t = turns_lead n b turn r c turns in
-    let last : HasTurned 1 (replies_of r) t.0 turn c = turned_once t.0 c turn r t.2 wrote.0 in
-    let further = turned_on n 0 1 (replies_of r) b t.0 c turn t.1 last in
-    let whole = turned_on made replies (n + 1) (0 + replies_of r) a b c turn before further in
+    let last : TurnsMade turn t.0 c = record { made = 1; replies = replies_of r; turned = turned_once t.0 c turn r t.2 wrote.0 } in
+    let further : TurnsMade turn b c = record { made = n + 1; replies = 0 + replies_of r; turned = turned_on n 0 b last t.1 } in
+    let whole = turned_on before.made before.replies a further before.turned in
     let one : replies_of r ≡ 1 = wrote.1 in
-    let count : replies + (0 + replies_of r) ≡ replies + 1 = omega arith in
-    subst (λ (k : ℕ). HasTurned (made + (n + 1)) k a turn c) count whole
+    let count : before.replies + (0 + replies_of r) ≡ before.replies + 1 = omega arith in
+    subst (λ (k : ℕ). HasTurned (before.made + (n + 1)) k a turn c) count whole
 
 -- the last turns, by `Engine::turns`, which wrote nothing
-pub ended_after : (made replies n : ℕ) (a b c : EngineView) (turn : Event) (r : Result Happened EngineFault)
-    → HasTurned made replies a turn b → HasTurns n b turn r c → (goes_on_at r ≡ true → 2 ^ 64 - 2 ≤ n) → replies_of r ≡ 0
-    → HasEnded (made + n) replies a turn r c
-ended_after made replies n a b c turn r before turns far none =
+pub ended_after : {turn : Event} {a b : EngineView} (before : TurnsMade turn a b) (n : ℕ) (r : Result Happened EngineFault) (c : EngineView)
+    → HasTurns n b turn r c → (goes_on_at r ≡ true → 2 ^ 64 - 2 ≤ n) → replies_of r ≡ 0
+    → HasEnded (before.made + n) before.replies a turn r c
+ended_after {turn} {a} {b} before n r c turns far none =
     let t = turns_lead n b turn r c turns in
+    let made = before.made in
+    let replies = before.replies in
     let count : replies + 0 ≡ replies = omega arith in
-    let whole = turned_on made replies n 0 a b t.0 turn before t.1 in
+    let behind : TurnsMade turn b t.0 = record { made = n; replies = 0; turned = t.1 } in
+    let whole = turned_on made replies a behind before.turned in
     let further : leads_on r ≡ true → 2 ^ 64 - 2 ≤ made + n = λ on. let k : 2 ^ 64 - 2 ≤ n = far (lead_goes r on none) in omega arith in
     (t.0, subst (λ (k : ℕ). HasTurned (made + n) k a turn t.0) count whole, t.2, further)
 
+-- A turn that leads to another one.
+pub record FirstTurn (turn : Event) (old mid : EngineView) : Type 0 where
+  pub result : Result Happened EngineFault
+  pub turned : EventLeads old turn result mid
+  pub leads : leads_on result ≡ true
+
 -- a first turn that leads to others, and these
-pub first_apart : (made most : ℕ) (old mid new : EngineView) (turn : Event) (first : Result Happened EngineFault) (end : Option (Result Happened EngineFault))
-    → EventLeads old turn first mid → leads_on first ≡ true → replies_of first ≤ most
-    → TurnsTo made turn (most - replies_of first) mid end new → TurnsTo (suc made) turn most old end new
-first_apart made most old mid new turn first None leads on few turns =
-    let all : most ≡ replies_of first + (most - replies_of first) = omega arith in
-    (mid, first, leads, on, (most - replies_of first, all, turns))
-first_apart made most old mid new turn first (Some r) leads on few turns =
-    let under : turns.0 < most - replies_of first = turns.1 in
-    let below : replies_of first + turns.0 < most = omega arith in
+pub first_apart : {turn : Event} {old mid : EngineView} (first : FirstTurn turn old mid) (made most : ℕ) (end : Option (Result Happened EngineFault)) (new : EngineView)
+    → replies_of first.result ≤ most → TurnsTo made turn (most - replies_of first.result) mid end new → TurnsTo (suc made) turn most old end new
+first_apart {mid = mid} first made most None new few turns =
+    let replies = replies_of first.result in
+    let all : most ≡ replies + (most - replies) = omega arith in
+    (mid, first.result, first.turned, first.leads, (most - replies, all, turns))
+first_apart {mid = mid} first made most (Some r) new few turns =
+    let replies = replies_of first.result in
+    let under : turns.0 < most - replies = turns.1 in
+    let below : replies + turns.0 < most = omega arith in
     let ends = turns.2 in
     let far : leads_on r ≡ true → 2 ^ 64 - 2 ≤ suc made = λ e. let k : 2 ^ 64 - 2 ≤ made = ends.3 e in omega arith in
-    (replies_of first + turns.0, below, (ends.0, (mid, first, leads, on, (turns.0, refl, ends.1)), ends.2, far))
+    (replies + turns.0, below, (ends.0, (mid, first.result, first.turned, first.leads, (turns.0, refl, ends.1)), ends.2, far))

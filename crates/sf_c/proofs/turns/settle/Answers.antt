@@ -1,7 +1,7 @@
 use Rattle.std.proofs.Common.{◌≡◌, ◌∙◌, ◌≤◌, ◌<◌, ◌-◌, ℕ, suc, true, sym, subst, arith}
 use Rattle.sf_engine.specs.declared.event.Event.TheVariants as event
 use Rattle.sf_c.specs.Numbers.{leads_on, replies_of, TurnsTo}
-use Rattle.sf_c.proofs.Settling.{first_apart}
+use Rattle.sf_c.proofs.Settling.{FirstTurn, first_apart}
 use Rattle.sf_c.proofs.turns.settle.Goals as goal
 
 pub returns : goal.returns
@@ -16,4 +16,5 @@ returns c =
     let others = c.follow.ensures in
     let further = subst (λ (n : ℕ). TurnsTo others.0 turn (c.args.most - n) c.apply-first.new.self c.follow.result c.follow.new.engine) is others.1 in
     let one : 0 < suc others.0 = omega arith in
-    (suc others.0, first_apart others.0 c.args.most c.args.engine.now c.apply-first.new.self c.follow.new.engine turn first c.follow.result (c.apply-first.ensures.fits, c.apply-first.ensures.err) on under further, (λ e. one), λ e. absurd cc)
+    let one_turn : FirstTurn turn c.args.engine.now c.apply-first.new.self = record { result = first; turned = (c.apply-first.ensures.fits, c.apply-first.ensures.err); leads = on } in
+    (suc others.0, first_apart one_turn others.0 c.args.most c.follow.result c.follow.new.engine under further, (λ e. one), λ e. absurd cc)
