@@ -1,3 +1,4 @@
+-- No public clause cites this module.
 -- What a string of bytes is a part of.
 use Rattle.std.specs.Prelude.{ℕ, List, [], Option, Some, None}
 use Rattle.std.specs.declared.alloc.Global.{Global}
