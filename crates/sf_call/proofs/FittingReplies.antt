@@ -2,6 +2,7 @@
 use Rattle.std.proofs.Common.{ℕ, ◌*◌, ◌≤◌, List, [], ◌∷◌, length, sym, subst, inl, inr, arith}
 use Rattle.std.specs.List.{AllByRecursion, flat_map}
 use Rattle.std.proofs.lemmas.List.{length-append}
+use Rattle.sf_field.specs.Fields.{packet}
 use Rattle.sf_reply.specs.declared.reply.Entry.{Entry}
 use Rattle.sf_reply.specs.declared.reply.Reply.{Reply}
 use Rattle.sf_reply.specs.declared.reply.Reply.TheVariants as reply
@@ -10,6 +11,7 @@ use Rattle.sf_reply.proofs.Laws.{attrs_short, plain_short, length-names, length-
 use Rattle.sf_call.specs.declared.record.Record.{Record}
 use Rattle.sf_call.specs.Calls.{answer_to}
 use Rattle.sf_call.specs.Histories.{replay, IsLegal, IsGiven}
+use Rattle.sf_call.specs.ReplyKinds.{longest_packet}
 use Rattle.sf_call.proofs.Growth.{holds_after}
 use Rattle.sf_call.proofs.Sound.{sound_replay}
 use Rattle.sf_call.proofs.FittingTrees.{TreeFits, fits_done, fits_left, fits_empty}
@@ -38,7 +40,7 @@ entries_short [] short = omega arith
 entries_short (e ∷ es) short =
     omega (arith, length-append (entry_text e) (flat_map entry_text es), length-entry e, attrs_short e.attrs, short.0.filename, short.0.longname, entries_short es short.1)
 
-pub short_packet : (id : ℕ) (given : Reply) → IsShort given → length (reply_body id given) ≤ 262144
+pub short_packet : (id : ℕ) (given : Reply) → IsShort given → length (packet (reply_body id given)) ≤ longest_packet
 short_packet id (reply.Status code) short = omega (arith, plain_short id (reply.Status code) tt)
 short_packet id reply.NoMemory short = omega (arith, plain_short id reply.NoMemory tt)
 short_packet id (reply.Handle number) short = omega (arith, plain_short id (reply.Handle number) tt)

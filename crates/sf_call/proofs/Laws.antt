@@ -1,9 +1,10 @@
 -- For the crates above: laws of trees and histories. They speak of definitions alone. All other
 -- files here are private to this crate.
-use Rattle.std.proofs.Common.{◌≡◌, ◌≢◌, ◌<◌, ◌≤◌, ◌↔◌, ℕ, true, false, List, [], ◌∷◌, ◌++◌, length, take, Option, Some, None, IsSome, IfSome, sym, ap, ◌∙◌, subst}
+use Rattle.std.proofs.Common.{◌≡◌, ◌≢◌, ◌<◌, ◌≤◌, ◌↔◌, ℕ, true, false, List, [], ◌∷◌, ◌++◌, length, take, Option, Some, None, IsSome, IfSome, sym, ap, ◌∙◌, subst, arith}
 use Rattle.std.specs.Ordering.{nat_cmp}
 use Rattle.std.specs.BTreeMap.{is_at}
 use Rattle.sf_path.specs.Names.{Name, Path, IsPath}
+use Rattle.sf_field.specs.Fields.{packet}
 use Rattle.sf_reply.specs.Longname.{HasType, longname_text}
 use Rattle.sf_reply.specs.Replies.{ReplyFits, reply_body}
 use Rattle.sf_reply.specs.declared.reply.Reply.{Reply}
@@ -21,7 +22,7 @@ use Rattle.sf_call.specs.Changes.{Change, done}
 use Rattle.sf_call.specs.Allowed.{AreAllowed, IsWellFormed}
 use Rattle.sf_call.specs.Calls.{answer_to, apply}
 use Rattle.sf_call.specs.Histories.{after, replay, IsNewNumber, IsLegal, MayFollow, IsAmong, IsGiven}
-use Rattle.sf_call.specs.ReplyKinds.{IsReplyTo, HasAllParts}
+use Rattle.sf_call.specs.ReplyKinds.{IsReplyTo, HasAllParts, longest_packet}
 use Rattle.sf_call.proofs.Ways as ways
 use Rattle.sf_call.proofs.Listed as listed
 use Rattle.sf_call.proofs.Growth as growth
@@ -172,10 +173,13 @@ short_file history label m contents legal is =
 pub named_path : (history : List Record) (path : Path) (label : ℕ) → IsLegal history → label_at (replay history).names path ≡ Some label → IsPath path
 named_path history path label legal = found_path (replay history).names path label (fitting.fits_replay history legal).names
 
--- each reply of a call that may come after a legal history fits a packet, and its numbers and its
--- strings have a spelling
+-- each reply of a call that may come after a legal history has a short packet, whose body fits, and
+-- its numbers and its strings have a spelling
+pub packet_short : (number session id : ℕ) (reply : Reply) → IsGiven number session reply → length (packet (reply_body id reply)) ≤ longest_packet
+packet_short number session id reply given = fitting.short_packet id reply (fitting.given_short number session reply given)
+
 pub packet_fits : (number session id : ℕ) (reply : Reply) → IsGiven number session reply → length (reply_body id reply) ≤ 262144
-packet_fits number session id reply given = fitting.short_packet id reply (fitting.given_short number session reply given)
+packet_fits number session id reply given = omega (arith, packet_short number session id reply given)
 
 pub reply_fits : (number session : ℕ) (reply : Reply) → IsGiven number session reply → ReplyFits reply
 reply_fits number session reply given = fitting.short_fits reply (fitting.given_short number session reply given)

@@ -1,4 +1,4 @@
--- What kinds of replies a request has, beside want of memory.
+-- What kinds of replies a request has, beside want of memory, and how long a reply is.
 use Rattle.std.specs.Prelude.{◌≡◌, ℕ, IsSome}
 use Rattle.sf_field.specs.declared.attrs.Attrs.{Attrs}
 use Rattle.sf_reply.specs.declared.reply.Reply.{Reply}
@@ -65,3 +65,7 @@ IsWanted number Entries given = IsStatusOrNames given
 
 abbrev pub IsReplyTo : ℕ → Request → Reply → Type 0
 IsReplyTo number request given = IsWanted number (wanted_by request) given
+
+-- the bytes of the longest packet of a reply: one of DATA, with as many bytes as one READ gives
+abbrev pub longest_packet : ℕ
+longest_packet = 261133

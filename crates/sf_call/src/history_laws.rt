@@ -1,7 +1,7 @@
 //! Laws of histories, which no call needs.
 
 ghost use Rattle.std.specs.Prelude.{◌≡◌, ◌≢◌, ◌<◌, ◌≤◌, ℕ, true, false, List, [], ◌∷◌, ◌++◌, length, Some, None, IsSome};
-ghost use Rattle.sf_field.specs.Fields.{max_body};
+ghost use Rattle.sf_field.specs.Fields.{packet};
 ghost use Rattle.sf_reply.specs.declared.reply.Reply.{Reply};
 ghost use Rattle.sf_call.specs.declared.request.Request.{Request};
 ghost use Rattle.sf_call.specs.declared.record.Record.{Record};
@@ -13,6 +13,7 @@ ghost use Rattle.sf_call.specs.Calls.{answer_to};
 ghost use Rattle.sf_reply.specs.Replies.{ReplyFits, reply_body};
 ghost use Rattle.sf_call.specs.Allowed.{AreAllowed, IsWellFormed};
 ghost use Rattle.sf_call.specs.Histories.{after, replay, IsNewNumber, IsLegal, MayFollow, IsAmong, IsGiven, record_of};
+ghost use Rattle.sf_call.specs.ReplyKinds.{longest_packet};
 
 /// A history goes on by one record.
 pub fn one_record_more()
@@ -78,11 +79,11 @@ pub fn allowed_changes()
         → IsWellFormed (done (replay history) changes) }
 {}
 
-/// Each reply of a call that may come after a legal history fits a packet, and its numbers and its
-/// strings have a spelling.
+/// Each reply of a call that may come after a legal history has a packet of at most 261,133 bytes,
+/// and its numbers and its strings have a spelling.
 pub fn replies_fit()
     ensures packet { (number session id : ℕ) (reply : Reply) → IsGiven number session reply
-        → length (reply_body id reply) ≤ max_body }
+        → length (packet (reply_body id reply)) ≤ longest_packet }
     ensures spelled { (number session : ℕ) (reply : Reply) → IsGiven number session reply
         → ReplyFits reply }
 {}

@@ -18,6 +18,7 @@ pub mod Quiet
 pub mod Waiting
 pub mod Orders
 pub mod Reading
+pub mod ShortPackets
 pub mod Laws
 pub mod Beginning
 pub mod SentBytes

@@ -18,4 +18,6 @@ mod trace_laws;
 
 pub use engine::Engine;
 pub use event::{EngineFault, Event, Happened};
-pub use trace_laws::{example_told, one_output, records_begun, sent_bytes, sessions_read};
+pub use trace_laws::{
+    example_told, one_output, records_begun, sent_bytes, sessions_read, short_packets,
+};

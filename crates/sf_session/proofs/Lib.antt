@@ -1,1 +1,2 @@
-pub mod RealPath
+pub mod ShortPackets
+pub mod Laws

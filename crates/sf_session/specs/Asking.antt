@@ -1,7 +1,6 @@
 -- What each body of a session asks for: the cases of the session's rules, in their order.
-use Rattle.std.specs.Prelude.{◌≡◌, ℕ, ◌≤◌, length, List, [], ◌∷◌, Bool, Option, Some, None, option_map, option_and_then, nat_eq, nat_lt, if◌then◌else◌}
+use Rattle.std.specs.Prelude.{◌≡◌, ℕ, length, List, [], ◌∷◌, Bool, Option, Some, None, option_map, option_and_then, nat_eq, nat_lt, if◌then◌else◌}
 use Rattle.std.specs.Int.{w64, from_be_bytes}
-use Rattle.sf_field.specs.Fields.{max_body}
 use Rattle.sf_path.specs.declared.fault.PathFault.{PathFault}
 use Rattle.sf_path.specs.Names.{Path, text_of}
 use Rattle.sf_path.specs.Normal.{norm, fault_of}
@@ -13,7 +12,6 @@ use Rattle.sf_request.specs.declared.request.WireRequest.TheVariants as wire
 use Rattle.sf_request.specs.declared.request.Asked.{Asked}
 use Rattle.sf_request.specs.declared.request.Asked.TheVariants as asked
 use Rattle.sf_field.specs.Attributes.{no_attrs}
-use Rattle.sf_reply.specs.Replies.{reply_body}
 use Rattle.sf_request.specs.Requests.{Asks}
 use Rattle.sf_call.specs.declared.request.Request.{Request}
 use Rattle.sf_call.specs.declared.request.Request.TheVariants as call
@@ -112,8 +110,3 @@ ask_in begun a = if begun then later_ask a else first_ask a
 -- What a body asks for; begun says that the session's first packet was answered.
 abbrev pub AsksFor : Bool → List ℕ → Ask → Type 0
 AsksFor begun body a = (packet : Asked) × Asks body packet × (a ≡ ask_in begun packet)
-
--- a local reply fits into a packet
-abbrev pub FitsPacket : Ask → Type 0
-FitsPacket (ask.Local id given) = length (reply_body id given) ≤ max_body
-FitsPacket _ = Unit {0}

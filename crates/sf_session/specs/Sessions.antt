@@ -19,7 +19,7 @@ use Rattle.sf_session.specs.declared.front.Front.{Front}
 use Rattle.sf_session.specs.declared.front.Front.TheVariants as front
 use Rattle.sf_session.specs.declared.session.Next.{Next}
 use Rattle.sf_session.specs.declared.session.Next.TheVariants as next
-use Rattle.sf_session.specs.Asking.{AsksFor, FitsPacket}
+use Rattle.sf_session.specs.Asking.{AsksFor}
 
 -- What a session shows: the bytes that were fed and not yet asked for, those to be sent, whether
 -- its first packet was answered, the id of the request that it waits for, and why it ended.
@@ -53,7 +53,7 @@ abbrev pub Fronts : Bool → List ℕ → Front → Type 0
 Fronts begun bytes front.More = IsCut bytes cut.More
 Fronts begun bytes (front.Wrong cause) = BeginsWrong bytes cause
 Fronts begun bytes (front.Asks a len) = (body : List ℕ) × Begins bytes body (drop len bytes)
-    × AsksFor begun body a × FitsPacket a × (len ≤ length bytes)
+    × AsksFor begun body a × (len ≤ length bytes)
 
 -- the packet that answers a body with no call
 abbrev pub LocalPacket : Ask → List ℕ → Type 0

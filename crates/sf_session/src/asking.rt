@@ -1,7 +1,7 @@
 //! What a body asks of a session.
 
 ghost use Rattle.std.specs.Prelude.{◌≡◌, IfOk};
-ghost use Rattle.sf_session.specs.Asking.{AsksFor, FitsPacket, first_ask, later_ask, request_ask, call_ask, real_path_ask, real_path_reply};
+ghost use Rattle.sf_session.specs.Asking.{AsksFor, first_ask, later_ask, request_ask, call_ask, real_path_ask, real_path_reply};
 
 use crate::calling::{call_of, path_of};
 use crate::cause::Cause;
@@ -29,8 +29,7 @@ pub enum Ask {
 ///
 /// A path that is refused is answered FAILURE, whatever the request.
 pub(crate) fn ask_of(alloc: Global, begun: bool, body: &[u8]) -> Result<Ask, AllocError>
-    ensures asks { IfOk result (λ ask. AsksFor begun body.now ask) }
-    ensures fits { IfOk result (λ ask. FitsPacket ask) }
+    ensures { IfOk result (λ ask. AsksFor begun body.now ask) }
 {
     let asked = read_request(body);
     if begun {
@@ -41,8 +40,7 @@ pub(crate) fn ask_of(alloc: Global, begun: bool, body: &[u8]) -> Result<Ask, All
 }
 
 fn first_ask(asked: Asked<'_>) -> Ask
-    ensures ask { result ≡ first_ask asked.entry }
-    ensures fits { FitsPacket result }
+    ensures { result ≡ first_ask asked.entry }
 {
     match asked {
         Asked::Init(version) if version < 3 => Ask::End(Cause::OldVersion),
@@ -53,8 +51,7 @@ fn first_ask(asked: Asked<'_>) -> Ask
 }
 
 fn later_ask(alloc: Global, asked: Asked<'_>) -> Result<Ask, AllocError>
-    ensures ask { IfOk result (λ ask. ask ≡ later_ask asked.entry) }
-    ensures fits { IfOk result (λ ask. FitsPacket ask) }
+    ensures { IfOk result (λ ask. ask ≡ later_ask asked.entry) }
 {
     match asked {
         Asked::Init(_) | Asked::NoVersion => Ok(Ask::End(Cause::SecondInit)),
@@ -66,8 +63,7 @@ fn later_ask(alloc: Global, asked: Asked<'_>) -> Result<Ask, AllocError>
 }
 
 fn request_ask(alloc: Global, id: u32, request: WireRequest<'_>) -> Result<Ask, AllocError>
-    ensures ask { IfOk result (λ ask. ask ≡ request_ask id request.entry) }
-    ensures fits { IfOk result (λ ask. FitsPacket ask) }
+    ensures { IfOk result (λ ask. ask ≡ request_ask id request.entry) }
 {
     match request {
         WireRequest::RealPath { path } => real_path(alloc, id, path.as_slice()),
@@ -77,8 +73,7 @@ fn request_ask(alloc: Global, id: u32, request: WireRequest<'_>) -> Result<Ask, 
 
 /// A request whose path is refused, or whose handle is no number, is answered FAILURE.
 fn call_ask(id: u32, call: Option<Request>) -> Ask
-    ensures ask { result ≡ call_ask id call }
-    ensures fits { FitsPacket result }
+    ensures { result ≡ call_ask id call }
 {
     match call {
         Some(call) => Ask::Call(id, call),
@@ -95,8 +90,7 @@ fn status(id: u32, code: StatusCode) -> Ask
 
 /// REALPATH: the tree isn't asked.
 fn real_path(alloc: Global, id: u32, text: &[u8]) -> Result<Ask, AllocError>
-    ensures ask { IfOk result (λ ask. ask ≡ real_path_ask id text.now) }
-    ensures fits { IfOk result (λ ask. FitsPacket ask) }
+    ensures { IfOk result (λ ask. ask ≡ real_path_ask id text.now) }
 {
     match path_of(alloc, text)? {
         Some(path) => Ok(Ask::Local(id, real_path_reply(alloc, &path)?)),

@@ -1,7 +1,6 @@
 //! The calls that requests ask for.
 
-ghost use Rattle.std.specs.Prelude.{◌≡◌, ◌≤◌, length, IfOk, IfSome};
-ghost use Rattle.sf_path.specs.Names.{text_of};
+ghost use Rattle.std.specs.Prelude.{◌≡◌, IfOk};
 ghost use Rattle.sf_request.specs.declared.request.WireRequest.TheVariants.{Write};
 ghost use Rattle.sf_session.specs.Asking.{path_at, handle_number, paths_at, call_of, handle_call};
 
@@ -12,8 +11,7 @@ use std::alloc::{AllocError, Global};
 
 /// The path that a text stands for, if it has no fault.
 pub(crate) fn path_of(alloc: Global, text: &[u8]) -> Result<Option<Path>, AllocError>
-    ensures path { IfOk result (λ found. found ≡ path_at text.now) }
-    ensures short { IfOk result (λ found. IfSome found (λ path. length (text_of path) ≤ 4097)) }
+    ensures { IfOk result (λ found. found ≡ path_at text.now) }
 {
     match Path::parse(alloc, text) {
         Ok(path) => Ok(Some(path)),

@@ -1,7 +1,6 @@
 //! What stands at the front of the bytes that a session was fed.
 
 ghost use Rattle.std.specs.Prelude.{◌≡◌, ◌≤◌, length, IfOk};
-ghost use Rattle.sf_reply.specs.Replies.{reply_body};
 ghost use Rattle.sf_session.specs.Sessions.{Fronts};
 
 use crate::asking::{Ask, ask_of};

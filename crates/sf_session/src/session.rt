@@ -1,10 +1,11 @@
 //! One session: the bytes of its packets to requests, replies to bytes.
 
-ghost use Rattle.std.specs.Prelude.{◌≡◌, ◌≢◌, ◌≤◌, ◌++◌, ◌↔◌, IsTrue, [], length, drop, true, Err, Some, None, IsSome, IfSome, IfOk, OnOk, OnErr};
+ghost use Rattle.std.specs.Prelude.{◌≡◌, ◌≢◌, ◌≤◌, ◌+◌, ◌++◌, ◌↔◌, IsTrue, [], length, drop, true, Err, Some, None, IsSome, IfSome, IfOk, OnOk, OnErr};
 ghost use Rattle.sf_wire.specs.declared.cutting.Cut.TheVariants.{More};
 ghost use Rattle.sf_wire.specs.Packets.{IsCut};
 ghost use Rattle.sf_reply.specs.Replies.{reply_body, version_body};
-ghost use Rattle.sf_field.specs.Fields.{packet, max_body};
+ghost use Rattle.sf_field.specs.Fields.{packet};
+ghost use Rattle.sf_call.specs.ReplyKinds.{longest_packet};
 ghost use Rattle.sf_session.specs.Sessions.{Fronts, new_session, NextGives, refusal_of};
 
 use crate::asking::Ask;
@@ -119,12 +120,14 @@ impl Session {
         }
     }
 
-    /// Takes the next packet that is unread and whole.
+    /// Takes the next packet that is unread and whole. What waits to be sent grows by one packet of
+    /// a reply at most.
     pub fn next(&mut self) -> Result<Next, SessionFault>
         requires { self.old.waiting ≡ None }
         ensures ok { IfOk result (λ next. NextGives self.old next self.new) }
         ensures err { OnErr result (self.new ≡ self.old) }
         ensures fault { result ≢ Err SessionFault.Ended }
+        ensures short { length self.new.output ≤ length self.old.output + longest_packet }
     {
         if let Some(cause) = self.ended {
             return Ok(Next::Ended(cause));
@@ -202,7 +205,7 @@ impl Session {
     fn local(&mut self, id: u32, reply: Reply, len: usize) -> Result<Next, SessionFault>
         requires len { len ≤ length self.old.unread }
         requires free { self.old.waiting ≡ None }
-        requires fits { length (reply_body id reply) ≤ max_body }
+        requires short { length (packet (reply_body id reply)) ≤ longest_packet }
         ensures ok { OnOk result (self.new
             ≡ record self.old {
               unread = drop len self.old.unread;
@@ -211,6 +214,7 @@ impl Session {
             }) }
         ensures next { IfOk result (λ next. next ≡ Next.Local) }
         ensures err { OnErr result (self.new ≡ self.old) }
+        ensures short { length self.new.output ≤ length self.old.output + longest_packet }
         ensures fault { result ≢ Err SessionFault.Ended }
     {
         if write_reply(id, &reply, &mut self.output).is_err() {
@@ -241,7 +245,7 @@ impl Session {
         Ok(Next::Call(request))
     }
 
-    /// Appends the reply of the request that the session waits for.
+    /// Appends the reply of the request that the session waits for: one packet.
     #[inline(always)]
     pub fn answer(&mut self, answer: &Answer) -> Result<(), SessionFault>
         requires { IsSome self.old.waiting }
@@ -252,6 +256,7 @@ impl Session {
             })) }
         ensures err { OnErr result (self.new ≡ self.old) }
         ensures fault { result ≢ Err SessionFault.Ended }
+        ensures short { length self.new.output ≤ length self.old.output + longest_packet }
     {
         let Some(id) = self.waiting else {
             return Ok(());

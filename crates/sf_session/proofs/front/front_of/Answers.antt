@@ -8,7 +8,6 @@ returns-in_ok-ask-in-Whole c = (
   slice_range c.args.unread.now 4 c.in-Whole.len,
   search rules,
   subst (λ (bytes : List ℕ). AsksFor c.args.begun (slice_range bytes 4 c.in-Whole.len) c.in_ok-ask-in-Whole.ask)
-      c.as_slice.ensures c.in_ok-ask-in-Whole.ensures.asks,
-  c.in_ok-ask-in-Whole.ensures.fits,
+      c.as_slice.ensures c.in_ok-ask-in-Whole.ensures,
   search rules,
 )
