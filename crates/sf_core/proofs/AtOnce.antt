@@ -167,7 +167,7 @@ module _ (lane : LaneView) (p q : PartsView) (core : IsCore p) (request : Reques
   }
 
   over : Overtakes at.mid at.mid its
-  over = λ t keeps. ([], ap (overtaken at.mid.calls its.number) (sym (nowhere_stays at.mid.store t keeps its.session its.number its.moment request nowhere walked.advances.located refl)), refl)
+  over = λ t keeps. ([], ap (overtaken at.mid.calls its.number) (sym (nowhere_stays keeps its.session its.number its.moment request nowhere walked.advances.located refl)), refl)
 
   pub given_at_once : IsGiven (p.drawn + 1) lane.session given
   given_at_once = decided_given at.mid its_lane its turn undecided at.mid nowhere walked free at.mid over core.history (sound_mid core.history core.sound) q given at.finished

@@ -53,7 +53,7 @@ module _ (old new : StoreState) (history : List Record) (keeps : Keeps old (repl
       let at = reached_node old (replay history) keeps moves.spot.path moves.spot.node moves.leads.names in
       let mid = entered w.at old in
       let nodes = entered_nodes w.at old in
-      let moved = moved_hands mid w.route w.at after w.number moves.spot.node at.0 is moves.position (ap (λ ns. node_in ns moves.spot.node) nodes ∙ at.1)
+      let moved = moved_hands mid w.number moves.spot.node is moves.position (ap (λ ns. node_in ns moves.spot.node) nodes ∙ at.1)
       (takes_new moves.spot (spots_of w.route w.at) (spots_of w.route after) moves.takes) (λ l h. elim (held_by l h) [ inl e ↦ inl e | inr e ↦ inr (ap (λ ns. holder_of ns l) nodes ∙ e) ]) in
       subst (λ (s : StoreState). HandsOver (holder_of old.nodes) (holder_of s.nodes) w.number (spots_of w.route w.at) (spots_of w.route after)) (sym moves.state)
       (subst (λ ns. HandsOver (holder_of ns) (holder_of (handed_over w.number w.at after moves.spot.node mid).nodes) w.number (spots_of w.route w.at) (spots_of w.route after)) nodes moved)

@@ -99,6 +99,6 @@ looks_deeper s walks a b other wanted looks held =
         let looked = looks_depth a.route a.at wanted.path looks a.position in
         let first = first_depth b.route b.at b.position top ends e in
         let from = subst (λ (x : List Spot). IsFrom x wanted) (sym a.holds) (looks_from a.route a.at wanted.path looks a.position wanted refl) in
-        let same = waits_at_top s walks a.number b.number other wanted from top ends (b.holds ∙ e) h in
+        let same = waits_at_top walks other wanted from (b.holds ∙ e) h in
         let d = ap (λ (p : Path). length p) same in
         omega (arith, looked, first, d)

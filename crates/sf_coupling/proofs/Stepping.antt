@@ -143,11 +143,11 @@ held_on_way (e ∷ spots) s q b (inl i) = inl (subst (λ (x : Spot). IsPrefix q 
 held_on_way (e ∷ spots) s q b (inr h) = inr (held_on_way spots s q b h)
 
 -- who wants the root, or a spot one name past its own, wants the first one of its holder's
-pub waits_at_top : (s : Walkers) → AreWalks s → (n m : ℕ) → n ≢ m → (spot : Spot) → IsFrom (s.spots n) spot → (top : Spot) (ends : List Spot) → s.spots m ≡ top ∷ ends → Holds (top ∷ ends) spot → spot.path ≡ top.path
-waits_at_top s walks n m other spot from top ends is (inl e) = ap (λ (x : Spot). x.path) e
-waits_at_top s walks n m other spot (inl root) top ends is (inr h) =
+pub waits_at_top : {s : Walkers} → AreWalks s → {n m : ℕ} → n ≢ m → (spot : Spot) → IsFrom (s.spots n) spot → {top : Spot} {ends : List Spot} → s.spots m ≡ top ∷ ends → Holds (top ∷ ends) spot → spot.path ≡ top.path
+waits_at_top walks other spot from is (inl e) = ap (λ (x : Spot). x.path) e
+waits_at_top walks {m = m} other spot (inl root) {top = top} {ends = ends} is (inr h) =
     root ∙ sym (begins_nothing top.path (subst (IsPrefix top.path) root (below_held top.path ends spot (subst IsShaped is (walks.shaped m)) h)))
-waits_at_top s walks n m other spot (inr next) top ends is (inr h) =
+waits_at_top walks {n = n} {m = m} other spot (inr next) {top = top} {ends = ends} is (inr h) =
     let p = next.0 in
     let below = below_held top.path ends spot (subst IsShaped is (walks.shaped m)) h in
     elim (begins_snoc top.path p.path next.2.name (subst (IsPrefix top.path) next.2.is below)) [

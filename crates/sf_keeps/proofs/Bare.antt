@@ -3,7 +3,7 @@ use Rattle.std.specs.Prelude.{◌≡◌, ℕ, true, false, cond, List, [], ◌�
 use Rattle.std.specs.Option.{option_map_or}
 use Rattle.std.specs.List.{cons_option}
 use Rattle.std.specs.Map.{lookup}
-use Rattle.std.proofs.Common.{sym, ap, ◌∙◌}
+use Rattle.std.proofs.Common.{sym, ap, ◌∙◌, inl, inr}
 use Rattle.sf_path.specs.Names.{Name, Path}
 use Rattle.sf_path.specs.Order.{same_name, same_path}
 use Rattle.sf_call.specs.Tree.{Tree, after_front, label_at, only_name, children, is_nil, is_empty}
@@ -15,6 +15,7 @@ use Rattle.sf_inode.specs.Nodes.{child_in, is_bare_content}
 use Rattle.sf_keeps.specs.Steps.{walk}
 use Rattle.sf_inode.specs.Stores.{StoreState, node_in, child_of, shown_node, is_bare_at}
 use Rattle.sf_keeps.specs.Keeps.{view_of, Keeps}
+use Rattle.sf_keeps.proofs.Through.{by_test, was_none}
 use Rattle.sf_keeps.proofs.Sound.{IsBare, reached_there}
 use Rattle.sf_keeps.proofs.Shown.{same_path_itself}
 use Rattle.sf_keeps.proofs.Whole.{free_name, label_there}
@@ -25,17 +26,17 @@ no_children : (es : List (Path × ℕ)) (p : Path) → ((q : Path) (n : Name) �
 no_children [] p h = refl
 no_children (e ∷ es) p h =
     elim (only_name (after_front p e.0)) as (λ o. only_name (after_front p e.0) ≡ o → cons_option o (children es p) ≡ []) [
-      | None ↦ λ f. no_children es p (λ q n g. elim (same_path q e.0) as (λ b. cond b (Some e.1) (label_at es q) ≡ None → label_at es q ≡ None) [ true ↦ λ k. cc | false ↦ λ k. k ] (h q n g))
+      | None ↦ λ f. no_children es p (λ q n g. was_none (same_path q e.0) _ (h q n g))
       | Some n ↦ λ f. let g = h e.0 n f in let k = ap (λ b. cond b (Some e.1) (label_at es e.0)) (same_path_itself e.0) in cc
     ] refl
 
 some_children : (es : List (Path × ℕ)) (p q : Path) (n : Name) (l : ℕ) → only_name (after_front p q) ≡ Some n → label_at es q ≡ Some l → is_nil (children es p) ≡ false
 some_children [] p q n l h e = cc
 some_children (e ∷ es) p q n l h at =
-    elim (same_path q e.0) as (λ b. same_path q e.0 ≡ b → cond b (Some e.1) (label_at es q) ≡ Some l → is_nil (cons_option (only_name (after_front p e.0)) (children es p)) ≡ false) [
-      | true ↦ λ s _. ap (λ (o : Option Name). is_nil (cons_option o (children es p))) (ap (λ (z : Path). only_name (after_front p z)) (sym (same_path_is q e.0 s)) ∙ h)
-      | false ↦ λ s f. elim (only_name (after_front p e.0)) as (λ o. is_nil (cons_option o (children es p)) ≡ false) [ None ↦ some_children es p q n l h f | Some m ↦ refl ]
-    ] refl at
+    elim (by_test (same_path q e.0) at) [
+      | inl s ↦ ap (λ (o : Option Name). is_nil (cons_option o (children es p))) (ap (λ (z : Path). only_name (after_front p z)) (sym (same_path_is q e.0 s.0)) ∙ h)
+      | inr s ↦ elim (only_name (after_front p e.0)) as (λ o. is_nil (cons_option o (children es p)) ≡ false) [ None ↦ some_children es p q n l h s.1 | Some m ↦ refl ]
+    ]
 
 only_rest : (p q r : Path) (n : Name) → after_front p q ≡ Some r → only_name (Some r) ≡ Some n → q ≡ p ++ n ∷ []
 only_rest p q [] n e f = cc

@@ -1,8 +1,7 @@
 -- A store keeps the tree after a session's handles were all closed.
-use Rattle.std.specs.Prelude.{◌≡◌, ℕ, ◌-◌, nat_eq, Bool, true, false, cond, T, if◌then◌else◌, List, [], ◌∷◌, slice_set, option_map, option_and_then, Option, Some, None, IsSome, refl}
-use Rattle.std.proofs.Common.{sym, ap, subst, ◌∙◌, eqb-true}
+use Rattle.std.specs.Prelude.{◌≡◌, ℕ, ◌-◌, Bool, true, false, cond, T, if◌then◌else◌, List, [], ◌∷◌, slice_set, option_map, option_and_then, Option, Some, None, refl}
+use Rattle.std.proofs.Common.{sym, ap, subst, ◌∙◌}
 use Rattle.std.specs.Ordering.{nat_cmp}
-use Rattle.std.specs.Cmp.{nat_cmp_total}
 use Rattle.std.specs.Map.{lookup, remove_entry, set_value}
 use Rattle.std.specs.BTreeMap.{is_at}
 use Rattle.std.specs.FinMap.{is_sorted}
@@ -16,11 +15,11 @@ use Rattle.sf_inode.specs.Nodes.{with_opened, is_unused}
 use Rattle.sf_keeps.specs.Shows.{View, Shows}
 use Rattle.sf_inode.specs.Stores.{StoreState, node_in, open_handle_at, handles_of, shown_handle, with_nodes, with_sessions, edited, released_if, after_close, handle_dropped, closed_by, closed, each_let_go, closed_each, closed_all}
 use Rattle.sf_keeps.specs.Keeps.{view_of, Keeps}
-use Rattle.sf_keeps.proofs.Keyed.{lookup-set, lookup-removed}
+use Rattle.sf_keeps.proofs.SetsAt.{SetsAt, number_keys, unchanged, gone_found, set_seen, value_at, removed_at}
 use Rattle.sf_keeps.proofs.Shown.{nat_at_itself}
 use Rattle.sf_keeps.proofs.Less.{handle_there}
 use Rattle.sf_keeps.proofs.StoreLaws.{same_view}
-use Rattle.sf_keeps.proofs.StoreHandles.{AreOrdered, at_is}
+use Rattle.sf_keeps.proofs.StoreHandles.{AreOrdered}
 use Rattle.sf_keeps.proofs.Closing.{keeps_closed}
 use Rattle.sf_keeps.proofs.Leaving.{removed_set, leave_closed, leave_none}
 
@@ -65,20 +64,14 @@ module _ (session : ℕ) where
     left_none : leave t session ≡ t
     left_none = leave_none (view_of s) t k.shows session (λ number. ap (option_map (shown_handle session)) (none number))
 
-    fewer : (a : ℕ) → lookup (is_at (nat_cmp a)) (remove_entry here s.sessions) ≡ cond (nat_eq session a) None (handles_of s a)
-    fewer a = lookup-removed nat_cmp nat_cmp_total s.sessions session a k.sessions ∙ ap (λ z. cond z None (handles_of s a)) (at_is session a)
+    fewer : SetsAt (handles_of s) (handles_of (with_sessions s (remove_entry here s.sessions))) session None
+    fewer = removed_at number_keys s.sessions session k.sessions
 
     same_handles : (a b : ℕ) → open_handle_at (with_sessions s (remove_entry here s.sessions)) a b ≡ open_handle_at s a b
-    same_handles a b =
-        ap (option_and_then (λ (handles : Handles). lookup (is_at (nat_cmp b)) handles)) (fewer a)
-        ∙ elim (nat_eq session a) as (λ z. nat_eq session a ≡ z → option_and_then (λ (handles : Handles). lookup (is_at (nat_cmp b)) handles) (cond z None (handles_of s a)) ≡ open_handle_at s a b) [
-          | true ↦ λ e. sym (ap (λ (x : ℕ). open_handle_at s x b) (sym (eqb-true session a e)) ∙ none b)
-          | false ↦ λ e. refl
-        ] refl
+    same_handles a b = unchanged (set_seen (option_and_then (λ (handles : Handles). lookup (is_at (nat_cmp b)) handles)) fewer) (none b) a
 
     still_ordered : AreOrdered (remove_entry here s.sessions)
-    still_ordered a handles e =
-        elim (nat_eq session a) as (λ z. cond z None (handles_of s a) ≡ Some handles → T (is_sorted nat_cmp handles)) [ true ↦ λ f. cc | false ↦ λ f. k.handles a handles f ] (sym (fewer a) ∙ e)
+    still_ordered a handles e = k.handles a handles (gone_found fewer a e).1
 
     keeps_left : Keeps (with_sessions s (remove_entry here s.sessions)) (leave t session)
     keeps_left = subst (λ (x : Tree). Keeps (with_sessions s (remove_entry here s.sessions)) x) (sym left_none)
@@ -100,7 +93,7 @@ module _ (session : ℕ) where
         ∙ let_go_apart s less e.1.node
 
     rest_there : lookup here less ≡ Some rest
-    rest_there = lookup-set nat_cmp nat_cmp_total s.sessions session rest session (subst (λ x. IsSome x) (sym is) refl) ∙ ap (λ b. cond b (Some rest) (lookup here s.sessions)) (nat_at_itself session)
+    rest_there = (value_at number_keys s.sessions session (e ∷ rest) rest is).at
 
     keeps_first : Keeps (with_sessions (after_close s e.1.node) less) (changed t (change.CloseHandle e.0))
     keeps_first = subst (λ (x : StoreState). Keeps x (changed t (change.CloseHandle e.0))) first_closed (keeps_closed s t k session e.0 e.1 at)

@@ -1,7 +1,8 @@
 -- What the nodes of a kept store count, over functions: each node's label, its names, and what
 -- opens it.
-use Rattle.std.specs.Prelude.{◌≡◌, ℕ, nat_eq, Bool, true, false, cond, T, List, option_map, Option, Some, None, refl}
-use Rattle.std.proofs.Common.{sym, ap, subst, ◌∙◌, eqb-true}
+use Rattle.std.specs.Prelude.{◌≡◌, ◌≢◌, ℕ, nat_eq, Bool, false, cond, T, List, option_map, Option, Some, None}
+use Rattle.std.proofs.Common.{sym, ap, subst, ◌∙◌, inl, inr}
+use Rattle.std.proofs.lemmas.Bool.{cases_eq}
 use Rattle.std.specs.List.{count_by}
 use Rattle.std.specs.Ordering.{nat_cmp}
 use Rattle.std.specs.FinMap.{is_sorted}
@@ -14,6 +15,8 @@ use Rattle.sf_keeps.specs.Steps.{EntryMap}
 use Rattle.sf_keeps.specs.Shows.{Shows}
 use Rattle.sf_inode.specs.Stores.{StoreState, node_in, child_of, open_handle_at, handles_of, with_sessions}
 use Rattle.sf_keeps.specs.Keeps.{view_of, Keeps, times_open}
+use Rattle.sf_keeps.proofs.Through.{was_there, found_as}
+use Rattle.sf_keeps.proofs.SetsAt.{SetsAt, sets, set_found}
 use Rattle.sf_keeps.proofs.Sound.{IsBare}
 use Rattle.sf_keeps.proofs.InOrder.{InOrder}
 
@@ -42,12 +45,7 @@ mark_same a b e = cc
 marks_found : (nodes : List (Option Node)) (id label names opens : ℕ) → marks_of nodes id ≡ Some (label, names, opens)
     → (node : Node) × (node_in nodes id ≡ Some node) × (node.label ≡ label) × (node.names ≡ names) × (node.opens ≡ opens)
 marks_found nodes id label names opens at =
-    elim (node_in nodes id) as (λ o. node_in nodes id ≡ o → option_map mark_of o ≡ Some (label, names, opens) → (node : Node) × (node_in nodes id ≡ Some node) × (node.label ≡ label) × (node.names ≡ names) × (node.opens ≡ opens)) [
-      | None ↦ λ e f. cc
-      | Some node ↦ λ e f.
-          let same = mark_same (mark_of node) (label, names, opens) f in
-          (node, e, ap (λ (w : Mark). w.0) same, ap (λ (w : Mark). w.1) same, ap (λ (w : Mark). w.2) same)
-    ] refl at
+    let w = found_as (node_in nodes id) at in (w.0, w.1, ap (λ (m : Mark). m.0) w.2, ap (λ (m : Mark). m.1) w.2, ap (λ (m : Mark). m.2) w.2)
 
 -- ---- a kept store is so
 pub marked : (s : StoreState) (t : Tree) → Keeps s t → IsMarked (child_of s.nodes) (marks_of s.nodes) (links t.names) (times_open t) (open_handle_at s)
@@ -95,7 +93,7 @@ keeps_marked s new t after k w =
     }
 
 -- ---- other entries
-module _ (step new : EntryMap) (marks : Marks) (paths after count : ℕ → ℕ) (handles : ℕ → ℕ → Option OpenHandle) (m : IsMarked step marks paths count handles) where
+module _ {step : EntryMap} (new : EntryMap) {marks : Marks} {paths : ℕ → ℕ} (after : ℕ → ℕ) {count : ℕ → ℕ} {handles : ℕ → ℕ → Option OpenHandle} (m : IsMarked step marks paths count handles) where
   -- as many paths of each node
   pub marked_same : ((id label opens : ℕ) → marks id ≡ Some (label, 0, opens) → IsBare step id → IsBare new id) → ((label : ℕ) → after label ≡ paths label) → IsMarked new marks after count handles
   marked_same bare same = record {
@@ -106,44 +104,44 @@ module _ (step new : EntryMap) (marks : Marks) (paths after count : ℕ → ℕ)
   }
 
   -- another mark of one node, of its label, that a handle's node doesn't lose; or none
-  module _ (c label names opens : ℕ) (at : marks c ≡ Some (label, names, opens)) (named : ℕ) (lost : Bool) (bare : IsBare new c)
+  module _ (c : ℕ) {label names opens : ℕ} (at : marks c ≡ Some (label, names, opens)) (named : ℕ) (lost : Bool) (bare : IsBare new c)
       (bares : (id l o : ℕ) → marks id ≡ Some (l, 0, o) → IsBare step id → IsBare new id)
-      (others : (id l b o : ℕ) → nat_eq c id ≡ false → marks id ≡ Some (l, b, o) → after l ≡ paths l) (own : named ≡ after label)
+      (others : (id l b o : ℕ) → c ≢ id → marks id ≡ Some (l, b, o) → after l ≡ paths l) (own : named ≡ after label)
       (stays : nat_eq opens 0 ≡ false → lost ≡ false)
       (used : (session number : ℕ) (h : OpenHandle) → handles session number ≡ Some h → nat_eq (count h.label) 0 ≡ false) where
     abbrev pub left : Option Mark
     left = cond lost None (Some (label, named, opens))
 
     left_is : (v : Mark) → left ≡ Some v → ◌≡◌ {A = Mark} (label, named, opens) v
-    left_is v = elim lost as (λ z. ◌≡◌ {A = Option Mark} (cond z None (Some (label, named, opens))) (Some v) → ◌≡◌ {A = Mark} (label, named, opens) v) [
-      | true ↦ λ e. cc
-      | false ↦ λ e. mark_same (label, named, opens) v e
-    ]
+    left_is v e = mark_same (label, named, opens) v (was_there lost e)
+
+    set : SetsAt marks (λ i. cond (nat_eq c i) left (marks i)) c left
+    set = sets marks c left
 
     led_left : (session number : ℕ) (h : OpenHandle) → handles session number ≡ Some h → (b : ℕ) × (o : ℕ) × (cond (nat_eq c h.node) left (marks h.node) ≡ Some (h.label, b, o))
     led_left session number h e =
         let w = m.led session number h e in
-        elim (nat_eq c h.node) as (λ z. nat_eq c h.node ≡ z → (b : ℕ) × (o : ℕ) × (cond z left (marks h.node) ≡ Some (h.label, b, o))) [
-          | true ↦ λ f.
-              let same = mark_same (label, names, opens) (h.label, w.0, w.1) (sym at ∙ ap marks (eqb-true c h.node f) ∙ w.2) in
+        elim (cases_eq c h.node) [
+          | inl f ↦
+              let same = mark_same (label, names, opens) (h.label, w.0, w.1) (sym at ∙ ap marks f ∙ w.2) in
               let opened : nat_eq opens 0 ≡ false = ap (λ (z : ℕ). nat_eq z 0) (m.counted c label names opens at) ∙ ap (λ (z : Mark). nat_eq (count z.0) 0) same ∙ used session number h e in
-              (named, opens, ap (λ (z : Bool). cond z None (Some (label, named, opens))) (stays opened) ∙ (λ i. Some ((same i).0, named, opens)))
-          | false ↦ λ f. w
-        ] refl
+              (named, opens, ap (λ (x : ℕ). cond (nat_eq c x) left (marks x)) (sym f) ∙ set.at ∙ ap (λ (z : Bool). cond z None (Some (label, named, opens))) (stays opened) ∙ (λ i. Some ((same i).0, named, opens)))
+          | inr ne ↦ (w.0, w.1, set.beside h.node ne ∙ w.2)
+        ]
 
     pub marked_left : IsMarked new (λ i. cond (nat_eq c i) left (marks i)) after count handles
     marked_left = record {
-      bare = λ id l o e. elim (nat_eq c id) as (λ z. nat_eq c id ≡ z → cond z left (marks id) ≡ Some (l, 0, o) → IsBare new id) [
-        | true ↦ λ f _. subst (λ (x : ℕ). IsBare new x) (eqb-true c id f) bare
-        | false ↦ λ f g. bares id l o g (m.bare id l o g)
-      ] refl e;
-      linked = λ id l b o e. elim (nat_eq c id) as (λ z. nat_eq c id ≡ z → cond z left (marks id) ≡ Some (l, b, o) → b ≡ after l) [
-        | true ↦ λ f g. let same = left_is (l, b, o) g in sym (ap (λ (z : Mark). z.1) same) ∙ own ∙ ap (λ (z : Mark). after z.0) same
-        | false ↦ λ f g. m.linked id l b o g ∙ sym (others id l b o f g)
-      ] refl e;
-      counted = λ id l b o e. elim (nat_eq c id) as (λ z. nat_eq c id ≡ z → cond z left (marks id) ≡ Some (l, b, o) → o ≡ count l) [
-        | true ↦ λ f g. let same = left_is (l, b, o) g in sym (ap (λ (z : Mark). z.2) same) ∙ m.counted c label names opens at ∙ ap (λ (z : Mark). count z.0) same
-        | false ↦ λ f g. m.counted id l b o g
-      ] refl e;
+      bare = λ id l o e. elim (set_found set id e) [
+        | inl f ↦ subst (λ (x : ℕ). IsBare new x) f.0 bare
+        | inr f ↦ bares id l o f.1 (m.bare id l o f.1)
+      ];
+      linked = λ id l b o e. elim (set_found set id e) [
+        | inl f ↦ let same = left_is (l, b, o) f.1 in sym (ap (λ (z : Mark). z.1) same) ∙ own ∙ ap (λ (z : Mark). after z.0) same
+        | inr f ↦ m.linked id l b o f.1 ∙ sym (others id l b o f.0 f.1)
+      ];
+      counted = λ id l b o e. elim (set_found set id e) [
+        | inl f ↦ let same = left_is (l, b, o) f.1 in sym (ap (λ (z : Mark). z.2) same) ∙ m.counted c label names opens at ∙ ap (λ (z : Mark). count z.0) same
+        | inr f ↦ m.counted id l b o f.1
+      ];
       led = led_left;
     }

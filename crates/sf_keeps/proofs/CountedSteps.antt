@@ -1,13 +1,14 @@
 -- What stays true of the nodes' counts after an entry is taken out, put in or moved.
-use Rattle.std.specs.Prelude.{◌≡◌, ℕ, nat_eq, true, false, cond, ◌&&◌, Option, Some, None, refl}
-use Rattle.std.proofs.Common.{sym, ap, ◌∙◌, arith, inl, inr, eqb-true}
+use Rattle.std.specs.Prelude.{◌≡◌, ◌≢◌, ℕ, nat_eq, cond, ◌&&◌, Option, Some, None}
+use Rattle.std.proofs.Common.{sym, ap, ◌∙◌, arith, inl, inr}
 use Rattle.sf_path.specs.Names.{Name}
 use Rattle.sf_path.specs.Order.{same_name}
 use Rattle.sf_inode.specs.declared.handle.OpenHandle.{OpenHandle}
 use Rattle.sf_keeps.specs.Steps.{EntryMap, changed_step}
 use Rattle.sf_keeps.proofs.Sound.{HasNoEntry, IsBare, step_less, step_more, changed_there}
-use Rattle.sf_keeps.proofs.Shown.{nat_eq_apart}
-use Rattle.sf_keeps.proofs.Counted.{Mark, Marks, IsMarked, mark_same}
+use Rattle.sf_keeps.proofs.Through.{none_still}
+use Rattle.sf_keeps.proofs.SetsAt.{sets, some_found, nat_eq_apart}
+use Rattle.sf_keeps.proofs.Counted.{Mark, Marks, IsMarked}
 
 -- one entry at most leads to a node
 abbrev pub HasOneEntry : EntryMap → ℕ → Type 0
@@ -16,7 +17,7 @@ HasOneEntry step c = (x y : ℕ) (n m : Name) → step x n ≡ Some c → step y
 -- ---- an entry less
 module _ (step : EntryMap) (d : ℕ) (n : Name) where
   pub bare_less : (id : ℕ) → IsBare step id → IsBare (changed_step step d n None) id
-  bare_less id bare m = elim (nat_eq d id && same_name n m) as (λ b. cond b None (step id m) ≡ None) [ true ↦ refl | false ↦ bare m ]
+  bare_less id bare m = none_still (nat_eq d id && same_name n m) (bare m)
 
   -- the entry taken out was the only one
   pub none_left : (c : ℕ) → HasOneEntry step c → step d n ≡ Some c → HasNoEntry (changed_step step d n None) c
@@ -26,16 +27,16 @@ module _ (step : EntryMap) (d : ℕ) (n : Name) where
 
 -- ---- an entry more
 module _ (step : EntryMap) (d : ℕ) (n : Name) (c : ℕ) where
-  pub bare_more : (id : ℕ) → nat_eq d id ≡ false → IsBare step id → IsBare (changed_step step d n (Some c)) id
-  bare_more id apart bare m = ap (λ b. cond (b && same_name n m) (Some c) (step id m)) apart ∙ bare m
+  pub bare_more : (id : ℕ) → d ≢ id → IsBare step id → IsBare (changed_step step d n (Some c)) id
+  bare_more id apart bare m = ap (λ b. cond (b && same_name n m) (Some c) (step id m)) (nat_eq_apart d id apart) ∙ bare m
 
 -- what has an entry is not bare
-pub bare_apart : (step : EntryMap) (d id : ℕ) (n : Name) (c : ℕ) → step d n ≡ Some c → IsBare step id → nat_eq d id ≡ false
-bare_apart step d id n c there bare = nat_eq_apart d id (λ e. let f = ap (λ (x : ℕ). step x n) e in let g = bare n in cc)
+pub bare_apart : (step : EntryMap) (d id : ℕ) (n : Name) (c : ℕ) → step d n ≡ Some c → IsBare step id → d ≢ id
+bare_apart step d id n c there bare e = let f = ap (λ (x : ℕ). step x n) e in let g = bare n in cc
 
 -- ---- a new node
-module _ (old : EntryMap) (d : ℕ) (n : Name) (c label : ℕ) (marks : Marks) (paths after count : ℕ → ℕ) (handles : ℕ → ℕ → Option OpenHandle) (m : IsMarked old marks paths count handles)
-    (new : marks c ≡ None) (bare : IsBare old c) (apart : nat_eq d c ≡ false) (away : (id l o : ℕ) → marks id ≡ Some (l, 0, o) → nat_eq d id ≡ false)
+module _ {old : EntryMap} (d : ℕ) (n : Name) (c label : ℕ) {marks : Marks} {paths : ℕ → ℕ} (after : ℕ → ℕ) {count : ℕ → ℕ} {handles : ℕ → ℕ → Option OpenHandle} (m : IsMarked old marks paths count handles)
+    (new : marks c ≡ None) (bare : IsBare old c) (apart : d ≢ c) (away : (id l o : ℕ) → marks id ≡ Some (l, 0, o) → d ≢ id)
     (others : (id l b o : ℕ) → marks id ≡ Some (l, b, o) → after l ≡ paths l) (own : 1 ≡ after label) (closed : count label ≡ 0) where
   abbrev step : EntryMap
   step = changed_step old d n (Some c)
@@ -45,15 +46,12 @@ module _ (old : EntryMap) (d : ℕ) (n : Name) (c label : ℕ) (marks : Marks) (
 
   -- the mark of a node: of the new one, or of one that was there
   marked_by : (id : ℕ) (v : Mark) (A : Type 0) → (c ≡ id → fresh ≡ v → A) → (marks id ≡ Some v → A) → cond (nat_eq c id) (Some fresh) (marks id) ≡ Some v → A
-  marked_by id v A here there = elim (nat_eq c id) as (λ b. nat_eq c id ≡ b → cond b (Some fresh) (marks id) ≡ Some v → A) [
-    | true ↦ λ e f. here (eqb-true c id e) (mark_same fresh v f)
-    | false ↦ λ e f. there f
-  ] refl
+  marked_by id v A here there e = elim (some_found (sets marks c (Some fresh)) id e) [ inl a ↦ here a.0 a.1 | inr a ↦ there a.1 ]
 
   led_new : (session number : ℕ) (h : OpenHandle) → handles session number ≡ Some h → (b : ℕ) × (o : ℕ) × (cond (nat_eq c h.node) (Some fresh) (marks h.node) ≡ Some (h.label, b, o))
   led_new session number h e =
       let w = m.led session number h e in
-      (w.0, w.1, ap (λ b. cond b (Some fresh) (marks h.node)) (nat_eq_apart c h.node (λ f. let g = ap marks f in let k = w.2 in cc)) ∙ w.2)
+      (w.0, w.1, (sets marks c (Some fresh)).beside h.node (λ f. let g = ap marks f in let k = w.2 in cc) ∙ w.2)
 
   pub marked_new : IsMarked step (λ i. cond (nat_eq c i) (Some fresh) (marks i)) after count handles
   marked_new = record {
@@ -72,7 +70,7 @@ module _ (step : EntryMap) (od : ℕ) (on : Name) (nd : ℕ) (nn : Name) (c : �
   abbrev moved : EntryMap
   moved = changed_step taken nd nn (Some c)
 
-  pub bare_moved : (id : ℕ) → nat_eq nd id ≡ false → IsBare step id → IsBare moved id
+  pub bare_moved : (id : ℕ) → nd ≢ id → IsBare step id → IsBare moved id
   bare_moved id apart bare = bare_more taken nd nn c id apart (bare_less step od on id bare)
 
   -- what an entry gave way to, where that was its only one

@@ -1,6 +1,7 @@
 -- How many handles open an object, before and after a change of the handles.
-use Rattle.std.specs.Prelude.{◌≡◌, ℕ, ◌+◌, ◌<◌, ◌^◌, nat_eq, Bool, true, false, cond, T, List, [], ◌∷◌, length, Some, None, refl}
-use Rattle.std.proofs.Common.{sym, ap, subst, ◌∙◌, arith}
+use Rattle.std.specs.Prelude.{◌≡◌, ◌≢◌, ℕ, ◌+◌, ◌<◌, ◌^◌, nat_eq, Bool, cond, T, List, [], ◌∷◌, length, Some, None, refl}
+use Rattle.std.proofs.Common.{sym, ap, subst, ◌∙◌, inl, inr, arith}
+use Rattle.std.proofs.lemmas.Bool.{cases_eq, cond-false}
 use Rattle.std.specs.List.{sum_by}
 use Rattle.std.proofs.lemmas.List.Sums.{sum_by-cons, count_by-le-length}
 use Rattle.std.specs.declared.cmp.Ordering.{Ordering}
@@ -17,7 +18,9 @@ use Rattle.sf_call.specs.Changes.{changed}
 use Rattle.sf_call.specs.Changes.Change.{OpenHandle, SetHandle, CloseHandle}
 use Rattle.sf_call.proofs.Laws.{and_first, and_second, sum_removed, sum_inserted}
 use Rattle.sf_keeps.specs.Keeps.{times_open}
-use Rattle.sf_keeps.proofs.Shown.{nat_same, nat_at_itself}
+use Rattle.sf_keeps.proofs.Through.{by_test}
+use Rattle.sf_keeps.proofs.SetsAt.{number_keys, apart}
+use Rattle.sf_keeps.proofs.Shown.{nat_at_itself}
 
 -- ---- a sum over the values of entries, where one is set to a value of the same weight
 module _ {K X : Type 0} (g : X → ℕ) where
@@ -25,11 +28,11 @@ module _ {K X : Type 0} (g : X → ℕ) where
   weight e = g e.1
 
   sum_set : (test : K → Bool) (es : List (K × X)) (v u : X) → lookup test es ≡ Some v → g u ≡ g v → sum_by weight (set_value test es u) ≡ sum_by weight es
-  sum_set test [] v u = λ l s. cc
-  sum_set test (e ∷ es) v u =
-      elim (test e.0) as (λ b. cond b (Some e.1) (lookup test es) ≡ Some v → g u ≡ g v → sum_by weight (cond b ((e.0, u) ∷ es) (e ∷ set_value test es u)) ≡ sum_by weight (e ∷ es)) [
-        | true ↦ λ l s. let w : e.1 ≡ v = cc in sum_by-cons weight (e.0, u) es ∙ ap (λ x. x + sum_by weight es) (s ∙ sym (ap g w)) ∙ sym (sum_by-cons weight e es)
-        | false ↦ λ l s. sum_by-cons weight e (set_value test es u) ∙ ap (λ x. g e.1 + x) (sum_set test es v u l s) ∙ sym (sum_by-cons weight e es)
+  sum_set test [] v u l s = cc
+  sum_set test (e ∷ es) v u l s =
+      elim (by_test (test e.0) l) [
+        | inl a ↦ let w : e.1 ≡ v = cc in rw a.0 (sum_by-cons weight (e.0, u) es ∙ ap (λ x. x + sum_by weight es) (s ∙ sym (ap g w)) ∙ sym (sum_by-cons weight e es))
+        | inr a ↦ rw a.0 (sum_by-cons weight e (set_value test es u) ∙ ap (λ x. g e.1 + x) (sum_set test es v u a.1 s) ∙ sym (sum_by-cons weight e es))
       ]
 
 -- ---- so many numbers at most
@@ -42,6 +45,9 @@ pub nat_below : (a b : ℕ) → T (is_lt (nat_cmp a b)) → a < b
 nat_below a b p = ranked a b Less (is_less (nat_cmp a b) p)
 
 module _ {X : Type 0} where
+  after_first : (e : ℕ × X) (es : List (ℕ × X)) (q : ℕ) (v : X) → q ≢ e.0 → lookup (is_at (nat_cmp q)) es ≡ Some v → lookup (is_at (nat_cmp q)) (e ∷ es) ≡ Some v
+  after_first e es q v ne l = cond-false _ _ _ (apart number_keys q e.0 ne) ∙ l
+
   -- entries above one number and below another
   pub between : (es : List (ℕ × X)) (low high : ℕ) → T (below_all nat_cmp low es) → T (is_sorted nat_cmp es) → ((q : ℕ) (v : X) → lookup (is_at (nat_cmp q)) es ≡ Some v → q < high) → low < high → low + length es < high
   between [] low high below sorted within less = omega (arith, less)
@@ -49,10 +55,7 @@ module _ {X : Type 0} where
       let first = nat_below low e.0 (and_first (is_lt (nat_cmp low e.0)) (below_all nat_cmp low es) below) in
       let here = within e.0 e.1 (ap (λ b. cond b (Some e.1) (lookup (is_at (nat_cmp e.0)) es)) (nat_at_itself e.0)) in
       let rest = between es e.0 high (and_first (below_all nat_cmp e.0 es) (is_sorted nat_cmp es) sorted) (and_second (below_all nat_cmp e.0 es) (is_sorted nat_cmp es) sorted)
-      (λ q v l. elim (is_at (nat_cmp q) e.0) as (λ b. is_at (nat_cmp q) e.0 ≡ b → q < high) [
-        | true ↦ λ t. subst (λ (x : ℕ). x < high) (sym (nat_same q e.0 t)) here
-        | false ↦ λ t. within q v (ap (λ b. cond b (Some e.1) (lookup (is_at (nat_cmp q)) es)) t ∙ l)
-      ] refl) here in
+      (λ q v l. elim (cases_eq q e.0) [ inl t ↦ subst (λ (x : ℕ). x < high) (sym t) here | inr ne ↦ within q v (after_first e es q v ne l) ]) here in
       omega (arith, first, rest)
 
   pub few : (es : List (ℕ × X)) (high : ℕ) → 0 < high → T (is_sorted nat_cmp es) → ((q : ℕ) (v : X) → lookup (is_at (nat_cmp q)) es ≡ Some v → (0 < q) × (q < high)) → length es < high
@@ -61,10 +64,7 @@ module _ {X : Type 0} where
       let here = within e.0 e.1 (ap (λ b. cond b (Some e.1) (lookup (is_at (nat_cmp e.0)) es)) (nat_at_itself e.0)) in
       let first : 0 < e.0 = here.0 in
       let rest = between es e.0 high (and_first (below_all nat_cmp e.0 es) (is_sorted nat_cmp es) sorted) (and_second (below_all nat_cmp e.0 es) (is_sorted nat_cmp es) sorted)
-      (λ q v l. elim (is_at (nat_cmp q) e.0) as (λ b. is_at (nat_cmp q) e.0 ≡ b → q < high) [
-        | true ↦ λ t. subst (λ (x : ℕ). x < high) (sym (nat_same q e.0 t)) here.1
-        | false ↦ λ t. (within q v (ap (λ b. cond b (Some e.1) (lookup (is_at (nat_cmp q)) es)) t ∙ l)).1
-      ] refl) here.1 in
+      (λ q v l. elim (cases_eq q e.0) [ inl t ↦ subst (λ (x : ℕ). x < high) (sym t) here.1 | inr ne ↦ (within q v (after_first e es q v ne l)).1 ]) here.1 in
       omega (arith, first, rest)
 
 -- ---- how many handles open a label

@@ -16,6 +16,7 @@ use Rattle.sf_keeps.specs.Steps.{walk}
 use Rattle.sf_keeps.specs.Shows.{View, ShowsBy, is_directory_by, label_by}
 use Rattle.sf_inode.specs.Stores.{StoreState, node_in, child_of, shown_node, shown_of, is_directory_at, is_file_at}
 use Rattle.sf_keeps.specs.Keeps.{view_of, Keeps}
+use Rattle.sf_keeps.proofs.Through.{found_through, some_there}
 use Rattle.sf_keeps.proofs.Sound.{is_directory_shown, reached_there}
 use Rattle.sf_keeps.proofs.Whole.{one_more}
 use Rattle.sf_keeps.proofs.Openings.{object_there}
@@ -83,19 +84,13 @@ module _ (view : View) (t : Tree) (s : ShowsBy view t) where
   clear_way : (path : Path) (x id : ℕ) → walk view.step x path ≡ Some id → way_from x path ≡ false
   clear_way [] x id w = refl
   clear_way (n ∷ path) x id w =
-      elim (view.step x n) as (λ o. view.step x n ≡ o → option_and_then (λ y. walk view.step y path) o ≡ Some id → way_from x (n ∷ path) ≡ false) [
-        | None ↦ λ e f. absurd (cc)
-        | Some y ↦ λ e f. further x y n path e ∙ clear_way path y id f
-      ] refl w
+      let y = found_through (view.step x n) w in further x y.0 n path y.1 ∙ clear_way path y.0 id y.2
 
   -- and the way to each name of a directory
   clear_name : (p : Path) (n : Name) (x d : ℕ) → walk view.step x p ≡ Some d → is_directory_by view.shown d ≡ true → way_from x (p ++ n ∷ []) ≡ false
   clear_name [] n x d w is = let same : x ≡ d = cc in ap (λ b. not b || false) (ap (is_directory_by view.shown) same ∙ is)
   clear_name (m ∷ p) n x d w is =
-      elim (view.step x m) as (λ o. view.step x m ≡ o → option_and_then (λ y. walk view.step y p) o ≡ Some d → way_from x (m ∷ (p ++ n ∷ [])) ≡ false) [
-        | None ↦ λ e f. absurd (cc)
-        | Some y ↦ λ e f. further x y m (p ++ n ∷ []) e ∙ clear_name p n y d f is
-      ] refl w
+      let y = found_through (view.step x m) w in further x y.0 m (p ++ n ∷ []) y.1 ∙ clear_name p n y.0 d y.2 is
 
   -- no way leads on from what is no directory
   no_way : (p : Path) (m : Name) (q : Path) → leads_to_directory (walk view.step view.root p) ≡ false → look_up t (p ++ m ∷ q) ≡ NoWay
@@ -156,10 +151,7 @@ module _ (s : StoreState) (t : Tree) (k : Keeps s t) where
 
   -- what a path leads to is there
   pub reached_node : (path : Path) (id : ℕ) → walk (child_of s.nodes) s.root path ≡ Some id → (node : Node) × (node_in s.nodes id ≡ Some node)
-  reached_node path id at = elim (node_in s.nodes id) as (λ o. node_in s.nodes id ≡ o → (node : Node) × (node_in s.nodes id ≡ Some node)) [
-    | None ↦ λ e. absurd (reached_there (child_of s.nodes) (shown_of s.nodes) s.root k.shows.by.sound path id at (ap (option_map shown_node) e))
-    | Some node ↦ λ e. (node, e)
-  ] refl
+  reached_node path id at = some_there (node_in s.nodes id) (λ e. reached_there (child_of s.nodes) (shown_of s.nodes) s.root k.shows.by.sound path id at (ap (option_map shown_node) e))
 
   -- a path's directory, with its metadata
   pub directory_found : (path : Path) (dir label : ℕ) (m : Metadata) → walk (child_of s.nodes) s.root path ≡ Some dir → shown_of s.nodes dir ≡ Some (label, Directory m) → directory_at t path ≡ Some (label, m)

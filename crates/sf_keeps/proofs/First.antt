@@ -1,6 +1,8 @@
 -- A new store shows the root alone.
-use Rattle.std.specs.Prelude.{◌≡◌, ℕ, nat_eq, true, false, cond, ◌||◌, List, [], ◌∷◌, option_map, option_and_then, Option, Some, None, refl}
-use Rattle.std.proofs.Common.{sym, ap, subst, ◌∙◌, eqb-true, eq-eqb}
+use Rattle.std.specs.Prelude.{◌≡◌, ℕ, false, ◌||◌, List, [], ◌∷◌, option_map, option_and_then, Option, Some, None, refl}
+use Rattle.std.proofs.Common.{sym, ap, subst, ◌∙◌, inl, inr, eq-eqb}
+use Rattle.std.proofs.lemmas.Bool.{cases_eq}
+use Rattle.std.proofs.lemmas.Option.{cond_some}
 use Rattle.std.specs.Ordering.{nat_cmp}
 use Rattle.std.specs.BTreeMap.{is_at}
 use Rattle.sf_path.specs.Names.{Name, Path}
@@ -27,10 +29,10 @@ root_object = Directory (made_at 0o755 0)
 module _ (s : StoreState) (f : IsFirst s) where
   pub root_or_none : (x : ℕ) (P : Option Node → Type 0) → (s.root ≡ x → P (Some root_node)) → P None → P (node_in s.nodes x)
   root_or_none x P here none =
-      elim (nat_eq s.root x) as (λ b. nat_eq s.root x ≡ b → P (node_in s.nodes x)) [
-        | true ↦ λ e. subst P (sym (ap (node_in s.nodes) (sym (eqb-true s.root x e)) ∙ f.root)) (here (eqb-true s.root x e))
-        | false ↦ λ e. subst P (sym (f.others x (λ h. let g = eq-eqb s.root x (sym h) in cc))) none
-      ] refl
+      elim (cases_eq s.root x) [
+        | inl e ↦ subst P (sym (ap (node_in s.nodes) (sym e) ∙ f.root)) (here e)
+        | inr ne ↦ subst P (sym (f.others x (λ e. ne (sym e)))) none
+      ]
 
   pub no_steps : (x : ℕ) (n : Name) → child_of s.nodes x n ≡ None
   no_steps x n = root_or_none x (λ o. option_and_then (λ (z : Node). child_in z.content n) o ≡ None) (λ _. refl) refl
@@ -51,10 +53,7 @@ module _ (s : StoreState) (f : IsFirst s) where
       names = names_first;
       objects = λ i l o e. let w = (shown_first i l o e).1 in
           ap (λ (x : Option (ℕ × Object)). option_and_then (λ z. object_of empty_tree.objects z.0) x) (sym w) ∙ ap (option_map (λ (x : ℕ × Object). x.1)) w;
-      found = λ l o e. elim (is_at (nat_cmp l) 0) as (λ b. is_at (nat_cmp l) 0 ≡ b → cond b (Some root_object) None ≡ Some o → (id : ℕ) × (shown_of s.nodes id ≡ Some (l, o))) [
-        | true ↦ λ b g. let h : root_object ≡ o = cc in (s.root, shown_root ∙ (λ i. Some (sym (nat_same l 0 b) i, h i)))
-        | false ↦ λ b g. cc
-      ] refl e;
+      found = λ l o e. let w = cond_some (is_at (nat_cmp l) 0) root_object o e in (s.root, shown_root ∙ (λ i. Some (sym (nat_same l 0 w.0) i, w.1 i)));
       handles = λ a b. sym (ap (λ (hs : List (ℕ × List (ℕ × OpenHandle))). (view_of (record { nodes = s.nodes; root = s.root; sessions = hs; look_ups = s.look_ups })).opens a b) f.sessions);
       sound = record {
         labels = λ i j l o u e g. sym ((shown_first i l o e).0) ∙ (shown_first j l u g).0;
@@ -66,8 +65,5 @@ module _ (s : StoreState) (f : IsFirst s) where
       };
     };
     ordered = record { names = tt; objects = tt; handles = tt };
-    used = λ l o e. elim (is_at (nat_cmp l) 0) as (λ b. is_at (nat_cmp l) 0 ≡ b → cond b (Some root_object) None ≡ Some o → (nat_eq 0 l || false) || false ≡ true) [
-      | true ↦ λ b g. ap (λ x. (x || false) || false) (eq-eqb 0 l (sym (nat_same l 0 b)))
-      | false ↦ λ b g. cc
-    ] refl e;
+    used = λ l o e. ap (λ x. (x || false) || false) (eq-eqb 0 l (sym (nat_same l 0 (cond_some (is_at (nat_cmp l) 0) root_object o e).0)));
   }

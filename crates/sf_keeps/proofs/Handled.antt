@@ -1,6 +1,7 @@
 -- What a view shows after a handle was opened, set or closed.
-use Rattle.std.specs.Prelude.{if◌then◌else◌, ◌≡◌, ℕ, nat_eq, Bool, true, false, cond, ◌&&◌, ◌||◌, List, option_and_then, Option, Some, None, IsSome, refl}
-use Rattle.std.proofs.Common.{sym, ap, subst, ◌∙◌, eqb-true, eq-eqb}
+use Rattle.std.specs.Prelude.{if◌then◌else◌, ◌≡◌, ◌≢◌, ℕ, nat_eq, Bool, true, false, cond, ◌&&◌, ◌||◌, List, option_and_then, Option, Some, None, refl}
+use Rattle.std.proofs.Common.{sym, ap, ◌∙◌, inl, inr, eq-eqb}
+use Rattle.std.proofs.lemmas.Bool.{cases_eq}
 use Rattle.std.specs.Ordering.{nat_cmp}
 use Rattle.std.specs.Cmp.{nat_cmp_total}
 use Rattle.std.specs.Map.{remove_entry}
@@ -11,43 +12,36 @@ use Rattle.sf_call.specs.Tree.{Tree, IsOrderedTree, handle_of, is_used, with_han
 use Rattle.sf_call.specs.Handles.{if_of}
 use Rattle.sf_call.specs.Changes.{changed}
 use Rattle.sf_call.specs.Changes.Change.{OpenHandle, SetHandle, CloseHandle}
-use Rattle.sf_call.proofs.Laws.{ordered_changed, lookup-put}
+use Rattle.sf_call.proofs.Laws.{ordered_changed}
 use Rattle.sf_keeps.specs.Shows.{View, ShowsBy, Shows, with_shown, changed_opens, with_opens}
-use Rattle.sf_keeps.proofs.Keyed.{lookup-set, lookup-removed, lookup_any, any_lookup, any-removed}
+use Rattle.sf_keeps.proofs.Through.{none_there}
+use Rattle.sf_keeps.proofs.Keyed.{lookup_any, any_lookup, any-removed}
 use Rattle.sf_keeps.proofs.Sound.{HasNoEntry, IsBare}
-use Rattle.sf_keeps.proofs.Shown.{nat_same, nat_at_itself, nat_eq_apart}
+use Rattle.sf_keeps.proofs.SetsAt.{SetsAt, number_keys, nat_eq_itself, nat_eq_apart, at_or_beside, inserted_at, value_at, removed_at}
 use Rattle.sf_keeps.proofs.Less.{is_named, is_opened, OthersUsed, IsClosed, kept_used, handle_there, handle_here, shows_kept, shows_kept_used}
 use Rattle.sf_keeps.proofs.Whole.{or_grows_right}
 
 -- what handles and a changed handle have in common
 module _ (view : View) (t : Tree) (h : ShowsBy view t) (session number : ℕ) (r : Option Handle) (of : (x : Handle) → r ≡ Some x → x.session ≡ session)
-    (others : (a : ℕ) → nat_eq session a ≡ false → view.opens a number ≡ None) (handles : List (ℕ × Handle))
-    (found : (q : ℕ) → handle_of handles q ≡ cond (is_at (nat_cmp number) q) r (handle_of t.handles q)) where
-  own : (a b : ℕ) (v : Option Handle) → r ≡ v → nat_eq number b ≡ true → option_and_then (if_of a) v ≡ cond (nat_eq session a && true) v (view.opens a b)
-  own a b v e at =
-      elim (nat_eq session a) as (λ z. nat_eq session a ≡ z → option_and_then (if_of a) v ≡ cond (z && true) v (view.opens a b)) [
-        | true ↦ λ z. elim v as (λ u. r ≡ u → option_and_then (if_of a) u ≡ u) [
-          | None ↦ λ _. refl
-          | Some x ↦ λ f. ap (λ y. if y then Some x else None) (eq-eqb x.session a (of x f ∙ eqb-true session a z))
-        ] e
-        | false ↦ λ z. elim v as (λ u. r ≡ u → option_and_then (if_of a) u ≡ view.opens a b) [
-          | None ↦ λ _. sym (ap (view.opens a) (sym (eqb-true number b at)) ∙ others a z)
-          | Some x ↦ λ f. ap (λ y. if y then Some x else None) (ap (λ y. nat_eq y a) (of x f) ∙ z) ∙ sym (ap (view.opens a) (sym (eqb-true number b at)) ∙ others a z)
-        ] e
-      ] refl
+    (others : (a : ℕ) → session ≢ a → view.opens a number ≡ None) (handles : List (ℕ × Handle)) (found : SetsAt (handle_of t.handles) (handle_of handles) number r) where
+  own : (v : Option Handle) → r ≡ v → option_and_then (if_of session) v ≡ v
+  own None e = refl
+  own (Some x) e = ap (λ y. if y then Some x else None) (eq-eqb x.session session (of x e))
+
+  foreign : (a : ℕ) → session ≢ a → (v : Option Handle) → r ≡ v → option_and_then (if_of a) v ≡ None
+  foreign a ne None e = refl
+  foreign a ne (Some x) e = ap (λ y. if y then Some x else None) (nat_eq_apart x.session a (λ f. ne (sym (of x e) ∙ f)))
 
   no_and : (z : Bool) (x y : Option Handle) → cond (z && false) x y ≡ y
   no_and true x y = refl
   no_and false x y = refl
 
+  at_number : (a : ℕ) → option_and_then (if_of a) r ≡ cond (nat_eq session a && true) r (view.opens a number)
+  at_number = at_or_beside _ session (simp nat_eq_itself (own r refl)) (λ a ne. simp (nat_eq_apart session a ne) (foreign a ne r refl ∙ sym (others a ne)))
+
   opens_changed : (a b : ℕ) → option_and_then (if_of a) (handle_of handles b) ≡ changed_opens view.opens session number r a b
-  opens_changed a b =
-      ap (option_and_then (if_of a)) (found b)
-      ∙ elim (is_at (nat_cmp number) b) as (λ z. is_at (nat_cmp number) b ≡ z → option_and_then (if_of a) (cond z r (handle_of t.handles b)) ≡ changed_opens view.opens session number r a b) [
-        | true ↦ λ e. let same = eq-eqb number b (nat_same number b e) in own a b r refl same ∙ ap (λ y. cond (nat_eq session a && y) r (view.opens a b)) (sym same)
-        | false ↦ λ e. h.handles a b ∙ sym (ap (λ y. cond (nat_eq session a && y) r (view.opens a b))
-            (nat_eq_apart number b (λ f. let g = ap (is_at (nat_cmp number)) f in let k = nat_at_itself number in cc)) ∙ no_and (nat_eq session a) r (view.opens a b))
-      ] refl
+  opens_changed a = at_or_beside _ number (simp (found.at, nat_eq_itself) (at_number a))
+      (λ b ne. simp (nat_eq_apart number b ne) (ap (option_and_then (if_of a)) (found.beside b ne) ∙ h.handles a b ∙ sym (no_and (nat_eq session a) r (view.opens a b))))
 
   pub by_opens : ShowsBy (with_opens view session number r) (with_handles t handles)
   by_opens = record { names = h.names; objects = h.objects; found = h.found; handles = opens_changed; sound = h.sound }
@@ -55,34 +49,19 @@ module _ (view : View) (t : Tree) (h : ShowsBy view t) (session number : ℕ) (r
 -- no handle has the number
 module _ (view : View) (t : Tree) (h : Shows view t) where
   pub free_number : (number : ℕ) → ((a : ℕ) → view.opens a number ≡ None) → handle_of t.handles number ≡ None
-  free_number number free = elim (handle_of t.handles number) as (λ o. handle_of t.handles number ≡ o → o ≡ None) [
-    | None ↦ λ e. refl
-    | Some x ↦ λ e. let there = sym (h.by.handles x.session number) ∙ handle_here t number x e in let none = free x.session in cc
-  ] refl
-
-  flip : (a b : ℕ) → is_at (nat_cmp a) b ≡ is_at (nat_cmp b) a
-  flip a b = elim (is_at (nat_cmp a) b) as (λ z. is_at (nat_cmp a) b ≡ z → z ≡ is_at (nat_cmp b) a) [
-    | true ↦ λ e. sym (ap (λ x. is_at (nat_cmp b) x) (nat_same a b e) ∙ nat_at_itself b)
-    | false ↦ λ e. elim (is_at (nat_cmp b) a) as (λ z. is_at (nat_cmp b) a ≡ z → false ≡ z) [
-      | true ↦ λ f. let g = ap (is_at (nat_cmp a)) (sym (nat_same b a f)) in let k = nat_at_itself a in let same : b ≡ a = nat_same b a f in let l = ap (λ x. is_at (nat_cmp a) x) same in cc
-      | false ↦ λ f. refl
-    ] refl
-  ] refl
+  free_number number free = none_there (handle_of t.handles number) (λ x e. let there = sym (h.by.handles x.session number) ∙ handle_here t number x e in let none = free x.session in cc)
 
   -- more handles, more open
   opened_more : (number : ℕ) (handle : Handle) (l : ℕ) → handle_of t.handles number ≡ None → is_opened t l ≡ true → is_opened (changed t (OpenHandle number handle)) l ≡ true
   opened_more number handle l free any =
       let w = lookup_any nat_cmp nat_cmp_total (λ x. nat_eq x.label l) t.handles h.ordered.handles any in
       any_lookup nat_cmp (λ x. nat_eq x.label l) (changed t (OpenHandle number handle)).handles w.0 w.1
-      (lookup-put nat_cmp nat_cmp_total t.handles number handle w.0 ∙ elim (is_at (nat_cmp w.0) number) as (λ b. is_at (nat_cmp w.0) number ≡ b → cond b (Some handle) (handle_of t.handles w.0) ≡ Some w.1) [
-        | true ↦ λ e. let same = nat_same w.0 number e in let f = ap (handle_of t.handles) same in let g = w.2 in cc
-        | false ↦ λ e. w.2
-      ] refl) w.3
+      ((inserted_at number_keys t.handles number handle).beside w.0 (λ e. let f = ap (handle_of t.handles) e in let g = w.2 in cc) ∙ w.2) w.3
 
   pub shows_open : (number : ℕ) (handle : Handle) → ((a : ℕ) → view.opens a number ≡ None) → Shows (with_opens view handle.session number (Some handle)) (changed t (OpenHandle number handle))
   shows_open number handle free = record {
     by = by_opens view t h.by handle.session number (Some handle) (λ x e. let same : handle ≡ x = cc in ap (λ (y : Handle). y.session) (sym same)) (λ a _. free a) (changed t (OpenHandle number handle)).handles
-        (λ q. lookup-put nat_cmp nat_cmp_total t.handles number handle q ∙ ap (λ z. cond z (Some handle) (handle_of t.handles q)) (flip q number));
+        (inserted_at number_keys t.handles number handle);
     ordered = ordered_changed t (OpenHandle number handle) h.ordered;
     used = λ l u e. or_grows_right (is_named t l) (is_opened t l) (is_opened (changed t (OpenHandle number handle)) l) (opened_more number handle l (free_number number free)) (h.used l u e);
   }
@@ -92,29 +71,26 @@ module _ (view : View) (t : Tree) (h : Shows view t) where
     there : (handle_of t.handles number ≡ Some handle) × (handle.session ≡ session)
     there = handle_there t session number handle (h.by.handles session number ∙ opens)
 
-    alone : (a : ℕ) → nat_eq session a ≡ false → view.opens a number ≡ None
-    alone a ne = sym (h.by.handles a number) ∙ ap (option_and_then (if_of a)) there.0 ∙ ap (λ z. if z then Some handle else None) (ap (λ z. nat_eq z a) there.1 ∙ ne)
+    alone : (a : ℕ) → session ≢ a → view.opens a number ≡ None
+    alone a ne = sym (h.by.handles a number) ∙ ap (option_and_then (if_of a)) there.0 ∙ ap (λ z. if z then Some handle else None) (ap (λ z. nat_eq z a) there.1 ∙ nat_eq_apart session a ne)
 
     -- ---- another handle of the same object
     opened_set : (after : Handle) (l : ℕ) → after.label ≡ handle.label → is_opened t l ≡ true → is_opened (changed t (SetHandle number after)) l ≡ true
     opened_set after l same any =
         let w = lookup_any nat_cmp nat_cmp_total (λ x. nat_eq x.label l) t.handles h.ordered.handles any in
-        let put : (q : ℕ) → handle_of (changed t (SetHandle number after)).handles q ≡ cond (is_at (nat_cmp number) q) (Some after) (handle_of t.handles q) =
-        λ q. lookup-set nat_cmp nat_cmp_total t.handles number after q (subst (λ x. IsSome x) (sym there.0) refl) in
-        elim (is_at (nat_cmp number) w.0) as (λ b. is_at (nat_cmp number) w.0 ≡ b → is_opened (changed t (SetHandle number after)) l ≡ true) [
-          | true ↦ λ e.
-              let at = nat_same number w.0 e in
-              let is : Some handle ≡ Some w.1 = sym there.0 ∙ ap (handle_of t.handles) at ∙ w.2 in
+        let put : SetsAt (handle_of t.handles) (handle_of (changed t (SetHandle number after)).handles) number (Some after) = value_at number_keys t.handles number handle after there.0 in
+        elim (cases_eq number w.0) [
+          | inl e ↦
+              let is : Some handle ≡ Some w.1 = sym there.0 ∙ ap (handle_of t.handles) e ∙ w.2 in
               let one : handle ≡ w.1 = cc in
-              any_lookup nat_cmp (λ x. nat_eq x.label l) (changed t (SetHandle number after)).handles w.0 after (put w.0 ∙ ap (λ z. cond z (Some after) (handle_of t.handles w.0)) e)
-              (ap (λ z. nat_eq z l) (same ∙ ap (λ (x : Handle). x.label) one) ∙ w.3)
-          | false ↦ λ e. any_lookup nat_cmp (λ x. nat_eq x.label l) (changed t (SetHandle number after)).handles w.0 w.1 (put w.0 ∙ ap (λ z. cond z (Some after) (handle_of t.handles w.0)) e ∙ w.2) w.3
-        ] refl
+              any_lookup nat_cmp (λ x. nat_eq x.label l) (changed t (SetHandle number after)).handles number after put.at (ap (λ z. nat_eq z l) (same ∙ ap (λ (x : Handle). x.label) one) ∙ w.3)
+          | inr ne ↦ any_lookup nat_cmp (λ x. nat_eq x.label l) (changed t (SetHandle number after)).handles w.0 w.1 (put.beside w.0 ne ∙ w.2) w.3
+        ]
 
     pub shows_listed : (after : Handle) → after.session ≡ session → after.label ≡ handle.label → Shows (with_opens view session number (Some after)) (changed t (SetHandle number after))
     shows_listed after own same = record {
       by = by_opens view t h.by session number (Some after) (λ x e. let is : after ≡ x = cc in ap (λ (y : Handle). y.session) (sym is) ∙ own) alone (changed t (SetHandle number after)).handles
-          (λ q. lookup-set nat_cmp nat_cmp_total t.handles number after q (subst (λ x. IsSome x) (sym there.0) refl));
+          (value_at number_keys t.handles number handle after there.0);
       ordered = ordered_changed t (SetHandle number after) h.ordered;
       used = λ l u e. or_grows_right (is_named t l) (is_opened t l) (is_opened (changed t (SetHandle number after)) l) (opened_set after l same) (h.used l u e);
     }
@@ -124,13 +100,13 @@ module _ (view : View) (t : Tree) (h : Shows view t) where
     closed = with_handles t (remove_entry (is_at (nat_cmp number)) t.handles)
 
     pub by_closed : ShowsBy (with_opens view session number None) closed
-    by_closed = by_opens view t h.by session number None (λ x e. cc) alone closed.handles (λ q. lookup-removed nat_cmp nat_cmp_total t.handles number q h.ordered.handles)
+    by_closed = by_opens view t h.by session number None (λ x e. cc) alone closed.handles (removed_at number_keys t.handles number h.ordered.handles)
 
     ordered_closed : IsOrderedTree closed
     ordered_closed = record { names = h.ordered.names; objects = h.ordered.objects; handles = (ordered_changed t (CloseHandle number) h.ordered).handles }
 
     others_closed : OthersUsed closed handle.label
-    others_closed l u ne e = ap (λ b. is_named t l || b) (any-removed (λ x. nat_eq x.label l) (is_at (nat_cmp number)) t.handles handle there.0 ne) ∙ h.used l u e
+    others_closed l u ne e = ap (λ b. is_named t l || b) (any-removed (λ x. nat_eq x.label l) (is_at (nat_cmp number)) t.handles handle there.0 (nat_eq_apart handle.label l ne)) ∙ h.used l u e
 
     -- it was the last that used the node
     pub shows_closed_last : (c : ℕ) (o : Object) → view.shown c ≡ Some (handle.label, o) → HasNoEntry view.step c → (view.root ≡ c → ⊥) → IsBare view.step c → IsClosed (with_opens view session number None) handle.label

@@ -1,5 +1,5 @@
 -- The entries of each directory stand in the order of their names, also after a change of one node.
-use Rattle.std.specs.Prelude.{◌≡◌, ℕ, nat_eq, true, false, cond, T, List, [], Option, Some}
+use Rattle.std.specs.Prelude.{◌≡◌, ℕ, T, List, [], Option, Some}
 use Rattle.std.specs.Option.{option_map_or}
 use Rattle.std.proofs.Common.{sym, subst}
 use Rattle.std.specs.FinMap.{is_sorted}
@@ -12,6 +12,7 @@ use Rattle.sf_inode.specs.declared.node.Content.TheVariants as content
 use Rattle.sf_block.specs.Contents.{FileBytes}
 use Rattle.sf_inode.specs.Nodes.{entries_in, less_content, more_content, with_file, with_left}
 use Rattle.sf_inode.specs.Stores.{node_in, node_entries}
+use Rattle.sf_keeps.proofs.SetsAt.{SetsAt, at_or_beside}
 
 abbrev pub IsInOrder : Content → Type 0
 IsInOrder c = T (is_sorted name_cmp (entries_in c))
@@ -27,10 +28,11 @@ pub node_in_order : (nodes : List (Option Node)) (id : ℕ) (node : Node) → In
 node_in_order nodes id node ordered here = subst (λ (o : Option Node). T (is_sorted name_cmp (entries_of_node o))) here (ordered id)
 
 -- ---- one node changed
-pub in_order_put : (before after : List (Option Node)) (d : ℕ) (o : Option Node) → InOrder before → ((i : ℕ) → node_in after i ≡ cond (nat_eq d i) o (node_in before i)) → T (is_sorted name_cmp (entries_of_node o)) → InOrder after
-in_order_put before after d o ordered put own i =
-    subst (λ (x : Option Node). T (is_sorted name_cmp (entries_of_node x))) (sym (put i))
-    (elim (nat_eq d i) as (λ b. T (is_sorted name_cmp (entries_of_node (cond b o (node_in before i))))) [ true ↦ own | false ↦ ordered i ])
+pub in_order_put : {before after : ℕ → Option Node} {d : ℕ} {o : Option Node} → SetsAt before after d o → ((id : ℕ) → T (is_sorted name_cmp (entries_of_node (before id)))) → T (is_sorted name_cmp (entries_of_node o))
+    → (id : ℕ) → T (is_sorted name_cmp (entries_of_node (after id)))
+in_order_put {d = d} put ordered own =
+    let in_order = λ (o : Option Node). T (is_sorted name_cmp (entries_of_node o)) in
+    at_or_beside _ d (subst in_order (sym put.at) own) (λ id ne. subst in_order (sym (put.beside id ne)) (ordered id))
 
 -- ---- changes of entries and of bytes
 pub less_in_order : (n : Name) (c : Content) → IsInOrder c → IsInOrder (less_content n c)

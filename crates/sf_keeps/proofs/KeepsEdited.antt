@@ -1,7 +1,7 @@
 -- What a store keeps after one node was changed and no entry.
-use Rattle.std.specs.Prelude.{◌≡◌, ℕ, nat_eq, true, false, cond, List, is_some, option_map, Option, Some, None, refl}
+use Rattle.std.specs.Prelude.{◌≡◌, ℕ, true, false, List, is_some, Option, Some, None, refl}
 use Rattle.std.specs.Option.{option_map_or}
-use Rattle.std.proofs.Common.{sym, ap, subst, ◌∙◌, eqb-true}
+use Rattle.std.proofs.Common.{sym, ap, subst, ◌∙◌}
 use Rattle.sf_path.specs.Names.{Name, Path}
 use Rattle.sf_call.specs.declared.metadata.Metadata.{Metadata}
 use Rattle.sf_call.specs.Attributes.{Object}
@@ -15,22 +15,12 @@ use Rattle.sf_inode.specs.declared.node.Content.TheVariants as content
 use Rattle.sf_block.specs.Contents.{FileBytes}
 use Rattle.sf_inode.specs.Nodes.{child_in, object_in, is_file_content, with_content, with_metadata, with_file, with_left, with_holder}
 use Rattle.sf_keeps.specs.Shows.{View, Shows}
-use Rattle.sf_inode.specs.Stores.{StoreState, node_in, child_of, open_handle_at, shown_node, edited, edited_by, with_nodes, looked_up, is_file_at, file_set, left_set}
-use Rattle.sf_keeps.specs.Keeps.{view_of, Keeps, times_open}
-use Rattle.sf_keeps.proofs.StoreLaws.{node_in-edited, entry_same, shows_edited, view_unseen, kind_metadata}
+use Rattle.sf_inode.specs.Stores.{StoreState, node_in, child_of, shown_node, edited, edited_by, with_nodes, looked_up, is_file_at, file_set, left_set}
+use Rattle.sf_keeps.specs.Keeps.{view_of, Keeps}
+use Rattle.sf_keeps.proofs.StoreLaws.{entry_same, shows_edited, view_unseen, kind_metadata, edited_node, seen_same}
 use Rattle.sf_keeps.proofs.StoreBytes.{entry_stored, kind_stored, entry_left, object_left}
 use Rattle.sf_keeps.proofs.InOrder.{IsInOrder, node_in_order, in_order_put, stored_in_order, left_in_order}
 use Rattle.sf_keeps.proofs.Counted.{Mark, mark_of, marks_of, marked, keeps_marked, marked_same}
-
--- marks that stay where one node has changed
-pub marks_same : (before after : List (Option Node)) (d : ℕ) (node node' : Node) → node_in before d ≡ Some node → ((i : ℕ) → node_in after i ≡ cond (nat_eq d i) (Some node') (node_in before i))
-    → mark_of node' ≡ mark_of node → (i : ℕ) → marks_of after i ≡ marks_of before i
-marks_same before after d node node' at put same i =
-    ap (option_map mark_of) (put i)
-    ∙ elim (nat_eq d i) as (λ b. nat_eq d i ≡ b → option_map mark_of (cond b (Some node') (node_in before i)) ≡ marks_of before i) [
-      | true ↦ λ e. ap Some same ∙ sym (ap (option_map mark_of) (ap (node_in before) (sym (eqb-true d i e)) ∙ at))
-      | false ↦ λ e. refl
-    ] refl
 
 module _ (f : Node → Node) (s : StoreState) (t : Tree) (id : ℕ) (node : Node) (k : Keeps s t) (here : node_in s.nodes id ≡ Some node)
     (entries : (m : Name) → child_in (f node).content m ≡ child_in node.content m) (same : mark_of (f node) ≡ mark_of node) (own : IsInOrder (f node).content) where
@@ -40,12 +30,12 @@ module _ (f : Node → Node) (s : StoreState) (t : Tree) (id : ℕ) (node : Node
         step = child_of s.nodes;
         marks = marks_of s.nodes;
         shows = shows;
-        steps = entry_same s.nodes (edited f s id).nodes id node (f node) here (node_in-edited f s id node here) entries;
-        says = marks_same s.nodes (edited f s id).nodes id node (f node) here (node_in-edited f s id node here) same;
+        steps = entry_same (edited_node f s id node here) here entries;
+        says = seen_same (edited_node f s id node here) here mark_of same;
         sessions = refl;
         handles = handles;
-        marked = marked_same (child_of s.nodes) (child_of s.nodes) (marks_of s.nodes) (links t.names) (links after.names) (times_open t) (open_handle_at s) (marked s t k) (λ i l o e bare. bare) (λ label. ap (λ (ns : List (Path × ℕ)). links ns label) names);
-        ordered = in_order_put s.nodes (edited f s id).nodes id (Some (f node)) k.entries (node_in-edited f s id node here) own;
+        marked = marked_same (child_of s.nodes) (links after.names) (marked s t k) (λ i l o e bare. bare) (λ label. ap (λ (ns : List (Path × ℕ)). links ns label) names);
+        ordered = in_order_put (edited_node f s id node here) k.entries own;
       })
 
   -- another object of the node

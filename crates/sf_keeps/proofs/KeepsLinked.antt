@@ -1,30 +1,30 @@
 -- What a store keeps after a further name leads to a file.
-use Rattle.std.specs.Prelude.{◌≡◌, ℕ, ◌+◌, ◌-◌, ◌<◌, ◌^◌, min, nat_eq, true, false, cond, List, [], ◌∷◌, ◌++◌, is_some, option_map, option_and_then, Option, Some, None, refl}
+use Rattle.std.specs.Prelude.{◌≡◌, ◌≢◌, ℕ, ◌+◌, ◌-◌, ◌<◌, ◌^◌, min, nat_eq, true, false, cond, List, [], ◌∷◌, ◌++◌, is_some, option_map, option_and_then, Option, Some, None, refl}
 use Rattle.std.specs.Option.{option_map_or}
 use Rattle.std.proofs.Common.{sym, ap, subst, ◌∙◌, arith}
 use Rattle.std.proofs.Math.Nat.{min-eq_left}
 use Rattle.sf_path.specs.Names.{Name, Path}
-use Rattle.sf_path.specs.Order.{same_name, same_path, path_cmp, path_total}
 use Rattle.sf_call.specs.declared.metadata.Metadata.{Metadata}
 use Rattle.sf_call.specs.Attributes.{Object}
-use Rattle.sf_call.specs.Tree.{Tree, directory_metadata, label_at, links, after_front}
+use Rattle.sf_call.specs.Tree.{Tree, directory_metadata, label_at, links}
 use Rattle.sf_call.specs.Changes.{changed}
 use Rattle.sf_call.specs.Changes.Change.{NewName}
-use Rattle.sf_call.proofs.Laws.{lookup-put, ordered_changed, links_more, is_link_itself, is_link_other}
+use Rattle.sf_call.proofs.Laws.{ordered_changed, links_more, is_link_itself, is_link_other}
 use Rattle.sf_inode.specs.declared.node.Node.{Node}
 use Rattle.sf_inode.specs.declared.node.Content.{Content}
 use Rattle.sf_inode.specs.declared.node.Content.TheVariants as content
 use Rattle.sf_inode.specs.Nodes.{child_in, object_in, is_directory_content, is_file_content, more_content, with_content, with_name}
-use Rattle.sf_inode.specs.Stores.{StoreState, node_in, child_of, open_handle_at, shown_node, shown_of, entry_put, linked}
+use Rattle.sf_inode.specs.Stores.{StoreState, node_in, child_of, shown_node, shown_of, entry_put, linked}
 use Rattle.sf_keeps.specs.Steps.{EntryMap, walk, changed_step}
 use Rattle.sf_keeps.specs.Shows.{View, ShowsBy, Shows, label_by, is_directory_by, with_step}
-use Rattle.sf_keeps.specs.Keeps.{view_of, Keeps, times_open}
-use Rattle.sf_keeps.proofs.Walks.{Avoids, led, walk_changed}
-use Rattle.sf_keeps.proofs.Sound.{IsBare, sound_more}
-use Rattle.sf_keeps.proofs.Shown.{once, below, nat_eq_apart, same_apart, path_none, path_further, path_ended}
+use Rattle.sf_keeps.specs.Keeps.{view_of, Keeps}
+use Rattle.sf_keeps.proofs.Walks.{Avoids}
+use Rattle.sf_keeps.proofs.Sound.{IsBare, sound_more, is_directory_shown}
+use Rattle.sf_keeps.proofs.SetsAt.{set_is, set_seen, path_keys, inserted_at}
+use Rattle.sf_keeps.proofs.Shown.{names_led}
 use Rattle.sf_keeps.proofs.Less.{is_named, is_opened}
 use Rattle.sf_keeps.proofs.Whole.{or_grows, named_more, free_name}
-use Rattle.sf_keeps.proofs.StoreLaws.{node_in-edited, more_says, view_unseen}
+use Rattle.sf_keeps.proofs.StoreLaws.{view_unseen, edited_node, shows_directory}
 use Rattle.sf_keeps.proofs.StoreMoves.{view_put}
 use Rattle.sf_keeps.proofs.InOrder.{InOrder, node_in_order, in_order_put, more_in_order}
 use Rattle.sf_keeps.proofs.Openings.{counted_handle, one_node}
@@ -47,21 +47,19 @@ module _ (view : View) (t : Tree) (h : Shows view t) (p : Path) (d : ℕ) (n : N
   clear x e [] w = let a : c ≡ x = cc in let b : x ≡ d = cc in other (sym (a ∙ b))
   clear x e (m ∷ q) w = let a : c ≡ x = cc in let b = ap (λ (y : ℕ). option_and_then (λ z. walk view.step z q) (view.step y m)) (sym a) ∙ ap (option_and_then (λ z. walk view.step z q)) (bare m) in cc
 
-  at_path : (q r : Path) → after_front path q ≡ Some r → cond (same_path q path) (Some label) (label_at t.names q) ≡ option_and_then (label_by view.shown) (walk view.step c r)
-  at_path q [] e = ap (λ b. cond b (Some label) (label_at t.names q)) (path_ended path q e) ∙ sym (ap (option_map (λ (v : ℕ × Object). v.0)) here)
-  at_path q (k ∷ r) e =
-      ap (λ b. cond b (Some label) (label_at t.names q)) (path_further path q k r e) ∙ h.by.names q
-      ∙ ap (option_and_then (label_by view.shown)) (below view t h.by p d n at q (k ∷ r) e ∙ ap (option_and_then (λ y. walk view.step y (k ∷ r))) free)
-      ∙ sym (ap (λ w. option_and_then (label_by view.shown) (option_and_then (λ y. walk view.step y r) w)) (bare k))
-
   by_linked : ShowsBy (with_step view d n (Some c)) (changed t (NewName path label))
   by_linked = record {
-    names = λ q. lookup-put path_cmp path_total t.names path label q
-        ∙ elim (after_front path q) as (λ w. after_front path q ≡ w → cond (same_path q path) (Some label) (label_at t.names q) ≡ option_and_then (label_by view.shown) (led view.step (Some c) w (walk view.step view.root q))) [
-          | None ↦ λ e. ap (λ b. cond b (Some label) (label_at t.names q)) (path_none path q e) ∙ h.by.names q
-          | Some r ↦ λ e. at_path q r e
-        ] refl
-        ∙ ap (option_and_then (label_by view.shown)) (sym (walk_changed view.step d n (Some c) clear p view.root q at (once view t h.by p d is at)));
+    names = names_led view t h.by p d n (Some c) (label_by view.shown) (changed t (NewName path label)).names (record {
+      at = at;
+      is = is;
+      clear = clear;
+      ended = λ k. ap (option_and_then (λ x. view.step x k)) free;
+      ends = bare;
+      alike = λ q y e. refl;
+      value = Some label;
+      here = ap (option_map (λ (v : ℕ × Object). v.0)) here;
+      set = inserted_at path_keys t.names path label;
+    });
     objects = h.by.objects;
     found = h.by.found;
     handles = h.by.handles;
@@ -89,7 +87,7 @@ module _ (s : StoreState) (t : Tree) (k : Keeps s t) (p : Path) (d : ℕ) (n : N
   step = changed_step (child_of s.nodes) d n (Some c)
 
   is : is_directory_by (shown_of s.nodes) d ≡ true
-  is = ap (λ (v : Option Node). is_some (option_and_then (λ (w : ℕ × Object). directory_metadata w.1) (option_map shown_node v))) to.2 ∙ ap (λ (z : Content). is_some (directory_metadata (object_in to.0.metadata z))) to.3
+  is = shows_directory s.nodes d to.0 to.1 to.2 to.3
 
   no_directory : (m : Metadata) (z : Content) → is_file_content z ≡ true → is_some (directory_metadata (object_in m z)) ≡ false
   no_directory m (content.Directory es) e = cc
@@ -100,25 +98,19 @@ module _ (s : StoreState) (t : Tree) (k : Keeps s t) (p : Path) (d : ℕ) (n : N
   no_entries (content.File contents) m e = refl
 
   is_file : is_directory_by (shown_of s.nodes) c ≡ false
-  is_file = ap (λ (v : Option Node). is_some (option_and_then (λ (w : ℕ × Object). directory_metadata w.1) (option_map shown_node v))) here ∙ no_directory node.metadata node.content file
+  is_file = ap (λ (v : Option Node). is_directory_shown (option_map shown_node v)) here ∙ no_directory node.metadata node.content file
 
   bare : IsBare (child_of s.nodes) c
   bare m = ap (option_and_then (λ (z : Node). child_in z.content m)) here ∙ no_entries node.content m file
 
-  apart : nat_eq d c ≡ false
-  apart = nat_eq_apart d c (λ e. let yes = ap (is_directory_by (shown_of s.nodes)) (sym e) ∙ is in let no = is_file in cc)
+  apart : d ≢ c
+  apart e = let yes = ap (is_directory_by (shown_of s.nodes)) (sym e) ∙ is in let no = is_file in cc
 
   still : node_in mid.nodes c ≡ Some node
-  still = node_in-edited (with_content (more_content n c)) s d to.0 to.2 c ∙ ap (λ b. cond b (Some (with_content (more_content n c) to.0)) (node_in s.nodes c)) apart ∙ here
-
-  says : (m : Name) → child_in (more_content n c to.0.content) m ≡ cond (same_name n m) (Some c) (child_in to.0.content m)
-  says m = subst (λ (z : Content). child_in (more_content n c z) m ≡ cond (same_name n m) (Some c) (child_in z m)) (sym to.3) (more_says n m c to.1)
-
-  keeps : object_in to.0.metadata (more_content n c to.0.content) ≡ object_in to.0.metadata to.0.content
-  keeps = subst (λ (z : Content). object_in to.0.metadata (more_content n c z) ≡ object_in to.0.metadata z) (sym to.3) refl
+  still = (edited_node (with_content (more_content n c)) s d to.0 to.2).beside c apart ∙ here
 
   view_linked : view_of (linked s d n c) ≡ with_step (view_of s) d n (Some c)
-  view_linked = view_unseen with_name mid c node still (λ m. refl) refl ∙ view_put (more_content n c) s d n c to.0 to.2 says keeps
+  view_linked = view_unseen with_name mid c node still (λ m. refl) refl ∙ view_put s d n c to.0 to.1 to.2 to.3
 
   abbrev after : Tree
   after = changed t (NewName (p ++ n ∷ []) node.label)
@@ -128,8 +120,7 @@ module _ (s : StoreState) (t : Tree) (k : Keeps s t) (p : Path) (d : ℕ) (n : N
 
   marks : (i : ℕ) → marks_of (linked s d n c).nodes i ≡ cond (nat_eq c i) (Some (node.label, min (node.names + 1) (2 ^ 64 - 1), node.opens)) (marks_of s.nodes i)
   marks i =
-      ap (option_map mark_of) (node_in-edited with_name mid c node still i)
-      ∙ elim (nat_eq c i) as (λ z. option_map mark_of (cond z (Some (with_name node)) (node_in mid.nodes i)) ≡ cond z (Some (node.label, min (node.names + 1) (2 ^ 64 - 1), node.opens)) (marks_of mid.nodes i)) [ true ↦ refl | false ↦ refl ]
+      set_is (set_seen (option_map mark_of) (edited_node with_name mid c node still)) i
       ∙ ap (cond (nat_eq c i) (Some (node.label, min (node.names + 1) (2 ^ 64 - 1), node.opens))) (marks_entries (more_content n c) s d to.0 to.2 i)
 
   ordered_mid : InOrder mid.nodes
@@ -151,14 +142,14 @@ module _ (s : StoreState) (t : Tree) (k : Keeps s t) (p : Path) (d : ℕ) (n : N
         says = marks;
         sessions = refl;
         handles = refl;
-        marked = marked_left (child_of s.nodes) step (marks_of s.nodes) (links t.names) (links after.names) (times_open t) (open_handle_at s) (marked s t k) c node.label node.names node.opens (ap (option_map mark_of) here)
+        marked = marked_left step (links after.names) (marked s t k) c (ap (option_map mark_of) here)
             (min (node.names + 1) (2 ^ 64 - 1)) false (bare_more (child_of s.nodes) d n c c apart bare) (λ id l o e. bare_more (child_of s.nodes) d n c id (away s t k (record { path = p; id = d; node = to.0; leads = at; is_node = to.2 }) id l o e))
             (λ id l b o ne e. omega (
               arith,
               links_more t.names l (p ++ n ∷ []) node.label none,
               is_link_other l node.label (λ same.
-                  let w = mark_node s.nodes id (l, b, o) e in same_apart c id ne (one_node s t k c id node w.0 here w.1 (same ∙ sym (ap (λ (z : Mark). z.0) w.2)))),
+                  let w = mark_node s.nodes id (l, b, o) e in ne (one_node s t k c id node w.0 here w.1 (same ∙ sym (ap (λ (z : Mark). z.0) w.2)))),
             ))
             own (λ _. refl) (counted_handle s t k);
-        ordered = in_order_put mid.nodes (linked s d n c).nodes c (Some (with_name node)) ordered_mid (node_in-edited with_name mid c node still) (node_in_order mid.nodes c node ordered_mid still);
+        ordered = in_order_put (edited_node with_name mid c node still) ordered_mid (node_in_order mid.nodes c node ordered_mid still);
       })

@@ -1,7 +1,8 @@
 -- What a store keeps after an entry was moved.
-use Rattle.std.specs.Prelude.{◌≡◌, ℕ, ◌-◌, ◌<◌, nat_eq, true, false, List, [], ◌∷◌, ◌++◌, option_and_then, Some, None, refl}
+use Rattle.std.specs.Prelude.{◌≡◌, ◌≢◌, ℕ, ◌-◌, ◌<◌, true, false, List, [], ◌∷◌, ◌++◌, option_and_then, Some, None, refl}
 use Rattle.std.specs.Option.{option_map_or}
-use Rattle.std.proofs.Common.{sym, ap, subst, ◌∙◌, arith}
+use Rattle.std.proofs.Common.{sym, ap, subst, ◌∙◌, arith, inl, inr}
+use Rattle.std.proofs.lemmas.Bool.{cases_Bool}
 use Rattle.sf_path.specs.Names.{Name, Path}
 use Rattle.sf_path.specs.Order.{path_cmp}
 use Rattle.std.specs.Map.{remove_entry}
@@ -14,13 +15,13 @@ use Rattle.sf_inode.specs.declared.node.Node.{Node}
 use Rattle.sf_inode.specs.declared.node.Content.TheVariants as content
 use Rattle.sf_inode.specs.Nodes.{is_directory_content, is_bare_content, more_content, less_content, with_content, without_name, is_unused}
 use Rattle.sf_keeps.specs.Steps.{EntryMap, walk, changed_step}
-use Rattle.sf_keeps.specs.Shows.{View, Shows, label_by, is_directory_by, with_step}
-use Rattle.sf_inode.specs.Stores.{StoreState, node_in, child_of, open_handle_at, shown_of, entry_put, moved_entry, relinked, relinked_from, spot}
-use Rattle.sf_keeps.specs.Keeps.{view_of, Keeps, times_open}
+use Rattle.sf_keeps.specs.Shows.{View, Shows, label_by, with_step}
+use Rattle.sf_inode.specs.Stores.{StoreState, node_in, child_of, entry_put, moved_entry, relinked, relinked_from, spot}
+use Rattle.sf_keeps.specs.Keeps.{view_of, Keeps}
 use Rattle.sf_keeps.proofs.Sound.{IsBare}
 use Rattle.sf_keeps.proofs.Shown.{below}
 use Rattle.sf_keeps.proofs.InOrder.{InOrder}
-use Rattle.sf_keeps.proofs.StoreMoves.{still_there, is_to, view_moved, in_order_moved, is_relinked, target_there, shows_relinked, shows_relinked_gone, shows_relinked_used}
+use Rattle.sf_keeps.proofs.StoreMoves.{still_there, view_moved, in_order_moved, is_relinked, target_there, shows_relinked, shows_relinked_gone, shows_relinked_used, MovesEntry}
 use Rattle.sf_keeps.proofs.Openings.{closed_label, entry_node, both_zero, path_label, one_entry, used_still}
 use Rattle.sf_keeps.proofs.Whole.{one_more, free_name}
 use Rattle.sf_keeps.proofs.Counted.{marks_of, marked, keeps_marked, marked_same}
@@ -37,6 +38,19 @@ module _ (s : StoreState) (t : Tree) (po : Path) (od : ℕ) (on : Name) (c : ℕ
   to : (node : Node) × (es : List (Name × ℕ)) × (node_in s.nodes nd ≡ Some node) × (node.content ≡ content.Directory es)
   to = directory_at s.nodes nd is_dir
 
+  abbrev move : MovesEntry s
+  move = record {
+    from = record { path = po; id = od; node = from.0; leads = at_from; is_node = from.1 };
+    name = on;
+    into = record { path = pn; id = nd; node = to.0; leads = at_to; is_node = to.2 };
+    new_name = nn;
+    child = c;
+    there = there;
+    entries = to.1;
+    directory = to.3;
+    not_inside = not_inside;
+  }
+
   abbrev moved : EntryMap
   moved = changed_step (changed_step (child_of s.nodes) od on None) nd nn (Some c)
 
@@ -49,13 +63,10 @@ module _ (s : StoreState) (t : Tree) (po : Path) (od : ℕ) (on : Name) (c : ℕ
       marks_entries (less_content on) (entry_put s nd nn c) od f.0 f.1 i ∙ marks_entries (more_content nn c) s nd to.0 to.2 i
 
   ordered_moved : InOrder (moved_entry s (spot od on) (spot nd nn) c).nodes
-  ordered_moved = in_order_moved s t k.shows po od on pn nd nn c from.0 to.0 to.1 at_from from.1 there at_to to.2 to.3 not_inside k.entries
+  ordered_moved = in_order_moved s t k.shows k.entries move
 
   is_view : view_of (moved_entry s (spot od on) (spot nd nn) c) ≡ with_step (with_step (view_of s) od on None) nd nn (Some c)
-  is_view = view_moved s t k.shows po od on pn nd nn c from.0 to.0 to.1 at_from from.1 there at_to to.2 to.3 not_inside k.entries
-
-  to_is : is_directory_by (shown_of s.nodes) nd ≡ true
-  to_is = is_to s t k.shows po od on pn nd nn c from.0 to.0 to.1 at_from from.1 there at_to to.2 to.3 not_inside k.entries
+  is_view = view_moved s t k.shows k.entries move
 
   abbrev old : Path
   old = po ++ on ∷ []
@@ -63,8 +74,8 @@ module _ (s : StoreState) (t : Tree) (po : Path) (od : ℕ) (on : Name) (c : ℕ
   abbrev new : Path
   new = pn ++ nn ∷ []
 
-  to_away : (id l o : ℕ) → marks_of s.nodes id ≡ Some (l, 0, o) → nat_eq nd id ≡ false
-  to_away = away s t k (record { path = pn; id = nd; node = to.0; leads = at_to; is_node = to.2 })
+  to_away : (id l o : ℕ) → marks_of s.nodes id ≡ Some (l, 0, o) → nd ≢ id
+  to_away = away s t k move.into
 
   bares : (id l o : ℕ) → marks_of s.nodes id ≡ Some (l, 0, o) → IsBare (child_of s.nodes) id → IsBare moved id
   bares id l o e = bare_moved (child_of s.nodes) od on nd nn c id (to_away id l o e)
@@ -80,7 +91,7 @@ module _ (s : StoreState) (t : Tree) (po : Path) (od : ℕ) (on : Name) (c : ℕ
   pub keeps_moved : child_of s.nodes nd nn ≡ None → Keeps (relinked s od on nd nn) (changed t (Move (po ++ on ∷ []) (pn ++ nn ∷ [])))
   keeps_moved none =
       let is : relinked s od on nd nn ≡ moved_entry s (spot od on) (spot nd nn) c = ap (λ o. relinked_from s (spot od on) (spot nd nn) o (child_of s.nodes nd nn)) there ∙ ap (relinked_from s (spot od on) (spot nd nn) (Some c)) none in
-      let shows = shows_relinked s t k.shows po od on pn nd nn c from.0 to.0 to.1 at_from from.1 there at_to to.2 to.3 not_inside k.entries none in
+      let shows = shows_relinked s t k.shows k.entries move none in
       let nothing : (name : Name) (rest : Path) → label_at t.names (new ++ name ∷ rest) ≡ None =
       λ name rest. k.shows.by.names (new ++ name ∷ rest) ∙ ap (option_and_then (label_by (view_of s).shown)) (below_new name rest ∙ ap (option_and_then (λ y. walk (child_of s.nodes) y (name ∷ rest))) none) in
       let free = free_name (view_of s) t k.shows pn nd nn at_to none in
@@ -93,7 +104,7 @@ module _ (s : StoreState) (t : Tree) (po : Path) (od : ℕ) (on : Name) (c : ℕ
         says = marks_moved;
         sessions = refl;
         handles = refl;
-        marked = marked_same (child_of s.nodes) moved (marks_of s.nodes) (links t.names) (links after.names) (times_open t) (open_handle_at s) (marked s t k) bares
+        marked = marked_same moved (links after.names) (marked s t k) bares
             (λ label. counted_paths nothing label ∙ links_same t.names label new free);
         ordered = ordered_moved;
       }))
@@ -118,26 +129,26 @@ module _ (s : StoreState) (t : Tree) (po : Path) (od : ℕ) (on : Name) (c : ℕ
     own = omega (arith, k.linked target gone.0 gone.1, counted_paths nothing gone.0.label, links_less t.names gone.0.label new gone.0.label at_new, is_link_itself gone.0.label)
 
     shows_there : Shows (view_of (relinked s od on nd nn)) after
-    shows_there = elim (is_unused (without_name gone.0)) as (λ b. is_unused (without_name gone.0) ≡ b → Shows (view_of (relinked s od on nd nn)) after) [
-      | true ↦ λ e.
+    shows_there = elim (cases_Bool (is_unused (without_name gone.0))) [
+      | inl e ↦
           let none = both_zero (gone.0.names - 1) gone.0.opens e in
-          shows_relinked_gone s t k.shows po od on pn nd nn c from.0 to.0 to.1 at_from from.1 there at_to to.2 to.3 not_inside k.entries target gone.0 stood_at gone.1 bare
+          shows_relinked_gone s t k.shows k.entries move target gone.0 stood_at gone.1 bare
           (none_replaced (child_of s.nodes) od on nd nn c target (one_entry s t k target gone.0 gone.1 (omega (arith, gone.2, none.0))) stood_at other)
           (closed_label s t k gone.0.label (sym (k.counted target gone.0 gone.1) ∙ none.1)) e
-      | false ↦ λ e. shows_relinked_used s t k.shows po od on pn nd nn c from.0 to.0 to.1 at_from from.1 there at_to to.2 to.3 not_inside k.entries target gone.0 stood_at gone.1 bare
+      | inr e ↦ shows_relinked_used s t k.shows k.entries move target gone.0 stood_at gone.1 bare
           (used_still s t k after.names target (gone.0.names - 1) gone.0 gone.1 own e) e
-    ] refl
+    ]
 
     pub keeps_replaced : Keeps (relinked s od on nd nn) (changed t (Move (po ++ on ∷ []) (pn ++ nn ∷ [])))
     keeps_replaced =
-        let is = is_relinked s t k.shows po od on pn nd nn c from.0 to.0 to.1 at_from from.1 there at_to to.2 to.3 not_inside k.entries target gone.0 stood_at gone.1 bare in
+        let is = is_relinked s t k.shows k.entries move target gone.0 stood_at gone.1 bare in
         subst (λ (x : StoreState). Keeps x after) (sym is)
         (keeps_forgotten s t after k (record {
           mid = moved_entry s (spot od on) (spot nd nn) c;
           step = moved;
           id = target;
           node = gone.0;
-          here = target_there s t k.shows po od on pn nd nn c from.0 to.0 to.1 at_from from.1 there at_to to.2 to.3 not_inside k.entries target gone.0 stood_at gone.1 bare;
+          here = target_there s t k.shows k.entries move target gone.0 stood_at gone.1 bare;
           ordered = ordered_moved;
           steps = λ x m. ap (λ (v : View). v.step x m) is_view;
           marks = marks_moved;

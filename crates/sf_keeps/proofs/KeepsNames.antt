@@ -1,12 +1,12 @@
 -- What a store keeps after an entry was put in or taken out.
-use Rattle.std.specs.Prelude.{◌≡◌, ℕ, ◌-◌, nat_eq, true, false, cond, ◌&&◌, List, [], ◌∷◌, ◌++◌, option_map, option_and_then, is_some, Option, Some, None, refl}
+use Rattle.std.specs.Prelude.{◌≡◌, ◌≢◌, ℕ, ◌-◌, nat_eq, true, false, cond, [], ◌∷◌, ◌++◌, option_map, option_and_then, Some, None, refl}
 use Rattle.std.specs.Option.{option_map_or}
-use Rattle.std.proofs.Common.{sym, ap, subst, ◌∙◌, eqb-true, arith}
+use Rattle.std.proofs.Common.{sym, ap, subst, ◌∙◌, arith, inl, inr}
+use Rattle.std.proofs.lemmas.Bool.{cases_Bool}
 use Rattle.std.specs.Map.{lookup}
 use Rattle.sf_path.specs.Names.{Name, Path}
 use Rattle.sf_path.specs.Order.{same_name}
-use Rattle.sf_call.specs.Attributes.{Object}
-use Rattle.sf_call.specs.Tree.{Tree, directory_metadata, object_of, links}
+use Rattle.sf_call.specs.Tree.{Tree, object_of, links}
 use Rattle.sf_call.proofs.Laws.{links_more, links_less, is_link_itself, is_link_other, none_linked}
 use Rattle.sf_call.specs.Changes.{changed}
 use Rattle.sf_call.specs.Changes.Change.{NewPath, GonePath}
@@ -15,15 +15,14 @@ use Rattle.sf_call.specs.declared.metadata.FileType.TheVariants as file_type
 use Rattle.sf_inode.specs.declared.node.Node.{Node}
 use Rattle.sf_inode.specs.declared.node.NewNode.{NewNode}
 use Rattle.sf_inode.specs.declared.node.Content.{Content}
-use Rattle.sf_inode.specs.declared.node.Content.TheVariants as content
 use Rattle.sf_inode.specs.Nodes.{child_in, object_in, is_directory_content, is_bare_content, new_content, new_node, more_content, less_content, with_content, without_name, is_unused}
 use Rattle.sf_keeps.specs.Steps.{walk, changed_step}
-use Rattle.sf_keeps.specs.Shows.{View, Shows, is_directory_by}
-use Rattle.sf_inode.specs.Stores.{StoreState, node_in, child_of, shown_node, shown_of, open_handle_at, entry_put, entry_taken, forgotten, unlinked, unlinked_from, Inserted, new_entry}
-use Rattle.sf_keeps.specs.Keeps.{view_of, Keeps, times_open}
+use Rattle.sf_keeps.specs.Shows.{View, Shows}
+use Rattle.sf_inode.specs.Stores.{StoreState, node_in, child_of, shown_node, shown_of, entry_taken, forgotten, unlinked, unlinked_from, Inserted, new_entry}
+use Rattle.sf_keeps.specs.Keeps.{view_of, Keeps}
 use Rattle.sf_keeps.proofs.Sound.{IsBare}
-use Rattle.sf_keeps.proofs.Shown.{nat_eq_apart, same_apart}
-use Rattle.sf_keeps.proofs.StoreLaws.{NodeOnPath, InsertsNode, node_in-edited, step_changed, more_says, view_taken, shows_inserted, shows_unlinked_gone, shows_unlinked_used}
+use Rattle.sf_keeps.proofs.SetsAt.{set_is, set_seen}
+use Rattle.sf_keeps.proofs.StoreLaws.{NodeOnPath, InsertsNode, view_taken, shows_inserted, shows_unlinked_gone, shows_unlinked_used, edited_node, steps_inserted, inserted_node}
 use Rattle.sf_keeps.proofs.Openings.{closed_label, entry_node, unopened, both_zero, path_label, path_named, one_entry, used_still, labelled_object, object_there}
 use Rattle.sf_keeps.proofs.Whole.{one_more, free_name}
 use Rattle.sf_keeps.proofs.Counted.{Mark, mark_of, mark_same, marks_of, marked, keeps_marked}
@@ -33,12 +32,12 @@ use Rattle.sf_keeps.proofs.InOrder.{InOrder, IsInOrder, node_in_order, in_order_
 
 -- a node that a path leads to is not one without a name
 -- what a path leads to has a name, so it is no node without one
-pub away : (s : StoreState) (t : Tree) (k : Keeps s t) (p : NodeOnPath s) (id l o : ℕ) → marks_of s.nodes id ≡ Some (l, 0, o) → nat_eq p.id id ≡ false
-away s t k p id l o e = nat_eq_apart p.id id (λ same.
+pub away : (s : StoreState) (t : Tree) (k : Keeps s t) (p : NodeOnPath s) (id l o : ℕ) → marks_of s.nodes id ≡ Some (l, 0, o) → p.id ≢ id
+away s t k p id l o e same =
     let above = p.node in
     let is : ◌≡◌ {A = Mark} (mark_of above) (l, 0, o) = mark_same (mark_of above) (l, 0, o) (sym (ap (option_map mark_of) p.is_node) ∙ ap (marks_of s.nodes) same ∙ e) in
     let none : above.names ≡ 0 = ap (λ (z : Mark). z.1) is in
-    absurd (omega (arith, path_named s t k p.path p.id above p.is_node p.leads, none)))
+    absurd (omega (arith, path_named s t k p.path p.id above p.is_node p.leads, none))
 
 -- a node's label has an object
 labelled_node : (s : StoreState) (t : Tree) (k : Keeps s t) (id l b o : ℕ) → marks_of s.nodes id ≡ Some (l, b, o) → object_of t.objects l ≡ None → ⊥
@@ -48,9 +47,9 @@ labelled_node s t k id l b o e none =
     let gone : object_of t.objects w.0.label ≡ None = ap (object_of t.objects) (ap (λ (z : Mark). z.0) w.2) ∙ none in cc
 
 -- ---- an entry taken out
-pub keeps_unlinked : (s : StoreState) (t : Tree) (p : Path) (d : ℕ) (n : Name) (c : ℕ) → Keeps s t → walk (child_of s.nodes) s.root p ≡ Some d → child_of s.nodes d n ≡ Some c
+pub keeps_unlinked : {s : StoreState} {t : Tree} (p : Path) {d : ℕ} (n : Name) {c : ℕ} → Keeps s t → walk (child_of s.nodes) s.root p ≡ Some d → child_of s.nodes d n ≡ Some c
     → option_map_or (λ (it : Node). is_bare_content it.content) (node_in s.nodes c) false ≡ true → Keeps (unlinked s d n) (changed t (GonePath (p ++ n ∷ [])))
-keeps_unlinked s t p d n c k at there is_bare =
+keeps_unlinked {s = s} {t = t} p {d = d} n {c = c} k at there is_bare =
     let above = entry_above s.nodes d c n there in
     let node = entry_node s t k d c n there in
     let bare = bare_at s.nodes c is_bare in
@@ -58,20 +57,19 @@ keeps_unlinked s t p d n c k at there is_bare =
     let step = changed_step (child_of s.nodes) d n None in
     let after = changed t (GonePath (p ++ n ∷ [])) in
     let mid = entry_taken s d n in
-    let here : node_in mid.nodes c ≡ Some node.0 =
-    node_in-edited (with_content (less_content n)) s d above.0 above.1 c ∙ ap (λ b. cond b (Some (with_content (less_content n) above.0)) (node_in s.nodes c)) (bare_apart (child_of s.nodes) d c n c there bare) ∙ node.1 in
+    let here : node_in mid.nodes c ≡ Some node.0 = (edited_node (with_content (less_content n)) s d above.0 above.1).beside c (bare_apart (child_of s.nodes) d c n c there bare) ∙ node.1 in
     let at_path = path_label s t k (p ++ n ∷ []) c node.0 node.1 (one_more (view_of s) t k.shows p d n at ∙ there) in
     let own : node.0.names - 1 ≡ links after.names node.0.label =
     omega (arith, k.linked c node.0 node.1, links_less t.names node.0.label (p ++ n ∷ []) node.0.label at_path, is_link_itself node.0.label) in
     let shows : Shows (view_of (unlinked s d n)) after =
-    elim (is_unused (without_name node.0)) as (λ b. is_unused (without_name node.0) ≡ b → Shows (view_of (unlinked s d n)) after) [
-      | true ↦ λ e.
+    elim (cases_Bool (is_unused (without_name node.0))) [
+      | inl e ↦
           let none = both_zero (node.0.names - 1) node.0.opens e in
           shows_unlinked_gone s t k.shows p d n c above.0 node.0 ordered at above.1 there node.1 bare
           (none_left (child_of s.nodes) d n c (one_entry s t k c node.0 node.1 (omega (arith, node.2, none.0))) there)
           (closed_label s t k node.0.label (sym (k.counted c node.0 node.1) ∙ none.1)) e
-      | false ↦ λ e. shows_unlinked_used s t k.shows p d n c above.0 node.0 ordered at above.1 there node.1 bare (used_still s t k after.names c (node.0.names - 1) node.0 node.1 own e) e
-    ] refl in
+      | inr e ↦ shows_unlinked_used s t k.shows p d n c above.0 node.0 ordered at above.1 there node.1 bare (used_still s t k after.names c (node.0.names - 1) node.0 node.1 own e) e
+    ] in
     let is : unlinked s d n ≡ forgotten mid c = ap (unlinked_from s d n) there in
     subst (λ (x : StoreState). Keeps x after) (sym is)
     (keeps_forgotten s t after k (record {
@@ -97,48 +95,29 @@ new_bare : (kind : FileType) (m : Name) → child_in (new_content kind) m ≡ No
 new_bare file_type.Directory m = refl
 new_bare file_type.File m = refl
 
-module _ (old new : StoreState) (d : ℕ) (n : Name) (c : ℕ) (node above : Node) (es : List (Name × ℕ)) (did : Inserted old new (new_entry d n c) node) (here : node_in old.nodes d ≡ Some above)
-    (dir : above.content ≡ content.Directory es) (bare : (m : Name) → child_in node.content m ≡ None) where
-  abbrev mid : StoreState
-  mid = entry_put old d n c
+module _ (old new : StoreState) (i : InsertsNode old new) where
+  marks_new : (x : ℕ) → marks_of new.nodes x ≡ cond (nat_eq i.id x) (Some (mark_of i.node)) (marks_of old.nodes x)
+  marks_new x =
+      set_is (set_seen (option_map mark_of) (inserted_node old new i)) x
+      ∙ ap (cond (nat_eq i.id x) (Some (mark_of i.node))) (marks_entries (more_content i.name i.id) old i.above.id i.above.node i.above.is_node x)
 
-  node_new : (i : ℕ) (A : Type 0) (f : Option Node → A) (v : A) → f (Some node) ≡ v → f (node_in new.nodes i) ≡ cond (nat_eq c i) v (f (node_in mid.nodes i))
-  node_new i A f v is = elim (nat_eq c i) as (λ b. nat_eq c i ≡ b → f (node_in new.nodes i) ≡ cond b v (f (node_in mid.nodes i))) [
-    | true ↦ λ e. ap f (ap (node_in new.nodes) (sym (eqb-true c i e)) ∙ did.at) ∙ is
-    | false ↦ λ e. ap f (did.others i (λ g. same_apart c i e (sym g)))
-  ] refl
-
-  steps_new : (x : ℕ) (m : Name) → child_of new.nodes x m ≡ changed_step (child_of old.nodes) d n (Some c) x m
-  steps_new x m =
-      node_new x (Option ℕ) (option_and_then (λ (z : Node). child_in z.content m)) None (bare m)
-      ∙ ap (cond (nat_eq c x) None) (step_changed old.nodes mid.nodes d above (with_content (more_content n c) above) here (node_in-edited (with_content (more_content n c)) old d above here) n (Some c)
-      (λ m. subst (λ (z : Content). child_in (more_content n c z) m ≡ cond (same_name n m) (Some c) (child_in z m)) (sym dir) (more_says n m c es)) x m)
-      ∙ elim (nat_eq c x) as (λ b. nat_eq c x ≡ b → cond b None (changed_step (child_of old.nodes) d n (Some c) x m) ≡ changed_step (child_of old.nodes) d n (Some c) x m) [
-        | true ↦ λ e. sym (
-            ap (λ b. cond (b && same_name n m) (Some c) (child_of old.nodes x m)) (nat_eq_apart d x (λ f. let g = ap (node_in old.nodes) (f ∙ sym (eqb-true c x e)) in let h = did.fresh in cc))
-            ∙ ap (option_and_then (λ (z : Node). child_in z.content m)) (ap (node_in old.nodes) (sym (eqb-true c x e)) ∙ did.fresh))
-        | false ↦ λ e. refl
-      ] refl
-
-  marks_new : (i : ℕ) → marks_of new.nodes i ≡ cond (nat_eq c i) (Some (mark_of node)) (marks_of old.nodes i)
-  marks_new i = node_new i (Option Mark) (option_map mark_of) (Some (mark_of node)) refl ∙ ap (cond (nat_eq c i) (Some (mark_of node))) (marks_entries (more_content n c) old d above here i)
-
-  in_order_new : InOrder old.nodes → IsInOrder node.content → InOrder new.nodes
-  in_order_new h own = in_order_put mid.nodes new.nodes c (Some node) (in_order_entries (more_content n c) old d above here h (more_in_order n c above.content (node_in_order old.nodes d above h here)))
-      (λ i. node_new i (Option Node) (λ (o : Option Node). o) (Some node) refl) own
+  in_order_new : InOrder old.nodes → IsInOrder i.node.content → InOrder new.nodes
+  in_order_new h own =
+      let above = i.above in
+      in_order_put (inserted_node old new i)
+      (in_order_entries (more_content i.name i.id) old above.id above.node above.is_node h (more_in_order i.name i.id above.node.content (node_in_order old.nodes above.id above.node h above.is_node))) own
 
 new_in_order : (kind : FileType) → IsInOrder (new_content kind)
 new_in_order file_type.Directory = tt
 new_in_order file_type.File = tt
 
-pub keeps_inserted : (old new : StoreState) (t : Tree) (p : Path) (d : ℕ) (n : Name) (c : ℕ) (made : NewNode) → Keeps old t → Inserted old new (new_entry d n c) (new_node made)
+pub keeps_inserted : {old new : StoreState} {t : Tree} (p : Path) {d : ℕ} {n : Name} {c : ℕ} (made : NewNode) → Keeps old t → Inserted old new (new_entry d n c) (new_node made)
     → walk (child_of old.nodes) old.root p ≡ Some d → option_map_or (λ (it : Node). is_directory_content it.content) (node_in old.nodes d) false ≡ true → child_of old.nodes d n ≡ None → object_of t.objects made.label ≡ None
     → Keeps new (changed t (NewPath (p ++ n ∷ []) made.label (object_in made.metadata (new_content made.file_type))))
-keeps_inserted old new t p d n c made k did at is_dir free fresh =
+keeps_inserted {old = old} {new = new} {t = t} p {d = d} {n = n} {c = c} made k did at is_dir free fresh =
     let w = directory_at old.nodes d is_dir in
     let bare = new_bare made.file_type in
     let none : lookup (same_name n) w.1 ≡ None = sym (ap (option_and_then (λ (z : Node). child_in z.content n)) w.2 ∙ ap (λ (z : Content). child_in z n) w.3) ∙ free in
-    let is : is_directory_by (shown_of old.nodes) d ≡ true = ap (λ (v : Option Node). is_some (option_and_then (λ (w : ℕ × Object). directory_metadata w.1) (option_map shown_node v))) w.2 ∙ ap (λ (z : Content). is_some (directory_metadata (object_in w.0.metadata z))) w.3 in
     let gone : shown_of old.nodes c ≡ None = ap (option_map shown_node) did.fresh in
     let bare_c : IsBare (child_of old.nodes) c = λ m. ap (option_and_then (λ (z : Node). child_in z.content m)) did.fresh in
     let q : Path = p ++ n ∷ [] in
@@ -149,16 +128,16 @@ keeps_inserted old new t p d n c made k did at is_dir free fresh =
     keeps_marked old new t after k (record {
       step = changed_step (child_of old.nodes) d n (Some c);
       marks = λ i. cond (nat_eq c i) (Some (made.label, 1, 0)) (marks_of old.nodes i);
-      shows = shows_inserted old new t inserts k.shows fresh;
-      steps = steps_new old new d n c (new_node made) w.0 w.1 did w.2 w.3 bare;
-      says = marks_new old new d n c (new_node made) w.0 w.1 did w.2 w.3 bare;
+      shows = shows_inserted old new inserts t k.shows fresh;
+      steps = steps_inserted old new inserts;
+      says = marks_new old new inserts;
       sessions = did.sessions;
       handles = refl;
-      marked = marked_new (child_of old.nodes) d n c made.label (marks_of old.nodes) (links t.names) (links after.names) (times_open t) (open_handle_at old) (marked old t k) (ap (option_map mark_of) did.fresh) bare_c
-          (nat_eq_apart d c (λ e. let g = ap (node_in old.nodes) e in let h = did.fresh in let i = w.2 in cc))
+      marked = marked_new d n c made.label (links after.names) (marked old t k) (ap (option_map mark_of) did.fresh) bare_c
+          (λ e. let g = ap (node_in old.nodes) e in let h = did.fresh in let i = w.2 in cc)
           (away old t k above)
           (λ id l b o e. omega (arith, links_more t.names l q made.label free_path, is_link_other l made.label (λ same. labelled_node old t k id l b o e (ap (object_of t.objects) (sym same) ∙ fresh))))
           (omega (arith, links_more t.names made.label q made.label free_path, is_link_itself made.label, none_linked t.names made.label k.shows.ordered.names (λ z e. labelled_object old t k z made.label e fresh)))
           (unopened old t k made.label fresh);
-      ordered = in_order_new old new d n c (new_node made) w.0 w.1 did w.2 w.3 bare k.entries (new_in_order made.file_type);
+      ordered = in_order_new old new inserts k.entries (new_in_order made.file_type);
     })

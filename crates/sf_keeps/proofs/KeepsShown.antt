@@ -1,7 +1,8 @@
 -- What a number shows, and what a store keeps after that was changed.
-use Rattle.std.specs.Prelude.{◌≡◌, ℕ, Bool, true, false, cond, List, [], ◌∷◌, option_map, Option, Some, None, refl}
+use Rattle.std.specs.Prelude.{◌≡◌, ℕ, Bool, true, false, List, [], ◌∷◌, Option, Some, refl}
 use Rattle.std.specs.Option.{option_map_or}
-use Rattle.std.proofs.Common.{ap, subst, ◌∙◌}
+use Rattle.std.proofs.Common.{ap, subst, ◌∙◌, inl, inr}
+use Rattle.std.proofs.lemmas.Bool.{cases_Bool}
 use Rattle.std.specs.Ordering.{nat_cmp}
 use Rattle.std.specs.Map.{set_value}
 use Rattle.std.specs.BTreeMap.{is_at}
@@ -16,20 +17,15 @@ use Rattle.sf_inode.specs.declared.node.Content.{Content}
 use Rattle.sf_inode.specs.declared.node.Content.TheVariants as content
 use Rattle.sf_block.specs.Contents.{FileBytes}
 use Rattle.sf_inode.specs.Nodes.{object_in, is_directory_content, is_file_content, bytes_in, with_metadata}
-use Rattle.sf_inode.specs.Stores.{StoreState, node_in, shown_node, shown_of, edited, file_set, bytes_of, is_directory_at, is_file_at}
+use Rattle.sf_inode.specs.Stores.{StoreState, node_in, shown_of, edited, file_set, bytes_of, is_directory_at, is_file_at}
 use Rattle.sf_keeps.specs.Keeps.{Keeps}
+use Rattle.sf_keeps.proofs.Through.{found_as}
 use Rattle.sf_keeps.proofs.KeepsEdited.{keeps_metadata, keeps_bytes}
-
-some_same : (a b : ℕ × Object) → ◌≡◌ {A = Option (ℕ × Object)} (Some a) (Some b) → a ≡ b
-some_same a b e = cc
 
 -- a node is there that shows it
 pub node_shown : (nodes : List (Option Node)) (id label : ℕ) (o : Object) → shown_of nodes id ≡ Some (label, o) → (node : Node) × (node_in nodes id ≡ Some node) × (node.label ≡ label) × (object_in node.metadata node.content ≡ o)
 node_shown nodes id label o e =
-    elim (node_in nodes id) as (λ v. node_in nodes id ≡ v → option_map shown_node v ≡ Some (label, o) → (node : Node) × (node_in nodes id ≡ Some node) × (node.label ≡ label) × (object_in node.metadata node.content ≡ o)) [
-      | None ↦ λ f g. absurd (cc)
-      | Some node ↦ λ f g. let same = some_same (shown_node node) (label, o) g in (node, f, ap (λ (w : ℕ × Object). w.0) same, ap (λ (w : ℕ × Object). w.1) same)
-    ] refl e
+    let w = found_as (node_in nodes id) e in (w.0, w.1, ap (λ (z : ℕ × Object). z.0) w.2, ap (λ (z : ℕ × Object). z.1) w.2)
 
 directory_content : (k m : Metadata) (c : Content) → object_in k c ≡ Directory m → (k ≡ m) × (is_directory_content c ≡ true)
 directory_content k m (content.Directory es) e = (cc, refl)
@@ -85,11 +81,7 @@ keeps_contents new s t id label m old k e =
 -- ---- objects set twice
 set_again : {K X : Type 0} (test : K → Bool) (es : List (K × X)) (v w : X) → set_value test (set_value test es v) w ≡ set_value test es w
 set_again test [] v w = refl
-set_again test (e ∷ es) v w =
-    elim (test e.0) as (λ b. test e.0 ≡ b → set_value test (cond b ((e.0, v) ∷ es) (e ∷ set_value test es v)) w ≡ cond b ((e.0, w) ∷ es) (e ∷ set_value test es w)) [
-      | true ↦ λ f. ap (λ b. cond b ((e.0, w) ∷ es) ((e.0, v) ∷ set_value test es w)) f
-      | false ↦ λ f. ap (λ b. cond b ((e.0, w) ∷ set_value test es v) (e ∷ set_value test (set_value test es v) w)) f ∙ ap (λ rest. e ∷ rest) (set_again test es v w)
-    ] refl
+set_again test (e ∷ es) v w = elim (cases_Bool (test e.0)) [ inl f ↦ simp f | inr f ↦ simp f (ap (λ rest. e ∷ rest) (set_again test es v w)) ]
 
 pub object_again : (t : Tree) (label : ℕ) (o u : Object) → changed (changed t (SetObject label o)) (SetObject label u) ≡ changed t (SetObject label u)
 object_again t label o u = ap (with_objects t) (set_again (is_at (nat_cmp label)) t.objects o u)

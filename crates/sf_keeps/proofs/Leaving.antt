@@ -1,6 +1,7 @@
 -- The tree that a session left is the one after each of its handles was closed.
 use Rattle.std.specs.Prelude.{◌≡◌, ℕ, nat_eq, Bool, true, false, cond, not, ◌||◌, List, [], ◌∷◌, filter, Some, None, refl}
-use Rattle.std.proofs.Common.{sym, ap, ◌∙◌, eqb-true, eq-eqb}
+use Rattle.std.proofs.Common.{sym, ap, ◌∙◌, eqb-true, eq-eqb, inl, inr}
+use Rattle.std.proofs.lemmas.Bool.{cases_Bool}
 use Rattle.std.specs.List.{list_any}
 use Rattle.std.specs.Ordering.{nat_cmp}
 use Rattle.std.specs.Cmp.{nat_cmp_total}
@@ -15,6 +16,7 @@ use Rattle.sf_call.specs.Changes.{Change as change, changed}
 use Rattle.sf_call.specs.Calls.{leave}
 use Rattle.sf_call.proofs.Laws.{sorted_filtered}
 use Rattle.sf_keeps.specs.Shows.{View, Shows}
+use Rattle.sf_keeps.proofs.Through.{by_test}
 use Rattle.sf_keeps.proofs.Keyed.{lookup_any}
 use Rattle.sf_keeps.proofs.Orderly.{same_sorted}
 use Rattle.sf_keeps.proofs.Less.{kept_object, cond_used, handle_here}
@@ -51,20 +53,19 @@ module _ {X : Type 0} where
 
 module _ {K X : Type 0} (test : K → Bool) where
   filter_removed : (q : X → Bool) (es : List (K × X)) (v : X) → lookup test es ≡ Some v → q v ≡ false → filter (λ e. q e.1) (remove_entry test es) ≡ filter (λ e. q e.1) es
-  filter_removed q [] v = λ l f. refl
-  filter_removed q (e ∷ es) v =
-      elim (test e.0) as (λ b. cond b (Some e.1) (lookup test es) ≡ Some v → q v ≡ false → filter (λ e. q e.1) (cond b es (e ∷ remove_entry test es)) ≡ cond (q e.1) (e ∷ filter (λ e. q e.1) es) (filter (λ e. q e.1) es)) [
-        | true ↦ λ l f. let w : v ≡ e.1 = cc in sym (ap (λ b. cond b (e ∷ filter (λ e. q e.1) es) (filter (λ e. q e.1) es)) (sym (ap q w) ∙ f))
-        | false ↦ λ l f. ap (λ (r : List (K × X)). cond (q e.1) (e ∷ r) r) (filter_removed q es v l f)
+  filter_removed q [] v l f = refl
+  filter_removed q (e ∷ es) v l f =
+      elim (by_test (test e.0) l) [
+        | inl a ↦ let w : v ≡ e.1 = cc in rw a.0 (sym (ap (λ b. cond b (e ∷ filter (λ e. q e.1) es) (filter (λ e. q e.1) es)) (sym (ap q w) ∙ f)))
+        | inr a ↦ rw a.0 (ap (λ (r : List (K × X)). cond (q e.1) (e ∷ r) r) (filter_removed q es v a.1 f))
       ]
 
   pub removed_set : (es : List (K × X)) (v : X) → remove_entry test (set_value test es v) ≡ remove_entry test es
   removed_set [] v = refl
-  removed_set (e ∷ es) v =
-      elim (test e.0) as (λ b. test e.0 ≡ b → remove_entry test (cond b ((e.0, v) ∷ es) (e ∷ set_value test es v)) ≡ cond b es (e ∷ remove_entry test es)) [
-        | true ↦ λ t. ap (λ b. cond b es ((e.0, v) ∷ remove_entry test es)) t
-        | false ↦ λ t. ap (λ b. cond b (set_value test es v) (e ∷ remove_entry test (set_value test es v))) t ∙ ap (λ (r : List (K × X)). e ∷ r) (removed_set es v)
-      ] refl
+  removed_set (e ∷ es) v = elim (cases_Bool (test e.0)) [
+    | inl t ↦ simp t
+    | inr t ↦ simp t (ap (λ (r : List (K × X)). e ∷ r) (removed_set es v))
+  ]
 
 -- ---- the tree that a session left
 module _ (t : Tree) (session : ℕ) where

@@ -1,7 +1,9 @@
+pub mod Through
+pub mod Keyed
+pub mod SetsAt
 pub mod Walks
 pub mod Once
 pub mod Sound
-pub mod Keyed
 pub mod Orderly
 pub mod InOrder
 pub mod Shown

@@ -15,9 +15,11 @@ use Rattle.sf_path.specs.Names.{Name, Path}
 use Rattle.sf_path.specs.Order.{same_name, same_path, name_cmp, path_cmp}
 use Rattle.sf_call.specs.Tree.{after_front, only_name, label_at}
 use Rattle.sf_call.specs.Listings.{is_past, name_past}
-use Rattle.sf_call.proofs.Laws.{is_equal, same_path_is, same_name_is, same_name_itself, after_front-append, append-after_front, path_cmp-front, and_first, and_second, and_both, sorted_filtered}
+use Rattle.sf_call.proofs.Laws.{same_path_is, same_name_is, same_name_itself, after_front-append, append-after_front, path_cmp-front, and_first, and_second, and_both, sorted_filtered}
 use Rattle.sf_inode.specs.Nodes.{entries_past}
-use Rattle.sf_keeps.proofs.Keyed.{lookup_below}
+use Rattle.sf_keeps.proofs.Through.{found_as, some_there}
+use Rattle.sf_keeps.proofs.Keyed.{found_on}
+use Rattle.sf_keeps.proofs.SetsAt.{name_keys, apart}
 use Rattle.sf_keeps.proofs.Shown.{same_path_itself}
 
 -- ---- what holds of all that look-ups find, holds of each entry
@@ -26,10 +28,7 @@ module _ {K X : Type 0} (R : K → K → Ordering) (o : IsTotalOrder R) (P : K �
   each_found [] sorted h = tt
   each_found (e ∷ es) sorted h = (
     h e.0 e.1 (ap (λ r. cond (is_eq r) (Some e.1) (lookup (is_at (R e.0)) es)) (tied_itself o e.0)),
-    each_found es (and_second (below_all R e.0 es) (is_sorted R es) sorted) (λ q v l. h q v (elim (is_at (R q) e.0) as (λ b. is_at (R q) e.0 ≡ b → cond b (Some e.1) (lookup (is_at (R q)) es) ≡ Some v) [
-      | true ↦ λ t. let none = lookup_below R o q e.0 es (is_equal (R q e.0) t) (and_first (below_all R e.0 es) (is_sorted R es) sorted) in cc
-      | false ↦ λ t. l
-    ] refl)),
+    each_found es (and_second (below_all R e.0 es) (is_sorted R es) sorted) (λ q v l. h q v (found_on R o e es sorted q v l)),
   )
 
 abbrev pub with_label : ℕ → Name → Name × ℕ
@@ -59,14 +58,10 @@ module _ (last : Option Name) where
     past_rest path (m ∷ k ∷ r) n e f = cc
 
     child_is : (e : Path × ℕ) (c : Name × ℕ) → child e ≡ Some c → e.0 ≡ p ++ c.0 ∷ []
-    child_is e c =
-        elim (after_front p e.0) as (λ o. after_front p e.0 ≡ o → option_map (with_label e.1) (past o) ≡ Some c → e.0 ≡ p ++ c.0 ∷ []) [
-          | None ↦ λ a f. cc
-          | Some rest ↦ λ a. elim (past (Some rest)) as (λ o. past (Some rest) ≡ o → option_map (with_label e.1) o ≡ Some c → e.0 ≡ p ++ c.0 ∷ []) [
-            | None ↦ λ g f. cc
-            | Some n ↦ λ g f. let same : n ≡ c.0 = ap (λ (o : Option (Name × ℕ)). elim o as (λ _. Name) [ None ↦ n | Some x ↦ x.0 ]) f in past_rest e.0 rest n a g ∙ ap (λ (z : Name). p ++ z ∷ []) same
-          ] refl
-        ] refl
+    child_is e c f =
+        let n = found_as (past (after_front p e.0)) f in
+        let rest = some_there (after_front p e.0) (λ none. let g = ap past none in let h = n.1 in cc) in
+        past_rest e.0 rest.0 n.0 rest.1 (ap past (sym rest.1) ∙ n.1) ∙ ap (λ (z : Name × ℕ). p ++ z.0 ∷ []) n.2
 
     child_at : (q : Name) (label : ℕ) → child (p ++ q ∷ [], label) ≡ cond (is_past last q) (Some (q, label)) None
     child_at q label =
@@ -87,12 +82,9 @@ module _ (last : Option Name) where
           | false ↦ λ t.
               elim (child e) as (λ o. child e ≡ o → lookup (same_name q) (cons_option o rest) ≡ lookup (same_name q) rest) [
                 | None ↦ λ c. refl
-                | Some x ↦ λ c. ap (λ b. cond b (Some x.1) (lookup (same_name q) rest)) (elim (same_name q x.0) as (λ b. same_name q x.0 ≡ b → b ≡ false) [
-                  | true ↦ λ s.
-                      let is : p ++ q ∷ [] ≡ e.0 = ap (λ (z : Name). p ++ z ∷ []) (same_name_is q x.0 s) ∙ sym (child_is e x c) in
-                      let yes : same_path (p ++ q ∷ []) e.0 ≡ true = sym (ap (same_path (p ++ q ∷ [])) is) ∙ same_path_itself (p ++ q ∷ []) in cc
-                  | false ↦ λ s. refl
-                ] refl)
+                | Some x ↦ λ c. ap (λ b. cond b (Some x.1) (lookup (same_name q) rest)) (apart name_keys q x.0 (λ s.
+                    let is : p ++ q ∷ [] ≡ e.0 = ap (λ (z : Name). p ++ z ∷ []) s ∙ sym (child_is e x c) in
+                    let yes : same_path (p ++ q ∷ []) e.0 ≡ true = sym (ap (same_path (p ++ q ∷ [])) is) ∙ same_path_itself (p ++ q ∷ []) in cc))
               ] refl
               ∙ child_found names q
         ] refl

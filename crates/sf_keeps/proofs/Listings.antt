@@ -1,6 +1,6 @@
 -- What the tree lists of a directory are the store's entries.
 use Rattle.std.specs.Prelude.{◌≡◌, ℕ, suc, zero, nat_eq, Bool, true, false, cond, ◌||◌, List, [], ◌∷◌, ◌++◌, filter_map, map, take, is_some, option_map, option_and_then, Option, Some, None, refl}
-use Rattle.std.proofs.Common.{sym, ap, ◌∙◌, eqb-true, eq-eqb}
+use Rattle.std.proofs.Common.{sym, ap, ◌∙◌, inl, inr, eqb-true, eq-eqb}
 use Rattle.std.specs.List.{cons_option, find, list_any, All, AllByRecursion}
 use Rattle.std.proofs.lemmas.List.Elements.{All-from_recursion}
 use Rattle.std.specs.Option.{option_map_or}
@@ -23,6 +23,7 @@ use Rattle.sf_keeps.specs.Shows.{label_by, is_directory_by}
 use Rattle.sf_inode.specs.Stores.{StoreState, node_in, child_of, node_entries, is_directory_at, shown_node}
 use Rattle.sf_keeps.specs.Keeps.{view_of, Keeps, IsUnlinked}
 use Rattle.sf_keeps.specs.Listed.{node_entry}
+use Rattle.sf_keeps.proofs.Through.{by_test}
 use Rattle.sf_keeps.proofs.Orderly.{same_sorted, sorted_mapped}
 use Rattle.sf_keeps.proofs.Shown.{once}
 use Rattle.sf_keeps.proofs.Sound.{never_reached}
@@ -38,10 +39,10 @@ find_one p label [] all there = cc
 find_one p label (e ∷ names) all there =
     elim (nat_eq e.1 label) as (λ b. nat_eq e.1 label ≡ b → option_map (λ (x : Path × ℕ). x.0) (cond b (Some e) (find (λ (x : Path × ℕ). nat_eq x.1 label) names)) ≡ Some p) [
       | true ↦ λ t. ap Some (all.0 t)
-      | false ↦ λ t. find_one p label names all.1 (elim (same_path p e.0) as (λ b. cond b (Some e.1) (label_at names p) ≡ Some label → label_at names p ≡ Some label) [
-        | true ↦ λ f. let same : e.1 ≡ label = cc in let yes = eq-eqb e.1 label same in cc
-        | false ↦ λ f. f
-      ] there)
+      | false ↦ λ t. find_one p label names all.1 (elim (by_test (same_path p e.0) there) [
+        | inl f ↦ let same : e.1 ≡ label = cc in let yes = eq-eqb e.1 label same in cc
+        | inr f ↦ f.1
+      ])
     ] refl
 
 find_none : (label : ℕ) (names : List (Path × ℕ)) → list_any (λ e. nat_eq e.1 label) names ≡ false → path_of names label ≡ None
@@ -112,10 +113,7 @@ module _ (s : StoreState) (t : Tree) (k : Keeps s t) (d : ℕ) where
 
     past_found : (q : Name) (c : ℕ) → lookup (same_name q) past ≡ Some c → child_of s.nodes d q ≡ Some c
     past_found q c l =
-        entries_found q ∙ elim (is_past last q) as (λ b. cond b (lookup (same_name q) (node_entries s.nodes d)) None ≡ Some c → lookup (same_name q) (node_entries s.nodes d) ≡ Some c) [
-          | true ↦ λ e. e
-          | false ↦ λ e. cc
-        ] (sym (past_lookup last (node_entries s.nodes d) q) ∙ l)
+        entries_found q ∙ elim (by_test (is_past last q) (sym (past_lookup last (node_entries s.nodes d) q) ∙ l)) [ inl e ↦ e.1 | inr e ↦ cc ]
 
     is_listed : (q : Name) (c : ℕ) → lookup (same_name q) past ≡ Some c → IsListed (q, c)
     is_listed q c l =

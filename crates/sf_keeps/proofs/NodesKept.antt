@@ -1,7 +1,7 @@
 -- What stays of nodes where handles are closed.
-use Rattle.std.specs.Prelude.{◌≡◌, ℕ, ◌-◌, nat_eq, true, false, cond, if◌then◌else◌, List, [], ◌∷◌, slice_set, option_map, option_and_then, Option, Some, None, refl}
+use Rattle.std.specs.Prelude.{◌≡◌, ℕ, ◌-◌, true, false, if◌then◌else◌, List, [], ◌∷◌, slice_set, option_map, option_and_then, Option, Some, None, refl}
 use Rattle.std.specs.Option.{option_map_or}
-use Rattle.std.proofs.Common.{sym, ap, subst, ◌∙◌, eqb-true}
+use Rattle.std.proofs.Common.{sym, ap, subst, ◌∙◌, inl, inr}
 use Rattle.std.specs.Ordering.{nat_cmp}
 use Rattle.std.specs.Map.{remove_entry}
 use Rattle.std.specs.BTreeMap.{is_at}
@@ -13,7 +13,8 @@ use Rattle.sf_inode.specs.Nodes.{is_directory_content, with_opened, is_unused}
 use Rattle.sf_inode.specs.Stores.{StoreState, node_in, child_of, holder_of, is_directory_at, with_nodes, with_sessions, edited_by, edited, released_if, released, after_close, each_let_go, closed_each, closed_all, handles_of}
 use Rattle.sf_keeps.specs.Steps.{walk}
 use Rattle.sf_keeps.specs.Keeps.{Keeps, WasThere, KeepsNodes}
-use Rattle.sf_keeps.proofs.StoreLaws.{node_in-set}
+use Rattle.sf_keeps.proofs.SetsAt.{some_found, gone_found}
+use Rattle.sf_keeps.proofs.StoreLaws.{set_node}
 use Rattle.sf_keeps.proofs.Openings.{one_node}
 use Rattle.sf_keeps.proofs.Finding.{reached_node, label_found}
 
@@ -34,13 +35,13 @@ kept_edited f leaves old s id h =
       | None ↦ λ e. record { node = h.node }
       | Some n ↦ λ e. record {
         node = λ i m at.
-            elim (nat_eq id i) as (λ b. nat_eq id i ≡ b → cond b (Some (f n)) (node_in s.nodes i) ≡ Some m → WasThere (node_in old.nodes i) m) [
-              | true ↦ λ q w. let same : m ≡ f n = cc in
-                  let here : WasThere (node_in old.nodes i) n = subst (λ (k : ℕ). WasThere (node_in old.nodes k) n) (eqb-true id i q) (h.node id n e) in
+            elim (some_found (set_node s.nodes id n (Some (f n)) e) i at) [
+              | inl q ↦
+                  let here : WasThere (node_in old.nodes i) n = subst (λ (k : ℕ). WasThere (node_in old.nodes k) n) q.0 (h.node id n e) in
                   let l = leaves n in
-                  kept_alike (node_in old.nodes i) n m (ap (λ (x : Node). x.holder) same ∙ l.0) (ap (λ (x : Node). x.label) same ∙ l.1) (ap (λ (x : Node). x.content) same ∙ l.2) here
-              | false ↦ λ q w. h.node i m w
-            ] refl (sym (node_in-set s.nodes id n (Some (f n)) e i) ∙ at);
+                  subst (λ (x : Node). WasThere (node_in old.nodes i) x) q.1 (kept_alike (node_in old.nodes i) n (f n) l.0 l.1 l.2 here)
+              | inr q ↦ h.node i m q.1
+            ];
       }
     ] refl
 
@@ -49,12 +50,7 @@ kept_released old s id h =
     elim (node_in s.nodes id) as (λ o. node_in s.nodes id ≡ o → KeepsNodes old (released_if s id o)) [
       | None ↦ λ e. h
       | Some n ↦ λ e. elim (is_unused n) as (λ b. KeepsNodes old (if b then with_nodes s (slice_set s.nodes id None) else s)) [
-        | true ↦ record {
-          node = λ i m at. elim (nat_eq id i) as (λ b. cond b None (node_in s.nodes i) ≡ Some m → WasThere (node_in old.nodes i) m) [
-            | true ↦ λ w. cc
-            | false ↦ λ w. h.node i m w
-          ] (sym (node_in-set s.nodes id n None e i) ∙ at);
-        }
+        | true ↦ record { node = λ i m at. h.node i m (gone_found (set_node s.nodes id n None e) i at).1 }
         | false ↦ h
       ]
     ] refl

@@ -1,16 +1,13 @@
 -- A store keeps the tree after a handle was opened, and after one listed.
-use Rattle.std.specs.Prelude.{◌≡◌, ℕ, ◌+◌, ◌-◌, ◌<◌, ◌^◌, min, nat_eq, true, false, cond, ◌&&◌, List, option_map, option_and_then, Option, Some, None, IsSome, refl}
+use Rattle.std.specs.Prelude.{◌≡◌, ◌≢◌, ℕ, ◌+◌, ◌-◌, ◌<◌, ◌^◌, min, nat_eq, cond, ◌&&◌, List, option_map, option_and_then, Option, Some, None, refl}
 use Rattle.std.specs.Option.{option_map_or}
-use Rattle.std.proofs.Common.{sym, ap, subst, ◌∙◌, arith, eq-eqb}
-use Rattle.std.specs.Ordering.{nat_cmp}
-use Rattle.std.specs.Cmp.{nat_cmp_total}
-use Rattle.std.specs.BTreeMap.{is_at}
+use Rattle.std.proofs.Common.{sym, ap, subst, ◌∙◌, inl, inr, arith, eq-eqb}
 use Rattle.sf_path.specs.Names.{Name}
 use Rattle.sf_call.specs.declared.handle.Handle.{Handle}
 use Rattle.sf_call.specs.Tree.{Tree, handle_of}
 use Rattle.sf_call.specs.Handles.{if_of, with_listed}
 use Rattle.sf_call.specs.Changes.{Change as change, changed}
-use Rattle.sf_call.proofs.Laws.{lookup-put, ordered_changed}
+use Rattle.sf_call.proofs.Laws.{ordered_changed}
 use Rattle.sf_inode.specs.declared.node.Node.{Node}
 use Rattle.sf_inode.specs.declared.handle.OpenHandle.{OpenHandle}
 use Rattle.sf_inode.specs.declared.handle.Marks.{Marks}
@@ -18,11 +15,11 @@ use Rattle.sf_inode.specs.Nodes.{with_opened}
 use Rattle.sf_keeps.specs.Shows.{View, Shows}
 use Rattle.sf_inode.specs.Stores.{StoreState, node_in, open_handle_at, shown_handle, with_sessions, edited, after_open, new_handle, after_open_node, handle_listed, with_last}
 use Rattle.sf_keeps.specs.Keeps.{view_of, Keeps, times_open}
-use Rattle.sf_keeps.proofs.Keyed.{lookup-set}
-use Rattle.sf_keeps.proofs.Shown.{nat_same}
+use Rattle.sf_keeps.proofs.Through.{by_test}
+use Rattle.sf_keeps.proofs.SetsAt.{SetsAt, number_keys, nat_eq_apart, some_found, inserted_at, value_at}
 use Rattle.sf_keeps.proofs.Less.{handle_there}
 use Rattle.sf_keeps.proofs.Handled.{shows_open, shows_listed}
-use Rattle.sf_keeps.proofs.StoreLaws.{node_in-edited, view_unseen}
+use Rattle.sf_keeps.proofs.StoreLaws.{view_unseen, edited_node}
 use Rattle.sf_keeps.proofs.StoreHandles.{HandleSet, put_handle_set, listed_set, view_set}
 use Rattle.sf_keeps.proofs.Counts.{opened_times, set_times, few_handles}
 use Rattle.sf_keeps.proofs.Alike.{AreAlike, linked_alike, bare_alike, counted_alike, counted_now, counted_there}
@@ -44,14 +41,14 @@ module _ (s : StoreState) (t : Tree) (k : Keeps s t) (session number id : ℕ) (
 
   numbers_after : (q : ℕ) (h : Handle) → handle_of after.handles q ≡ Some h → (0 < q) × (q < 2 ^ 64)
   numbers_after q h e =
-      elim (is_at (nat_cmp q) number) as (λ b. is_at (nat_cmp q) number ≡ b → cond b (Some shown) (handle_of t.handles q) ≡ Some h → (0 < q) × (q < 2 ^ 64)) [
-        | true ↦ λ b f. subst (λ (x : ℕ). (0 < x) × (x < 2 ^ 64)) (sym (nat_same q number b)) (low, high)
-        | false ↦ λ b f. k.numbers q h f
-      ] refl (sym (lookup-put nat_cmp nat_cmp_total t.handles number shown q) ∙ e)
+      elim (some_found (inserted_at number_keys t.handles number shown) q e) [
+        | inl f ↦ subst (λ (x : ℕ). (0 < x) × (x < 2 ^ 64)) f.0 (low, high)
+        | inr f ↦ k.numbers q h f.1
+      ]
 
-  others : (label : ℕ) → nat_eq node.label label ≡ false → times_open after label ≡ times_open t label
+  others : (label : ℕ) → node.label ≢ label → times_open after label ≡ times_open t label
   others label ne =
-      let a : times_open after label ≡ 0 + times_open t label = opened_times t number shown label free ∙ ap (λ b. cond b 1 0 + times_open t label) ne in
+      let a : times_open after label ≡ 0 + times_open t label = opened_times t number shown label free ∙ ap (λ b. cond b 1 0 + times_open t label) (nat_eq_apart node.label label ne) in
       omega (arith, a)
 
   -- the count is below its limit
@@ -69,24 +66,23 @@ module _ (s : StoreState) (t : Tree) (k : Keeps s t) (session number id : ℕ) (
     abbrev nodes : List (Option Node)
     nodes = (edited more mid id).nodes
 
-    put : (i : ℕ) → node_in nodes i ≡ cond (nat_eq id i) (Some (more node)) (node_in s.nodes i)
-    put = node_in-edited more mid id node here
+    put : SetsAt (node_in s.nodes) (node_in nodes) id (Some (more node))
+    put = edited_node more mid id node here
 
     alike : AreAlike s.nodes nodes
     alike = counted_alike s t k id (more node).opens node here nodes put
 
     led_after : (a b : ℕ) (h : OpenHandle) → open_handle_at mid a b ≡ Some h → (x : Node) × ((node_in nodes h.node ≡ Some x) × (x.label ≡ h.label))
     led_after a b h e =
-        elim (nat_eq session a && nat_eq number b) as (λ z. cond z (Some own) (open_handle_at s a b) ≡ Some h → (x : Node) × ((node_in nodes h.node ≡ Some x) × (x.label ≡ h.label))) [
-          | true ↦ λ f.
+        elim (by_test (nat_eq session a && nat_eq number b) (sym (set.at a b) ∙ e)) [
+          | inl f ↦
               let same : own ≡ h = cc in
-              subst (λ (y : OpenHandle). (x : Node) × ((node_in nodes y.node ≡ Some x) × (x.label ≡ y.label))) same
-              (more node, (put id ∙ ap (λ z. cond z (Some (more node)) (node_in s.nodes id)) (eq-eqb id id refl), refl))
-          | false ↦ λ f.
-              let w = k.led a b h f in
+              subst (λ (y : OpenHandle). (x : Node) × ((node_in nodes y.node ≡ Some x) × (x.label ≡ y.label))) same (more node, (put.at, refl))
+          | inr f ↦
+              let w = k.led a b h f.1 in
               let y = counted_there s t k id (more node).opens node here nodes put h.node w.0 w.1.0 in
               (y.0, (y.1, y.2 ∙ w.1.1))
-        ] (sym (set.at a b) ∙ e)
+        ]
 
     keeps_put : Keeps (edited more mid id) after
     keeps_put = record {
@@ -123,20 +119,20 @@ module _ (s : StoreState) (t : Tree) (k : Keeps s t) (session number : ℕ) (h :
 
   numbers_listed : (q : ℕ) (x : Handle) → handle_of listed.handles q ≡ Some x → (0 < q) × (q < 2 ^ 64)
   numbers_listed q x e =
-      elim (is_at (nat_cmp number) q) as (λ b. is_at (nat_cmp number) q ≡ b → cond b (Some set_handle) (handle_of t.handles q) ≡ Some x → (0 < q) × (q < 2 ^ 64)) [
-        | true ↦ λ b f. subst (λ (y : ℕ). (0 < y) × (y < 2 ^ 64)) (nat_same number q b) (k.numbers number (shown_handle session h) there)
-        | false ↦ λ b f. k.numbers q x f
-      ] refl (sym (lookup-set nat_cmp nat_cmp_total t.handles number set_handle q (subst (λ o. IsSome o) (sym there) refl)) ∙ e)
+      elim (some_found (value_at number_keys t.handles number (shown_handle session h) set_handle there) q e) [
+        | inl f ↦ subst (λ (y : ℕ). (0 < y) × (y < 2 ^ 64)) f.0 (k.numbers number (shown_handle session h) there)
+        | inr f ↦ k.numbers q x f.1
+      ]
 
   module _ (new : List (ℕ × List (ℕ × OpenHandle))) (set : HandleSet s new session number (Some (with_last name h))) where
     led_listed : (a b : ℕ) (x : OpenHandle) → open_handle_at (with_sessions s new) a b ≡ Some x → (y : Node) × ((node_in s.nodes x.node ≡ Some y) × (y.label ≡ x.label))
     led_listed a b x e =
-        elim (nat_eq session a && nat_eq number b) as (λ z. cond z (Some (with_last name h)) (open_handle_at s a b) ≡ Some x → (y : Node) × ((node_in s.nodes x.node ≡ Some y) × (y.label ≡ x.label))) [
-          | true ↦ λ f.
+        elim (by_test (nat_eq session a && nat_eq number b) (sym (set.at a b) ∙ e)) [
+          | inl f ↦
               let same : with_last name h ≡ x = cc in
               subst (λ (z : OpenHandle). (y : Node) × ((node_in s.nodes z.node ≡ Some y) × (y.label ≡ z.label))) same (k.led session number h at)
-          | false ↦ λ f. k.led a b x f
-        ] (sym (set.at a b) ∙ e)
+          | inr f ↦ k.led a b x f.1
+        ]
 
     keeps_set : Keeps (with_sessions s new) listed
     keeps_set = record {

@@ -1,6 +1,7 @@
 -- What opens a node of a kept store, and what names it.
 use Rattle.std.specs.Prelude.{◌≡◌, ℕ, zero, suc, ◌+◌, ◌<◌, nat_eq, Bool, true, false, cond, ◌&&◌, ◌||◌, List, [], ◌∷◌, ◌++◌, length, option_map, option_and_then, Option, Some, None, refl}
-use Rattle.std.proofs.Common.{sym, ap, subst, ◌∙◌, arith, eqb-true, length-append}
+use Rattle.std.proofs.Common.{sym, ap, subst, ◌∙◌, arith, eqb-true, length-append, inl, inr}
+use Rattle.std.proofs.lemmas.Bool.{cases_eq, true_from_ne_false, and_cases, or_left, or_right}
 use Rattle.std.specs.List.{list_any, count_by}
 use Rattle.std.proofs.lemmas.List.Sums.{sum_by-cons}
 use Rattle.std.specs.Ordering.{nat_cmp}
@@ -9,17 +10,19 @@ use Rattle.sf_path.specs.Names.{Name, Path}
 use Rattle.sf_call.specs.declared.handle.Handle.{Handle}
 use Rattle.sf_call.specs.Attributes.{Object}
 use Rattle.sf_call.specs.Tree.{Tree, object_of, label_at, links, is_used}
-use Rattle.sf_call.proofs.Laws.{linked_path, named_linked, only_path}
+use Rattle.sf_call.proofs.Laws.{linked_path, named_linked, only_path, both_true}
 use Rattle.sf_inode.specs.declared.node.Node.{Node}
 use Rattle.sf_inode.specs.declared.handle.OpenHandle.{OpenHandle}
-use Rattle.sf_inode.specs.Nodes.{object_in, child_in}
+use Rattle.sf_inode.specs.Nodes.{object_in}
 use Rattle.sf_keeps.specs.Steps.{walk}
 use Rattle.sf_keeps.specs.Shows.{label_by}
-use Rattle.sf_inode.specs.Stores.{StoreState, node_in, child_of, open_handle_at, shown_node, shown_handle}
+use Rattle.sf_inode.specs.Stores.{StoreState, node_in, child_of, shown_of, open_handle_at, shown_node, shown_handle}
 use Rattle.sf_keeps.specs.Keeps.{view_of, Keeps, IsUnlinked, times_open}
+use Rattle.sf_keeps.proofs.SetsAt.{nat_eq_apart}
+use Rattle.sf_keeps.proofs.Through.{found_through, found_as, some_there}
 use Rattle.sf_keeps.proofs.Keyed.{lookup_any}
 use Rattle.sf_keeps.proofs.Less.{is_opened, IsClosed, handle_here, opened_by, led_by}
-use Rattle.sf_keeps.proofs.Whole.{or_true, or_right, one_more}
+use Rattle.sf_keeps.proofs.Whole.{one_more}
 
 -- what passes a test is counted
 pub any_counted : {X : Type 0} (f : X → Bool) (es : List X) → list_any f es ≡ true → count_by f es ≡ 0 → ⊥
@@ -46,16 +49,11 @@ some_names (suc n) e = omega arith
 
 -- what is named so often is named
 pub linked_named : (names : List (Path × ℕ)) (label : ℕ) → 0 < links names label → list_any (λ e. nat_eq e.1 label) names ≡ true
-linked_named names label some = elim (list_any (λ e. nat_eq e.1 label) names) as (λ b. list_any (λ e. nat_eq e.1 label) names ≡ b → b ≡ true) [
-  | true ↦ λ e. refl
-  | false ↦ λ e. let none = none_counted (λ (e : Path × ℕ). nat_eq e.1 label) names e in absurd (omega (arith, some, none))
-] refl
+linked_named names label some = true_from_ne_false (list_any (λ e. nat_eq e.1 label) names) (λ e.
+    let none = none_counted (λ (e : Path × ℕ). nat_eq e.1 label) names e in absurd (omega (arith, some, none)))
 
 pub both_zero : (names n : ℕ) → nat_eq names 0 && nat_eq n 0 ≡ true → (names ≡ 0) × (n ≡ 0)
-both_zero names n = elim (nat_eq names 0) as (λ b. nat_eq names 0 ≡ b → b && nat_eq n 0 ≡ true → (names ≡ 0) × (n ≡ 0)) [
-  | true ↦ λ none e. (eqb-true names 0 none, eqb-true n 0 e)
-  | false ↦ λ none e. cc
-] refl
+both_zero names n e = let w = both_true (nat_eq names 0) (nat_eq n 0) e in (eqb-true names 0 w.0, eqb-true n 0 w.1)
 
 -- paths that end by a name
 pub last_same : (p q : Path) (n m : Name) → p ++ n ∷ [] ≡ q ++ m ∷ [] → (p ≡ q) × (n ≡ m)
@@ -82,10 +80,7 @@ module _ (s : StoreState) (t : Tree) (k : Keeps s t) where
       any_counted (λ e. nat_eq e.1.label label) t.handles (ap (is_opened t) (sym same) ∙ opened_by (view_of s) t k.shows.by session number h opens) none
 
   pub label_opened : (label : ℕ) → nat_eq (times_open t label) 0 ≡ false → is_opened t label ≡ true
-  label_opened label some = elim (is_opened t label) as (λ b. is_opened t label ≡ b → b ≡ true) [
-    | true ↦ λ e. refl
-    | false ↦ λ e. let f = ap (λ (n : ℕ). nat_eq n 0) (none_counted (λ e. nat_eq e.1.label label) t.handles e) in cc
-  ] refl
+  label_opened label some = true_from_ne_false (is_opened t label) (λ e. let f = ap (λ (n : ℕ). nat_eq n 0) (none_counted (λ e. nat_eq e.1.label label) t.handles e) in cc)
 
   -- what is counted has a handle
   pub opener : (label : ℕ) → nat_eq (times_open t label) 0 ≡ false → Opener s label
@@ -96,10 +91,7 @@ module _ (s : StoreState) (t : Tree) (k : Keeps s t) where
   -- a handle's label is counted
   pub counted_handle : (session number : ℕ) (h : OpenHandle) → open_handle_at s session number ≡ Some h → nat_eq (times_open t h.label) 0 ≡ false
   counted_handle session number h at =
-      elim (nat_eq (times_open t h.label) 0) as (λ b. nat_eq (times_open t h.label) 0 ≡ b → b ≡ false) [
-        | true ↦ λ e. absurd (closed_label h.label (eqb-true (times_open t h.label) 0 e) session number (shown_handle session h) (ap (option_map (shown_handle session)) at) refl)
-        | false ↦ λ e. refl
-      ] refl
+      nat_eq_apart (times_open t h.label) 0 (λ e. closed_label h.label e session number (shown_handle session h) (ap (option_map (shown_handle session)) at) refl)
 
   -- two nodes of one label are one
   pub one_node : (i j : ℕ) (x y : Node) → node_in s.nodes i ≡ Some x → node_in s.nodes j ≡ Some y → x.label ≡ y.label → i ≡ j
@@ -128,21 +120,17 @@ module _ (s : StoreState) (t : Tree) (k : Keeps s t) where
   -- a path leads to where an entry stands
   pub entry_path : (x c : ℕ) (n : Name) → child_of s.nodes x n ≡ Some c → (path : Path) × (walk (child_of s.nodes) s.root path ≡ Some x)
   entry_path x c n there =
-      elim (node_in s.nodes x) as (λ o. node_in s.nodes x ≡ o → option_and_then (λ (z : Node). child_in z.content n) o ≡ Some c → (path : Path) × (walk (child_of s.nodes) s.root path ≡ Some x)) [
-        | None ↦ λ e f. absurd (cc)
-        | Some node ↦ λ e f. elim (nat_eq node.names 0) as (λ b. nat_eq node.names 0 ≡ b → (path : Path) × (walk (child_of s.nodes) s.root path ≡ Some x)) [
-          | true ↦ λ g. let none = k.bare x node e (eqb-true node.names 0 g) n in absurd (cc)
-          | false ↦ λ g. named_path x node e (some_names node.names g)
-        ] refl
-      ] refl there
+      let w = found_through (node_in s.nodes x) there in
+      elim (cases_eq w.0.names 0) [
+        | inl g ↦ let none = k.bare x w.0 w.1 g n in absurd (cc)
+        | inr g ↦ named_path x w.0 w.1 (some_names w.0.names (nat_eq_apart w.0.names 0 g))
+      ]
 
   -- an entry leads to a node that has a name
   pub entry_node : (x c : ℕ) (n : Name) → child_of s.nodes x n ≡ Some c → (node : Node) × (node_in s.nodes c ≡ Some node) × (0 < node.names)
   entry_node x c n there =
-      elim (node_in s.nodes c) as (λ o. node_in s.nodes c ≡ o → (node : Node) × (o ≡ Some node) × (0 < node.names)) [
-        | None ↦ λ e. absurd (k.shows.by.sound.to x c n there (ap (option_map shown_node) e))
-        | Some node ↦ λ e. let p = entry_path x c n there in (node, refl, path_named (p.0 ++ n ∷ []) c node e (one_more (view_of s) t k.shows p.0 x n p.1 ∙ there))
-      ] refl
+      let w = some_there (node_in s.nodes c) (λ e. k.shows.by.sound.to x c n there (ap (option_map shown_node) e)) in
+      let p = entry_path x c n there in (w.0, w.1, path_named (p.0 ++ n ∷ []) c w.0 w.1 (one_more (view_of s) t k.shows p.0 x n p.1 ∙ there))
 
   -- a node without a name
   pub unnamed_node : (id : ℕ) (node : Node) → node_in s.nodes id ≡ Some node → node.names ≡ 0 → IsUnlinked s id
@@ -171,39 +159,30 @@ module _ (s : StoreState) (t : Tree) (k : Keeps s t) where
   -- what is not unused is named or open
   pub used_still : (names : List (Path × ℕ)) (c count : ℕ) (node : Node) → node_in s.nodes c ≡ Some node → count ≡ links names node.label → nat_eq count 0 && nat_eq node.opens 0 ≡ false → is_used names t.handles node.label ≡ true
   used_still names c count node here own kept =
-      elim (nat_eq count 0) as (λ b. nat_eq count 0 ≡ b → b && nat_eq node.opens 0 ≡ false → is_used names t.handles node.label ≡ true) [
-        | false ↦ λ e _. or_true (list_any (λ e. nat_eq e.1 node.label) names) (is_opened t node.label) (linked_named names node.label (subst (λ (n : ℕ). 0 < n) own (some_names count e)))
-        | true ↦ λ e some. or_right (list_any (λ e. nat_eq e.1 node.label) names) (is_opened t node.label) (label_opened node.label (ap (λ (n : ℕ). nat_eq n 0) (sym (k.counted c node here)) ∙ some))
-      ] refl kept
+      elim (and_cases (nat_eq count 0) (nat_eq node.opens 0) kept) [
+        | inl e ↦ or_left (list_any (λ e. nat_eq e.1 node.label) names) (is_opened t node.label) (linked_named names node.label (subst (λ (n : ℕ). 0 < n) own (some_names count e)))
+        | inr some ↦ or_right (list_any (λ e. nat_eq e.1 node.label) names) (is_opened t node.label) (label_opened node.label (ap (λ (n : ℕ). nat_eq n 0) (sym (k.counted c node here)) ∙ some))
+      ]
 
   -- a path's label has an object
   pub labelled_object : (q : Path) (label : ℕ) → label_at t.names q ≡ Some label → object_of t.objects label ≡ None → ⊥
   labelled_object q label at none =
-      elim (walk (child_of s.nodes) s.root q) as (λ w. option_and_then (label_by (view_of s).shown) w ≡ Some label → ⊥) [
-        | None ↦ λ e. cc
-        | Some y ↦ elim (node_in s.nodes y) as (λ o. node_in s.nodes y ≡ o → option_map (λ (x : ℕ × Object). x.0) (option_map shown_node o) ≡ Some label → ⊥) [
-          | None ↦ λ e f. cc
-          | Some node ↦ λ e f.
-              let same : node.label ≡ label = cc in
-              let some = object_there y node e in
-              let gone : object_of t.objects node.label ≡ None = ap (object_of t.objects) same ∙ none in cc
-        ] refl
-      ] (sym (k.shows.by.names q) ∙ at)
+      let y = found_through (walk (child_of s.nodes) s.root q) (sym (k.shows.by.names q) ∙ at) in
+      let v = found_as (shown_of s.nodes y.0) y.2 in
+      let w = found_as (node_in s.nodes y.0) v.1 in
+      let some = object_there y.0 w.0 w.1 in
+      let gone : object_of t.objects w.0.label ≡ None = ap (object_of t.objects) (ap (λ (x : ℕ × Object). x.0) w.2 ∙ v.2) ∙ none in cc
 
   -- a label without an object opens nowhere
   pub unopened : (label : ℕ) → object_of t.objects label ≡ None → times_open t label ≡ 0
   unopened label none =
-      elim (nat_eq (times_open t label) 0) as (λ b. nat_eq (times_open t label) 0 ≡ b → times_open t label ≡ 0) [
-        | true ↦ λ e. eqb-true (times_open t label) 0 e
-        | false ↦ λ e.
-            let o = opener label e in
-            elim (open_handle_at s o.session o.number) as (λ h. open_handle_at s o.session o.number ≡ h → option_map (shown_handle o.session) h ≡ Some o.handle → times_open t label ≡ 0) [
-              | None ↦ λ f g. absurd (cc)
-              | Some h ↦ λ f g.
-                  let same : shown_handle o.session h ≡ o.handle = cc in
-                  let w = k.led o.session o.number h f in
-                  let there = object_there h.node w.0 w.1.0 in
-                  let is : w.0.label ≡ label = w.1.1 ∙ ap (λ (x : Handle). x.label) same ∙ o.same in
-                  let gone = ap (object_of t.objects) is ∙ none in absurd (cc)
-            ] refl o.opens
-      ] refl
+      elim (cases_eq (times_open t label) 0) [
+        | inl e ↦ e
+        | inr e ↦
+            let o = opener label (nat_eq_apart (times_open t label) 0 e) in
+            let h = found_as (open_handle_at s o.session o.number) o.opens in
+            let w = k.led o.session o.number h.0 h.1 in
+            let there = object_there h.0.node w.0 w.1.0 in
+            let is : w.0.label ≡ label = w.1.1 ∙ ap (λ (x : Handle). x.label) h.2 ∙ o.same in
+            let gone = ap (object_of t.objects) is ∙ none in absurd (cc)
+      ]

@@ -1,5 +1,5 @@
 -- A move in two changes of steps: the old entry goes, and the new one leads to what it led to.
-use Rattle.std.specs.Prelude.{◌≡◌, ℕ, nat_eq, Bool, true, false, cond, ◌&&◌, List, [], ◌∷◌, ◌++◌, option_and_then, is_none, Option, Some, None, refl}
+use Rattle.std.specs.Prelude.{◌≡◌, ◌≢◌, ℕ, nat_eq, Bool, true, cond, ◌&&◌, List, [], ◌∷◌, ◌++◌, option_and_then, is_none, Option, Some, None, refl}
 use Rattle.std.specs.Option.{option_or}
 use Rattle.std.proofs.Common.{sym, ap, ◌∙◌, append_assoc, eqb-true, eq-eqb}
 use Rattle.sf_path.specs.Names.{Name, Path}
@@ -15,7 +15,7 @@ use Rattle.sf_keeps.specs.Shows.{View, ShowsBy, Shows, label_by, is_directory_by
 use Rattle.sf_keeps.proofs.Walks.{walk-append, Avoids, LeadsOnce, led, walk_changed, walk_apart}
 use Rattle.sf_keeps.proofs.Keyed.{lookup_any, any_lookup}
 use Rattle.sf_keeps.proofs.Sound.{HasNoEntry, IsBare, no_entry_left, sound_less, sound_more}
-use Rattle.sf_keeps.proofs.Shown.{once, same_apart}
+use Rattle.sf_keeps.proofs.Shown.{once}
 use Rattle.sf_keeps.proofs.Less.{is_named, is_opened, OthersUsed, IsClosed, kept_object, kept_used, cond_used, shows_same, shows_kept, shows_kept_used}
 use Rattle.sf_keeps.proofs.Whole.{one_more, or_grows}
 
@@ -192,11 +192,11 @@ module _ (view : View) (t : Tree) (h : Shows view t) (po : Path) (on : Name) (fr
 
   -- ---- onto another node, below which is nothing
   module _ (target label : ℕ) (o : Object) (stood : view.step to nn ≡ Some target) (is : view.shown target ≡ Some (label, o)) (bare : IsBare view.step target) where
-    only_target : (q r : Path) (l : ℕ) → nat_eq label l ≡ false → label_at t.names q ≡ Some l → after_front new q ≡ Some r → ⊥
+    only_target : (q r : Path) (l : ℕ) → label ≢ l → label_at t.names q ≡ Some l → after_front new q ≡ Some r → ⊥
     only_target q [] l ne at e =
         let w = below_new q [] e ∙ ap (option_and_then (λ y. walk view.step y [])) stood in
         let g : label_at t.names q ≡ Some label = h.by.names q ∙ ap (option_and_then (label_by view.shown)) w ∙ ap (λ (v : Option (ℕ × Object)). option_and_then (λ x. Some x.0) v) is in
-        let same : label ≡ l = cc in same_apart label l ne same
+        let same : label ≡ l = cc in ne same
     only_target q (k ∷ r) l ne at e =
         let w = below_new q (k ∷ r) e ∙ ap (option_and_then (λ y. walk view.step y (k ∷ r))) stood ∙ ap (option_and_then (λ y. walk view.step y r)) (bare k) in
         let g : label_at t.names q ≡ None = h.by.names q ∙ ap (option_and_then (label_by view.shown)) w in cc

@@ -1,6 +1,6 @@
 -- What is always true of entries and nodes, after each change.
-use Rattle.std.specs.Prelude.{◌≡◌, ◌⊎◌, ℕ, nat_eq, Bool, true, false, cond, ◌&&◌, [], ◌∷◌, is_some, option_and_then, Option, Some, None, refl}
-use Rattle.std.proofs.Common.{sym, ap, ◌∙◌, inl, inr, eqb-true, eq-eqb}
+use Rattle.std.specs.Prelude.{◌≡◌, ◌≢◌, ◌⊎◌, ℕ, nat_eq, Bool, true, ◌&&◌, [], ◌∷◌, is_some, option_map, option_and_then, Option, Some, None}
+use Rattle.std.proofs.Common.{sym, ap, ◌∙◌, inl, inr, eqb-true}
 use Rattle.sf_path.specs.Names.{Name, Path}
 use Rattle.sf_path.specs.Order.{same_name}
 use Rattle.sf_call.specs.Attributes.{Object}
@@ -8,6 +8,8 @@ use Rattle.sf_call.specs.Tree.{directory_metadata}
 use Rattle.sf_call.proofs.Laws.{same_name_is, same_name_itself, both_true}
 use Rattle.sf_keeps.specs.Steps.{EntryMap, walk, changed_step}
 use Rattle.sf_keeps.specs.Shows.{Shown, IsSound, is_directory_by, changed_shown}
+use Rattle.sf_keeps.proofs.Through.{by_test, was_there, was_none, found_through}
+use Rattle.sf_keeps.proofs.SetsAt.{nat_eq_itself, at_or_beside, sets, set_found, set_seen}
 
 -- whether it is a directory's
 abbrev pub is_directory_shown : Option (ℕ × Object) → Bool
@@ -28,13 +30,8 @@ IsBare step c = (m : Name) → step c m ≡ None
 pub last_step : (step : EntryMap) (q : Path) (x c : ℕ) → walk step x q ≡ Some c → (x ≡ c) ⊎ ((y : ℕ) × (m : Name) × (step y m ≡ Some c))
 last_step step [] x c w = let e : x ≡ c = cc in inl e
 last_step step (m ∷ q) x c w =
-    elim (step x m) as (λ o. step x m ≡ o → option_and_then (λ y. walk step y q) o ≡ Some c → (x ≡ c) ⊎ ((y : ℕ) × (k : Name) × (step y k ≡ Some c))) [
-      | None ↦ λ s e. cc
-      | Some y ↦ λ s e. elim (last_step step q y c e) [
-        | inl h ↦ inr (x, m, s ∙ ap Some h)
-        | inr h ↦ inr h
-      ]
-    ] refl w
+    let y = found_through (step x m) w in
+    elim (last_step step q y.0 c y.2) [ inl h ↦ inr (x, m, y.1 ∙ ap Some h) | inr h ↦ inr h ]
 
 pub never_reached : (step : EntryMap) (root c : ℕ) (q : Path) → HasNoEntry step c → (root ≡ c → ⊥) → walk step root q ≡ Some c → ⊥
 never_reached step root c q none other w = elim (last_step step q root c w) [ inl e ↦ other e | inr s ↦ none s.0 s.1 s.2 ]
@@ -48,19 +45,18 @@ reached_there step shown root sound q y w none = elim (last_step step q root y w
 
 module _ (step : EntryMap) (d : ℕ) (n : Name) where
   pub step_less : (x c : ℕ) (m : Name) → changed_step step d n None x m ≡ Some c → step x m ≡ Some c
-  step_less x c m = elim (nat_eq d x && same_name n m) as (λ b. cond b None (step x m) ≡ Some c → step x m ≡ Some c) [ true ↦ λ e. cc | false ↦ λ e. e ]
+  step_less x c m = was_there (nat_eq d x && same_name n m)
 
   -- a step after the change: the new one, or one from before
   pub step_more : (c x y : ℕ) (m : Name) → changed_step step d n (Some c) x m ≡ Some y → ((d ≡ x) × (n ≡ m) × (c ≡ y)) ⊎ (step x m ≡ Some y)
-  step_more c x y m =
-      elim (nat_eq d x && same_name n m) as (λ b. nat_eq d x && same_name n m ≡ b → cond b (Some c) (step x m) ≡ Some y → ((d ≡ x) × (n ≡ m) × (c ≡ y)) ⊎ (step x m ≡ Some y)) [
-        | true ↦ λ t e. let s = both_true _ _ t in let same : c ≡ y = cc in inl (eqb-true d x s.0, same_name_is n m s.1, same)
-        | false ↦ λ t e. inr e
-      ] refl
+  step_more c x y m e = elim (by_test (nat_eq d x && same_name n m) e) [
+    | inl a ↦ let same : c ≡ y = cc in let s = both_true _ _ a.0 in inl (eqb-true d x s.0, same_name_is n m s.1, same)
+    | inr a ↦ inr a.1
+  ]
 
   -- where the entry leads
   pub changed_there : (r : Option ℕ) → changed_step step d n r d n ≡ r
-  changed_there r = ap (λ b. cond (b && same_name n n) r (step d n)) (eq-eqb d d refl) ∙ ap (λ b. cond b r (step d n)) (same_name_itself n)
+  changed_there r = simp (nat_eq_itself, same_name_itself)
 
   module _ (shown : Shown) (root : ℕ) (sound : IsSound step shown root) where
     pub sound_less : IsSound (changed_step step d n None) shown root
@@ -100,73 +96,49 @@ module _ (step : EntryMap) (d : ℕ) (n : Name) where
     }
 
 module _ (step : EntryMap) (shown : Shown) (root c : ℕ) (sound : IsSound step shown root) where
-  pub there_more : (x : ℕ) (v : ℕ × Object) → (shown x ≡ None → ⊥) → changed_shown shown c (Some v) x ≡ None → ⊥
-  there_more x v there = elim (nat_eq c x) as (λ b. cond b (Some v) (shown x) ≡ None → ⊥) [ true ↦ λ e. cc | false ↦ λ e. there e ]
-
-  -- shown after the change: the new one, or one from before
-  pub shown_more : (v u : ℕ × Object) (x : ℕ) → changed_shown shown c (Some v) x ≡ Some u → ((c ≡ x) × (v ≡ u)) ⊎ ((nat_eq c x ≡ false) × (shown x ≡ Some u))
-  shown_more v u x =
-      elim (nat_eq c x) as (λ b. nat_eq c x ≡ b → cond b (Some v) (shown x) ≡ Some u → ((c ≡ x) × (v ≡ u)) ⊎ ((b ≡ false) × (shown x ≡ Some u))) [
-        | true ↦ λ t e. let same : v ≡ u = cc in inl (eqb-true c x t, same)
-        | false ↦ λ t e. inr (refl, e)
-      ] refl
-
   -- where the node that is shown anew was nothing, or of the same kind, the kinds of what was there
   -- stay
   pub kind_more : (label : ℕ) (o : Object) → ((shown c ≡ None → ⊥) → is_directory_by shown c ≡ is_directory_shown (Some (label, o)))
       → (x : ℕ) → (shown x ≡ None → ⊥) → is_directory_by (changed_shown shown c (Some (label, o))) x ≡ is_directory_by shown x
-  kind_more label o kind x there =
-      elim (nat_eq c x) as (λ b. nat_eq c x ≡ b → is_directory_shown (cond b (Some (label, o)) (shown x)) ≡ is_directory_by shown x) [
-        | true ↦ λ t. let same = eqb-true c x t in sym (kind (λ none. there (ap shown (sym same) ∙ none))) ∙ ap (is_directory_by shown) same
-        | false ↦ λ t. refl
-      ] refl
+  kind_more label o kind =
+      let seen = set_seen is_directory_shown (sets shown c (Some (label, o))) in
+      at_or_beside _ c (λ there. seen.at ∙ sym (kind there)) (λ x ne there. seen.beside x ne)
 
   -- a node with a label that no other has, new or of the kind that it was
   pub sound_shown : (label : ℕ) (o : Object) → ((shown c ≡ None → ⊥) → is_directory_by shown c ≡ is_directory_shown (Some (label, o)))
-      → ((i : ℕ) (u : Object) → nat_eq c i ≡ false → shown i ≡ Some (label, u) → ⊥) → IsSound step (changed_shown shown c (Some (label, o))) root
+      → ((i : ℕ) (u : Object) → c ≢ i → shown i ≡ Some (label, u) → ⊥) → IsSound step (changed_shown shown c (Some (label, o))) root
   sound_shown label o kind fresh =
       let same = kind_more label o kind in
+      let new = sets shown c (Some (label, o)) in
       record {
-        labels = λ i j l p q e f. elim (shown_more (label, o) (l, p) i e) [
-          | inl a ↦ elim (shown_more (label, o) (l, q) j f) [
+        labels = λ i j l p q e f. elim (set_found new i e) [
+          | inl a ↦ elim (set_found new j f) [
             | inl b ↦ sym a.0 ∙ b.0
-            | inr b ↦ absurd (fresh j q b.0 (b.1 ∙ ap (λ (z : ℕ × Object). Some (z.0, q)) (sym a.1)))
+            | inr b ↦ absurd (fresh j q b.0 (b.1 ∙ ap (option_map (λ (z : ℕ × Object). (z.0, q))) (sym a.1)))
           ]
-          | inr a ↦ elim (shown_more (label, o) (l, q) j f) [
-            | inl b ↦ absurd (fresh i p a.0 (a.1 ∙ ap (λ (z : ℕ × Object). Some (z.0, p)) (sym b.1)))
+          | inr a ↦ elim (set_found new j f) [
+            | inl b ↦ absurd (fresh i p a.0 (a.1 ∙ ap (option_map (λ (z : ℕ × Object). (z.0, p))) (sym b.1)))
             | inr b ↦ sound.labels i j l p q a.1 b.1
           ]
         ];
         one = λ x y z k m is e f. sound.one x y z k m (sym (same z (sound.to x z k e)) ∙ is) e f;
         top = sound.top;
         owns = λ x z m e. let is = sound.owns x z m e in same x (directory_there shown x is) ∙ is;
-        to = λ x z m e. there_more z (label, o) (sound.to x z m e);
+        to = λ x z m e none. sound.to x z m e (was_none (nat_eq c z) _ none);
         rooted = same root (directory_there shown root sound.rooted) ∙ sound.rooted;
       }
 
-  pub shown_less : (u : ℕ × Object) (x : ℕ) → changed_shown shown c None x ≡ Some u → (nat_eq c x ≡ false) × (shown x ≡ Some u)
-  shown_less u x =
-      elim (nat_eq c x) as (λ b. cond b None (shown x) ≡ Some u → (b ≡ false) × (shown x ≡ Some u)) [
-        | true ↦ λ e. cc
-        | false ↦ λ e. (refl, e)
-      ]
-
-  there_less : (x : ℕ) → (c ≡ x → ⊥) → (shown x ≡ None → ⊥) → changed_shown shown c None x ≡ None → ⊥
-  there_less x other there = elim (nat_eq c x) as (λ b. nat_eq c x ≡ b → cond b None (shown x) ≡ None → ⊥) [ true ↦ λ t e. other (eqb-true c x t) | false ↦ λ t e. there e ] refl
-
-  kind_less : (x : ℕ) → (c ≡ x → ⊥) → is_directory_by (changed_shown shown c None) x ≡ is_directory_by shown x
-  kind_less x other = elim (nat_eq c x) as (λ b. nat_eq c x ≡ b → is_directory_shown (cond b None (shown x)) ≡ is_directory_by shown x) [
-    | true ↦ λ t. absurd (other (eqb-true c x t))
-    | false ↦ λ t. refl
-  ] refl
-
   -- without a node that has no entries and that no entry leads to
   pub sound_dropped : HasNoEntry step c → IsBare step c → (root ≡ c → ⊥) → IsSound step (changed_shown shown c None) root
-  sound_dropped free bare other = record {
-    labels = λ i j l p q e f. sound.labels i j l p q (shown_less (l, p) i e).1 (shown_less (l, q) j f).1;
-    one = λ x y z k m is e f. sound.one x y z k m (sym (kind_less z (λ h. free x k (e ∙ ap Some (sym h)))) ∙ is) e f;
-    top = sound.top;
-    owns = λ x z m e. kind_less x (λ h. let b = ap (λ y. step y m) h in let none = bare m in cc) ∙ sound.owns x z m e;
-    to = λ x z m e. there_less z (λ h. free x m (e ∙ ap Some (sym h))) (sound.to x z m e);
-    rooted = kind_less root (λ h. other (sym h)) ∙ sound.rooted;
-  }
+  sound_dropped free bare other =
+      let new = sets shown c None in
+      let kind = set_seen is_directory_shown new in
+      let led : (x z : ℕ) (m : Name) → step x m ≡ Some z → c ≢ z = λ x z m e h. free x m (e ∙ ap Some (sym h)) in
+      record {
+        labels = λ i j l p q e f. sound.labels i j l p q (was_there (nat_eq c i) e) (was_there (nat_eq c j) f);
+        one = λ x y z k m is e f. sound.one x y z k m (sym (kind.beside z (led x z k e)) ∙ is) e f;
+        top = sound.top;
+        owns = λ x z m e. kind.beside x (λ h. let b = ap (λ y. step y m) h in let none = bare m in cc) ∙ sound.owns x z m e;
+        to = λ x z m e none. sound.to x z m e (sym (new.beside z (led x z m e)) ∙ none);
+        rooted = kind.beside root (λ h. other (sym h)) ∙ sound.rooted;
+      }

@@ -1,15 +1,14 @@
 -- What a change leaves alone: what other nodes show, and who holds them.
-use Rattle.std.specs.Prelude.{◌≡◌, ◌≢◌, ℕ, nat_eq, true, false, cond, List, option_map, option_and_then, slice_set, Option, Some, None, refl}
-use Rattle.std.proofs.Common.{sym, ap, ◌∙◌, eqb-true}
+use Rattle.std.specs.Prelude.{◌≡◌, ◌≢◌, ℕ, true, false, cond, List, option_map, option_and_then, slice_set, Option, Some, None, refl}
+use Rattle.std.proofs.Common.{sym, ap, ◌∙◌}
 use Rattle.sf_path.specs.Names.{Name}
 use Rattle.sf_call.specs.Attributes.{Object}
 use Rattle.sf_inode.specs.declared.node.Node.{Node}
 use Rattle.sf_inode.specs.declared.node.Content.{Content}
-use Rattle.sf_inode.specs.declared.node.Content.TheVariants as content
 use Rattle.sf_inode.specs.Nodes.{object_in, less_content, more_content, with_content, without_name, is_unused}
 use Rattle.sf_inode.specs.Stores.{StoreState, EntryKey, node_in, child_of, shown_node, shown_of, holder_of, with_nodes, edited, edited_by, entry_taken, entry_put, released_if, forgotten, unlinked, unlinked_from, moved_entry, relinked, relinked_from, Inserted, spot, new_entry}
-use Rattle.sf_keeps.proofs.Shown.{nat_eq_apart, same_apart}
-use Rattle.sf_keeps.proofs.StoreLaws.{node_in-set, object_less}
+use Rattle.sf_keeps.proofs.SetsAt.{SetsAt, unchanged, set_seen}
+use Rattle.sf_keeps.proofs.StoreLaws.{object_less, set_node, object_more}
 
 -- what a node shows, and its holder
 abbrev Sight : Type 0
@@ -40,61 +39,46 @@ alike after before i e = (
 )
 
 -- ---- one node changed
-edited_at : (f : Node → Node) (s : StoreState) (id : ℕ) (o : Option Node) → node_in s.nodes id ≡ o → (i : ℕ) → node_in (edited_by f s.nodes id o) i ≡ cond (nat_eq id i) (option_map f o) (node_in s.nodes i)
-edited_at f s id None e i = elim (nat_eq id i) as (λ b. nat_eq id i ≡ b → node_in s.nodes i ≡ cond b None (node_in s.nodes i)) [
-  | true ↦ λ h. ap (node_in s.nodes) (sym (eqb-true id i h)) ∙ e
-  | false ↦ λ h. refl
-] refl
-edited_at f s id (Some node) e i = node_in-set s.nodes id node (Some (f node)) e i
+edited_as : (f : Node → Node) (s : StoreState) (id : ℕ) (o : Option Node) → node_in s.nodes id ≡ o → SetsAt (node_in s.nodes) (node_in (edited_by f s.nodes id o)) id (option_map f o)
+edited_as f s id None e = record { at = e; beside = λ i ne. refl }
+edited_as f s id (Some node) e = set_node s.nodes id node (Some (f node)) e
+
+edited_at : (f : Node → Node) (s : StoreState) (id : ℕ) → SetsAt (node_in s.nodes) (node_in (edited f s id).nodes) id (option_map f (node_in s.nodes id))
+edited_at f s id = edited_as f s id (node_in s.nodes id) refl
 
 pub edited_apart : (f : Node → Node) (s : StoreState) (id i : ℕ) → i ≢ id → node_in (edited f s id).nodes i ≡ node_in s.nodes i
-edited_apart f s id i other =
-    edited_at f s id (node_in s.nodes id) refl i ∙ ap (λ b. cond b (option_map f (node_in s.nodes id)) (node_in s.nodes i)) (nat_eq_apart id i (λ e. other (sym e)))
+edited_apart f s id i other = (edited_at f s id).beside i (λ e. other (sym e))
 
 pub edited_itself : (f : Node → Node) (s : StoreState) (id : ℕ) → node_in (edited f s id).nodes id ≡ option_map f (node_in s.nodes id)
-edited_itself f s id =
-    edited_at f s id (node_in s.nodes id) refl id
-    ∙ elim (nat_eq id id) as (λ b. nat_eq id id ≡ b → cond b (option_map f (node_in s.nodes id)) (node_in s.nodes id) ≡ option_map f (node_in s.nodes id)) [
-      | true ↦ λ e. refl
-      | false ↦ λ e. absurd (same_apart id id e refl)
-    ] refl
+edited_itself f s id = (edited_at f s id).at
 
 sight_mapped : (f : Node → Node) → ((node : Node) → sight (f node) ≡ sight node) → (o : Option Node) → option_map sight (option_map f o) ≡ option_map sight o
 sight_mapped f same None = refl
 sight_mapped f same (Some node) = ap Some (same node)
 
-sight_edited : (f : Node → Node) → ((node : Node) → sight (f node) ≡ sight node) → (s : StoreState) (id i : ℕ) → sights (edited f s id).nodes i ≡ sights s.nodes i
-sight_edited f same s id i =
-    ap (option_map sight) (edited_at f s id (node_in s.nodes id) refl i)
-    ∙ elim (nat_eq id i) as (λ b. nat_eq id i ≡ b → option_map sight (cond b (option_map f (node_in s.nodes id)) (node_in s.nodes i)) ≡ sights s.nodes i) [
-      | true ↦ λ e. sight_mapped f same (node_in s.nodes id) ∙ ap (sights s.nodes) (eqb-true id i e)
-      | false ↦ λ e. refl
-    ] refl
+sight_edited : (f : Node → Node) → ((node : Node) → sight (f node) ≡ sight node) → (s : StoreState) (id : ℕ) (i : ℕ) → sights (edited f s id).nodes i ≡ sights s.nodes i
+sight_edited f same s id = unchanged (set_seen (option_map sight) (edited_at f s id)) (sym (sight_mapped f same (node_in s.nodes id)))
 
 -- entries are not seen
 sight_entries : (g : Content → Content) → ((node : Node) → object_in node.metadata (g node.content) ≡ object_in node.metadata node.content) → (node : Node) → sight (with_content g node) ≡ sight node
 sight_entries g same node = λ i. ((node.label, same node i), node.holder)
 
-more_alike : (n : Name) (id : ℕ) (node : Node) (c : Content) → object_in node.metadata (more_content n id c) ≡ object_in node.metadata c
-more_alike n id node (content.Directory es) = refl
-more_alike n id node (content.File contents) = refl
-
 sight_taken : (s : StoreState) (dir : ℕ) (n : Name) (i : ℕ) → sights (entry_taken s dir n).nodes i ≡ sights s.nodes i
 sight_taken s dir n i = sight_edited (with_content (less_content n)) (sight_entries (less_content n) (λ node. object_less n node.metadata node.content)) s dir i
 
 sight_put : (s : StoreState) (dir : ℕ) (n : Name) (id i : ℕ) → sights (entry_put s dir n id).nodes i ≡ sights s.nodes i
-sight_put s dir n id i = sight_edited (with_content (more_content n id)) (sight_entries (more_content n id) (λ node. more_alike n id node node.content)) s dir i
+sight_put s dir n id i = sight_edited (with_content (more_content n id)) (sight_entries (more_content n id) (λ node. object_more n id node.metadata node.content)) s dir i
 
 -- ---- one node gone
-released_apart : (s : StoreState) (c i : ℕ) (o : Option Node) → node_in s.nodes c ≡ o → nat_eq c i ≡ false → node_in (released_if s c o).nodes i ≡ node_in s.nodes i
+released_apart : (s : StoreState) (c i : ℕ) (o : Option Node) → node_in s.nodes c ≡ o → c ≢ i → node_in (released_if s c o).nodes i ≡ node_in s.nodes i
 released_apart s c i None here other = refl
 released_apart s c i (Some node) here other =
     elim (is_unused node) as (λ b. node_in (cond b (with_nodes s (slice_set s.nodes c None)) s).nodes i ≡ node_in s.nodes i) [
-      | true ↦ node_in-set s.nodes c node None here i ∙ ap (λ b. cond b None (node_in s.nodes i)) other
+      | true ↦ (set_node s.nodes c node None here).beside i other
       | false ↦ refl
     ]
 
-sight_forgotten : (s : StoreState) (c i : ℕ) → nat_eq c i ≡ false → sights (forgotten s c).nodes i ≡ sights s.nodes i
+sight_forgotten : (s : StoreState) (c i : ℕ) → c ≢ i → sights (forgotten s c).nodes i ≡ sights s.nodes i
 sight_forgotten s c i other =
     let unnamed = edited without_name s c in
     ap (option_map sight) (released_apart unnamed c i (node_in unnamed.nodes c) refl other) ∙ sight_edited without_name (λ node. refl) s c i
@@ -104,8 +88,8 @@ pub inserted_alike : (old new : StoreState) (dir : ℕ) (n : Name) (id : ℕ) (n
 inserted_alike old new dir n id node i did other = alike new.nodes old.nodes i (ap (option_map sight) (did.others i other) ∙ sight_put old dir n id i)
 
 -- the entry did not lead there
-not_there : (o : Option ℕ) (c i : ℕ) → o ≡ Some c → o ≢ Some i → nat_eq c i ≡ false
-not_there o c i e other = nat_eq_apart c i (λ h. other (e ∙ ap Some h))
+not_there : (o : Option ℕ) (c i : ℕ) → o ≡ Some c → o ≢ Some i → c ≢ i
+not_there o c i e other h = other (e ∙ ap Some h)
 
 sight_unlinked : (s : StoreState) (dir : ℕ) (n : Name) (i : ℕ) (o : Option ℕ) → child_of s.nodes dir n ≡ o → child_of s.nodes dir n ≢ Some i → sights (unlinked_from s dir n o).nodes i ≡ sights s.nodes i
 sight_unlinked s dir n i None e other = refl

@@ -1,11 +1,12 @@
 -- What a changed step does to the ways.
-use Rattle.std.specs.Prelude.{◌≡◌, ℕ, nat_eq, true, false, cond, ◌&&◌, [], ◌∷◌, ◌++◌, option_and_then, Option, Some, None, refl}
-use Rattle.std.proofs.Common.{sym, ap, ◌∙◌, eqb-true, eq-eqb}
+use Rattle.std.specs.Prelude.{◌≡◌, ◌≢◌, ℕ, true, false, cond, ◌&&◌, [], ◌∷◌, ◌++◌, option_and_then, Option, Some, None, refl}
+use Rattle.std.proofs.Common.{sym, ap, ◌∙◌, eq-eqb}
 use Rattle.sf_path.specs.Names.{Name, Path}
 use Rattle.sf_path.specs.Order.{same_name}
 use Rattle.sf_call.specs.Tree.{after_front}
 use Rattle.sf_call.proofs.Laws.{same_name_is, same_name_itself}
 use Rattle.sf_keeps.specs.Steps.{EntryMap, walk, changed_step}
+use Rattle.sf_keeps.proofs.SetsAt.{nat_eq_apart}
 
 pub walk-append : (step : EntryMap) (x : ℕ) (p q : Path) → walk step x (p ++ q) ≡ option_and_then (λ y. walk step y q) (walk step x p)
 walk-append step x [] q = refl
@@ -14,6 +15,11 @@ walk-append step x (n ∷ p) q =
       | None ↦ refl
       | Some y ↦ walk-append step y p q
     ]
+
+-- the way without names
+pub to_it : (o : Option ℕ) → option_and_then (λ x. Some x) o ≡ o
+to_it None = refl
+to_it (Some x) = refl
 
 -- no way from x leads to d
 abbrev pub Avoids : EntryMap → ℕ → ℕ → Type 0
@@ -32,20 +38,14 @@ first : (step : EntryMap) (x : ℕ) (m : Name) (y : ℕ) (q : Path) (d : ℕ) �
 first step x m y q d s w = ap (option_and_then (λ z. walk step z q)) s ∙ w
 
 module _ (step : EntryMap) (d : ℕ) (n : Name) (r : Option ℕ) where
-  other_node : (x : ℕ) (m : Name) → nat_eq d x ≡ false → changed_step step d n r x m ≡ step x m
-  other_node x m e = ap (λ b. cond (b && same_name n m) r (step x m)) e
-
-  differs : (x : ℕ) → (d ≡ x → ⊥) → nat_eq d x ≡ false
-  differs x ne = elim (nat_eq d x) as (λ b. nat_eq d x ≡ b → b ≡ false) [
-    | true ↦ λ t. absurd (ne (eqb-true d x t))
-    | false ↦ λ t. refl
-  ] refl
+  other_node : (x : ℕ) (m : Name) → d ≢ x → changed_step step d n r x m ≡ step x m
+  other_node x m ne = ap (λ b. cond (b && same_name n m) r (step x m)) (nat_eq_apart d x ne)
 
   -- a way that does not come to d does not see the change
   pub walk_apart : (q : Path) (x : ℕ) → Avoids step x d → walk (changed_step step d n r) x q ≡ walk step x q
   walk_apart [] x avoids = refl
   walk_apart (m ∷ q) x avoids =
-      ap (option_and_then (λ y. walk (changed_step step d n r) y q)) (other_node x m (differs x (λ e. avoids [] (ap Some (sym e)))))
+      ap (option_and_then (λ y. walk (changed_step step d n r) y q)) (other_node x m (λ e. avoids [] (ap Some (sym e))))
       ∙ elim (step x m) as (λ o. step x m ≡ o → option_and_then (λ y. walk (changed_step step d n r) y q) o ≡ option_and_then (λ y. walk step y q) o) [
         | None ↦ λ s. refl
         | Some y ↦ λ s. walk_apart q y (λ t w. avoids (m ∷ t) (first step x m y t d s w))
@@ -76,7 +76,7 @@ module _ (step : EntryMap) (d : ℕ) (n : Name) (r : Option ℕ) where
     walk_changed [] x (m ∷ q) there once = let e : d ≡ x = cc in at_d m q x e once
     walk_changed (k ∷ p) x [] there once = refl
     walk_changed (k ∷ p) x (m ∷ q) there once =
-        ap (option_and_then (λ y. walk (changed_step step d n r) y q)) (other_node x m (differs x (λ e. let z = once [] (ap Some (sym e)) in cc)))
+        ap (option_and_then (λ y. walk (changed_step step d n r) y q)) (other_node x m (λ e. let z = once [] (ap Some (sym e)) in cc))
         ∙ elim (step x m) as (λ o. step x m ≡ o → option_and_then (λ y. walk (changed_step step d n r) y q) o ≡ led step r (after_front (k ∷ (p ++ n ∷ [])) (m ∷ q)) (option_and_then (λ y. walk step y q) o)) [
           | None ↦ λ s. elim (same_name k m) as (λ b. same_name k m ≡ b → None ≡ led step r (cond b (after_front (p ++ n ∷ []) q) None) None) [
             | true ↦ λ t. let e = same_name_is k m t in let f = ap (step x) e in let g = ap (option_and_then (λ y. walk step y p)) (f ∙ s) in cc

@@ -1,8 +1,7 @@
 -- What a view shows of a whole tree after each change of objects and names.
-use Rattle.std.specs.Prelude.{◌≡◌, ℕ, nat_eq, Bool, true, false, cond, T, ◌||◌, [], ◌∷◌, ◌++◌, option_and_then, is_some, Option, Some, None, IsSome, refl}
-use Rattle.std.proofs.Common.{sym, ap, subst, ◌∙◌, eq-eqb}
-use Rattle.std.specs.Ordering.{nat_cmp}
-use Rattle.std.specs.Cmp.{nat_cmp_total}
+use Rattle.std.specs.Prelude.{◌≡◌, ℕ, nat_eq, Bool, true, false, T, ◌||◌, [], ◌∷◌, ◌++◌, option_and_then, is_some, Option, Some, None, refl}
+use Rattle.std.proofs.Common.{sym, ap, ◌∙◌, inl, inr, eq-eqb}
+use Rattle.std.proofs.lemmas.Bool.{or_left}
 use Rattle.std.specs.Map.{remove_entry}
 use Rattle.std.specs.BTreeMap.{is_at}
 use Rattle.std.specs.FinMap.{is_sorted}
@@ -13,23 +12,24 @@ use Rattle.sf_call.specs.Attributes.{Object}
 use Rattle.sf_call.specs.Tree.{Tree, IsOrderedTree, directory_metadata, label_at, object_of, handle_of, is_used, with_names}
 use Rattle.sf_call.specs.Changes.{changed}
 use Rattle.sf_call.specs.Changes.Change.{SetObject, NewPath, GonePath}
-use Rattle.sf_call.proofs.Laws.{same_path_is, ordered_changed, same_tree, lookup-put}
+use Rattle.sf_call.proofs.Laws.{ordered_changed, same_tree}
 use Rattle.sf_keeps.specs.Steps.{walk, changed_step}
 use Rattle.sf_keeps.specs.Shows.{View, ShowsBy, Shows, AllUsed, label_by, is_directory_by, with_step, with_shown}
-use Rattle.sf_keeps.proofs.Walks.{walk-append}
-use Rattle.sf_keeps.proofs.Keyed.{lookup-set, lookup_any, any_lookup, any-removed}
+use Rattle.sf_keeps.proofs.Walks.{walk-append, to_it}
+use Rattle.sf_keeps.proofs.Keyed.{lookup_any, any_lookup, any-removed}
+use Rattle.sf_keeps.proofs.SetsAt.{number_keys, path_keys, nat_eq_apart, some_found, inserted_at, value_at}
 use Rattle.sf_keeps.proofs.Sound.{HasNoEntry, IsBare}
-use Rattle.sf_keeps.proofs.Shown.{nat_same, same_path_itself, shows_object, shows_more}
+use Rattle.sf_keeps.proofs.Shown.{shows_object, shows_more}
 use Rattle.sf_keeps.proofs.Less.{is_named, is_opened, OthersUsed, IsClosed, kept_used, handle_there, handle_here, shows_less, shows_kept, shows_kept_used}
 
 -- ---- another object
 -- an object that is there after the change was there before
 pub object_before : (t : Tree) (label : ℕ) (o old : Object) → object_of t.objects label ≡ Some old → (l : ℕ) (u : Object) → object_of (changed t (SetObject label o)).objects l ≡ Some u → (v : Object) × (object_of t.objects l ≡ Some v)
 object_before t label o old there l u e =
-    elim (is_at (nat_cmp label) l) as (λ b. is_at (nat_cmp label) l ≡ b → cond b (Some o) (object_of t.objects l) ≡ Some u → (v : Object) × (object_of t.objects l ≡ Some v)) [
-      | true ↦ λ b f. (old, ap (object_of t.objects) (sym (nat_same label l b)) ∙ there)
-      | false ↦ λ b f. (u, f)
-    ] refl (sym (lookup-set nat_cmp nat_cmp_total t.objects label o l (subst (λ x. IsSome x) (sym there) refl)) ∙ e)
+    elim (some_found (value_at number_keys t.objects label old o there) l e) [
+      | inl a ↦ (old, ap (object_of t.objects) (sym a.0) ∙ there)
+      | inr a ↦ (u, a.1)
+    ]
 
 pub shows_set : (view : View) (t : Tree) → Shows view t → (d label : ℕ) (old o : Object) → view.shown d ≡ Some (label, old) → is_some (directory_metadata old) ≡ is_some (directory_metadata o)
     → Shows (with_shown view d (Some (label, o))) (changed t (SetObject label o))
@@ -40,9 +40,6 @@ shows_set view t h d label old o at kind = record {
 }
 
 -- ---- a new entry
-pub or_true : (a b : Bool) → a ≡ true → a || b ≡ true
-or_true a b e = ap (λ x. x || b) e
-
 pub or_grows : (a b c : Bool) → (a ≡ true → c ≡ true) → a || b ≡ true → c || b ≡ true
 or_grows true b c h e = ap (λ x. x || b) (h refl)
 or_grows false b true h e = refl
@@ -52,36 +49,27 @@ pub or_grows_right : (a b c : Bool) → (b ≡ true → c ≡ true) → a || b �
 or_grows_right true b c h e = refl
 or_grows_right false b c h e = h e
 
-pub or_right : (a b : Bool) → b ≡ true → a || b ≡ true
-or_right true b e = refl
-or_right false b e = e
-
 pub named_more : (t : Tree) (q : Path) (label l : ℕ) (o : Object) → T (is_sorted path_cmp t.names) → label_at t.names q ≡ None → is_named t l ≡ true → is_named (changed t (NewPath q label o)) l ≡ true
 named_more t q label l o sorted free any =
     let w = lookup_any path_cmp path_total (λ v. nat_eq v l) t.names sorted any in
     any_lookup path_cmp (λ v. nat_eq v l) (changed t (NewPath q label o)).names w.0 w.1
-    (lookup-put path_cmp path_total t.names q label w.0 ∙ elim (is_at (path_cmp w.0) q) as (λ b. is_at (path_cmp w.0) q ≡ b → cond b (Some label) (label_at t.names w.0) ≡ Some w.1) [
-      | true ↦ λ e. let same = same_path_is w.0 q e in let f = ap (label_at t.names) same in let g = w.2 in cc
-      | false ↦ λ e. w.2
-    ] refl) w.3
+    ((inserted_at path_keys t.names q label).beside w.0 (λ e. let f = ap (label_at t.names) e in let g = w.2 in cc) ∙ w.2) w.3
 
 new_named : (t : Tree) (q : Path) (label : ℕ) (o : Object) → is_named (changed t (NewPath q label o)) label ≡ true
 new_named t q label o = any_lookup path_cmp (λ v. nat_eq v label) (changed t (NewPath q label o)).names q label
-    (lookup-put path_cmp path_total t.names q label q ∙ ap (λ b. cond b (Some label) (label_at t.names q)) (same_path_itself q)) (eq-eqb label label refl)
+    (inserted_at path_keys t.names q label).at (eq-eqb label label refl)
 
 used_entry : (t : Tree) (q : Path) (label : ℕ) (o : Object) → T (is_sorted path_cmp t.names) → label_at t.names q ≡ None → AllUsed t → AllUsed (changed t (NewPath q label o))
 used_entry t q label o sorted free used l u e =
-    elim (is_at (nat_cmp l) label) as (λ b. is_at (nat_cmp l) label ≡ b → cond b (Some o) (object_of t.objects l) ≡ Some u → is_used (changed t (NewPath q label o)).names t.handles l ≡ true) [
-      | true ↦ λ b f. ap (λ (z : ℕ). is_used (changed t (NewPath q label o)).names t.handles z) (nat_same l label b) ∙ or_true _ _ (new_named t q label o)
-      | false ↦ λ b f. or_grows (is_named t l) (is_opened t l) (is_named (changed t (NewPath q label o)) l) (λ any. named_more t q label l o sorted free any) (used l u f)
-    ] refl (sym (lookup-put nat_cmp nat_cmp_total t.objects label o l) ∙ e)
+    elim (some_found (inserted_at number_keys t.objects label o) l e) [
+      | inl a ↦ ap (λ (z : ℕ). is_used (changed t (NewPath q label o)).names t.handles z) (sym a.0) ∙ or_left _ _ (new_named t q label o)
+      | inr a ↦ or_grows (is_named t l) (is_opened t l) (is_named (changed t (NewPath q label o)) l) (λ any. named_more t q label l o sorted free any) (used l u a.1)
+    ]
 
 module _ (view : View) (t : Tree) (h : Shows view t) where
   -- a path that goes on by a name leads to where the name leads
   pub one_more : (p : Path) (d : ℕ) (n : Name) → walk view.step view.root p ≡ Some d → walk view.step view.root (p ++ n ∷ []) ≡ view.step d n
-  one_more p d n at =
-      walk-append view.step view.root p (n ∷ []) ∙ ap (option_and_then (λ y. walk view.step y (n ∷ []))) at
-      ∙ elim (view.step d n) as (λ o. option_and_then (λ z. Some z) o ≡ o) [ None ↦ refl | Some z ↦ refl ]
+  one_more p d n at = walk-append view.step view.root p (n ∷ []) ∙ ap (option_and_then (λ y. walk view.step y (n ∷ []))) at ∙ to_it (view.step d n)
 
   pub free_name : (p : Path) (d : ℕ) (n : Name) → walk view.step view.root p ≡ Some d → view.step d n ≡ None → label_at t.names (p ++ n ∷ []) ≡ None
   free_name p d n at free = h.by.names (p ++ n ∷ []) ∙ ap (option_and_then (label_by view.shown)) (one_more p d n at ∙ free)
@@ -108,7 +96,7 @@ module _ (view : View) (t : Tree) (h : Shows view t) where
 
     others_less : OthersUsed less label
     others_less l u ne e =
-        ap (λ b. b || is_opened t l) (any-removed (λ v. nat_eq v l) (is_at (path_cmp (p ++ n ∷ []))) t.names label (label_there p d n c label o at there is) ne) ∙ h.used l u e
+        ap (λ b. b || is_opened t l) (any-removed (λ v. nat_eq v l) (is_at (path_cmp (p ++ n ∷ []))) t.names label (label_there p d n c label o at there is) (nat_eq_apart label l ne)) ∙ h.used l u e
 
     by_less : ShowsBy (with_step view d n None) less
     by_less = shows_less view t h.by p d n c h.ordered.names at there bare

@@ -151,10 +151,10 @@ module _ (route : Route) (at : Stage) (is : IsPosition route at) where
   }
 
 -- hand over hand
-pub moved_hands : (s : StoreState) (route : Route) (at after : Stage) (n node : ℕ) (x : Node) → IsPosition route at → IsPosition route after → node_in s.nodes node ≡ Some x
+pub moved_hands : (s : StoreState) {route : Route} {at after : Stage} (n node : ℕ) {x : Node} → IsPosition route at → IsPosition route after → node_in s.nodes node ≡ Some x
     → IsNodeOf (spots_of route after) node → ((l : ℕ) → IsNodeOf (spots_of route after) l → (l ≡ node) ⊎ (holder_of s.nodes l ≡ Some n))
     → HandsOver (holder_of s.nodes) (holder_of (handed_over n at after node s).nodes) n (spots_of route at) (spots_of route after)
-moved_hands s route at after n node x is after_is there now held =
+moved_hands s {route = route} {at = at} {after = after} n node {x = x} is after_is there now held =
     let held_node = edited (with_holder (Some n)) s node in
     record {
       here = λ l h. kept_held (nodes_of after) (nodes_of at) held_node l (node_there route after after_is l h) ∙ elim (same_or_not l node) [

@@ -83,20 +83,20 @@ module _ (s : StoreState) (t : Tree) (k : Keeps s t) (moment : ℕ) (old new : P
     | false ↦ posix_apart ways.path refl
   ] refl
 
-pub nowhere_stays : (s : StoreState) (t : Tree) → Keeps s t → (session number moment : ℕ) (r : Request) (ways : Ways) → IsLocated s r ways → ways.new ≡ located.NoWay → Stays (answer_to t session number moment r)
-nowhere_stays s t k session number moment (request.Rename old new) ways are none = rename_stays s t k moment old new ways are none
-nowhere_stays s t k session number moment (request.PosixRename old new) ways are none = posix_stays s t k moment old new ways are none
-nowhere_stays s t k session number moment (request.Stat p) ways are none = others_stay t session number moment (request.Stat p) (λ old new e. cc) (λ old new e. cc)
-nowhere_stays s t k session number moment (request.SetStat p attrs) ways are none = others_stay t session number moment (request.SetStat p attrs) (λ old new e. cc) (λ old new e. cc)
-nowhere_stays s t k session number moment (request.Mkdir p attrs) ways are none = others_stay t session number moment (request.Mkdir p attrs) (λ old new e. cc) (λ old new e. cc)
-nowhere_stays s t k session number moment (request.Rmdir p) ways are none = others_stay t session number moment (request.Rmdir p) (λ old new e. cc) (λ old new e. cc)
-nowhere_stays s t k session number moment (request.Remove p) ways are none = others_stay t session number moment (request.Remove p) (λ old new e. cc) (λ old new e. cc)
-nowhere_stays s t k session number moment (request.OpenDir p) ways are none = others_stay t session number moment (request.OpenDir p) (λ old new e. cc) (λ old new e. cc)
-nowhere_stays s t k session number moment (request.Open p flags attrs) ways are none = others_stay t session number moment (request.Open p flags attrs) (λ old new e. cc) (λ old new e. cc)
-nowhere_stays s t k session number moment (request.Close handle) ways are none = others_stay t session number moment (request.Close handle) (λ old new e. cc) (λ old new e. cc)
-nowhere_stays s t k session number moment (request.FStat handle) ways are none = others_stay t session number moment (request.FStat handle) (λ old new e. cc) (λ old new e. cc)
-nowhere_stays s t k session number moment (request.FSetStat handle attrs) ways are none = others_stay t session number moment (request.FSetStat handle attrs) (λ old new e. cc) (λ old new e. cc)
-nowhere_stays s t k session number moment (request.Read handle offset len) ways are none = others_stay t session number moment (request.Read handle offset len) (λ old new e. cc) (λ old new e. cc)
-nowhere_stays s t k session number moment (request.Write handle offset bytes) ways are none = others_stay t session number moment (request.Write handle offset bytes) (λ old new e. cc) (λ old new e. cc)
-nowhere_stays s t k session number moment (request.ReadDir handle) ways are none = others_stay t session number moment (request.ReadDir handle) (λ old new e. cc) (λ old new e. cc)
-nowhere_stays s t k session number moment (request.Link old new) ways are none = others_stay t session number moment (request.Link old new) (λ old new e. cc) (λ old new e. cc)
+pub nowhere_stays : {s : StoreState} {t : Tree} → Keeps s t → (session number moment : ℕ) (r : Request) (ways : Ways) → IsLocated s r ways → ways.new ≡ located.NoWay → Stays (answer_to t session number moment r)
+nowhere_stays {s = s} {t = t} k session number moment (request.Rename old new) ways are none = rename_stays s t k moment old new ways are none
+nowhere_stays {s = s} {t = t} k session number moment (request.PosixRename old new) ways are none = posix_stays s t k moment old new ways are none
+nowhere_stays {t = t} k session number moment (request.Stat p) ways are none = others_stay t session number moment (request.Stat p) (λ old new e. cc) (λ old new e. cc)
+nowhere_stays {t = t} k session number moment (request.SetStat p attrs) ways are none = others_stay t session number moment (request.SetStat p attrs) (λ old new e. cc) (λ old new e. cc)
+nowhere_stays {t = t} k session number moment (request.Mkdir p attrs) ways are none = others_stay t session number moment (request.Mkdir p attrs) (λ old new e. cc) (λ old new e. cc)
+nowhere_stays {t = t} k session number moment (request.Rmdir p) ways are none = others_stay t session number moment (request.Rmdir p) (λ old new e. cc) (λ old new e. cc)
+nowhere_stays {t = t} k session number moment (request.Remove p) ways are none = others_stay t session number moment (request.Remove p) (λ old new e. cc) (λ old new e. cc)
+nowhere_stays {t = t} k session number moment (request.OpenDir p) ways are none = others_stay t session number moment (request.OpenDir p) (λ old new e. cc) (λ old new e. cc)
+nowhere_stays {t = t} k session number moment (request.Open p flags attrs) ways are none = others_stay t session number moment (request.Open p flags attrs) (λ old new e. cc) (λ old new e. cc)
+nowhere_stays {t = t} k session number moment (request.Close handle) ways are none = others_stay t session number moment (request.Close handle) (λ old new e. cc) (λ old new e. cc)
+nowhere_stays {t = t} k session number moment (request.FStat handle) ways are none = others_stay t session number moment (request.FStat handle) (λ old new e. cc) (λ old new e. cc)
+nowhere_stays {t = t} k session number moment (request.FSetStat handle attrs) ways are none = others_stay t session number moment (request.FSetStat handle attrs) (λ old new e. cc) (λ old new e. cc)
+nowhere_stays {t = t} k session number moment (request.Read handle offset len) ways are none = others_stay t session number moment (request.Read handle offset len) (λ old new e. cc) (λ old new e. cc)
+nowhere_stays {t = t} k session number moment (request.Write handle offset bytes) ways are none = others_stay t session number moment (request.Write handle offset bytes) (λ old new e. cc) (λ old new e. cc)
+nowhere_stays {t = t} k session number moment (request.ReadDir handle) ways are none = others_stay t session number moment (request.ReadDir handle) (λ old new e. cc) (λ old new e. cc)
+nowhere_stays {t = t} k session number moment (request.Link old new) ways are none = others_stay t session number moment (request.Link old new) (λ old new e. cc) (λ old new e. cc)

@@ -148,7 +148,7 @@ module _ (t : Tree) (session number moment : ℕ) (path : Path) (flags : OpenFla
       let n = last_name_of path in
       let it : NewNode = record { label = number; file_type = file_type.File; metadata = metadata } in
       let made = changed t (NewPath (front ++ n ∷ []) number (File metadata [])) in
-      let put : Keeps did.mid made = keeps_inserted s did.mid t front dir n did.id it k did.inserted at d none fresh.label in
+      let put : Keeps did.mid made = keeps_inserted front it k did.inserted at d none fresh.label in
       let opens_it : Keeps (after_open did.mid session number did.id (marks_of flags)) (changed made (OpenHandle number (new_file_handle session number flags))) =
       keeps_opened did.mid made put session number did.id (marks_of flags) (new_node it) fresh.above fits fresh.handle did.inserted.at in
       let other : dir ≢ did.id = λ same. (let w = shown_directory s.nodes dir d in let gone = ap (node_in s.nodes) same ∙ did.inserted.fresh in let nothing = ap (option_map shown_node) gone in let x : ⊥ = cc (w.1.1) in x) in

@@ -116,7 +116,7 @@ make_served old new t p number h fresh m =
     let is : p ≡ r ++ n ∷ [] = f.1.2 in
     let put = subst (λ (x : Name). Inserted mid made (new_entry dir x m.id) (new_node it)) (ap last_name_of is ∙ last_is r n) m.inserted in
     let u = changed t (NewPath (r ++ n ∷ []) it.label (object_in it.metadata (new_content it.file_type))) in
-    let kept : Keeps made u = keeps_inserted mid made t r dir n m.id it k put f.1.3 f.1.5 f.1.4 (ap (object_of t.objects) m.label ∙ fresh) in
+    let kept : Keeps made u = keeps_inserted r it k put f.1.3 f.1.5 f.1.4 (ap (object_of t.objects) m.label ∙ fresh) in
     let other : dir ≢ m.id = λ same. (let w = shown_directory mid.nodes dir f.1.5 in let gone = ap (node_in mid.nodes) same ∙ put.fresh in let none = ap (option_map shown_node) gone in let x : ⊥ = cc (w.1.1) in x) in
     let touched_dir = edited (with_metadata (modified_at moment)) made dir in
     let after : Keeps touched_dir (done u (touched t moment (parent (r ++ n ∷ [])))) =
@@ -149,7 +149,7 @@ goes_served s new t p h o =
           let r = f.0 in
           let n = f.1 in
           let is : p ≡ r ++ n ∷ [] = f.2 in
-          let kept : Keeps (unlinked s dir n) (changed t (GonePath (r ++ n ∷ []))) = keeps_unlinked s t r dir n o.node h f.3 f.4 o.bare in
+          let kept : Keeps (unlinked s dir n) (changed t (GonePath (r ++ n ∷ []))) = keeps_unlinked r n h f.3 f.4 o.bare in
           let other : child_of s.nodes dir n ≢ Some dir = λ own. (let same : dir ≡ o.node = (let g = f.4 in cc) in let none = bare_above s.nodes dir n (ap (is_bare_at s.nodes) same ∙ o.bare) in let x : ⊥ = cc in x) in
           let after : Keeps (edited (with_metadata (modified_at moment)) (unlinked s dir n) dir) (done (changed t (GonePath (r ++ n ∷ []))) (touched t moment (parent (r ++ n ∷ [])))) =
           touches s (unlinked s dir n) t (changed t (GonePath (r ++ n ∷ []))) (record { above = r; name = n; node = dir; leads = f.3; directory = has_entry s.nodes dir n o.node f.4 }) moment h kept (unlinked_alike s dir n dir other).0 in

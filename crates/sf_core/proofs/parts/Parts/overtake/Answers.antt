@@ -65,6 +65,6 @@ pub returns-in-NoWay-clause-helped : goal.returns-in-NoWay-clause-helped
 returns-in-NoWay-clause-helped c = λ d at same t keeps.
     let p = c.args.self.now in (
       [],
-      ap (overtaken p.calls d.number) (sym (nowhere_stays p.store t keeps d.session d.number d.moment d.request c.args.ways (c.requires.located d at) c.in-NoWay.is)),
+      ap (overtaken p.calls d.number) (sym (nowhere_stays keeps d.session d.number d.moment d.request c.args.ways (c.requires.located d at) c.in-NoWay.is)),
       refl,
     )
