@@ -9,7 +9,7 @@ use Rattle.sf_session.specs.Sessions.{SessionView}
 use Rattle.sf_engine.specs.Worlds.{Phase, Gone as Left, SessionState}
 use Rattle.sf_serving.specs.Ends.{IsWhole}
 use Rattle.sf_serving.specs.Hosts.{IsLeftFor}
-use Rattle.sf_serving.specs.Serving.{LineView, Progress, Serves, IsServed, HasWrittenFor, IsSpentFor, IsStopped, IsStop}
+use Rattle.sf_serving.specs.Serving.{LineView, Progress, Serves, IsServed, HasWrittenFor, IsStopped, IsStop}
 use Rattle.sf_pool.specs.declared.at_desk.Standing.{Standing}
 use Rattle.sf_pool.specs.declared.at_desk.Standing.TheVariants as standing
 use Rattle.sf_pool.specs.Desks.{Gone, DeskView}
@@ -23,16 +23,16 @@ not_in_call : (f : Phase) (cause : Cause) → f ≡ Left cause → IsInCall f �
 not_in_call f cause e h = let no : IsInCall (Left cause) = subst (λ (x : Phase). IsInCall x) e h in no
 
 -- a session that was served to its end has left
-leaves_gone : (at : Standing) (d : DeskView) (t : SessionState) (cause : Cause) (old new : ℕ) → IsOver at d None → IsCounted at d t → IsWhole t cause → IsAdded at old new → (d.place ≡ Gone) × IsShared (length (state_calls t)) old new
-leaves_gone standing.UnderWay d t cause old new over counts whole added = absurd (not_in_call t.phase cause whole.left counts)
-leaves_gone standing.Strange d t cause old new over counts whole added = let no : None ≡ Some fault.Stranger = over.0 in absurd (cc)
-leaves_gone (standing.Left share) d t cause old new over counts whole added = (over.1, shared_by share (length (state_calls t)) old new counts added)
-leaves_gone at d t cause old new over counts whole added = absurd over
+leaves_gone : (at : Standing) (d : DeskView) {t : SessionState} {cause : Cause} (old new : ℕ) → IsOver at d None → IsCounted at d t → IsWhole t cause → IsAdded at old new → (d.place ≡ Gone) × IsShared (length (state_calls t)) old new
+leaves_gone standing.UnderWay d {t = t} {cause = cause} old new over counts whole added = absurd (not_in_call t.phase cause whole.left counts)
+leaves_gone standing.Strange d old new over counts whole added = let no : None ≡ Some fault.Stranger = over.0 in absurd (cc)
+leaves_gone (standing.Left share) d {t = t} old new over counts whole added = (over.1, shared_by share (length (state_calls t)) old new counts added)
+leaves_gone at d old new over counts whole added = absurd over
 
-pub leaves_served : (start now : DeskScene) (from line : LineView) (at : Standing) (v : SessionView) (cause : Cause) (old new : ℕ) → IsOver at now.desk None → IsAdded at old new → Serves (IsToldAt start at v now) from line (IsServed line.incoming cause)
-    → Serves (NotesCalls start now) from line (λ p. ((c : Cause) × IsServed line.incoming c p) × (now.desk.place ≡ Gone) × IsShared (length (state_calls p.told)) old new)
-leaves_served start now from line at v cause old new over added serves =
-    let left = leaves_gone at now.desk serves.0.told cause old new over serves.1.counts serves.3.whole added in
+pub leaves_served : {held : ℕ} {start now : DeskScene} {from line : LineView} {at : Standing} {v : SessionView} {cause : Cause} (old new : ℕ) → IsOver at now.desk None → IsAdded at old new → Serves held (IsToldAt start at v now) from line (IsServed line.incoming cause)
+    → Serves held (NotesCalls start now) from line (λ p. ((c : Cause) × IsServed line.incoming c p) × (now.desk.place ≡ Gone) × IsShared (length (state_calls p.told)) old new)
+leaves_served {now = now} {at = at} {cause = cause} old new over added serves =
+    let left = leaves_gone at now.desk old new over serves.1.counts serves.3.whole added in
     (serves.0, serves.1.notes, serves.2, ((cause, serves.3), left.0, left.1))
 
 -- after a fault it has left, too, or its call is under way
@@ -55,16 +55,17 @@ strange_left standing.Strange d old new is (inl h) added = (h.1, added)
 strange_left standing.Strange d old new is (inr h) added = (h.1, added)
 strange_left at d old new is left added = absurd is
 
-leaves_for : (at : Standing) (d : DeskView) (f : ServeFault) (p : Progress) (failed failed' old new : ℕ) → IsLeftFor (IsOver at d) f → IsCounted at d p.told → IsStop f failed failed' (IsStrange at) → IsSpentFor f d.steps p → IsAdded at old new → LeavesFor f d p old new
-leaves_for at d fault.Sessions p failed failed' old new left counts why spent added = absurd why
-leaves_for at d fault.Stranger p failed failed' old new left counts why spent added = strange_left at d old new why left added
-leaves_for at d fault.NumbersSpent p failed failed' old new left counts why spent added = (left_none at d p.told old new (over_none at d fault.NumbersSpent (λ e. cc) left) counts added, spent)
-leaves_for at d f p failed failed' old new left counts why spent added = left_none at d p.told old new (over_none at d f (λ e. cc) left) counts added
+leaves_for : {start now : DeskScene} {at : Standing} {v : SessionView} (f : ServeFault) {p : Progress} {failed failed' : ℕ} (old new : ℕ) → IsLeftFor (IsOver at now.desk) f → IsStop f failed failed' (IsStrange at) → IsAdded at old new
+    → IsToldAt start at v now p.told → IsStopped f failed failed' now.desk.steps p → LeavesFor f now.desk p old new
+leaves_for fault.Sessions old new left why added tells stops = absurd why
+leaves_for {now = now} {at = at} fault.Stranger old new left why added tells stops = strange_left at now.desk old new why left added
+leaves_for {now = now} {at = at} fault.NumbersSpent {p = p} old new left why added tells stops =
+    (left_none at now.desk p.told old new (over_none at now.desk fault.NumbersSpent (λ e. cc) left) tells.counts added, stops.spent)
+leaves_for {now = now} {at = at} f {p = p} old new left why added tells stops = left_none at now.desk p.told old new (over_none at now.desk f (λ e. cc) left) tells.counts added
 
-pub leaves_stopped : (start now : DeskScene) (from line : LineView) (at : Standing) (v : SessionView) (f : ServeFault) (failed failed' old new : ℕ) → IsLeftFor (IsOver at now.desk) f → IsStop f failed failed' (IsStrange at) → IsAdded at old new
-    → Serves (IsToldAt start at v now) from line (IsStopped f failed failed' now.desk.steps) → Serves (NotesCalls start now) from line (λ p. HasWrittenFor f failed failed' p × LeavesFor f now.desk p old new)
-leaves_stopped start now from line at v f failed failed' old new left why added serves =
-    (serves.0, serves.1.notes, serves.2, (serves.3.written, leaves_for at now.desk f serves.0 failed failed' old new left serves.1.counts why serves.3.spent added))
+pub leaves_stopped : {held : ℕ} {start now : DeskScene} {from line : LineView} {at : Standing} {v : SessionView} (f : ServeFault) {failed failed' : ℕ} (old new : ℕ) → IsLeftFor (IsOver at now.desk) f → IsStop f failed failed' (IsStrange at) → IsAdded at old new
+    → Serves held (IsToldAt start at v now) from line (IsStopped f failed failed' now.desk.steps) → Serves held (NotesCalls start now) from line (λ p. HasWrittenFor f failed failed' p × LeavesFor f now.desk p old new)
+leaves_stopped f old new left why added serves = (serves.0, serves.1.notes, serves.2, (serves.3.written, leaves_for f old new left why added serves.1 serves.3))
 
 pub desk_fault : (f : ServeFault) (failed failed' : ℕ) (s : Type 0) → IsStop f failed failed' s → IsDeskFault f failed failed'
 desk_fault fault.Line failed failed' s h = h

@@ -1,5 +1,5 @@
 -- What happens to a session at a desk: it joins, is fed, is answered, and ends.
-use Rattle.std.proofs.Common.{◌≡◌, ◌<◌, ℕ, ◌+◌, List, [], ◌∷◌, ◌++◌, Bool, true, false, Option, Some, None, Result, Ok, Err, map, length, drop, refl, ap, sym, ◌∙◌, subst, inl, inr, append-nil, append_assoc, length-append, arith}
+use Rattle.std.proofs.Common.{◌≡◌, ◌<◌, ◌≤◌, ℕ, ◌+◌, List, [], ◌∷◌, ◌++◌, Bool, true, false, Option, Some, None, Result, Ok, Err, map, length, drop, refl, ap, sym, ◌∙◌, subst, inl, inr, append-nil, append_assoc, length-append, arith}
 use Rattle.std.specs.List.{flat_map}
 use Rattle.std.specs.Io.KnownBytes.{Appends}
 use Rattle.std.proofs.KnownBytes.{Appends-nil, Appends-trans}
@@ -9,6 +9,7 @@ use Rattle.sf_field.specs.Fields.{packet}
 use Rattle.sf_wire.specs.declared.cutting.Cut.TheVariants as cut
 use Rattle.sf_wire.specs.Packets.{IsBody, IsCut}
 use Rattle.sf_call.specs.declared.request.Request.{Request}
+use Rattle.sf_call.specs.ReplyKinds.{longest_packet}
 use Rattle.sf_session.specs.declared.asking.Ask.{Ask}
 use Rattle.sf_session.specs.declared.asking.Ask.TheVariants as ask
 use Rattle.sf_session.specs.declared.cause.Cause.{Cause}
@@ -18,12 +19,12 @@ use Rattle.sf_session.specs.Asking.{AsksFor}
 use Rattle.sf_session.specs.Sessions.{SessionView, Begins, NextGives, LocalPacket, EndsBy, new_session}
 use Rattle.sf_engine.specs.Worlds.{Response, Version, Locally, ByCall, ask_behind, packet_for, transcript, Phase, Resting as AtRest, UnderWay as InCall, Decided, Gone as Left, SessionState, new_state}
 use Rattle.sf_engine.specs.Traces.{has_begun, fed, closed_now}
-use Rattle.sf_engine.specs.Laws.{pending, asks_of, AreAsked, IsRest, IsRead}
+use Rattle.sf_engine.specs.Laws.{pending, asks_of, AreAsked, IsRest, IsRead, HasShortPacket}
 use Rattle.sf_engine.proofs.Laws.{all_push, begun_is, begun_push, asked_push}
 use Rattle.sf_serving.specs.declared.host.Went.{Went}
 use Rattle.sf_serving.specs.declared.host.Went.TheVariants as went
-use Rattle.sf_serving.specs.Hosts.{IsOpen, HasSent, HoldsFew, IsFurther, WentTo, with_sent, ended}
-use Rattle.sf_serving.proofs.Laws.{transcript_append, none_written, front_all, rest_asked, rest_stream, ended_same, not_closed, few_sent, few_more}
+use Rattle.sf_serving.specs.Hosts.{IsOpen, HasSent, IsBatch, IsFurther, WentTo, with_sent, ended}
+use Rattle.sf_serving.proofs.Laws.{transcript_append, none_written, one_packet, front_all, rest_asked, rest_stream, ended_same, not_closed, batch_none, batch_one}
 use Rattle.sf_audit.specs.Audits.{CallRecord}
 use Rattle.sf_pool.specs.declared.calling.Stop.{Stop}
 use Rattle.sf_pool.specs.declared.calling.Stop.TheVariants as stop
@@ -31,7 +32,7 @@ use Rattle.sf_pool.specs.declared.desk.Begin.{Begin}
 use Rattle.sf_pool.specs.declared.at_desk.Standing.{Standing}
 use Rattle.sf_pool.specs.declared.at_desk.Standing.TheVariants as standing
 use Rattle.sf_pool.specs.Desks.{IsResting, DeskView, Notes, counted}
-use Rattle.sf_pool.specs.Scenes.{DeskScene, desk_scene, response_calls, phase_calls, state_calls, Attempt, attempt_of, answer_attempts, phase_attempts, attempts_told, BeginsCalls}
+use Rattle.sf_pool.specs.Scenes.{DeskScene, desk_scene, desk_held, response_calls, phase_calls, state_calls, Attempt, attempt_of, answer_attempts, phase_attempts, attempts_told, BeginsCalls}
 use Rattle.sf_pool.specs.AtDesks.{standing_fault, MakesCall, talk, begun_by, FailsCall, IsCounted, share_of, IsToldAt, IsInCall, standing_after, stop_fault}
 
 -- ---- lists
@@ -49,19 +50,15 @@ notes_more (Some x) (Some y) (Some z) xs ys p q = q ∙ ap (λ l. l ++ ys) p ∙
 begins_none : (tl : Option (List ℕ)) (b : Option (List Begin)) → BeginsCalls tl tl b b []
 begins_none tl b = ([], notes_none b, Appends-nil tl, refl)
 
-begins_more : (tl tl1 tl2 : Option (List ℕ)) (b b1 b2 : Option (List Begin)) (xs ys : List Attempt) → BeginsCalls tl tl1 b b1 xs → BeginsCalls tl1 tl2 b1 b2 ys → BeginsCalls tl tl2 b b2 (xs ++ ys)
-begins_more tl tl1 tl2 b b1 b2 xs ys p q =
+begins_more : (x y z : DeskScene) {xs ys : List Attempt} → BeginsCalls x.told y.told x.begins y.begins xs → BeginsCalls y.told z.told y.begins z.begins ys → BeginsCalls x.told z.told x.begins z.begins (xs ++ ys)
+begins_more x y z {xs = xs} p q =
     let moment_of : Begin → ℕ = λ x. x.moment in
     let moments = map-append moment_of p.0 q.0 in (
       p.0 ++ q.0,
-      notes_more b b1 b2 p.0 q.0 p.1 q.1,
-      subst (λ (l : List ℕ). Appends tl tl2 l) (sym moments) (Appends-trans tl tl1 tl2 (map moment_of p.0) (map moment_of q.0) p.2 q.2),
+      notes_more x.begins y.begins z.begins p.0 q.0 p.1 q.1,
+      subst (λ (l : List ℕ). Appends x.told z.told l) (sym moments) (Appends-trans x.told y.told z.told (map moment_of p.0) (map moment_of q.0) p.2 q.2),
       map-append attempt_of p.0 q.0 ∙ ap (λ (l : List Attempt). l ++ map attempt_of q.0) p.3 ∙ ap (λ (l : List Attempt). xs ++ l) q.3,
     )
-
-one_packet : (a : Response) → transcript (a ∷ []) ≡ packet_for a
-unfolding transcript
-one_packet a = append-nil (packet_for a)
 
 -- ---- a session at rest
 
@@ -73,8 +70,8 @@ rest_attempts t at = ap (λ (f : Phase). flat_map answer_attempts t.answers ++ p
 
 -- ---- it joins
 
-pub told_new : (start : DeskScene) (d : DeskView) (b : Option (List Begin)) (at : Standing) (v : SessionView) → b ≡ start.begins → d.calls ≡ start.desk.calls → d.begun ≡ 0 → v ≡ new_session → at ≡ standing.Joined → IsToldAt start at v (desk_scene d b start.told) new_state
-told_new start d b at v none same zero new joins = subst (λ (s : Standing). IsToldAt start s v (desk_scene d b start.told) new_state) (sym joins) (record {
+pub told_new : {start : DeskScene} {d : DeskView} {b : Option (List Begin)} {at : Standing} {v : SessionView} → b ≡ start.begins → d.calls ≡ start.desk.calls → d.begun ≡ 0 → v ≡ new_session → at ≡ standing.Joined → IsToldAt start at v (desk_scene d b start.told) new_state
+told_new {start = start} {d = d} {b = b} {v = v} none same zero new joins = subst (λ (s : Standing). IsToldAt start s v (desk_scene d b start.told) new_state) (sym joins) (record {
   notes = record {
     noted = subst (λ (c : Option (List CallRecord)). Notes start.desk.calls c []) (sym same) (notes_none start.desk.calls);
     asked = subst (λ (x : Option (List Begin)). BeginsCalls start.told start.told start.begins x []) (sym none) (begins_none start.told start.begins);
@@ -92,8 +89,8 @@ counts_same standing.UnderWay d t t' same to h = to h
 counts_same standing.Strange d t t' same to h = tt
 counts_same at d t t' same to h = h ∙ ap (λ (l : List CallRecord). share_of (length l)) (sym same)
 
-pub told_fed : (start now : DeskScene) (at : Standing) (v w : SessionView) (t : SessionState) (bytes : List ℕ) → IsToldAt start at v now t → IsOpen t → w ≡ record v { unread = v.unread ++ bytes } → IsToldAt start at w now (fed t bytes)
-told_fed start now at v w t bytes h is_open is =
+pub told_fed : {start now : DeskScene} {at : Standing} {v w : SessionView} {t : SessionState} (bytes : List ℕ) → IsToldAt start at v now t → IsOpen t → w ≡ record v { unread = v.unread ++ bytes } → IsToldAt start at w now (fed t bytes)
+told_fed {now = now} {at = at} {t = t} bytes h is_open is =
     let s = h.stands is_open.rests in
     record {
       notes = record { noted = h.notes.noted; asked = h.notes.asked };
@@ -110,8 +107,8 @@ drop_whole : (xs : List ℕ) → drop (length xs) xs ≡ []
 drop_whole [] = refl
 drop_whole (x ∷ xs) = drop_whole xs
 
-pub told_sent : (start now : DeskScene) (at : Standing) (v w : SessionView) (t : SessionState) (n : ℕ) → IsToldAt start at v now t → n ≡ length v.output → w ≡ record v { output = drop n v.output } → IsToldAt start at w now (with_sent t)
-told_sent start now at v w t n h count is =
+pub told_sent : {start now : DeskScene} {at : Standing} {v w : SessionView} {t : SessionState} {n : ℕ} → IsToldAt start at v now t → n ≡ length v.output → w ≡ record v { output = drop n v.output } → IsToldAt start at w now (with_sent t)
+told_sent {now = now} {at = at} {v = v} {w = w} {t = t} h count is =
     let none : w.output ≡ [] = ap (λ (x : SessionView). x.output) is ∙ ap (λ (k : ℕ). drop k v.output) count ∙ drop_whole v.output in
     record {
       notes = record { noted = h.notes.noted; asked = h.notes.asked };
@@ -123,8 +120,8 @@ told_sent start now at v w t n h count is =
     }
 
 -- a desk that rests is where it was
-pub told_still : (start : DeskScene) (at : Standing) (v : SessionView) (d d' : DeskView) (b b' : Option (List Begin)) (tl : Option (List ℕ)) (t : SessionState) → d' ≡ d → b' ≡ b → IsToldAt start at v (desk_scene d b tl) t → IsToldAt start at v (desk_scene d' b' tl) t
-told_still start at v d d' b b' tl t p q h =
+pub told_still : {start : DeskScene} {at : Standing} {v : SessionView} {d d' : DeskView} {b b' : Option (List Begin)} {tl : Option (List ℕ)} {t : SessionState} → d' ≡ d → b' ≡ b → IsToldAt start at v (desk_scene d b tl) t → IsToldAt start at v (desk_scene d' b' tl) t
+told_still {start = start} {at = at} {v = v} {d' = d'} {b = b} {tl = tl} {t = t} p q h =
     subst (λ (x : Option (List Begin)). IsToldAt start at v (desk_scene d' x tl) t) (sym q) (subst (λ (x : DeskView). IsToldAt start at v (desk_scene x b tl) t) (sym p) h)
 
 -- ---- it ends
@@ -146,9 +143,9 @@ never_rests t AtRest at e = cc
 never_rests t f at e = let no : f ≡ AtRest = sym at ∙ e in cc
 
 -- it stands otherwise, or as it did
-pub told_ended : (start : DeskScene) (at at' : Standing) (v : SessionView) (d d' : DeskView) (b b' : Option (List Begin)) (tl : Option (List ℕ)) (t : SessionState) → IsToldAt start at v (desk_scene d b tl) t → d'.calls ≡ d.calls → b' ≡ b
+pub told_ended : {start : DeskScene} {at at' : Standing} {v : SessionView} {d d' : DeskView} {b b' : Option (List Begin)} {tl : Option (List ℕ)} {t : SessionState} → IsToldAt start at v (desk_scene d b tl) t → d'.calls ≡ d.calls → b' ≡ b
     → (IsCounted at d t → IsCounted at' d' t) → IsToldAt start at' v (desk_scene d' b' tl) (ended t)
-told_ended start at at' v d d' b b' tl t h calls begins count =
+told_ended {start = start} {at' = at'} {v = v} {d' = d'} {b' = b'} {tl = tl} {t = t} h calls begins count =
     let same = ended_same t in
     let noted : Notes start.desk.calls d'.calls (state_calls t) = subst (λ (c : Option (List CallRecord)). Notes start.desk.calls c (state_calls t)) (sym calls) h.notes.noted in
     let asked : BeginsCalls start.told tl start.begins b' (attempts_told t) = subst (λ (x : Option (List Begin)). BeginsCalls start.told tl start.begins x (attempts_told t)) (sym begins) h.notes.asked in
@@ -166,7 +163,7 @@ told_ended start at at' v d d' b b' tl t h calls begins count =
 
 -- what its host's contract asks of going on
 abbrev pub Goes : DeskScene → Standing → SessionView → DeskScene → Result Went ServeFault → SessionState → Type 0
-Goes start at v now r t = (t' : SessionState) × IsToldAt start at v now t' × IsFurther t t' × WentTo r t t'
+Goes start at v now r t = (t' : SessionState) × IsToldAt start at v now t' × IsFurther desk_held t t' × WentTo r t t'
 
 -- a session that its host lets go on
 pub record MayGo (start now : DeskScene) (v : SessionView) (t : SessionState) : Type 0 where
@@ -175,19 +172,19 @@ pub record MayGo (start now : DeskScene) (v : SessionView) (t : SessionState) : 
   pub read : IsRead t
   pub sent : HasSent t
 
-further_none : (t : SessionState) → IsRead t → HasSent t → IsFurther t t
-further_none t read sent = record { stream = refl; sent = refl; bodies = front_all t.bodies; answers = front_all t.answers; few = few_sent t sent; read = read }
+further_none : (t : SessionState) → IsRead t → IsFurther desk_held t t
+further_none t read = record { stream = refl; sent = refl; bodies = front_all t.bodies; answers = ([], sym (append-nil t.answers)); batch = batch_none; read = read }
 
 -- a host that stops at once
-pub goes_not : (start now : DeskScene) (at : Standing) (v w : SessionView) (f : ServeFault) (t : SessionState) → IsToldAt start at v now t → IsRead t → HasSent t → w ≡ v → Goes start at w now (Err f) t
-goes_not start now at v w f t h read sent same = (t, subst (λ (x : SessionView). IsToldAt start at x now t) (sym same) h, further_none t read sent, tt)
+pub goes_not : {start now : DeskScene} {at : Standing} {v w : SessionView} (f : ServeFault) {t : SessionState} → IsToldAt start at v now t → IsRead t → HasSent t → w ≡ v → Goes start at w now (Err f) t
+goes_not {start = start} {now = now} {at = at} f {t = t} h read sent same = (t, subst (λ (x : SessionView). IsToldAt start at x now t) (sym same) h, further_none t read, tt)
 
 -- no whole packet is unread
-pub goes_more : (start now : DeskScene) (at : Standing) (v w : SessionView) (t : SessionState) → IsToldAt start at v now t → IsOpen t → IsRead t → HasSent t → NextGives v next.More w → Goes start at w now (Ok went.Waits) t
-goes_more start now at v w t h is_open read sent gives = (
+pub goes_more : {start now : DeskScene} {at : Standing} {v w : SessionView} {t : SessionState} → IsToldAt start at v now t → IsOpen t → IsRead t → HasSent t → NextGives v next.More w → Goes start at w now (Ok went.Waits) t
+goes_more {start = start} {now = now} {at = at} {t = t} h is_open read sent gives = (
   t,
   subst (λ (x : SessionView). IsToldAt start at x now t) (sym gives.2) h,
-  further_none t read sent,
+  further_none t read,
   (is_open, subst (λ (b : List ℕ). IsCut b cut.More) (h.stands is_open.rests).unread gives.1),
 )
 
@@ -204,8 +201,8 @@ ends_output : (v w : SessionView) (cause : Cause) → NextGives v (next.Ended ca
 ends_output v w cause (inl h) = ap (λ (x : SessionView). x.output) h.1
 ends_output v w cause (inr h) = ap (λ (x : SessionView). x.output) h.2
 
-pub goes_ended : (start now : DeskScene) (v w : SessionView) (cause : Cause) (t : SessionState) → MayGo start now v t → NextGives v (next.Ended cause) w → Goes start standing.Joined w now (Ok (went.Ended cause)) t
-goes_ended start now v w cause t go gives =
+pub goes_ended : {start now : DeskScene} {v w : SessionView} {cause : Cause} {t : SessionState} → MayGo start now v t → NextGives v (next.Ended cause) w → Goes start standing.Joined w now (Ok (went.Ended cause)) t
+goes_ended {start = start} {now = now} {v = v} {w = w} {cause = cause} {t = t} go gives =
     let record { told = h; is_open = is_open; read = read; sent = sent } = go in
     let at = is_open.rests in
     let s = h.stands at in
@@ -229,8 +226,8 @@ goes_ended start now v w cause t go gives =
         stream = refl;
         sent = refl;
         bodies = front_all t.bodies;
-        answers = front_all t.answers;
-        few = few_sent t sent;
+        answers = ([], sym (append-nil t.answers));
+        batch = batch_none;
         read = record {
           rest = t.unread;
           are_bodies = read.are_bodies;
@@ -276,11 +273,11 @@ abbrev after_body : SessionState → List ℕ → List ℕ → List Response →
 after_body t body rest more f = record t { unread = rest; bodies = t.bodies ++ body ∷ []; answers = t.answers ++ more; phase = f }
 
 -- a body more was read
-goes_body : (start now now' : DeskScene) (at : Standing) (v w : SessionView) (t : SessionState) (asked : Ask) (more : List Response) (f : Phase) (r : Result Went ServeFault) → MayGo start now v t → (b : Body t asked) → Noted now now' asked more f
-    → w ≡ record w { unread = b.rest; output = v.output ++ transcript more; begun = true; ended = None } → HoldsFew (after_body t b.body b.rest more f)
+goes_body : {start now now' : DeskScene} {at : Standing} {v w : SessionView} {t : SessionState} {asked : Ask} {more : List Response} {f : Phase} (r : Result Went ServeFault) → MayGo start now v t → (b : Body t asked) → Noted now now' asked more f
+    → w ≡ record w { unread = b.rest; output = v.output ++ transcript more; begun = true; ended = None } → IsBatch desk_held more
     → ((k : ℕ) → now.desk.begun ≡ share_of k → length (state_calls (after_body t b.body b.rest more f)) ≡ k + length (flat_map response_calls more ++ phase_calls f) → IsCounted at now'.desk (after_body t b.body b.rest more f))
     → WentTo r t (after_body t b.body b.rest more f) → Goes start at w now' r t
-goes_body start now now' at v w t asked more f r go b n shows few counts to =
+goes_body {start = start} {now = now} {now' = now'} {v = v} {t = t} {asked = asked} {more = more} {f = f} r go b n shows batch counts to =
     let h = go.told in
     let rests = go.is_open.rests in
     let t' = after_body t b.body b.rest more f in
@@ -302,7 +299,7 @@ goes_body start now now' at v w t asked more f r go b n shows few counts to =
         notes = record {
           noted = subst (λ (l : List CallRecord). Notes start.desk.calls now'.desk.calls l) same_calls (notes_more start.desk.calls now.desk.calls now'.desk.calls calls (flat_map response_calls more ++ phase_calls f) noted n.noted);
           asked = subst (λ (l : List Attempt). BeginsCalls start.told now'.told start.begins now'.begins l) same_attempts
-              (begins_more start.told now.told now'.told start.begins now.begins now'.begins attempts (flat_map answer_attempts more ++ phase_attempts f) begun n.begins);
+              (begins_more start now now' begun n.begins);
         };
         stands = λ e. record { unread = ap (λ (x : SessionView). x.unread) shows; begun = ap (λ (x : SessionView). x.begun) shows ∙ sym (begun_push t.bodies b.body); ended = ap (λ (x : SessionView). x.ended) shows };
         waits = transcript_append t.answers more ∙ ap (λ (x : List ℕ). x ++ transcript more) h.waits ∙ append_assoc t.sent v.output (transcript more) ∙ ap (λ (x : SessionView). t.sent ++ x.output) (sym shows);
@@ -313,7 +310,7 @@ goes_body start now now' at v w t asked more f r go b n shows few counts to =
         sent = refl;
         bodies = (b.body ∷ [], refl);
         answers = (more, refl);
-        few = few;
+        batch = batch;
         read = record {
           rest = b.rest;
           are_bodies = all_push IsBody t.bodies b.body go.read.are_bodies b.is_body;
@@ -337,9 +334,9 @@ one_longer : {A : Type 0} (xs : List A) (x : A) → length xs < length (xs ++ x 
 one_longer xs x = omega (arith, length-append xs (x ∷ []))
 
 -- a body asked for this, and was answered so: its output follows
-goes_answered : (start now now' : DeskScene) (v w : SessionView) (t : SessionState) (a : Response) → MayGo start now v t → (b : Body t (ask_behind a)) → w ≡ record w { unread = b.rest; output = v.output ++ packet_for a; begun = true; ended = None }
-    → Notes now.desk.calls now'.desk.calls (response_calls a) → BeginsCalls now.told now'.told now.begins now'.begins (answer_attempts a) → now'.desk.begun ≡ begun_by a now.desk.begun → Goes start standing.Joined w now' (Ok went.Answered) t
-goes_answered start now now' v w t a go b shows notes begins count =
+goes_answered : {start now now' : DeskScene} {v w : SessionView} {t : SessionState} (a : Response) → MayGo start now v t → (b : Body t (ask_behind a)) → w ≡ record w { unread = b.rest; output = v.output ++ packet_for a; begun = true; ended = None }
+    → Notes now.desk.calls now'.desk.calls (response_calls a) → BeginsCalls now.told now'.told now.begins now'.begins (answer_attempts a) → now'.desk.begun ≡ begun_by a now.desk.begun → HasShortPacket a → Goes start standing.Joined w now' (Ok went.Answered) t
+goes_answered {now = now} {now' = now'} {v = v} {w = w} {t = t} a go b shows notes begins count short =
     let t' = after_body t b.body b.rest (a ∷ []) AtRest in
     let calls : response_calls a ≡ flat_map response_calls (a ∷ []) ++ [] = sym (append-nil (flat_map response_calls (a ∷ [])) ∙ append-nil (response_calls a)) in
     let attempts : answer_attempts a ≡ flat_map answer_attempts (a ∷ []) ++ [] = sym (append-nil (flat_map answer_attempts (a ∷ [])) ∙ append-nil (answer_attempts a)) in
@@ -349,9 +346,8 @@ goes_answered start now now' v w t a go b shows notes begins count =
       noted = subst (λ (l : List CallRecord). Notes now.desk.calls now'.desk.calls l) calls notes;
       begins = subst (λ (l : List Attempt). BeginsCalls now.told now'.told now.begins now'.begins l) attempts begins;
     } in
-    let little : length (transcript t.answers) < length t.sent + 65536 = omega (arith, ap (λ (x : List ℕ). length x) go.sent) in
-    goes_body start now now' standing.Joined v w t (ask_behind a) (a ∷ []) AtRest (Ok went.Answered) go b n (subst (λ (x : List ℕ). w ≡ record w { unread = b.rest; output = v.output ++ x; begun = true; ended = None }) (sym (one_packet a)) shows)
-    (few_more t t' a refl refl little)
+    goes_body (Ok went.Answered) go b n (subst (λ (x : List ℕ). w ≡ record w { unread = b.rest; output = v.output ++ x; begun = true; ended = None }) (sym (one_packet a)) shows)
+    (batch_one a short)
     (λ k begun sum. count ∙ begun_more a now.desk.begun k begun ∙ ap share_of (ap (λ (l : List CallRecord). k + length l) calls ∙ sym sum))
     (record { rests = refl; closed = go.is_open.closed }, one_longer t.answers a)
 
@@ -364,29 +360,30 @@ local_at (ask.Call id request) text h = absurd h
 local_at (ask.End cause) text h = absurd h
 
 -- the body that a packet has
-abbrev body_at : (start now : DeskScene) (v : SessionView) (t : SessionState) (asked : Ask) (body rest : List ℕ) → MayGo start now v t → Begins v.unread body rest → AsksFor v.begun body asked → Body t asked
-body_at start now v t asked body rest go begins asks =
+abbrev body_at : {start now : DeskScene} {v : SessionView} {t : SessionState} {asked : Ask} {body rest : List ℕ} → MayGo start now v t → Begins v.unread body rest → AsksFor v.begun body asked → Body t asked
+body_at {asked = asked} {body = body} {rest = rest} go begins asks =
     let s = go.told.stands go.is_open.rests in
     record { body = body; rest = rest; whole = sym s.unread ∙ begins.whole; is_body = begins.is_body; asks = subst (λ (x : Bool). AsksFor x body asked) s.begun asks }
 
-pub goes_local : (start now : DeskScene) (v w : SessionView) (t : SessionState) → MayGo start now v t → NextGives v next.Local w → Goes start standing.Joined w now (Ok went.Answered) t
-goes_local start now v w t go gives =
+pub goes_local : {start now : DeskScene} {v w : SessionView} {t : SessionState} → MayGo start now v t → NextGives v next.Local w → length w.output ≤ length v.output + longest_packet → Goes start standing.Joined w now (Ok went.Answered) t
+goes_local {now = now} {v = v} {w = w} go gives little =
     let g = gives.1 in
     let a = local_at g.asked g.text g.local_packet in
-    let b = body_at start now v t (ask_behind a.0) g.body g.rest go g.begins (subst (λ (x : Ask). AsksFor v.begun g.body x) (sym a.1) g.asks) in
+    let b = body_at go g.begins (subst (λ (x : Ask). AsksFor v.begun g.body x) (sym a.1) g.asks) in
     let out : w ≡ record { unread = g.rest; output = v.output ++ packet_for a.0; begun = true; waiting = None; ended = None } =
     g.now ∙ ap (λ (x : List ℕ). record { unread = g.rest; output = v.output ++ x; begun = true; waiting = None; ended = None }) (sym a.2) in
-    goes_answered start now now v w t a.0 go b (shown w g.rest (v.output ++ packet_for a.0) None out) (subst (λ (l : List CallRecord). Notes now.desk.calls now.desk.calls l) (sym a.4) (notes_none now.desk.calls))
+    goes_answered a.0 go b (shown w g.rest (v.output ++ packet_for a.0) None out) (subst (λ (l : List CallRecord). Notes now.desk.calls now.desk.calls l) (sym a.4) (notes_none now.desk.calls))
     (subst (λ (l : List Attempt). BeginsCalls now.told now.told now.begins now.begins l) (sym a.3) (begins_none now.told now.begins)) (sym (a.5 now.desk.begun))
+    (omega (arith, little, ap (λ (x : SessionView). length x.output) out, length-append v.output (packet_for a.0)))
 
 -- a packet's call was made, or refused
-pub goes_called : (start now now' : DeskScene) (v m w : SessionView) (request : Request) (t : SessionState) → MayGo start now v t → NextGives v (next.Call request) m → MakesCall request (BeginsCalls now.told now'.told now.begins now'.begins) (talk now.desk m) (talk now'.desk w)
+pub goes_called : {start now now' : DeskScene} {v m w : SessionView} {request : Request} {t : SessionState} → MayGo start now v t → NextGives v (next.Call request) m → MakesCall request (BeginsCalls now.told now'.told now.begins now'.begins) (talk now.desk m) (talk now'.desk w)
     → Goes start standing.Joined w now' (Ok went.Answered) t
-goes_called start now now' v m w request t go gives made =
+goes_called {now = now} {now' = now'} {v = v} {w = w} {request = request} go gives made =
     let g = gives.1 in
     let a = subst (λ (x : SessionView). MakesCall request (BeginsCalls now.told now'.told now.begins now'.begins) (talk now.desk x) (talk now'.desk w)) g.now made in
-    let b = body_at start now v t (ask_behind a.0) g.body g.rest go g.begins (subst (λ (x : Ask). AsksFor v.begun g.body x) (sym a.1) g.asks) in
-    goes_answered start now now' v w t a.0 go b (shown w g.rest (v.output ++ packet_for a.0) None a.2) a.4 a.5 a.6
+    let b = body_at go g.begins (subst (λ (x : Ask). AsksFor v.begun g.body x) (sym a.1) g.asks) in
+    goes_answered a.0 go b (shown w g.rest (v.output ++ packet_for a.0) None a.2) a.4 a.5 a.6 a.7
 
 pub called_ready : (Asked : List Attempt → Type 0) (d d' : DeskView) (v m w : SessionView) (request : Request) → NextGives v (next.Call request) m → MakesCall request Asked (talk d m) (talk d' w) → IsResting d'.place × (w.waiting ≡ None)
 called_ready Asked d d' v m w request gives made =
@@ -396,28 +393,26 @@ called_ready Asked d d' v m w request gives made =
 -- ---- a packet's call has no reply
 
 -- what its phase tells of its moment and its moves is of no account
-goes_pended : (start now now' : DeskScene) (at : Standing) (v m w : SessionView) (request : Request) (t : SessionState) (f : Phase) (g : ServeFault) → MayGo start now v t → (gives : NextGives v (next.Call request) m) → w ≡ m → Noted now now' (ask.Call gives.1.id request) [] f
+goes_pended : {start now now' : DeskScene} {at : Standing} {v m w : SessionView} {request : Request} {t : SessionState} {f : Phase} (g : ServeFault) → MayGo start now v t → (gives : NextGives v (next.Call request) m) → w ≡ m → Noted now now' (ask.Call gives.1.id request) [] f
     → ((k : ℕ) (t' : SessionState) → now.desk.begun ≡ share_of k → t'.phase ≡ f → length (state_calls t') ≡ k + length (phase_calls f) → IsCounted at now'.desk t') → Goes start at w now' (Err g) t
-goes_pended start now now' at v m w request t f g go gives same n counts =
+goes_pended {v = v} {w = w} {t = t} {f = f} g go gives same n counts =
     let x = gives.1 in
-    let b = body_at start now v t (ask.Call x.id request) x.body x.rest go x.begins x.asks in
-    let none : t.answers ++ [] ≡ t.answers = append-nil t.answers in
-    let few : HoldsFew (after_body t x.body x.rest [] f) = λ before last e. few_sent t go.sent before last (sym none ∙ e) in
+    let b = body_at go x.begins x.asks in
     let out : v.output ≡ v.output ++ transcript [] = sym (ap (λ (l : List ℕ). v.output ++ l) none_written ∙ append-nil v.output) in
     let is : w ≡ record { unread = x.rest; output = v.output ++ transcript []; begun = true; waiting = Some x.id; ended = None } =
     same ∙ x.now ∙ ap (λ (l : List ℕ). record { unread = x.rest; output = l; begun = true; waiting = Some x.id; ended = None }) out in
-    goes_body start now now' at v w t (ask.Call x.id request) [] f (Err g) go b n (shown w x.rest (v.output ++ transcript []) (Some x.id) is) few (λ k begun sum. counts k (after_body t x.body x.rest [] f) begun refl sum) tt
+    goes_body (Err g) go b n (shown w x.rest (v.output ++ transcript []) (Some x.id) is) batch_none (λ k begun sum. counts k (after_body t x.body x.rest [] f) begun refl sum) tt
 
-pub goes_stopped : (start now now' : DeskScene) (v m w : SessionView) (request : Request) (t : SessionState) (why : Stop) → MayGo start now v t → NextGives v (next.Call request) m → w ≡ m → FailsCall request why (BeginsCalls now.told now'.told now.begins now'.begins) now.desk now'.desk
+pub goes_stopped : {start now now' : DeskScene} {v m w : SessionView} {request : Request} {t : SessionState} (why : Stop) → MayGo start now v t → NextGives v (next.Call request) m → w ≡ m → FailsCall request why (BeginsCalls now.told now'.told now.begins now'.begins) now.desk now'.desk
     → Goes start (standing_after why) w now' (Err (stop_fault why)) t
-goes_stopped start now now' v m w request t stop.OutOfMemory go gives same fails =
-    goes_pended start now now' standing.Unanswered v m w request t (Decided gives.1.id fails.0 request fails.1.0) (stop_fault stop.OutOfMemory) go gives same (record { asks = refl; left = λ begun bytes. refl; noted = fails.1.2; begins = fails.2 })
+goes_stopped {now = now} {request = request} stop.OutOfMemory go gives same fails =
+    goes_pended {f = Decided gives.1.id fails.0 request fails.1.0} (stop_fault stop.OutOfMemory) go gives same (record { asks = refl; left = λ begun bytes. refl; noted = fails.1.2; begins = fails.2 })
     (λ k t' n phase e. fails.1.3 ∙ counted_more k now.desk.begun n ∙ ap share_of (sym e))
-goes_stopped start now now' v m w request t stop.Stranger go gives same fails =
-    goes_pended start now now' standing.Strange v m w request t (InCall gives.1.id fails.0 0 request 0) (stop_fault stop.Stranger) go gives same
+goes_stopped {now = now} {request = request} stop.Stranger go gives same fails =
+    goes_pended {f = InCall gives.1.id fails.0 0 request 0} (stop_fault stop.Stranger) go gives same
     (record { asks = refl; left = λ begun bytes. refl; noted = subst (λ (x : Option (List CallRecord)). Notes now.desk.calls x []) (sym fails.1.1) (notes_none now.desk.calls); begins = fails.2 }) (λ k t' n phase e. tt)
-goes_stopped start now now' v m w request t stop.UnderWay go gives same fails =
-    goes_pended start now now' standing.UnderWay v m w request t (InCall gives.1.id fails.0 0 request 0) (stop_fault stop.UnderWay) go gives same
+goes_stopped {now = now} {request = request} stop.UnderWay go gives same fails =
+    goes_pended {f = InCall gives.1.id fails.0 0 request 0} (stop_fault stop.UnderWay) go gives same
     (record { asks = refl; left = λ begun bytes. refl; noted = subst (λ (x : Option (List CallRecord)). Notes now.desk.calls x []) (sym fails.1.1) (notes_none now.desk.calls); begins = fails.2 })
     (λ k t' n phase e. subst (λ (f : Phase). IsInCall f) (sym phase) tt)
 
@@ -427,13 +422,13 @@ pub joined : (at : Standing) → standing_fault at ≡ None → at ≡ standing.
 joined standing.Joined e = refl
 joined at e = let no : standing_fault at ≡ None = e in absurd (cc)
 
-pub may_go : (start now : DeskScene) (at : Standing) (v : SessionView) (t : SessionState) → standing_fault at ≡ None → IsToldAt start at v now t → IsOpen t → IsRead t → HasSent t → MayGo start now v t
-may_go start now at v t e h is_open read sent = record { told = subst (λ (s : Standing). IsToldAt start s v now t) (joined at e) h; is_open = is_open; read = read; sent = sent }
+pub may_go : {start now : DeskScene} {at : Standing} {v : SessionView} {t : SessionState} → standing_fault at ≡ None → IsToldAt start at v now t → IsOpen t → IsRead t → HasSent t → MayGo start now v t
+may_go {start = start} {now = now} {at = at} {v = v} {t = t} e h is_open read sent = record { told = subst (λ (s : Standing). IsToldAt start s v now t) (joined at e) h; is_open = is_open; read = read; sent = sent }
 
 -- a host stands as it did, and its desk is where it was
-pub goes_still : (start : DeskScene) (at at' : Standing) (w w' : SessionView) (d d' : DeskView) (b b' : Option (List Begin)) (tl : Option (List ℕ)) (r r' : Result Went ServeFault) (t : SessionState)
+pub goes_still : {start : DeskScene} {at at' : Standing} {w w' : SessionView} {d d' : DeskView} {b b' : Option (List Begin)} {tl : Option (List ℕ)} (r : Result Went ServeFault) {r' : Result Went ServeFault} {t : SessionState}
     → at' ≡ at → w' ≡ w → d' ≡ d → b' ≡ b → r' ≡ r → Goes start at w (desk_scene d b tl) r t → Goes start at' w' (desk_scene d' b' tl) r' t
-goes_still start at at' w w' d d' b b' tl r r' t p q e f g h =
+goes_still {start = start} {at = at} {w = w} {w' = w'} {d = d} {d' = d'} {b = b} {b' = b'} {tl = tl} r {r' = r'} {t = t} p q e f g h =
     subst (λ (x : Standing). Goes start x w' (desk_scene d' b' tl) r' t) (sym p) (subst (λ (x : SessionView). Goes start at x (desk_scene d' b' tl) r' t) (sym q)
     (subst (λ (x : DeskView). Goes start at w (desk_scene x b' tl) r' t) (sym e) (subst (λ (x : Option (List Begin)). Goes start at w (desk_scene d x tl) r' t) (sym f)
     (subst (λ (x : Result Went ServeFault). Goes start at w (desk_scene d b tl) x t) (sym g) h))))

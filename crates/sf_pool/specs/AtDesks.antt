@@ -9,6 +9,7 @@ use Rattle.sf_session.specs.declared.fault.ServeFault.TheVariants as fault
 use Rattle.sf_session.specs.Sessions.{SessionView}
 use Rattle.sf_engine.specs.Worlds.{Response, Version, Locally, ByCall, Refused, ask_behind, packet_for, transcript, Phase, Resting as AtRest, UnderWay as InCall, Decided, Gone as Left, SessionState}
 use Rattle.sf_engine.specs.Traces.{has_begun}
+use Rattle.sf_engine.specs.Laws.{HasShortPacket}
 use Rattle.sf_serving.specs.Hosts.{most_counted}
 use Rattle.sf_pool.specs.declared.calling.Stop.{Stop}
 use Rattle.sf_pool.specs.declared.calling.Stop.TheVariants as stop
@@ -32,14 +33,14 @@ begun_by (Locally id reply) n = n
 begun_by (ByCall id number request reply) n = counted n
 begun_by (Refused id request refusal) n = n
 
--- The session's call was made, or refused by the desk: its reply is appended to the output. The
--- desk was asked for it alone.
+-- The session's call was made, or refused by the desk: its reply, which is no longer than any, is
+-- appended to the output. The desk was asked for it alone.
 abbrev pub MakesCall : Request → (List Attempt → Type 0) → Talk → Talk → Type 0
 MakesCall request Asked x y =
     IfSome x.session.waiting (λ id. (a : Response) × (ask_behind a ≡ ask.Call id request)
     × (y.session ≡ record x.session { output = x.session.output ++ packet_for a; waiting = None })
     × IsResting y.desk.place × Notes x.desk.calls y.desk.calls (response_calls a)
-    × Asked (answer_attempts a) × (y.desk.begun ≡ begun_by a x.desk.begun))
+    × Asked (answer_attempts a) × (y.desk.begun ≡ begun_by a x.desk.begun) × HasShortPacket a)
 
 -- The steps stop with no answer.
 abbrev pub FailsSteps : Stop → DeskView → DeskView → Type 0

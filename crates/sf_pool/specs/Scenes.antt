@@ -94,10 +94,14 @@ pub record NotesCalls (start now : DeskScene) (t : SessionState) : Type 0 where
 abbrev pub IsShared : ℕ → ℕ → ℕ → Type 0
 IsShared n old new = new ≡ min (old + n) (2 ^ 64 - 1)
 
--- A session was served to its end. It has left the desk, and the calls that it was answered were
--- added to a share.
+-- no reply waits where a session at a desk is answered
+abbrev pub desk_held : ℕ
+desk_held = 0
+
+-- A session was served to its end, and one reply waited at a time. It has left the desk, and the
+-- calls that it was answered were added to a share.
 abbrev pub ServesDesk : (start now : DeskScene) → (from line : LineView) → (old new : ℕ) → Type 0
-ServesDesk start now from line old new = Serves (NotesCalls start now) from line
+ServesDesk start now from line old new = Serves desk_held (NotesCalls start now) from line
     (λ p. ((cause : Cause) × IsServed line.incoming cause p) × (now.desk.place ≡ Gone)
     × IsShared (length (state_calls p.told)) old new)
 
@@ -137,7 +141,7 @@ abbrev pub StopsDesk : ServeFault → (start now : DeskScene) → (from line : L
 StopsDesk f start now from line failed failed' old new =
     (NeverJoins start.desk now.desk f × (now.begins ≡ start.begins) × (now.told ≡ start.told)
     × (line ≡ from) × (new ≡ old))
-    ⊎ Serves (NotesCalls start now) from line (λ p. HasWrittenFor f failed failed' p
+    ⊎ Serves desk_held (NotesCalls start now) from line (λ p. HasWrittenFor f failed failed' p
     × LeavesFor f now.desk p old new)
 
 -- the line is told to have failed only where it did

@@ -133,13 +133,15 @@ impl<'a, G> DeskHost<'a, G> {
 }
 
 impl<D: Desk, G: StepObserver> Host<D> for DeskHost<'_, G> {
-    ghost use Rattle.sf_pool.specs.Scenes.{DeskScene, desk_scene};
+    ghost use Rattle.sf_pool.specs.Scenes.{DeskScene, desk_scene, desk_held};
     ghost use Rattle.sf_pool.specs.AtDesks.{IsToldAt, IsPlaced, IsStrange, IsOver};
 
     ghost Start = { DeskScene };
 
     ghost serves = { λ start h d told t. IsToldAt start h.standing h.session
         (desk_scene (D.at d) (D.begins d) told) t };
+
+    ghost held = { desk_held };
 
     ghost sound = { λ h d. IsPlaced h.standing h.session (D.at d) };
 

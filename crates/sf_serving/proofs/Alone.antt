@@ -18,7 +18,7 @@ use Rattle.sf_serving.specs.Ends.{IsEnd, IsWhole}
 use Rattle.sf_serving.specs.Hosts.{IsFront}
 use Rattle.sf_serving.specs.Serving.{Progress}
 use Rattle.sf_serving.specs.OnEngine.{IoState, IsEntryOf, IsTold, since_at, ServesLine}
-use Rattle.sf_serving.specs.Alone.{answers_alone, moments_begun, HadMemoryThroughout, EndsAlone, ServesAlone, supply}
+use Rattle.sf_serving.specs.Alone.{answers_alone, moments_begun, HadMemoryThroughout, EndsAlone, ServesAlone, Supply, supply}
 use Rattle.sf_serving.proofs.OneStream.{Reads, one_reading}
 use Rattle.sf_serving.proofs.Reaching.{one_session, answered_alone}
 
@@ -49,8 +49,8 @@ end_more begun bytes more cause none (inl h) =
 end_more begun bytes more cause none (inr h) = inr (ends_more begun bytes more cause h)
 
 -- so the input is read as the session read it
-reads_of : (t : SessionState) (input : List ℕ) (cause : Cause) → IsWhole t cause → IsFront t.stream input → (cause ≡ Closed → t.stream ≡ input) → Reads false input t.bodies t.answers cause
-reads_of t input cause whole front all =
+reads_of : {t : SessionState} {input : List ℕ} {cause : Cause} → IsWhole t cause → IsFront t.stream input → (cause ≡ Closed → t.stream ≡ input) → Reads false input t.bodies t.answers cause
+reads_of {t = t} {cause = cause} whole front all =
     let more = front.0 in
     let none : cause ≡ Closed → more ≡ [] = λ c. nothing_more t.stream more (all c ∙ front.1) in
     record {
@@ -63,16 +63,16 @@ reads_of t input cause whole front all =
 
 -- ---- two traces
 
-pub two_whole : (input moments : List ℕ) → AreBytes input → (trace trace' : List TraceEntry) (w w' : World) (t t' : SessionState) (cause cause' : Cause)
-    → EndsAlone trace w t (supply input moments) cause → EndsAlone trace' w' t' (supply input moments) cause' → (t.bodies ≡ t'.bodies) × (t.answers ≡ t'.answers) × (cause ≡ cause')
-two_whole input moments are trace trace' w w' t t' cause cause' a b =
-    let one = one_reading false input t.bodies t'.bodies t.answers t'.answers cause cause' are (reads_of t input cause a.whole a.fed a.all) (reads_of t' input cause' b.whole b.fed b.all) in
+pub two_whole : {s : Supply} {trace trace' : List TraceEntry} {w w' : World} {t t' : SessionState} {cause cause' : Cause} → AreBytes s.input → EndsAlone trace w t s cause → EndsAlone trace' w' t' s cause'
+    → (t.bodies ≡ t'.bodies) × (t.answers ≡ t'.answers) × (cause ≡ cause')
+two_whole {trace = trace} {trace' = trace'} {t = t} {t' = t'} are a b =
+    let one = one_reading t.bodies t'.bodies are (reads_of a.whole a.fed a.all) (reads_of b.whole b.fed b.all) in
     let begun : moments_begun trace ≡ moments_begun trace' = a.begun ∙ sym b.begun in (
       one.0,
-      answered_alone trace w t a.tells
+      answered_alone trace _ t a.tells
           ∙ ap (λ (m : List ℕ). answers_alone m (map ask_behind t.answers)) begun
           ∙ ap (λ (asks : List Ask). answers_alone (moments_begun trace') asks) one.1
-          ∙ sym (answered_alone trace' w' t' b.tells),
+          ∙ sym (answered_alone trace' _ t' b.tells),
       one.2,
     )
 
@@ -80,17 +80,16 @@ same_told : (w : World) (s : ℕ) (t u : SessionState) → IsSession w s t → I
 same_told w s t u a b = let x : Some u ≡ Some t = sym b.1 ∙ a.1 in cc
 
 -- what an engine sent and has to send
-sent_of : (e : EngineView) (trace : List TraceEntry) (fits : Fits e trace) (t : SessionState) (output : List ℕ) → IsSession fits.world 1 t → IsSentBy e 1 output → transcript t.answers ≡ t.sent ++ output
-sent_of e trace fits t output is sent =
+sent_of : {e : EngineView} {trace : List TraceEntry} (fits : Fits e trace) {t : SessionState} (output : List ℕ) → IsSession fits.world 1 t → IsSentBy e 1 output → transcript t.answers ≡ t.sent ++ output
+sent_of {trace = trace} fits {t = t} output is sent =
     let u = sent trace fits in
     let same : u.0 ≡ t = same_told fits.world 1 t u.0 is u.1 in
     subst (λ (z : SessionState). transcript z.answers ≡ z.sent ++ output) same u.2
 
-pub two_outputs : (input moments : List ℕ) → AreBytes input → (trace trace' : List TraceEntry) (e e' : EngineView) (fits : Fits e trace) (fits' : Fits e' trace') (t t' : SessionState) (cause cause' : Cause)
-    → EndsAlone trace fits.world t (supply input moments) cause → EndsAlone trace' fits'.world t' (supply input moments) cause' → (a b : List ℕ) → IsSentBy e 1 a → IsSentBy e' 1 b → t.sent ++ a ≡ t'.sent ++ b
-two_outputs input moments are trace trace' e e' fits fits' t t' cause cause' x y a b sent sent' =
-    let same = (two_whole input moments are trace trace' fits.world fits'.world t t' cause cause' x y).1 in
-    sym (sent_of e trace fits t a x.tells.is_session sent) ∙ ap transcript same ∙ sent_of e' trace' fits' t' b y.tells.is_session sent'
+pub two_outputs : {s : Supply} {trace trace' : List TraceEntry} {e e' : EngineView} (fits : Fits e trace) (fits' : Fits e' trace') {t t' : SessionState} {cause cause' : Cause} → AreBytes s.input
+    → EndsAlone trace fits.world t s cause → EndsAlone trace' fits'.world t' s cause' → (a b : List ℕ) → IsSentBy e 1 a → IsSentBy e' 1 b → t.sent ++ a ≡ t'.sent ++ b
+two_outputs fits fits' are x y a b sent sent' =
+    sym (sent_of fits a x.tells.is_session sent) ∙ ap transcript (two_whole are x y).1 ∙ sent_of fits' b y.tells.is_session sent'
 
 -- ---- two servings
 
@@ -108,23 +107,24 @@ read_all now input stream left e is at =
     let none : left ≡ [] = subst (λ (o : Option (List ℕ)). IsAtEnd o) e at in sym (is ∙ ap (λ (b : List ℕ). stream ++ b) none ∙ append-nil stream)
 
 -- a serving is a trace of one session alone
-ends_of : (start now : IoState) (input moments : List ℕ) (cause : Cause) (p : Progress) (a : ServesAlone start now (supply input moments) cause p) → EndsAlone a.tells.entries a.tells.fit.world p.told (supply input moments) cause
-ends_of start now input moments cause p a =
-    let s = a.tells in
-    let first : a.session ≡ 1 = (one_session s.entries s.fit.world a.session p.told s.fit.tells s.fit.legal s.own s.is_session a.memory).0 in
-    let fed = was_fed start.line.incoming now.line.incoming input p.told.stream p.unfed a.incoming a.ends.fed a.served.read in
+ends_of : {start now : IoState} {s : Supply} {cause : Cause} {p : Progress} (a : ServesAlone start now s cause p) → EndsAlone a.tells.entries a.tells.fit.world p.told s cause
+ends_of {start = start} {now = now} {s = s} {p = p} a =
+    let serves = a.tells in
+    let world = serves.fit.world in
+    let first : a.session ≡ 1 = (one_session serves.entries world a.session p.told serves.fit.tells serves.fit.legal serves.own serves.is_session a.memory).0 in
+    let fed = was_fed start.line.incoming now.line.incoming s.input p.told.stream p.unfed a.incoming a.ends.fed a.served.read in
     record {
       tells = record {
-        tells = s.fit.tells;
-        legal = s.fit.legal;
-        alone = subst (λ (n : ℕ). AllByRecursion (IsEntryOf n) s.entries) first s.own;
-        is_session = subst (λ (n : ℕ). IsSession s.fit.world n p.told) first s.is_session;
+        tells = serves.fit.tells;
+        legal = serves.fit.legal;
+        alone = subst (λ (n : ℕ). AllByRecursion (IsEntryOf n) serves.entries) first serves.own;
+        is_session = subst (λ (n : ℕ). IsSession world n p.told) first serves.is_session;
         memory = a.memory;
       };
       begun = a.begun;
       whole = a.ends.whole;
       fed = (fed.0, fed.2);
-      all = λ closed. read_all now.line.incoming input p.told.stream fed.0 fed.1 fed.2 (a.ends.at_end closed);
+      all = λ closed. read_all now.line.incoming s.input p.told.stream fed.0 fed.1 fed.2 (a.ends.at_end closed);
     }
 
 appended : (out now : Option (List ℕ)) (before written : List ℕ) → out ≡ Some before → Appends out now written → now ≡ Some (before ++ written)
@@ -134,12 +134,11 @@ appended out now before written e h = given now (subst (λ (o : Option (List ℕ
     given None k = absurd k
     given (Some all) k = ap (λ (b : List ℕ). Some b) k
 
-pub two_servings : (input moments : List ℕ) → AreBytes input → (start now start' now' : IoState) (p p' : Progress) (cause cause' : Cause)
-    → ServesAlone start now (supply input moments) cause p → ServesAlone start' now' (supply input moments) cause' p' → (p.written ≡ p'.written) × (cause ≡ cause')
+pub two_servings : {s : Supply} {start now start' now' : IoState} {p p' : Progress} {cause cause' : Cause} → AreBytes s.input → ServesAlone start now s cause p → ServesAlone start' now' s cause' p'
+    → (p.written ≡ p'.written) × (cause ≡ cause')
     × ((before : List ℕ) → start.line.outgoing ≡ Some before → start'.line.outgoing ≡ Some before → now.line.outgoing ≡ now'.line.outgoing)
-two_servings input moments are start now start' now' p p' cause cause' a b =
-    let same = two_whole input moments are a.tells.entries b.tells.entries a.tells.fit.world b.tells.fit.world p.told p'.told cause cause'
-    (ends_of start now input moments cause p a) (ends_of start' now' input moments cause' p' b) in
+two_servings {start = start} {now = now} {start' = start'} {now' = now'} {p = p} {p' = p'} are a b =
+    let same = two_whole are (ends_of a) (ends_of b) in
     let written : p.written ≡ p'.written = a.ends.in_step ∙ a.ends.sent ∙ ap transcript same.1 ∙ sym b.ends.sent ∙ sym b.ends.in_step in (
       written,
       same.2,

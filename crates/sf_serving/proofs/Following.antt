@@ -44,22 +44,29 @@ timed_push (x ∷ entries) moments e now h timed =
 abbrev pub Leading : ℕ → SessionState → Event → Result Happened EngineFault → (SessionState → Type 0) → Type 0
 Leading session t ev r Q = (w w' : World) (added : List Record) → IsSession w session t → LeadsBy w ev r added w' → (t' : SessionState) × IsSession w' session t' × Q t'
 
-pub tells_on : (start : Since) (session : ℕ) (e e' : EngineView) (tl tl' : Option (List ℕ)) (t : SessionState) (ev : Event) (r : Result Happened EngineFault) (Q : SessionState → Type 0) (moments : List ℕ)
-    → (T : IsTold start session e tl t) → GoesOnTrace e ev r e' → IsOf session ev r → Appends tl tl' moments → Timing session t ev r moments → ((w : World) → IsSession w session t → IsLowAt w session ev) → Leading session t ev r Q
+-- The session's next event: the clock told these moments for it, before a turn little waits, and it leads to this.
+pub record IsNext (session : ℕ) (t : SessionState) (ev : Event) (r : Result Happened EngineFault) (moments : List ℕ) (Q : SessionState → Type 0) : Type 0 where
+  pub own : IsOf session ev r
+  pub timed : Timing session t ev r moments
+  pub low : (w : World) → IsSession w session t → IsLowAt w session ev
+  pub leads : Leading session t ev r Q
+
+pub tells_on : {start : Since} {session : ℕ} {e e' : EngineView} {tl tl' : Option (List ℕ)} {t : SessionState} {ev : Event} {r : Result Happened EngineFault} {moments : List ℕ} {Q : SessionState → Type 0}
+    → (T : IsTold start session e tl t) → GoesOnTrace e ev r e' → Appends tl tl' moments → IsNext session t ev r moments Q
     → (t' : SessionState) × (T' : IsTold start session e' tl' t') × (length T'.entries ≡ length T.entries + 1) × Q t'
-tells_on start session e e' tl tl' t ev r Q moments T goes is_of appends timing low step =
+tells_on {start = start} {session = session} {e' = e'} {tl = tl} {tl' = tl'} {ev = ev} {r = r} {moments = moments} T goes appends next =
     let g = goes (start.trace ++ T.entries) T.fit in
     let en = trace_entry ev r g.0 in
-    let n = step T.fit.world g.1.world g.0 T.is_session g.2 in (
+    let n = next.leads T.fit.world g.1.world g.0 T.is_session g.2 in (
       n.0,
       record {
         entries = T.entries ++ en ∷ [];
         fit = fits_by e' ((start.trace ++ T.entries) ++ en ∷ []) (start.trace ++ (T.entries ++ en ∷ [])) (append_assoc start.trace T.entries (en ∷ [])) g.1;
-        own = all_push (IsEntryOf session) T.entries en T.own is_of;
-        low = low_push session start.fits.world T.entries T.fit.world en g.1.world T.low (low T.fit.world T.is_session) g.2;
+        own = all_push (IsEntryOf session) T.entries en T.own next.own;
+        low = low_push session start.fits.world T.entries T.fit.world en g.1.world T.low (next.low T.fit.world T.is_session) g.2;
         is_session = n.1;
         moments = T.moments ++ moments;
-        timed = timed_push T.entries T.moments en moments T.timed (timing T.fit.world g.1.world g.0 T.is_session g.2);
+        timed = timed_push T.entries T.moments en moments T.timed (next.timed T.fit.world g.1.world g.0 T.is_session g.2);
         clock = Appends-trans start.told tl tl' T.moments moments T.clock appends;
       },
       length-append T.entries (en ∷ []),

@@ -1,15 +1,17 @@
 -- What begins with what, and what stays prompt as a session goes further.
-use Rattle.std.proofs.Common.{◌≡◌, ◌<◌, ◌⊎◌, ℕ, ◌+◌, length, length-append, List, [], ◌∷◌, ◌++◌, refl, ap, sym, ◌∙◌, subst, inl, inr, append-nil, append_assoc, arith}
+use Rattle.std.proofs.Common.{◌≡◌, ◌<◌, ◌≤◌, ◌⊎◌, ℕ, ◌+◌, length, length-append, List, [], ◌∷◌, ◌++◌, refl, ap, sym, ◌∙◌, subst, inl, inr, append-nil, append_assoc, arith}
 use Rattle.std.specs.List.{AllByRecursion, flat_map}
 use Rattle.std.proofs.lemmas.List.Concat.{flat_map-append}
 use Rattle.std.proofs.lemmas.List.Sums.{sum_by-append}
 use Rattle.sf_line.specs.declared.line_call.LineCall.{LineCall}
 use Rattle.sf_line.specs.declared.line_call.LineCall.TheVariants.{Read, Write}
 use Rattle.sf_line.specs.Lines.{given, taken, bytes_given, bytes_taken}
-use Rattle.sf_engine.specs.Worlds.{Response, packet_for, transcript, SessionState}
+use Rattle.sf_call.specs.ReplyKinds.{longest_packet}
+use Rattle.sf_engine.specs.Worlds.{Response, Version, Locally, ByCall, Refused, packet_for, transcript}
 use Rattle.sf_engine.proofs.Laws.{all_push}
-use Rattle.sf_serving.specs.Hosts.{IsFront, HasSent, HoldsFew}
-use Rattle.sf_serving.specs.Serving.{Progress, IsPromptAt, IsPrompt, IsPiece, IsBatch, Batch, IsWritten, AreBatched}
+use Rattle.sf_engine.specs.Laws.{HasShortPacket}
+use Rattle.sf_serving.specs.Hosts.{IsFront, IsBatch}
+use Rattle.sf_serving.specs.Serving.{Progress, IsPromptAt, IsPrompt, IsPiece, Batch, IsWritten, AreBatched}
 use Rattle.sf_serving.specs.Rounds.{IsPieceWritten}
 
 pub transcript_append : (answers more : List Response) → transcript (answers ++ more) ≡ transcript answers ++ transcript more
@@ -19,6 +21,10 @@ transcript_append answers more = flat_map-append packet_for answers more
 pub none_written : transcript [] ≡ []
 unfolding transcript
 none_written = refl
+
+pub one_packet : (a : Response) → transcript (a ∷ []) ≡ packet_for a
+unfolding transcript
+one_packet a = append-nil (packet_for a)
 
 -- a front stays one
 pub front_more : {A : Type 0} (a b c b' : List A) → IsFront a b → b' ≡ b ++ c → IsFront a b'
@@ -140,10 +146,53 @@ none_last before last e = nothing_after before last [] e
 pub all_but_last : {A : Type 0} (before xs : List A) (last x : A) → xs ++ x ∷ [] ≡ before ++ last ∷ [] → before ≡ xs
 all_but_last before xs last x e = elim (cut_at before last [] xs x e) [ inl h ↦ h.1 | inr h ↦ absurd (omega (arith, ap (λ (l : List _). length l) e, ap (λ (l : List _). length l) h.1, length-append xs (x ∷ []), length-append before (last ∷ []), length-append before (last ∷ h.0))) ]
 
-pub batches_none : AreBatched [] []
-batches_none = record { written = []; waiting = []; since = []; each = tt; last = λ before last e. absurd (none_last before last e); answers_are = refl; log_is = refl }
+pub batch_none : {held : ℕ} → IsBatch held []
+batch_none before last e = absurd (none_last before last e)
 
-pub batches_calls : (answers : List Response) (log more : List LineCall) → AreBatched answers log → AreBatched answers (log ++ more)
+-- one reply, where nothing waits
+pub batch_one : {held : ℕ} (a : Response) → HasShortPacket a → IsBatch held (a ∷ [])
+batch_one a short before last e =
+    let none : before ≡ [] = all_but_last before [] last a e in
+    let same : last ≡ a = let cut : a ∷ [] ≡ last ∷ [] = e ∙ ap (λ (l : List Response). l ++ last ∷ []) none in cc in
+    (omega (arith, ap (λ (l : List Response). length (transcript l)) none ∙ ap (λ (b : List ℕ). length b) none_written), subst HasShortPacket (sym same) short)
+
+-- what is before the last of a list that is not empty
+last_cut : {A : Type 0} (x : A) (xs : List A) → (before : List A) × (last : A) × (x ∷ xs ≡ before ++ last ∷ [])
+last_cut x [] = ([], x, refl)
+last_cut x (y ∷ xs) = let cut = last_cut y xs in (x ∷ cut.0, cut.1, ap (λ (l : List _). x ∷ l) cut.2)
+
+packet_of : (answers before : List Response) (last : Response) → answers ≡ before ++ last ∷ [] → length (transcript answers) ≡ length (transcript before) + length (packet_for last)
+packet_of answers before last e =
+    let bytes : transcript answers ≡ transcript before ++ transcript (last ∷ []) = ap transcript e ∙ transcript_append before (last ∷ []) in
+    ap (λ (b : List ℕ). length b) bytes ∙ length-append (transcript before) (transcript (last ∷ [])) ∙ ap (λ (b : List ℕ). length (transcript before) + length b) (one_packet last)
+
+pub batch_most : (held : ℕ) (answers : List Response) → IsBatch held answers → length (transcript answers) ≤ held + longest_packet
+batch_most held [] batch = omega (arith, ap (λ (b : List ℕ). length b) none_written)
+batch_most held (a ∷ answers) batch =
+    let cut = last_cut a answers in
+    let waits = batch cut.0 cut.1 cut.2 in
+    omega (arith, waits.0, waits.1, packet_of (a ∷ answers) cut.0 cut.1 cut.2)
+
+some_packet : (a : Response) → 0 < length (packet_for a)
+some_packet Version = omega arith
+some_packet (Locally id reply) = omega arith
+some_packet (ByCall id number request reply) = omega arith
+some_packet (Refused id request fault) = omega arith
+
+-- where none waits before the last, there is one
+pub batch_alone : (answers : List Response) → IsBatch 0 answers → length answers ≤ 1
+batch_alone [] batch = omega arith
+batch_alone (a ∷ []) batch = omega arith
+batch_alone (a ∷ b ∷ answers) batch =
+    let cut = last_cut b answers in
+    let waits = (batch (a ∷ cut.0) cut.1 (ap (λ (l : List Response). a ∷ l) cut.2)).0 in
+    let first : length (transcript (a ∷ cut.0)) ≡ length (transcript (a ∷ []) ++ transcript cut.0) = ap (λ (x : List ℕ). length x) (transcript_append (a ∷ []) cut.0) in
+    absurd (omega (arith, waits, first, length-append (transcript (a ∷ [])) (transcript cut.0), ap (λ (x : List ℕ). length x) (one_packet a), some_packet a))
+
+pub batches_none : {held : ℕ} → AreBatched held [] []
+batches_none = record { written = []; waiting = []; since = []; each = tt; last = batch_none; answers_are = refl; log_is = refl }
+
+pub batches_calls : {held : ℕ} (answers : List Response) (log more : List LineCall) → AreBatched held answers log → AreBatched held answers (log ++ more)
 batches_calls answers log more b = record {
   written = b.written;
   waiting = b.waiting;
@@ -154,47 +203,28 @@ batches_calls answers log more b = record {
   log_is = ap (λ (l : List LineCall). l ++ more) b.log_is ∙ append_assoc (flat_map (λ (x : Batch). x.calls) b.written) b.since more;
 }
 
-written_whole : (bs : List Batch) → AllByRecursion IsWritten bs → taken (flat_map (λ (b : Batch). b.calls) bs) ≡ length (transcript (flat_map (λ (b : Batch). b.answers) bs))
-written_whole [] each = sym (ap (λ (x : List ℕ). length x) none_written)
-written_whole (b ∷ bs) each =
+written_whole : (held : ℕ) (bs : List Batch) → AllByRecursion (IsWritten held) bs → taken (flat_map (λ (b : Batch). b.calls) bs) ≡ length (transcript (flat_map (λ (b : Batch). b.answers) bs))
+written_whole held [] each = sym (ap (λ (x : List ℕ). length x) none_written)
+written_whole held (b ∷ bs) each =
     let later = flat_map (λ (x : Batch). x.answers) bs in
     let sum : length (transcript (b.answers ++ later)) ≡ length (transcript b.answers ++ transcript later) = ap (λ (x : List ℕ). length x) (transcript_append b.answers later) in
-    omega (arith, taken_more b.calls (flat_map (λ (x : Batch). x.calls) bs), each.0.1, written_whole bs each.1, sum, length-append (transcript b.answers) (transcript later))
+    omega (arith, taken_more b.calls (flat_map (λ (x : Batch). x.calls) bs), each.0.1, written_whole held bs each.1, sum, length-append (transcript b.answers) (transcript later))
 
 -- where all was written, a next batch begins
-pub batches_more : (answers made : List Response) (log : List LineCall) → AreBatched answers log → taken log ≡ length (transcript answers) → IsBatch made → AreBatched (answers ++ made) log
-batches_more answers made log b whole few =
+pub batches_more : {held : ℕ} (answers made : List Response) (log : List LineCall) → AreBatched held answers log → taken log ≡ length (transcript answers) → IsBatch held made → AreBatched held (answers ++ made) log
+batches_more {held = held} answers made log b whole few =
     let calls = flat_map (λ (x : Batch). x.calls) b.written in
     let before = flat_map (λ (x : Batch). x.answers) b.written in
     let one : Batch = record { answers = b.waiting; calls = b.since } in
     let bytes : length (transcript answers) ≡ length (transcript before ++ transcript b.waiting) = ap (λ (x : List Response). length (transcript x)) b.answers_are ∙ ap (λ (x : List ℕ). length x) (transcript_append before b.waiting) in
     let took : taken b.since ≡ length (transcript b.waiting) =
-    omega (arith, whole, ap taken b.log_is, taken_more calls b.since, bytes, length-append (transcript before) (transcript b.waiting), written_whole b.written b.each) in
+    omega (arith, whole, ap taken b.log_is, taken_more calls b.since, bytes, length-append (transcript before) (transcript b.waiting), written_whole held b.written b.each) in
     record {
       written = b.written ++ one ∷ [];
       waiting = made;
       since = [];
-      each = all_push IsWritten b.written one b.each (b.last, took);
+      each = all_push (IsWritten held) b.written one b.each (b.last, took);
       last = few;
       answers_are = ap (λ (x : List Response). x ++ made) (b.answers_are ∙ sym (flat_map-append (λ (x : Batch). x.answers) b.written (one ∷ []) ∙ ap (λ (x : List Response). before ++ x) (append-nil b.waiting)));
       log_is = b.log_is ∙ sym (append-nil _ ∙ flat_map-append (λ (x : Batch). x.calls) b.written (one ∷ []) ∙ ap (λ (x : List LineCall). calls ++ x) (append-nil b.since));
     }
-
--- what a session at which all was sent was answered since is a batch
-pub batch_of : (t t' : SessionState) (made : List Response) → t'.answers ≡ t.answers ++ made → t'.sent ≡ t.sent → HasSent t → HoldsFew t' → IsBatch made
-batch_of t t' made more same sent few before last e =
-    let cut : t'.answers ≡ (t.answers ++ before) ++ last ∷ [] = more ∙ ap (λ (x : List Response). t.answers ++ x) e ∙ sym (append_assoc t.answers before (last ∷ [])) in
-    let bytes : length (transcript (t.answers ++ before)) ≡ length (transcript t.answers ++ transcript before) = ap (λ (x : List ℕ). length x) (transcript_append t.answers before) in
-    let waited : length t'.sent ≡ length (transcript t.answers) = ap (λ (x : List ℕ). length x) (same ∙ sent) in
-    omega (arith, few (t.answers ++ before) last cut, bytes, waited, length-append (transcript t.answers) (transcript before))
-
--- where all was sent nothing waits, and one answer more may
-pub few_sent : (t : SessionState) → HasSent t → HoldsFew t
-few_sent t sent before last e =
-    let bytes : length (transcript t.answers) ≡ length (transcript before ++ transcript (last ∷ [])) = ap (λ (x : List Response). length (transcript x)) e ∙ ap (λ (x : List ℕ). length x) (transcript_append before (last ∷ [])) in
-    omega (arith, ap (λ (x : List ℕ). length x) sent, bytes, length-append (transcript before) (transcript (last ∷ [])))
-
-pub few_more : (t t' : SessionState) (a : Response) → t'.answers ≡ t.answers ++ a ∷ [] → t'.sent ≡ t.sent → length (transcript t.answers) < length t.sent + 65536 → HoldsFew t'
-few_more t t' a more same few before last e =
-    let all : length (transcript before) ≡ length (transcript t.answers) = ap (λ (x : List Response). length (transcript x)) (all_but_last before t.answers last a (sym more ∙ e)) in
-    omega (arith, few, all, ap (λ (x : List ℕ). length x) same)

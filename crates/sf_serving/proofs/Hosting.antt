@@ -18,17 +18,16 @@ use Rattle.sf_engine.specs.Traces.{IsSession, MayRefuse, Leads, fed, sent_more}
 use Rattle.sf_engine.specs.Views.{EngineView}
 use Rattle.sf_engine.specs.Fits.{Fits, GoesOnTrace, IsSentBy, IsUnknownSession, WantsBytes, WantsBytesBy, trace_entry}
 use Rattle.sf_engine.specs.Laws.{IsRead}
-use Rattle.sf_engine.proofs.Laws.{told_of_none, told_sessions}
+use Rattle.sf_engine.proofs.Laws.{told_of_none, told_sessions, answers_are_short}
 use Rattle.sf_serving.specs.Ends.{IsWhole}
 use Rattle.sf_serving.specs.Hosts.{IsOpen, HasSent, IsFurther, WentTo, with_sent, ended}
 use Rattle.sf_serving.specs.declared.host.Went.{Went}
 use Rattle.sf_serving.specs.declared.host.Went.TheVariants as went
 use Rattle.sf_serving.specs.Serving.{LineView, Progress, ServedSoFar, Serves, IsStopped, IsStop}
-use Rattle.sf_serving.specs.OnEngine.{IsOf, moment_of, may_begin_after, AreTimed, IsLow, IsLowAt, RunsLow, Since, since_at, IoState, IsTold, IsToldBy, Turns, Feeds, Applies, HasOutput, HasStoppedAt, open_refusal, MayNotOpen, IsOpenFault, IsServeFault}
-use Rattle.sf_serving.proofs.Fronts.{few_sent}
-use Rattle.sf_serving.proofs.Following.{Leading, tells_on, same_told, told_now}
+use Rattle.sf_serving.specs.OnEngine.{IsOf, moment_of, may_begin_after, AreTimed, engine_held, IsLow, IsLowAt, RunsLow, Since, since_at, IoState, IsTold, IsToldBy, Turns, Feeds, Applies, HasOutput, HasStoppedAt, open_refusal, MayNotOpen, IsOpenFault, IsServeFault}
+use Rattle.sf_serving.proofs.Following.{Leading, IsNext, tells_on, same_told, told_now}
 use Rattle.sf_serving.proofs.Sessions.{whole_left}
-use Rattle.sf_serving.proofs.Turning.{Turned, HasTurn, HasTurned, turned_more, since_first, turns_on}
+use Rattle.sf_serving.proofs.Turning.{few_sent, batch_of, Turned, HasTurn, HasTurned, turned_more, since_first, turns_on}
 
 -- ---- it opens
 
@@ -90,22 +89,23 @@ open_fault e f old new h = tt
 -- ---- it is fed
 
 -- what an event does to a session
-session_now : (f : SessionState → SessionState) (w w' : World) (s : ℕ) (t u : SessionState) (added : List Record) → IsSession w s t → IsSession w s u → w' ≡ with_state w s (f u) added 0 → IsSession w' s (f t)
-session_now f w w' s t u added session other now =
+session_now : (f : SessionState → SessionState) (w : World) {w' : World} (s : ℕ) {t u : SessionState} (added : List Record) → IsSession w s t → IsSession w s u → w' ≡ with_state w s (f u) added 0 → IsSession w' s (f t)
+session_now f w s {t = t} {u = u} added session other now =
     let same : u ≡ t = same_told w s u t other session in
     subst (λ (z : World). IsSession z s (f t)) (sym (now ∙ ap (λ (z : SessionState). with_state w s (f z) added 0) same)) (told_now w s t (f t) added 0 session)
 
 -- one event that is no turn
-event_on : (turns : ℕ) (start : Since) (s : ℕ) (e e' : EngineView) (tl : Option (List ℕ)) (t t' : SessionState) (ev : Event) (r : Result Happened EngineFault) → IsToldBy turns start s e tl t → GoesOnTrace e ev r e' → IsOf s ev r → moment_of ev ≡ []
+event_on : {turns : ℕ} {start : Since} {s : ℕ} {e e' : EngineView} {tl : Option (List ℕ)} {t t' : SessionState} (ev : Event) (r : Result Happened EngineFault) → IsToldBy turns start s e tl t → GoesOnTrace e ev r e' → IsOf s ev r → moment_of ev ≡ []
     → ((w : World) → IsLowAt w s ev) → Leading s t ev r (λ u. u ≡ t') → IsToldBy turns start s e' tl t'
-event_on turns start s e e' tl t t' ev r T goes own none low leads =
-    let g = tells_on start s e e' tl tl t ev r (λ u. u ≡ t') [] T.0 goes own (Appends-nil tl) (λ w w' added is leads. inl (sym none)) (λ w is. low w) leads in
+event_on {turns = turns} {start = start} {s = s} {e' = e'} {tl = tl} {t = t} {t' = t'} ev r T goes own none low leads =
+    let next : IsNext s t ev r [] (λ u. u ≡ t') = record { own = own; timed = λ w w' added is leads. inl (sym none); low = λ w is. low w; leads = leads } in
+    let g = tells_on {e' = e'} {tl' = tl} T.0 goes (Appends-nil tl) next in
     let by : IsToldBy turns start s e' tl g.0 = (g.1, omega (arith, T.1, g.2)) in subst (λ (z : SessionState). IsToldBy turns start s e' tl z) g.3 by
 
-pub fed_on : (turns : ℕ) (start : Since) (s : ℕ) (e e' : EngineView) (tl : Option (List ℕ)) (t : SessionState) (bytes : List ℕ) → IsToldBy turns start s e tl t → Feeds e s bytes e' → IsToldBy turns start s e' tl (fed t bytes)
-fed_on turns start s e e' tl t bytes T feeds =
-    event_on turns start s e e' tl t (fed t bytes) (event.Feed s feeds.0) (Ok feeds.2) T feeds.3 refl refl (λ w. tt) (λ w w' added session leads.
-    (fed t feeds.0.items, session_now (λ z. fed z feeds.0.items) w w' s t leads.2.0 [] session leads.2.1 leads.2.3, ap (λ (b : List ℕ). fed t b) feeds.1))
+pub fed_on : {turns : ℕ} {start : Since} {s : ℕ} {e e' : EngineView} {tl : Option (List ℕ)} {t : SessionState} {bytes : List ℕ} → IsToldBy turns start s e tl t → Feeds e s bytes e' → IsToldBy turns start s e' tl (fed t bytes)
+fed_on {s = s} {t = t} T feeds =
+    event_on (event.Feed s feeds.0) (Ok feeds.2) T feeds.3 refl refl (λ w. tt) (λ w w' added session leads.
+    (fed t feeds.0.items, session_now (λ z. fed z feeds.0.items) w s [] session leads.2.1 leads.2.3, ap (λ (b : List ℕ). fed t b) feeds.1))
 
 -- ---- it is closed
 
@@ -114,11 +114,11 @@ close_not_refused w s t fault.NoSuchSession session h = told_of_none w s t h ses
 close_not_refused w s t f session h = h
 
 close_leads : (s : ℕ) (t : SessionState) (r : Result Happened EngineFault) → Leading s t (event.Close s) r (λ t'. t' ≡ ended t)
-close_leads s t (Ok r) w w' added session leads = (ended t, session_now ended w w' s t leads.1.0 added session leads.1.1 leads.1.3, refl)
+close_leads s t (Ok r) w w' added session leads = (ended t, session_now ended w s added session leads.1.1 leads.1.3, refl)
 close_leads s t (Err f) w w' added session leads = absurd (close_not_refused w s t f session leads.0)
 
-pub closed_on : (turns : ℕ) (start : Since) (s : ℕ) (e e' : EngineView) (tl : Option (List ℕ)) (t : SessionState) → IsToldBy turns start s e tl t → Applies e (event.Close s) e' → IsToldBy turns start s e' tl (ended t)
-closed_on turns start s e e' tl t T applies = event_on turns start s e e' tl t (ended t) (event.Close s) applies.0 T applies.1 refl refl (λ w. tt) (close_leads s t applies.0)
+pub closed_on : {turns : ℕ} {start : Since} {s : ℕ} {e e' : EngineView} {tl : Option (List ℕ)} {t : SessionState} → IsToldBy turns start s e tl t → Applies e (event.Close s) e' → IsToldBy turns start s e' tl (ended t)
+closed_on {s = s} {t = t} T applies = event_on (event.Close s) applies.0 T applies.1 refl refl (λ w. tt) (close_leads s t applies.0)
 
 -- ---- what waits was sent
 
@@ -131,8 +131,8 @@ pub output_unknown : (e : EngineView) (s : ℕ) (output : List ℕ) → IsUnknow
 output_unknown e s output unknown trace fits t session = absurd (told_of_none fits.world s t (unknown trace fits) session)
 
 -- what waits of a session that is served
-pub output_here : (turns : ℕ) (start : Since) (s : ℕ) (e : EngineView) (tl : Option (List ℕ)) (t : SessionState) (output : List ℕ) → IsToldBy turns start s e tl t → HasOutput e s output → transcript t.answers ≡ t.sent ++ output
-output_here turns start s e tl t output T waits = waits (start.trace ++ T.0.entries) T.0.fit t T.0.is_session
+pub output_here : {turns : ℕ} {start : Since} {s : ℕ} {e : EngineView} {tl : Option (List ℕ)} {t : SessionState} (output : List ℕ) → IsToldBy turns start s e tl t → HasOutput e s output → transcript t.answers ≡ t.sent ++ output
+output_here {start = start} {t = t} output T waits = waits (start.trace ++ T.0.entries) T.0.fit t T.0.is_session
 
 drop_front : (a b : List ℕ) → drop (length a) (a ++ b) ≡ b
 drop_front [] b = refl
@@ -153,14 +153,14 @@ sent_leads s n t output (Ok r) waits count w w' added session leads =
     let enough : length output ≤ n = omega (arith, count) in
     let cut : take n (unsent t) ≡ output = ap (λ (b : List ℕ). take n b) (output_is t output waits) ∙ take_all n output enough in
     let all : t.sent ++ take n (unsent t) ≡ transcript t.answers = ap (λ (b : List ℕ). t.sent ++ b) cut ∙ sym waits in
-    (sent_more t n, session_now (λ z. sent_more z n) w w' s t leads.2.0 [] session leads.2.1 leads.2.3, ap (λ (b : List ℕ). record t { sent = b }) all)
+    (sent_more t n, session_now (λ z. sent_more z n) w s [] session leads.2.1 leads.2.3, ap (λ (b : List ℕ). record t { sent = b }) all)
 sent_leads s n t output (Err f) waits count w w' added session leads =
     absurd (sent_not_refused w s n t f session (ap (λ (b : List ℕ). length b) (output_is t output waits) ∙ sym count) leads.0)
 
-pub sent_on : (turns : ℕ) (start : Since) (s n : ℕ) (e e' : EngineView) (tl : Option (List ℕ)) (t : SessionState) (output : List ℕ) → IsToldBy turns start s e tl t → HasOutput e s output → n ≡ length output → Applies e (event.Sent s n) e'
+pub sent_on : {turns : ℕ} {start : Since} {s n : ℕ} {e e' : EngineView} {tl : Option (List ℕ)} {t : SessionState} (output : List ℕ) → IsToldBy turns start s e tl t → HasOutput e s output → n ≡ length output → Applies e (event.Sent s n) e'
     → IsToldBy turns start s e' tl (with_sent t)
-sent_on turns start s n e e' tl t output T waits count applies =
-    event_on turns start s e e' tl t (with_sent t) (event.Sent s n) applies.0 T applies.1 refl refl (λ w. tt) (sent_leads s n t output applies.0 (output_here turns start s e tl t output T waits) count)
+sent_on {s = s} {n = n} {t = t} output T waits count applies =
+    event_on (event.Sent s n) applies.0 T applies.1 refl refl (λ w. tt) (sent_leads s n t output applies.0 (output_here output T waits) count)
 
 -- ---- it goes on
 
@@ -173,7 +173,7 @@ first_turn t is_open sent = open_turn t is_open (omega (arith, ap (λ (b : List 
 
 -- what its host's contract asks of going on
 abbrev pub Gone : (turns : ℕ) → Since → ℕ → EngineView → Option (List ℕ) → Result Went ServeFault → SessionState → Type 0
-Gone turns start s e tl r t = (t' : SessionState) × IsToldBy turns start s e tl t' × IsFurther t t' × WentTo r t t'
+Gone turns start s e tl r t = (t' : SessionState) × IsToldBy turns start s e tl t' × IsFurther engine_held t t' × WentTo r t t'
 
 -- it may stop so after a turn that came to this
 abbrev pub Leaves : EngineView → ℕ → Result Happened EngineFault → Result Went ServeFault → Type 0
@@ -184,50 +184,49 @@ Leaves e s (Ok happened.Wrote) (Ok went.Answered) = Unit {0}
 Leaves e s (Ok (happened.Ended cause)) (Ok (went.Ended cause')) = cause ≡ cause'
 Leaves e s r w = ⊥
 
-read_of : (turns : ℕ) (start : Since) (s : ℕ) (e : EngineView) (tl : Option (List ℕ)) (t : SessionState) → IsToldBy turns start s e tl t → IsRead t
-read_of turns start s e tl t T = (told_sessions (start.trace ++ T.0.entries) T.0.fit.world T.0.fit.tells s t T.0.is_session).0
+read_of : {turns : ℕ} {start : Since} {s : ℕ} {e : EngineView} {tl : Option (List ℕ)} {t : SessionState} → IsToldBy turns start s e tl t → IsRead t
+read_of {start = start} {s = s} {t = t} T = (told_sessions (start.trace ++ T.0.entries) T.0.fit.world T.0.fit.tells s t T.0.is_session).0
 
-went_to : (turns : ℕ) (start : Since) (s : ℕ) (e : EngineView) (tl : Option (List ℕ)) (r : Result Happened EngineFault) (w : Result Went ServeFault) (t t' : SessionState) → Leaves e s r w → IsToldBy turns start s e tl t' → HasTurned r t t' → WentTo w t t'
-went_to turns start s e tl r (Err f) t t' leaves T h = tt
-went_to turns start s e tl (Ok happened.Idle) (Ok went.Waits) t t' leaves T h = (record { rests = h.1; closed = h.0.0 }, h.2)
-went_to turns start s e tl (Ok happened.Wrote) (Ok went.Waits) t t' wants T h =
+went_to : {turns : ℕ} {start : Since} {s : ℕ} {e : EngineView} {tl : Option (List ℕ)} (r : Result Happened EngineFault) (w : Result Went ServeFault) (t : SessionState) {t' : SessionState} → Leaves e s r w → IsToldBy turns start s e tl t' → HasTurned r t t' → WentTo w t t'
+went_to r (Err f) t leaves T h = tt
+went_to (Ok happened.Idle) (Ok went.Waits) t leaves T h = (record { rests = h.1; closed = h.0.0 }, h.2)
+went_to {start = start} {s = s} (Ok happened.Wrote) (Ok went.Waits) t {t' = t'} wants T h =
     let seen = (wants (start.trace ++ T.0.entries) T.0.fit).0 refl in
     let now : WantsBytes t' = subst WantsBytes (same_told T.0.fit.world s seen.0 t' seen.1 T.0.is_session) seen.2 in
     (record { rests = now.0; closed = h.1 }, now.1)
-went_to turns start s e tl (Ok happened.Wrote) (Ok went.Answered) t t' leaves T h = (record { rests = h.0; closed = h.1 }, h.2)
-went_to turns start s e tl (Ok (happened.Ended cause)) (Ok (went.Ended cause')) t t' same T h =
-    subst (λ (c : Cause). IsWhole t' c × (c ≢ Closed)) same (whole_left t' cause (read_of turns start s e tl t' T) h.0 h.1, h.1)
-went_to turns start s e tl r w t t' leaves T h = absurd leaves
+went_to (Ok happened.Wrote) (Ok went.Answered) t leaves T h = (record { rests = h.0; closed = h.1 }, h.2)
+went_to (Ok (happened.Ended cause)) (Ok (went.Ended cause')) t {t' = t'} same T h =
+    subst (λ (c : Cause). IsWhole t' c × (c ≢ Closed)) same (whole_left t' cause (read_of T) h.0 h.1, h.1)
+went_to r w t leaves T h = absurd leaves
 
 -- turns so far, after which it may have one more
 abbrev pub MayTurn : (turns : ℕ) → Since → ℕ → EngineView → Option (List ℕ) → Bool → SessionState → Type 0
 MayTurn turns start s e tl begin t = (t' : SessionState) × IsToldBy turns start s e tl t' × Turned t t' × HasTurn begin t'
 
 -- one turn more
-pub goes_turn : (turns : ℕ) (start : Since) (s s0 : ℕ) (e e' : EngineView) (tl tl' : Option (List ℕ)) (t : SessionState) (begin : Bool) (r r0 : Result Happened EngineFault) → s ≡ s0 → MayTurn turns start s0 e tl begin t → Turns s begin tl tl' e r e' → r ≡ r0
+pub goes_turn : {turns : ℕ} {start : Since} {s s0 : ℕ} {e e' : EngineView} {tl tl' : Option (List ℕ)} {t : SessionState} {begin : Bool} {r r0 : Result Happened EngineFault} → s ≡ s0 → MayTurn turns start s0 e tl begin t → Turns s begin tl tl' e r e' → r ≡ r0
     → (t' : SessionState) × IsToldBy (turns + 1) start s0 e' tl' t' × Turned t t' × HasTurned r0 t t'
-goes_turn turns start s s0 e e' tl tl' t begin r r0 same h by is =
-    let g = turns_on start s0 e e' tl tl' h.0 begin r h.1.0 h.3 (subst (λ (k : ℕ). Turns k begin tl tl' e r e') same by) in
+goes_turn {s0 = s0} {e = e} {e' = e'} {tl = tl} {tl' = tl'} {t = t} {begin = begin} {r = r} same h by is =
+    let g = turns_on {s = s0} {e' = e'} {tl' = tl'} {r = r} h.1.0 h.3 (subst (λ (k : ℕ). Turns k begin tl tl' e r e') same by) in
     (g.now, (g.tells, omega (arith, h.1.1, g.more)), turned_more t h.0 g.now h.2 g.turned, subst (λ (z : Result Happened EngineFault). HasTurned z t g.now) is (since_first r t h.0 g.now h.2 g.has_turned))
 
-gone_at : (turns : ℕ) (start : Since) (s s0 : ℕ) (e : EngineView) (tl : Option (List ℕ)) (r : Result Happened EngineFault) (w : Result Went ServeFault) (t t' : SessionState) → s ≡ s0 → HasSent t → IsToldBy turns start s0 e tl t' → Turned t t' → HasTurned r t t' → Leaves e s r w → Gone turns start s e tl w t
-gone_at turns start s s0 e tl r w t t' same sent T turned to leaves =
+gone_at : {turns : ℕ} {start : Since} {s s0 : ℕ} {e : EngineView} {tl : Option (List ℕ)} (r : Result Happened EngineFault) (w : Result Went ServeFault) {t t' : SessionState} → s ≡ s0 → HasSent t → IsToldBy turns start s0 e tl t' → Turned t t' → HasTurned r t t' → Leaves e s r w → Gone turns start s e tl w t
+gone_at {turns = turns} {start = start} {s = s} {e = e} {tl = tl} r w {t = t} {t' = t'} same sent T turned to leaves =
     let mine : IsToldBy turns start s e tl t' = subst (λ (k : ℕ). IsToldBy turns start k e tl t') (sym same) T in (
       t',
       mine,
-      record { stream = turned.stream; sent = turned.sent; bodies = turned.bodies; answers = turned.answers; few = turned.few (few_sent t sent); read = read_of turns start s e tl t' mine },
-      went_to turns start s e tl r w t t' leaves mine to,
+      record { stream = turned.stream; sent = turned.sent; bodies = turned.bodies; answers = turned.answers; batch = batch_of t t' turned.answers.0 turned.answers.1 turned.sent sent (turned.few (few_sent t sent)) (answers_are_short e (start.trace ++ mine.0.entries) mine.0.fit s t' mine.0.is_session); read = read_of mine },
+      went_to r w t leaves mine to,
     )
 
 -- the last one
-pub gone : (turns : ℕ) (start : Since) (s s0 : ℕ) (e e' : EngineView) (tl tl' : Option (List ℕ)) (t : SessionState) (begin : Bool) (r r0 : Result Happened EngineFault) (w : Result Went ServeFault) → s ≡ s0 → HasSent t → MayTurn turns start s0 e tl begin t
+pub gone : {turns : ℕ} {start : Since} {s s0 : ℕ} {e e' : EngineView} {tl tl' : Option (List ℕ)} {t : SessionState} {begin : Bool} {r r0 : Result Happened EngineFault} (w : Result Went ServeFault) → s ≡ s0 → HasSent t → MayTurn turns start s0 e tl begin t
     → Turns s begin tl tl' e r e' → r ≡ r0 → Leaves e' s r0 w → Gone (turns + 1) start s e' tl' w t
-gone turns start s s0 e e' tl tl' t begin r r0 w same sent h by is leaves =
-    let g = goes_turn turns start s s0 e e' tl tl' t begin r r0 same h by is in gone_at (turns + 1) start s s0 e' tl' r0 w t g.0 same sent g.1 g.2 g.3 leaves
+gone {r0 = r0} w same sent h by is leaves = let g = goes_turn same h by is in gone_at r0 w same sent g.1 g.2 g.3 leaves
 
 -- so many turns
-pub gone_spent : (turns : ℕ) (start : Since) (s s0 : ℕ) (e : EngineView) (tl : Option (List ℕ)) (begin : Bool) (f : ServeFault) (t : SessionState) → s ≡ s0 → HasSent t → MayTurn turns start s0 e tl begin t → Gone turns start s e tl (Err f) t
-gone_spent turns start s s0 e tl begin f t same sent h = gone_at turns start s s0 e tl (Err fault.OutOfMemory) (Err f) t h.0 same sent h.1 h.2 tt tt
+pub gone_spent : {turns : ℕ} {start : Since} {s s0 : ℕ} {e : EngineView} {tl : Option (List ℕ)} {begin : Bool} (f : ServeFault) {t : SessionState} → s ≡ s0 → HasSent t → MayTurn turns start s0 e tl begin t → Gone turns start s e tl (Err f) t
+gone_spent f same sent h = gone_at (Err fault.OutOfMemory) (Err f) same sent h.1 h.2 tt tt
 
 -- a session that neither waits for bytes nor has left, and that no reply was written of, may have its next turn
 pub still_turns : (r : Happened) (t t' : SessionState) → (r ≡ happened.Idle → ⊥) → ((cause : Cause) → r ≡ happened.Ended cause → ⊥) → (r ≡ happened.Wrote → ⊥) → HasTurned (Ok r) t t' → HasTurn (may_begin_after r) t'
@@ -237,16 +236,16 @@ still_turns happened.Wrote t t' idle ended wrote h = absurd (wrote refl)
 still_turns r t t' idle ended wrote h = h
 
 -- a reply was written, and little waits
-pub low_turn : (turns : ℕ) (start : Since) (s s0 : ℕ) (e : EngineView) (tl : Option (List ℕ)) (t t' : SessionState) (output : List ℕ) → s ≡ s0 → IsToldBy turns start s0 e tl t' → HasOutput e s output → length output < 65536 → HasTurned (Ok happened.Wrote) t t' → HasTurn true t'
-low_turn turns start s s0 e tl t t' output same T waits few h =
+pub low_turn : {turns : ℕ} {start : Since} {s s0 : ℕ} {e : EngineView} {tl : Option (List ℕ)} (t : SessionState) {t' : SessionState} (output : List ℕ) → s ≡ s0 → IsToldBy turns start s0 e tl t' → HasOutput e s output → length output < 65536 → HasTurned (Ok happened.Wrote) t t' → HasTurn true t'
+low_turn {s0 = s0} {e = e} t {t' = t'} output same T waits few h =
     let mine : HasOutput e s0 output = subst (λ (k : ℕ). HasOutput e k output) same waits in
-    open_turn t' (record { rests = h.0; closed = h.1 }) (subst (λ (b : List ℕ). length b < 65536) (sym (output_is t' output (output_here turns start s0 e tl t' output T mine))) few)
+    open_turn t' (record { rests = h.0; closed = h.1 }) (subst (λ (b : List ℕ). length b ≤ engine_held) (sym (output_is t' output (output_here output T mine))) (omega (arith, few)))
 
 -- ---- a line
 
 -- a session that an engine served to its end, or so far
-pub told_alone : (turns : ℕ) (start : Since) (s : ℕ) (e : EngineView) (tl : Option (List ℕ)) (from now : LineView) (P : Progress → Type 0) → Serves (IsToldBy turns start s e tl) from now P → Serves (IsTold start s e tl) from now P
-told_alone turns start s e tl from now P serves = (serves.0, serves.1.0, serves.2, serves.3)
+pub told_alone : {held : ℕ} {turns : ℕ} {start : Since} {s : ℕ} {e : EngineView} {tl : Option (List ℕ)} {from now : LineView} {P : Progress → Type 0} → Serves held (IsToldBy turns start s e tl) from now P → Serves held (IsTold start s e tl) from now P
+told_alone serves = (serves.0, serves.1.0, serves.2, serves.3)
 
 stopped_at : (f : ServeFault) (failed failed' turns : ℕ) (p : Progress) (entries : List TraceEntry) → turns ≤ length entries → IsStop f failed failed' ⊥ → IsStopped f failed failed' turns p → HasStoppedAt f entries p
 stopped_at serve.Line failed failed' turns p entries few why h = h.closed
@@ -254,9 +253,9 @@ stopped_at serve.OutOfMemory failed failed' turns p entries few why h = (h.writt
 stopped_at serve.NumbersSpent failed failed' turns p entries few why h = ((h.written, h.closed), elim h.spent [ inl most ↦ inl most | inr most ↦ inr (omega (arith, most, few)) ])
 stopped_at f failed failed' turns p entries few why h = absurd why
 
-pub stops_so : (start now : IoState) (trace : List TraceEntry) (fits : Fits start.engine trace) (f : ServeFault) (failed failed' turns s : ℕ) → IsStop f failed failed' ⊥ → Serves (IsToldBy turns (since_at start trace fits) s now.engine now.told) start.line now.line (IsStopped f failed failed' turns)
-    → (session : ℕ) × (p : Progress) × (tells : IsTold (since_at start trace fits) session now.engine now.told p.told) × ServedSoFar start.line now.line p × HasStoppedAt f tells.entries p
-stops_so start now trace fits f failed failed' turns s why serves =
+pub stops_so : {held : ℕ} (start now : IoState) {trace : List TraceEntry} {fits : Fits start.engine trace} {f : ServeFault} {failed failed' turns s : ℕ} → IsStop f failed failed' ⊥ → Serves held (IsToldBy turns (since_at start trace fits) s now.engine now.told) start.line now.line (IsStopped f failed failed' turns)
+    → (session : ℕ) × (p : Progress) × (tells : IsTold (since_at start trace fits) session now.engine now.told p.told) × ServedSoFar held start.line now.line p × HasStoppedAt f tells.entries p
+stops_so start now {f = f} {failed = failed} {failed' = failed'} {turns = turns} {s = s} why serves =
     (s, serves.0, serves.1.0, serves.2, stopped_at f failed failed' turns serves.0 serves.1.0.entries serves.1.1 why serves.3)
 
 pub serve_fault : (f : ServeFault) (failed failed' : ℕ) → IsStop f failed failed' ⊥ → IsServeFault f failed failed'

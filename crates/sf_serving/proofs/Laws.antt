@@ -2,7 +2,9 @@
 -- to this crate.
 
 -- fronts: what begins with what
-pub use Rattle.sf_serving.proofs.Fronts.{transcript_append, none_written, front_all, front_same, few_sent, few_more}
+pub use Rattle.sf_serving.proofs.Fronts.{transcript_append, none_written, one_packet, front_all, front_same}
+-- batches: no reply, or one
+pub use Rattle.sf_serving.proofs.Fronts.{batch_none, batch_one}
 -- a session at rest, and a new one
 pub use Rattle.sf_serving.proofs.Sessions.{rest_asked, rest_left, rest_stream, newly, ended_same, gone_whole, IsSame}
 -- no packet closes a session

@@ -47,9 +47,9 @@ one_ask : (begun : Bool) (body : List ℕ) (a b : Ask) → AreBytes body → Ask
 one_ask begun body a b bytes h k = h.2 ∙ ap (λ (z : Asked). ask_in begun z) (one_question body h.0 k.0 bytes h.1 k.1) ∙ sym k.2
 
 -- the same question, of a body that begins the bytes
-same_ask : (begun : Bool) (bytes body rest body' rest' : List ℕ) (a b : Ask) → AreBytes bytes → Begins bytes body rest → Begins bytes body' rest' → AsksFor begun body a → AsksFor begun body' b
+same_ask : (begun : Bool) {bytes body rest body' rest' : List ℕ} (a b : Ask) → AreBytes bytes → Begins bytes body rest → Begins bytes body' rest' → AsksFor begun body a → AsksFor begun body' b
     → (body ≡ body') × (rest ≡ rest') × (a ≡ b)
-same_ask begun bytes body rest body' rest' a b are x y h k =
+same_ask begun {body = body} {rest = rest} {body' = body'} {rest' = rest'} a b are x y h k =
     let same = one_packet body body' rest rest' x.is_body y.is_body (sym x.whole ∙ y.whole) in
     let of_body : AreBytes body' = whole_bytes body' rest' (subst AreBytes y.whole are) in
     (same.0, same.1, one_ask begun body' a b of_body (subst (λ (z : List ℕ). AsksFor begun z a) same.0 h) k)
@@ -69,7 +69,7 @@ module _ (begun : Bool) (bytes : List ℕ) (are : AreBytes bytes) where
   one_end_by a b (inl x) (inl y) = one_wrong bytes a b x y
   one_end_by a b (inl x) (inr y) = absurd (wrong_begins bytes y.0 y.1 a x y.2)
   one_end_by a b (inr x) (inl y) = absurd (wrong_begins bytes x.0 x.1 b y x.2)
-  one_end_by a b (inr x) (inr y) = same_cause a b (same_ask begun bytes x.0 x.1 y.0 y.1 (ask.End a) (ask.End b) are x.2 y.2 x.3 y.3).2
+  one_end_by a b (inr x) (inr y) = same_cause a b (same_ask begun (ask.End a) (ask.End b) are x.2 y.2 x.3 y.3).2
 
   more_ends : (a : Cause) → IsCut bytes cut.More → EndsBy begun bytes a → ⊥
   more_ends a m (inl x) = more_wrong bytes a m x
@@ -85,7 +85,7 @@ module _ (begun : Bool) (bytes : List ℕ) (are : AreBytes bytes) where
   end_begins : (cause : Cause) (body rest : List ℕ) (a : Response) → IsEnd begun bytes cause → Begins bytes body rest → AsksFor begun body (ask_behind a) → ⊥
   end_begins cause body rest a (inl x) b k = more_begins bytes body rest x.1 b
   end_begins cause body rest a (inr (inl x)) b k = wrong_begins bytes body rest cause x b
-  end_begins cause body rest a (inr (inr x)) b k = no_end a cause (sym (same_ask begun bytes x.0 x.1 body rest (ask.End cause) (ask_behind a) are x.2 b x.3 k).2)
+  end_begins cause body rest a (inr (inr x)) b k = no_end a cause (sym (same_ask begun (ask.End cause) (ask_behind a) are x.2 b x.3 k).2)
 
 -- ---- one reading
 
@@ -107,10 +107,10 @@ record First (begun : Bool) (bytes body : List ℕ) (bodies : List (List ℕ)) (
   pub asks : AsksFor begun body (ask_behind answer)
   pub reads : Reads true rest bodies later cause
 
-first_of : (begun : Bool) (bytes body : List ℕ) (bodies : List (List ℕ)) (answers : List Response) (cause : Cause) → Reads begun bytes (body ∷ bodies) answers cause → First begun bytes body bodies answers cause
+first_of : {begun : Bool} {bytes body : List ℕ} {bodies : List (List ℕ)} {answers : List Response} {cause : Cause} → Reads begun bytes (body ∷ bodies) answers cause → First begun bytes body bodies answers cause
 unfolding AreAsked
-first_of begun bytes body bodies [] cause r = absurd r.asked
-first_of begun bytes body bodies (a ∷ answers) cause r = record {
+first_of {answers = []} r = absurd r.asked
+first_of {body = body} {bodies = bodies} {answers = a ∷ answers} {cause = cause} r = record {
   rest = flat_map packet bodies ++ r.rest;
   begins = record { is_body = r.are_bodies.0; whole = r.stream ∙ append_assoc (packet body) (flat_map packet bodies) r.rest };
   answer = a;
@@ -127,34 +127,34 @@ first_of begun bytes body bodies (a ∷ answers) cause r = record {
 }
 
 -- a reading of nothing but an end
-end_of : (begun : Bool) (bytes : List ℕ) (answers : List Response) (cause : Cause) → Reads begun bytes [] answers cause → IsEnd begun bytes cause × (answers ≡ [])
+end_of : {begun : Bool} {bytes : List ℕ} {answers : List Response} {cause : Cause} → Reads begun bytes [] answers cause → IsEnd begun bytes cause × (answers ≡ [])
 unfolding AreAsked
-end_of begun bytes [] cause r = (subst (λ (b : List ℕ). IsEnd begun b cause) (sym r.stream) r.end, refl)
-end_of begun bytes (a ∷ answers) cause r = absurd r.asked
+end_of {begun = begun} {answers = []} {cause = cause} r = (subst (λ (b : List ℕ). IsEnd begun b cause) (sym r.stream) r.end, refl)
+end_of {answers = a ∷ answers} r = absurd r.asked
 
 abbrev pub AreOne : (bodies bodies' : List (List ℕ)) → (answers answers' : List Response) → (cause cause' : Cause) → Type 0
 AreOne bodies bodies' answers answers' cause cause' = (bodies ≡ bodies') × (map ask_behind answers ≡ map ask_behind answers') × (cause ≡ cause')
 
-pub one_reading : (begun : Bool) (bytes : List ℕ) (bodies bodies' : List (List ℕ)) (answers answers' : List Response) (cause cause' : Cause) → AreBytes bytes
+pub one_reading : {begun : Bool} {bytes : List ℕ} (bodies bodies' : List (List ℕ)) {answers answers' : List Response} {cause cause' : Cause} → AreBytes bytes
     → Reads begun bytes bodies answers cause → Reads begun bytes bodies' answers' cause' → AreOne bodies bodies' answers answers' cause cause'
-one_reading begun bytes [] [] answers answers' cause cause' are r s =
-    let x = end_of begun bytes answers cause r in
-    let y = end_of begun bytes answers' cause' s in
+one_reading {begun = begun} {bytes = bytes} [] [] {cause = cause} {cause' = cause'} are r s =
+    let x = end_of r in
+    let y = end_of s in
     (refl, ap (λ (xs : List Response). map ask_behind xs) (x.1 ∙ sym y.1), one_end begun bytes are cause cause' x.0 y.0)
-one_reading begun bytes [] (body' ∷ bodies') answers answers' cause cause' are r s =
-    let x = end_of begun bytes answers cause r in
-    let y = first_of begun bytes body' bodies' answers' cause' s in
+one_reading {begun = begun} {bytes = bytes} [] (body' ∷ bodies') {cause = cause} are r s =
+    let x = end_of r in
+    let y = first_of s in
     absurd (end_begins begun bytes are cause body' y.rest y.answer x.0 y.begins y.asks)
-one_reading begun bytes (body ∷ bodies) [] answers answers' cause cause' are r s =
-    let x = first_of begun bytes body bodies answers cause r in
-    let y = end_of begun bytes answers' cause' s in
+one_reading {begun = begun} {bytes = bytes} (body ∷ bodies) [] {cause' = cause'} are r s =
+    let x = first_of r in
+    let y = end_of s in
     absurd (end_begins begun bytes are cause' body x.rest x.answer y.0 x.begins x.asks)
-one_reading begun bytes (body ∷ bodies) (body' ∷ bodies') answers answers' cause cause' are r s =
-    let x = first_of begun bytes body bodies answers cause r in
-    let y = first_of begun bytes body' bodies' answers' cause' s in
-    let same = same_ask begun bytes body x.rest body' y.rest (ask_behind x.answer) (ask_behind y.answer) are x.begins y.begins x.asks y.asks in
+one_reading {begun = begun} (body ∷ bodies) (body' ∷ bodies') {cause = cause} are r s =
+    let x = first_of r in
+    let y = first_of s in
+    let same = same_ask begun (ask_behind x.answer) (ask_behind y.answer) are x.begins y.begins x.asks y.asks in
     let later : AreBytes y.rest = rest_bytes body' y.rest (subst AreBytes y.begins.whole are) in
-    let rest = one_reading true y.rest bodies bodies' x.later y.later cause cause' later (subst (λ (b : List ℕ). Reads true b bodies x.later cause) same.1 x.reads) y.reads in (
+    let rest = one_reading {begun = true} {bytes = y.rest} bodies bodies' later (subst (λ (b : List ℕ). Reads true b bodies x.later cause) same.1 x.reads) y.reads in (
       ap (λ (b : List ℕ). b ∷ bodies) same.0 ∙ ap (λ (bs : List (List ℕ)). body' ∷ bs) rest.0,
       ap (λ (xs : List Response). map ask_behind xs) x.answers_are ∙ ap (λ (a : Ask). a ∷ map ask_behind x.later) same.2
           ∙ ap (λ (asks : List Ask). ask_behind y.answer ∷ asks) rest.1 ∙ ap (λ (xs : List Response). map ask_behind xs) (sym y.answers_are),

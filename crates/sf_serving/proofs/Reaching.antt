@@ -1,5 +1,5 @@
 -- What a session alone is answered, from where it opens.
-use Rattle.std.proofs.Common.{◌≡◌, ◌+◌, ℕ, List, [], ◌∷◌, ◌++◌, Some, Result, Ok, Err, refl, ap, sym, ◌∙◌, subst, ◌⊎◌, inl, inr, append-nil, append_assoc, map}
+use Rattle.std.proofs.Common.{◌≡◌, ℕ, List, [], ◌∷◌, ◌++◌, Some, Result, Ok, Err, refl, ap, sym, ◌∙◌, subst, ◌⊎◌, inl, inr, append-nil, append_assoc, map}
 use Rattle.std.specs.List.{AllByRecursion}
 use Rattle.sf_call.specs.declared.record.Record.{Record}
 use Rattle.sf_call.specs.Histories.{replay, IsLegal}
@@ -18,22 +18,34 @@ all_front : {A : Type 0} (P : A → Type 0) (xs ys : List A) → AllByRecursion 
 all_front P [] ys h = (tt, h)
 all_front P (x ∷ xs) ys h = let rest = all_front P xs ys h.1 in ((h.0, rest.0), rest.1)
 
+-- from there session 1 alone goes on by these entries, lawfully, and with memory for all of them
+record GoesAlone (s : Spot) (t : SessionState) (entries : List TraceEntry) (w' : World) : Type 0 where
+  pub runs : Runs (lone s.records s.begun t) entries w'
+  pub own : AllByRecursion (IsEntryOf 1) entries
+  pub legal : IsLegal (s.records ++ order entries)
+  pub heard : AllByRecursion HadMemoryFor (order entries)
+
 -- where the session is there, one tree answers it to the end
-pub reaches : (entries : List TraceEntry) (s : Spot) (t : SessionState) (w' : World) (t' : SessionState) → Runs (lone s.records s.begun t) entries w' → AllByRecursion (IsEntryOf 1) entries → Stands t.phase s t.answers
-    → IsLegal (s.records ++ order entries) → AllByRecursion HadMemoryFor (order entries) → IsSession w' 1 t' → AllByRecursion HadMemoryAt t'.answers → t'.answers ≡ answers_alone (s.moments ++ moments_begun entries) (map ask_behind t'.answers)
+reaches : (entries : List TraceEntry) {s : Spot} {t : SessionState} {w' : World} {t' : SessionState} → Stands t.phase s t.answers → GoesAlone s t entries w' → IsSession w' 1 t' → AllByRecursion HadMemoryAt t'.answers
+    → t'.answers ≡ answers_alone (s.moments ++ moments_begun entries) (map ask_behind t'.answers)
 unfolding Runs
-reaches [] s t w' t' runs own stands legal heard is had =
-    let same : Some t ≡ Some t' = (subst (λ (z : World). IsSession z 1 t') runs is).1 in
+reaches [] {s = s} {t = t} {t' = t'} stands goes is had =
+    let same : Some t ≡ Some t' = (subst (λ (z : World). IsSession z 1 t') goes.runs is).1 in
     let last : t ≡ t' = cc in
     let S : SessionState → Type 0 = λ z. Stands z.phase s z.answers in
     stands_alone t'.phase s t'.answers had (subst S last stands) ∙ ap (λ (ms : List ℕ). answers_alone ms (map ask_behind t'.answers)) (sym (append-nil s.moments))
-reaches (e ∷ entries) s t w' t' runs own stands legal heard is had =
-    let parts = all_front HadMemoryFor e.added (order entries) heard in
+reaches (e ∷ entries) {s = s} {t = t} {w' = w'} {t' = t'} stands goes is had =
+    let runs = goes.runs in
+    let parts = all_front HadMemoryFor e.added (order entries) goes.heard in
     let now = moment_begun e.event e.result in
-    let on = leads_on s (record { now = e.added; later = order entries; legal = legal; heard = parts.0 }) t runs.0 e.event e.result stands own.0 runs.1 in
-    let runs' : Runs (lone (s.records ++ e.added) (s.begun + on.more) on.told) entries w' = subst (λ (z : World). Runs z entries w') on.world runs.2 in
-    let legal' : IsLegal ((s.records ++ e.added) ++ order entries) = subst IsLegal (sym (append_assoc s.records e.added (order entries))) legal in
-    reaches entries (onward s e.added on.more now) on.told w' t' runs' own.1 on.stands legal' parts.1 is had
+    let on = leads_on s (record { now = e.added; later = order entries; legal = goes.legal; heard = parts.0 }) t runs.0 e.event e.result stands goes.own.0 runs.1 in
+    let later : GoesAlone (onward s e.added on.more now) on.told entries w' = record {
+      runs = subst (λ (z : World). Runs z entries w') on.world runs.2;
+      own = goes.own.1;
+      legal = subst IsLegal (sym (append_assoc s.records e.added (order entries))) goes.legal;
+      heard = parts.1;
+    } in
+    reaches entries on.stands later is had
     ∙ ap (λ (ms : List ℕ). answers_alone ms (map ask_behind t'.answers)) (append_assoc s.moments now (moments_begun entries))
 
 abbrev beginning : Spot
@@ -41,7 +53,7 @@ beginning = record { records = []; begun = 0; moments = [] }
 
 stands_new : Stands Resting beginning []
 unfolding replay Follows
-stands_new = (tt, (refl, refl, refl))
+stands_new = (tt, (refl, refl))
 
 -- ---- from the beginning
 
@@ -74,9 +86,13 @@ module _ (s : ℕ) (w' : World) (t' : SessionState) (is : IsSession w' s t') (ha
   opened : (w : World) (added : List Record) (entries : List TraceEntry) (now : List ℕ) → (s ≡ 1) × (w ≡ lone [] 0 new_state) × (added ≡ []) × (now ≡ [])
       → Runs w entries w' → AllByRecursion (IsEntryOf s) entries → IsLegal (added ++ order entries) → AllByRecursion HadMemoryFor (added ++ order entries) → Comes s (now ++ moments_begun entries) t'
   opened w added entries now new runs own legal heard =
-      let answers = reaches entries beginning new_state w' t' (subst (λ (z : World). Runs z entries w') new.1 runs) (subst (λ (n : ℕ). AllByRecursion (IsEntryOf n) entries) new.0 own) stands_new
-      (subst (λ (xs : List Record). IsLegal (xs ++ order entries)) new.2 legal) (subst (λ (xs : List Record). AllByRecursion HadMemoryFor (xs ++ order entries)) new.2 heard)
-      (subst (λ (n : ℕ). IsSession w' n t') new.0 is) had in
+      let goes : GoesAlone beginning new_state entries w' = record {
+        runs = subst (λ (z : World). Runs z entries w') new.1 runs;
+        own = subst (λ (n : ℕ). AllByRecursion (IsEntryOf n) entries) new.0 own;
+        legal = subst (λ (xs : List Record). IsLegal (xs ++ order entries)) new.2 legal;
+        heard = subst (λ (xs : List Record). AllByRecursion HadMemoryFor (xs ++ order entries)) new.2 heard;
+      } in
+      let answers = reaches entries stands_new goes (subst (λ (n : ℕ). IsSession w' n t') new.0 is) had in
       (new.0, subst (λ (m : List ℕ). t'.answers ≡ answers_alone (m ++ moments_begun entries) (map ask_behind t'.answers)) (sym new.3) answers)
 
   comes : (entries : List TraceEntry) → Runs start entries w' → AllByRecursion (IsEntryOf s) entries → IsLegal (order entries) → AllByRecursion HadMemoryFor (order entries) → Comes s (moments_begun entries) t'

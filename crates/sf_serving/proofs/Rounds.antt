@@ -30,9 +30,9 @@ pub writes_none : (l : LineView) → WritesByPieces l l []
 writes_none l = record { incoming = refl; appended = Appends-nil l.outgoing; writes = []; logged = logs_none l.calls; pieces = tt; took = refl }
 
 -- a piece more
-pub writes_some : (a b b' : LineView) (n : ℕ) (sent rest : List ℕ) → WritesByPieces a b sent → b'.incoming ≡ b.incoming → Appends b.outgoing b'.outgoing (take n rest) → Logs b.calls b'.calls (Write n ∷ []) → n ≤ 65536 → n ≤ length rest
+pub writes_some : {a b b' : LineView} (n : ℕ) {sent : List ℕ} (rest : List ℕ) → WritesByPieces a b sent → b'.incoming ≡ b.incoming → Appends b.outgoing b'.outgoing (take n rest) → Logs b.calls b'.calls (Write n ∷ []) → n ≤ 65536 → n ≤ length rest
     → WritesByPieces a b' (sent ++ take n rest)
-writes_some a b b' n sent rest w same appends logs short within =
+writes_some {a = a} {b = b} {b' = b'} n {sent = sent} rest w same appends logs short within =
     let one : taken (Write n ∷ []) ≡ n = omega arith in
     record {
       incoming = same ∙ w.incoming;
@@ -121,8 +121,8 @@ host_spent f w s p h = tt
 -- ---- the session goes on
 
 -- what its host makes of what it was told, having gone on
-abbrev pub Goes : (T T' : SessionState → Type 0) → Result Went ServeFault → Type 0
-Goes T T' r = (t : SessionState) → T t → IsOpen t → IsRead t → HasSent t → (t' : SessionState) × T' t' × IsFurther t t' × WentTo r t t'
+abbrev pub Goes : (held : ℕ) → (T T' : SessionState → Type 0) → Result Went ServeFault → Type 0
+Goes held T T' r = (t : SessionState) → T t → IsOpen t → IsRead t → HasSent t → (t' : SessionState) × T' t' × IsFurther held t t' × WentTo r t t'
 
 -- so many answers were there before
 abbrev pub GoneTo : ℕ → Result Went ServeFault → SessionState → Type 0
@@ -147,7 +147,7 @@ gone_to k (Ok went.Answered) t t' few to = (to.0, omega (arith, few, to.1))
 gone_to k (Ok (went.Ended cause)) t t' few to = to
 gone_to k (Err f) t t' few to = tt
 
-pub gone : (T T' : SessionState → Type 0) (from now : LineView) (n k : ℕ) (r : Result Went ServeFault) → Goes T T' r → Serves T from now (GoesOnBy n k) → Serves T' from now (HasGone n k r)
+pub gone : {held : ℕ} (T T' : SessionState → Type 0) (from now : LineView) (n k : ℕ) (r : Result Went ServeFault) → Goes held T T' r → Serves held T from now (GoesOnBy n k) → Serves held T' from now (HasGone n k r)
 gone T T' from now n k r goes serves =
     let p = serves.0 in
     let on = serves.3.0 in
@@ -155,7 +155,7 @@ gone T T' from now n k r goes serves =
     let further = g.2 in (
       progress g.0 p.unfed p.written,
       g.1,
-      further_serves from now p.told g.0 p.unfed p.written serves.2 on.sent on.in_step further,
+      further_serves serves.2 on.sent on.in_step further,
       record {
         fed = on.fed;
         in_step = on.in_step ∙ sym further.sent;
@@ -164,8 +164,8 @@ gone T T' from now n k r goes serves =
       },
     )
 
-pub gone_stops : (T : SessionState → Type 0) (from now : LineView) (n k w : ℕ) (s : Type 0) (f : ServeFault) → IsHostFault f w s → Serves T from now (HasGone n k (Err f)) → Serves T from now (Stops f w)
-gone_stops T from now n k w s f why serves = (serves.0, serves.1, serves.2, ((λ no. serves.3.in_step), host_spent f w s serves.0 why))
+pub gone_stops : {held : ℕ} (T : SessionState → Type 0) {from now : LineView} {n k : ℕ} (w : ℕ) (s : Type 0) {f : ServeFault} → IsHostFault f w s → Serves held T from now (HasGone n k (Err f)) → Serves held T from now (Stops f w)
+gone_stops T w s {f = f} why serves = (serves.0, serves.1, serves.2, ((λ no. serves.3.in_step), host_spent f w s serves.0 why))
 
 -- what waited was sent
 abbrev pub SentGone : ℕ → ℕ → Option (List ℕ) → Went → Progress → Type 0
@@ -191,31 +191,31 @@ sent_gone n k incoming (went.Ended cause) p h = record {
 }
 
 -- what is so once all that waited was sent
-pub sends_so : (T T' : SessionState → Type 0) (from old new : LineView) (P Q : Progress → Type 0) → SendsAll T T' old new → ((p : Progress) → P p → IsInStep p × Q (all_sent p)) → Serves T from old P → Serves T' from new Q
-sends_so T T' from old new P Q sends so serves =
+pub sends_so : {held : ℕ} (T T' : SessionState → Type 0) {from old new : LineView} {P Q : Progress → Type 0} → SendsAll held T T' old new → ((p : Progress) → P p → IsInStep p × Q (all_sent p)) → Serves held T from old P → Serves held T' from new Q
+sends_so T T' {from = from} sends so serves =
     let p = serves.0 in
     let h = so p serves.3 in
     let s = sends from p serves.1 serves.2 h.0 in
     (all_sent p, s.0, s.1, h.1)
 
 -- and where the line failed
-pub fails_so : (T T' : SessionState → Type 0) (from old new : LineView) (P Q : Progress → Type 0) → ((t : SessionState) → T t → T' t) → SendsSome T old new → ((p : Progress) → P p → IsInStep p) → ((p : Progress) → Q p) → Serves T from old P → Serves T' from new Q
-fails_so T T' from old new P Q to sends step so serves =
+pub fails_so : {held : ℕ} {T T' : SessionState → Type 0} {from old new : LineView} {P Q : Progress → Type 0} → ((t : SessionState) → T t → T' t) → SendsSome held T old new → ((p : Progress) → P p → IsInStep p) → ((p : Progress) → Q p) → Serves held T from old P → Serves held T' from new Q
+fails_so {from = from} to sends step so serves =
     let p = serves.0 in
     let s = sends from p serves.1 serves.2 (step p serves.3) in
     (progress p.told p.unfed s.0, to p.told serves.1, s.1, so (progress p.told p.unfed s.0))
 
 -- it went on so, and all that waited was sent
-pub went_sent : (T M T' : SessionState → Type 0) (from old new : LineView) (n k : ℕ) (incoming : Option (List ℕ)) (r r' : Went) → Goes T M (Ok r) → SendsAll M T' old new → r ≡ r' → Serves T from old (GoesOnBy n k) → Serves T' from new (SentGone n k incoming r')
-went_sent T M T' from old new n k incoming r r' goes sends same serves =
-    subst (λ (w : Went). Serves T' from new (SentGone n k incoming w)) same
-    (sends_so M T' from old new _ (SentGone n k incoming r) sends (λ p h. (h.in_step, sent_gone n k incoming r p h)) (gone T M from old n k (Ok r) goes serves))
+pub went_sent : {held : ℕ} {T M : SessionState → Type 0} (T' : SessionState → Type 0) {from old new : LineView} {n k : ℕ} (incoming : Option (List ℕ)) {r r' : Went} → Goes held T M (Ok r) → SendsAll held M T' old new → r ≡ r' → Serves held T from old (GoesOnBy n k) → Serves held T' from new (SentGone n k incoming r')
+went_sent {held = held} {T = T} {M = M} T' {from = from} {old = old} {new = new} {n = n} {k = k} incoming {r = r} goes sends same serves =
+    subst (λ (w : Went). Serves held T' from new (SentGone n k incoming w)) same
+    (sends_so M T' sends (λ p h. (h.in_step, sent_gone n k incoming r p h)) (gone T M from old n k (Ok r) goes serves))
 
 pub stops_line : (p : Progress) → Stops serve.Line 0 p
 stops_line p = ((λ no. absurd (no refl)), tt)
 
 -- so many answers that as many bytes were read
-pub goes_spent : (T : SessionState → Type 0) (from now : LineView) (n k w : ℕ) → most_counted ≤ k → Serves T from now (GoesOnBy n k) → Serves T from now (Stops serve.NumbersSpent w)
+pub goes_spent : {held : ℕ} (T : SessionState → Type 0) (from now : LineView) (n k w : ℕ) → most_counted ≤ k → Serves held T from now (GoesOnBy n k) → Serves held T from now (Stops serve.NumbersSpent w)
 goes_spent T from now n k w most serves =
     let p = serves.0 in
     let long : length p.told.answers ≤ length p.told.stream = long_answers p.told serves.3.0.is_open.rests serves.2.bodies in
@@ -231,22 +231,22 @@ pub record HasRead (n : ℕ) (bytes : List ℕ) (p : Progress) : Type 0 where
   pub in_step : IsInStep p
   pub long : n ≤ length p.told.stream
 
-pub has_read : (T : SessionState → Type 0) (from now now' : LineView) (n k : ℕ) (bytes : List ℕ) → Serves T from now (Rests n) → IsReadBy now now' k bytes → Serves T from now' (HasRead n bytes)
+pub has_read : {held : ℕ} (T : SessionState → Type 0) (from now now' : LineView) (n k : ℕ) (bytes : List ℕ) → Serves held T from now (Rests n) → IsReadBy now now' k bytes → Serves held T from now' (HasRead n bytes)
 has_read T from now now' n k bytes serves by =
     let p = serves.0 in
     let on = serves.3.0 in (
       progress p.told bytes p.written,
       serves.1,
-      read_serves from now now' n k p bytes serves.2 serves.3 by,
+      read_serves serves.2 serves.3 by,
       record { is_open = on.is_open; unfed = refl; sent = on.sent; in_step = on.in_step; long = on.long },
     )
 
 -- and then they are
-pub has_fed : (T T' : SessionState → Type 0) (from now : LineView) (n : ℕ) (bytes : List ℕ) → 0 < length bytes → ((t : SessionState) → T t → IsOpen t → T' (fed t bytes)) → Serves T from now (HasRead n bytes) → Serves T' from now (GoesOn (n + 1))
-has_fed T T' from now n bytes some feeds serves =
+pub has_fed : {held : ℕ} (T T' : SessionState → Type 0) (from now : LineView) (n : ℕ) (bytes : List ℕ) → 0 < length bytes → ((t : SessionState) → T t → IsOpen t → T' (fed t bytes)) → Serves held T from now (HasRead n bytes) → Serves held T' from now (GoesOn (n + 1))
+has_fed {held = held} T T' from now n bytes some feeds serves =
     let p = serves.0 in
     let read = serves.3 in
-    let S : ServedSoFar from now (progress p.told bytes p.written) = subst (λ (b : List ℕ). ServedSoFar from now (progress p.told b p.written)) read.unfed serves.2 in (
+    let S : ServedSoFar held from now (progress p.told bytes p.written) = subst (λ (b : List ℕ). ServedSoFar held from now (progress p.told b p.written)) read.unfed serves.2 in (
       progress (fed p.told bytes) [] p.written,
       feeds p.told serves.1 read.is_open,
       fed_serves from now p.told bytes p.written S read.is_open,
@@ -260,33 +260,33 @@ has_fed T T' from now n bytes some feeds serves =
     )
 
 -- some bytes of a piece were read and fed
-pub was_fed : (T T' : SessionState → Type 0) (from now now' : LineView) (n k : ℕ) (buffer old : List ℕ) (len : ℕ) → Serves T from now (Rests n) → IsReadBy now now' k (take k buffer) → length buffer ≡ len → 0 < k
-    → ((t : SessionState) → T t → IsOpen t → T' (fed t (take k (take len (buffer ++ drop (length buffer) old))))) → Serves T' from now' (GoesOn (n + 1))
-was_fed T T' from now now' n k buffer old len serves by filled some feeds =
+pub was_fed : {held : ℕ} {T : SessionState → Type 0} (T' : SessionState → Type 0) {from now now' : LineView} {n k : ℕ} (buffer old : List ℕ) {len : ℕ} → Serves held T from now (Rests n) → IsReadBy now now' k (take k buffer) → length buffer ≡ len → 0 < k
+    → ((t : SessionState) → T t → IsOpen t → T' (fed t (take k (take len (buffer ++ drop (length buffer) old))))) → Serves held T' from now' (GoesOn (n + 1))
+was_fed {T = T} T' {from = from} {now = now} {now' = now'} {n = n} {k = k} buffer old {len = len} serves by filled some feeds =
     has_fed T T' from now' n (take k buffer) (omega (arith, by.count, some)) (λ t tells is_open. front_read (λ (b : List ℕ). T' (fed t b)) k len buffer old filled (feeds t tells is_open)) (has_read T from now now' n k (take k buffer) serves by)
 
 -- what a read of a piece gave
 pub read_by : (now now' : LineView) (k : ℕ) (buffer : List ℕ) → Consumes now.incoming now'.incoming (take k buffer) → k ≤ length buffer → length buffer ≡ 65536 → now'.outgoing ≡ now.outgoing → Logs now.calls now'.calls (Read k ∷ []) → IsReadBy now now' k (take k buffer)
 read_by now now' k buffer consumes within filled same logs = record { consumes = consumes; count = omega (arith, length-take k buffer, within); short = omega (arith, within, filled); same = same; logs = logs }
 
-pub read_stops : (T T' : SessionState → Type 0) (from now : LineView) (n w : ℕ) (bytes : List ℕ) → ((t : SessionState) → T t → T' t) → Serves T from now (HasRead n bytes) → Serves T' from now (Stops serve.OutOfMemory w)
+pub read_stops : {held : ℕ} (T T' : SessionState → Type 0) (from now : LineView) (n w : ℕ) (bytes : List ℕ) → ((t : SessionState) → T t → T' t) → Serves held T from now (HasRead n bytes) → Serves held T' from now (Stops serve.OutOfMemory w)
 read_stops T T' from now n w bytes to serves = (serves.0, to serves.0.told serves.1, serves.2, ((λ no. serves.3.in_step), tt))
 
-pub rest_stops : (T : SessionState → Type 0) (from now now' : LineView) (n w : ℕ) → Serves T from now (Rests n) → Keeps now.incoming now'.incoming → now'.outgoing ≡ now.outgoing → Logs now.calls now'.calls [] → Serves T from now' (Stops serve.Line w)
-rest_stops T from now now' n w serves kept same logs = (serves.0, serves.1, still_serves from now now' serves.0 serves.2 kept same logs, ((λ no. absurd (no refl)), tt))
+pub rest_stops : {held : ℕ} (T : SessionState → Type 0) {from now now' : LineView} {n : ℕ} (w : ℕ) → Serves held T from now (Rests n) → Keeps now.incoming now'.incoming → now'.outgoing ≡ now.outgoing → Logs now.calls now'.calls [] → Serves held T from now' (Stops serve.Line w)
+rest_stops T {from = from} {now = now} {now' = now'} w serves kept same logs = (serves.0, serves.1, still_serves from now now' serves.0 serves.2 kept same logs, ((λ no. absurd (no refl)), tt))
 
 -- the end of the input
-pub read_none : (T : SessionState → Type 0) (from now now' : LineView) (n k : ℕ) (buffer : List ℕ) → Serves T from now (Rests n) → k ≡ 0 → IsReadBy now now' k (take k buffer) → IsAtEnd now'.incoming → Serves T from now' (EndsByCause now'.incoming Closed)
-read_none T from now now' n k buffer serves none by at_end =
+pub read_none : {held : ℕ} (T : SessionState → Type 0) {from now now' : LineView} {n k : ℕ} (buffer : List ℕ) → Serves held T from now (Rests n) → k ≡ 0 → IsReadBy now now' k (take k buffer) → IsAtEnd now'.incoming → Serves held T from now' (EndsByCause now'.incoming Closed)
+read_none T {now = now} {now' = now'} {k = k} buffer serves none by at_end =
     let p = serves.0 in
     let nothing : IsReadBy now now' k [] = subst (λ (b : List ℕ). IsReadBy now now' k b) (ap (λ (x : ℕ). take x buffer) none) by in (
       progress p.told [] p.written,
       serves.1,
-      read_serves from now now' n k p [] serves.2 serves.3 nothing,
+      read_serves serves.2 serves.3 nothing,
       record { fed = refl; whole = closed_whole p.told serves.2.bodies serves.3.1; sent = serves.3.0.sent; in_step = serves.3.0.in_step; at_end = λ e. at_end },
     )
 
-pub rounds_spent : (T : SessionState → Type 0) (from now : LineView) (n w : ℕ) → most_counted ≤ n → Serves T from now (Rests n) → Serves T from now (Stops serve.NumbersSpent w)
+pub rounds_spent : {held : ℕ} (T : SessionState → Type 0) (from now : LineView) (n w : ℕ) → most_counted ≤ n → Serves held T from now (Rests n) → Serves held T from now (Stops serve.NumbersSpent w)
 rounds_spent T from now n w most serves =
     (serves.0, serves.1, serves.2, ((λ no. serves.3.0.in_step), inl (omega (arith, most, serves.3.0.long))))
 
@@ -321,12 +321,12 @@ abbrev over : Progress → Progress
 over p = progress (ended p.told) p.unfed p.written
 
 -- what is so of a session that ends, from what was so before
-pub ends_so : (T T' : SessionState → Type 0) (from now : LineView) (P Q : Progress → Type 0) → ((t : SessionState) → T t → T' (ended t)) → ((p : Progress) → P p → Q (over p)) → Serves T from now P → Serves T' from now Q
+pub ends_so : {held : ℕ} (T T' : SessionState → Type 0) (from now : LineView) (P Q : Progress → Type 0) → ((t : SessionState) → T t → T' (ended t)) → ((p : Progress) → P p → Q (over p)) → Serves held T from now P → Serves held T' from now Q
 ends_so T T' from now P Q ends so serves =
     let p = serves.0 in (over p, ends p.told serves.1, ended_serves from now p.told p.unfed p.written serves.2, so p serves.3)
 
-pub stopped_ended : (f : ServeFault) (failed failed' w w' : ℕ) (s : Type 0) (p : Progress) → w' ≡ w → IsStop f failed failed' s → HasStopped f w p → IsStopped f failed failed' w' (over p)
-stopped_ended f failed failed' w w' s p same why h =
+pub stopped_ended : {f : ServeFault} {failed failed' w w' : ℕ} (s : Type 0) (p : Progress) → w' ≡ w → IsStop f failed failed' s → HasStopped f w p → IsStopped f failed failed' w' (over p)
+stopped_ended {f = f} {failed = failed} {failed' = failed'} {w = w} {w' = w'} s p same why h =
     record { written = written_for f failed failed' s (over p) why (λ no. written_ended p (h.0 no)); spent = spent_for f w w' p (over p) same (ended_same p.told).stream h.1; closed = ended_none p.told }
 
 -- the core doesn't know the session
@@ -347,6 +347,6 @@ written_over incoming cause p h = written_ended p (h.sent, h.in_step)
 waits_new : Waits new_state
 waits_new = let few : 0 < 4 = omega arith in (record { rests = refl; closed = refl }, inl few)
 
-pub rests_new : (T : SessionState → Type 0) (l : LineView) → T new_state → Serves T l l (Rests 0)
+pub rests_new : {held : ℕ} (T : SessionState → Type 0) (l : LineView) → T new_state → Serves held T l l (Rests 0)
 rests_new T l tells =
     (progress new_state [] [], tells, newly l, (record { is_open = waits_new.0; fed = refl; sent = sym none_written; in_step = refl; long = omega arith }, waits_new))

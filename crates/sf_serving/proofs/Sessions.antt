@@ -22,7 +22,7 @@ use Rattle.sf_serving.specs.Ends.{IsEnd, IsWhole}
 use Rattle.sf_serving.specs.Hosts.{IsFront, IsOpen, HasSent, Waits, IsFurther, with_sent, ended}
 use Rattle.sf_serving.specs.Serving.{LineView, Progress, progress, IsPromptAt, AreBatched, ServedSoFar, IsInStep, Rests}
 use Rattle.sf_serving.specs.Rounds.{WritesByPieces}
-use Rattle.sf_serving.proofs.Fronts.{none_written, front_all, front_same, begun_more, prompt_further, nothing_prompt, prompt_push, prompt_writes, given_more, taken_more, writes_give_none, written_pieces, all_more, batches_none, batches_calls, batches_more, batch_of}
+use Rattle.sf_serving.proofs.Fronts.{none_written, front_all, front_same, begun_more, prompt_further, nothing_prompt, prompt_push, prompt_writes, given_more, taken_more, writes_give_none, written_pieces, all_more, batches_none, batches_calls, batches_more}
 
 -- ---- a session at rest
 
@@ -46,7 +46,7 @@ cuts_of [] rest bs c = (refl, c)
 cuts_of (body ∷ bodies) rest bs c = (flat_map packet bodies ++ rest, bs.0, append_assoc (packet body) (flat_map packet bodies) rest, cuts_of bodies rest bs.1 c)
 
 -- before a read all is prompt
-prompt_now : (from now : LineView) (n : ℕ) (p : Progress) → (S : ServedSoFar from now p) → Rests n p → IsPromptAt p S.log
+prompt_now : {held : ℕ} (from now : LineView) (n : ℕ) (p : Progress) → (S : ServedSoFar held from now p) → Rests n p → IsPromptAt p S.log
 prompt_now from now n p S rests =
     let t = p.told in
     let at : t.phase ≡ Resting = rests.1.0.rests in
@@ -181,7 +181,7 @@ long_answers t at read =
 -- ---- one thing more that happens to it
 
 -- a new session
-pub newly : (l : LineView) → ServedSoFar l l (progress new_state [] [])
+pub newly : {held : ℕ} (l : LineView) → ServedSoFar held l l (progress new_state [] [])
 newly l = record {
   bodies = read_new;
   read = Consumes-nil l.incoming;
@@ -197,9 +197,9 @@ newly l = record {
 }
 
 -- more was fed, read or answered, and nothing moved on the line
-retold : (from now : LineView) (t t' : SessionState) (unfed unfed' written : List ℕ) → (S : ServedSoFar from now (progress t unfed written)) → IsRead t' → t'.stream ++ unfed' ≡ t.stream ++ unfed → IsFront t.stream t'.stream → IsFront t.bodies t'.bodies
-    → IsFront t.answers t'.answers → AreBatched t'.answers S.log → ServedSoFar from now (progress t' unfed' written)
-retold from now t t' unfed unfed' written S read same stream bodies answers batches = record {
+retold : {held : ℕ} {from now : LineView} {t t' : SessionState} {unfed unfed' written : List ℕ} → (S : ServedSoFar held from now (progress t unfed written)) → IsRead t' → t'.stream ++ unfed' ≡ t.stream ++ unfed → IsFront t.stream t'.stream → IsFront t.bodies t'.bodies
+    → IsFront t.answers t'.answers → AreBatched held t'.answers S.log → ServedSoFar held from now (progress t' unfed' written)
+retold {from = from} {now = now} {t = t} {t' = t'} {unfed = unfed} {unfed' = unfed'} {written = written} S read same stream bodies answers batches = record {
   bodies = read;
   read = subst (λ (b : List ℕ). Consumes from.incoming now.incoming b) (sym same) S.read;
   wrote = S.wrote;
@@ -213,26 +213,25 @@ retold from now t t' unfed unfed' written S read same stream bodies answers batc
   batches = batches;
 }
 
-pub fed_serves : (from now : LineView) (t : SessionState) (bytes written : List ℕ) → ServedSoFar from now (progress t bytes written) → IsOpen t → ServedSoFar from now (progress (fed t bytes) [] written)
+pub fed_serves : {held : ℕ} (from now : LineView) (t : SessionState) (bytes written : List ℕ) → ServedSoFar held from now (progress t bytes written) → IsOpen t → ServedSoFar held from now (progress (fed t bytes) [] written)
 fed_serves from now t bytes written S is_open =
-    retold from now t (fed t bytes) bytes [] written S (read_fed t bytes is_open.rests S.bodies) (append-nil (t.stream ++ bytes)) (bytes, refl) (front_all t.bodies) (front_all t.answers) S.batches
+    retold S (read_fed t bytes is_open.rests S.bodies) (append-nil (t.stream ++ bytes)) (bytes, refl) (front_all t.bodies) (front_all t.answers) S.batches
 
-pub further_serves : (from now : LineView) (t t' : SessionState) (unfed written : List ℕ) → ServedSoFar from now (progress t unfed written) → HasSent t → written ≡ t.sent → IsFurther t t' → ServedSoFar from now (progress t' unfed written)
-further_serves from now t t' unfed written S sent step further =
+pub further_serves : {held : ℕ} {from now : LineView} {t t' : SessionState} {unfed written : List ℕ} → ServedSoFar held from now (progress t unfed written) → HasSent t → written ≡ t.sent → IsFurther held t t' → ServedSoFar held from now (progress t' unfed written)
+further_serves {held = held} {t = t} {t' = t'} {unfed = unfed} S sent step further =
     let took : taken S.log ≡ length (transcript t.answers) = S.took ∙ ap (λ (b : List ℕ). length b) (step ∙ sent) in
     let made = further.answers in
-    let batch = batch_of t t' made.0 made.1 further.sent sent further.few in
-    let batches : AreBatched t'.answers S.log = subst (λ (a : List Response). AreBatched a S.log) (sym made.1) (batches_more t.answers made.0 S.log S.batches took batch) in
-    retold from now t t' unfed unfed written S further.read (ap (λ (b : List ℕ). b ++ unfed) further.stream) (front_same t.stream t'.stream further.stream) further.bodies further.answers batches
+    let batches : AreBatched held t'.answers S.log = subst (λ (a : List Response). AreBatched held a S.log) (sym made.1) (batches_more t.answers made.0 S.log S.batches took further.batch) in
+    retold S further.read (ap (λ (b : List ℕ). b ++ unfed) further.stream) (front_same t.stream t'.stream further.stream) further.bodies further.answers batches
 
-sent_serves : (from now : LineView) (t : SessionState) (unfed written : List ℕ) → ServedSoFar from now (progress t unfed written) → ServedSoFar from now (progress (with_sent t) unfed written)
-sent_serves from now t unfed written S = retold from now t (with_sent t) unfed unfed written S (read_sent t S.bodies) refl (front_all t.stream) (front_all t.bodies) (front_all t.answers) S.batches
+sent_serves : {held : ℕ} (from now : LineView) (t : SessionState) (unfed written : List ℕ) → ServedSoFar held from now (progress t unfed written) → ServedSoFar held from now (progress (with_sent t) unfed written)
+sent_serves from now t unfed written S = retold S (read_sent t S.bodies) refl (front_all t.stream) (front_all t.bodies) (front_all t.answers) S.batches
 
-pub ended_serves : (from now : LineView) (t : SessionState) (unfed written : List ℕ) → ServedSoFar from now (progress t unfed written) → ServedSoFar from now (progress (ended t) unfed written)
-ended_serves from now t unfed written S =
+pub ended_serves : {held : ℕ} (from now : LineView) (t : SessionState) (unfed written : List ℕ) → ServedSoFar held from now (progress t unfed written) → ServedSoFar held from now (progress (ended t) unfed written)
+ended_serves {held = held} from now t unfed written S =
     let same = ended_same t in
-    retold from now t (ended t) unfed unfed written S (read_closed t t.phase refl S.bodies) (ap (λ (b : List ℕ). b ++ unfed) same.stream) (front_same t.stream (ended t).stream same.stream) (front_same t.bodies (ended t).bodies same.bodies) (front_same t.answers (ended t).answers same.answers)
-    (subst (λ (a : List Response). AreBatched a S.log) (sym same.answers) S.batches)
+    retold S (read_closed t t.phase refl S.bodies) (ap (λ (b : List ℕ). b ++ unfed) same.stream) (front_same t.stream (ended t).stream same.stream) (front_same t.bodies (ended t).bodies same.bodies) (front_same t.answers (ended t).answers same.answers)
+    (subst (λ (a : List Response). AreBatched held a S.log) (sym same.answers) S.batches)
 
 -- a line gave these bytes by one read
 pub record IsReadBy (now now' : LineView) (n : ℕ) (bytes : List ℕ) : Type 0 where
@@ -243,8 +242,8 @@ pub record IsReadBy (now now' : LineView) (n : ℕ) (bytes : List ℕ) : Type 0 
   pub logs : Logs now.calls now'.calls (Read n ∷ [])
 
 -- they are not fed yet
-pub read_serves : (from now now' : LineView) (k n : ℕ) (p : Progress) (bytes : List ℕ) → ServedSoFar from now p → Rests k p → IsReadBy now now' n bytes → ServedSoFar from now' (progress p.told bytes p.written)
-read_serves from now now' k n p bytes S rests by =
+pub read_serves : {held : ℕ} {from now now' : LineView} {k n : ℕ} {p : Progress} {bytes : List ℕ} → ServedSoFar held from now p → Rests k p → IsReadBy now now' n bytes → ServedSoFar held from now' (progress p.told bytes p.written)
+read_serves {from = from} {now = now} {now' = now'} {k = k} {n = n} {p = p} {bytes = bytes} S rests by =
     let t = p.told in
     let none : t.stream ++ p.unfed ≡ t.stream = ap (λ (b : List ℕ). t.stream ++ b) rests.0.fed ∙ append-nil t.stream in
     let before : Consumes from.incoming now.incoming t.stream = subst (λ (b : List ℕ). Consumes from.incoming now.incoming b) none S.read in
@@ -267,7 +266,7 @@ read_serves from now now' k n p bytes S rests by =
     }
 
 -- a line that moved no byte and told no call
-pub still_serves : (from now now' : LineView) (p : Progress) → ServedSoFar from now p → Keeps now.incoming now'.incoming → now'.outgoing ≡ now.outgoing → Logs now.calls now'.calls [] → ServedSoFar from now' p
+pub still_serves : {held : ℕ} (from now now' : LineView) (p : Progress) → ServedSoFar held from now p → Keeps now.incoming now'.incoming → now'.outgoing ≡ now.outgoing → Logs now.calls now'.calls [] → ServedSoFar held from now' p
 still_serves from now now' p S kept same logs = record {
   bodies = S.bodies;
   read = Consumes-kept from.incoming now.incoming now'.incoming (p.told.stream ++ p.unfed) S.read kept;
@@ -283,9 +282,9 @@ still_serves from now now' p S kept same logs = record {
 }
 
 -- the line took a front of what waits
-pub wrote_serves : (from now now' : LineView) (p : Progress) (output sent rest : List ℕ) → ServedSoFar from now p → IsInStep p → transcript p.told.answers ≡ p.told.sent ++ output → output ≡ sent ++ rest → WritesByPieces now now' sent
-    → ServedSoFar from now' (progress p.told p.unfed (p.written ++ sent))
-wrote_serves from now now' p output sent rest S step waits whole w =
+pub wrote_serves : {held : ℕ} {from now now' : LineView} {p : Progress} {output sent : List ℕ} (rest : List ℕ) → ServedSoFar held from now p → IsInStep p → transcript p.told.answers ≡ p.told.sent ++ output → output ≡ sent ++ rest → WritesByPieces now now' sent
+    → ServedSoFar held from now' (progress p.told p.unfed (p.written ++ sent))
+wrote_serves {from = from} {now = now} {now' = now'} {p = p} {output = output} {sent = sent} rest S step waits whole w =
     let p' = progress p.told p.unfed (p.written ++ sent) in
     let none : given w.writes ≡ 0 = writes_give_none w.writes w.pieces in
     let all : transcript p.told.answers ≡ (p.written ++ sent) ++ rest =
@@ -306,9 +305,9 @@ wrote_serves from now now' p output sent rest S step waits whole w =
     }
 
 -- all that waited was written, and told as sent
-pub sent_all_serves : (from now now' : LineView) (p : Progress) (output : List ℕ) → ServedSoFar from now p → IsInStep p → transcript p.told.answers ≡ p.told.sent ++ output → WritesByPieces now now' output
-    → ServedSoFar from now' (progress (with_sent p.told) p.unfed (transcript p.told.answers))
-sent_all_serves from now now' p output S step waits w =
+pub sent_all_serves : {held : ℕ} (from now now' : LineView) (p : Progress) (output : List ℕ) → ServedSoFar held from now p → IsInStep p → transcript p.told.answers ≡ p.told.sent ++ output → WritesByPieces now now' output
+    → ServedSoFar held from now' (progress (with_sent p.told) p.unfed (transcript p.told.answers))
+sent_all_serves {held = held} from now now' p output S step waits w =
     let all : p.written ++ output ≡ transcript p.told.answers = ap (λ (b : List ℕ). b ++ output) step ∙ sym waits in
-    let wrote = wrote_serves from now now' p output output [] S step waits (sym (append-nil output)) w in
-    sent_serves from now' p.told p.unfed (transcript p.told.answers) (subst (λ (b : List ℕ). ServedSoFar from now' (progress p.told p.unfed b)) all wrote)
+    let wrote = wrote_serves [] S step waits (sym (append-nil output)) w in
+    sent_serves from now' p.told p.unfed (transcript p.told.answers) (subst (λ (b : List ℕ). ServedSoFar held from now' (progress p.told p.unfed b)) all wrote)

@@ -1,5 +1,6 @@
 -- Turns of a session that an engine serves.
-use Rattle.std.proofs.Common.{◌≡◌, ◌≢◌, ◌<◌, ◌≤◌, ◌⊎◌, ℕ, List, [], ◌∷◌, ◌++◌, length, Option, Bool, true, false, Result, Ok, Err, zero, suc, refl, ap, sym, ◌∙◌, subst, inl, inr, ◌+◌, length-append, length-drop, arith}
+use Rattle.std.proofs.Common.{◌≡◌, ◌≢◌, ◌<◌, ◌≤◌, ◌⊎◌, ℕ, List, [], ◌∷◌, ◌++◌, length, Option, Bool, true, false, Result, Ok, Err, zero, suc, refl, ap, sym, ◌∙◌, subst, inl, inr, ◌+◌, append_assoc, length-append, length-drop, arith}
+use Rattle.std.specs.List.{AllByRecursion}
 use Rattle.std.specs.Io.KnownBytes.{Appends}
 use Rattle.std.proofs.KnownBytes.{Appends-nil}
 use Rattle.sf_wire.specs.declared.cutting.Cut.TheVariants as cut
@@ -13,13 +14,47 @@ use Rattle.sf_engine.specs.declared.event.Happened.TheVariants as happened
 use Rattle.sf_engine.specs.declared.event.EngineFault.{EngineFault}
 use Rattle.sf_engine.specs.Worlds.{Response, ByCall, Phase, Resting, UnderWay, Decided, Gone, SessionState, World, transcript, unsent, is_here_in, with_phase}
 use Rattle.sf_engine.specs.Traces.{has_begun, goes_on, IsSession, TakesBytes, Turn, Walking, walking, Happens, TurnLeads, RestLeads, StepLeads, with_answer, left_if_closed, calls_begun}
+use Rattle.sf_engine.specs.Laws.{HasShortPacket}
 use Rattle.sf_engine.specs.Views.{EngineView}
 use Rattle.sf_engine.specs.Fits.{GoesOnTrace, HasTurns}
-use Rattle.sf_serving.specs.Hosts.{IsFront, HoldsFew}
-use Rattle.sf_serving.specs.OnEngine.{MayBegin, may_begin_after, IsLow, IsLowAt, Since, IsTold, Turns}
+use Rattle.sf_serving.specs.Hosts.{IsFront, HasSent, IsBatch}
+use Rattle.sf_serving.specs.OnEngine.{MayBegin, may_begin_after, engine_held, IsLow, Since, IsTold, Turns}
 use Rattle.sf_serving.proofs.Causes.{not_closed}
-use Rattle.sf_serving.proofs.Fronts.{front_of, front_all, few_more}
-use Rattle.sf_serving.proofs.Following.{Leading, Timing, tells_on, same_told, told_now}
+use Rattle.sf_serving.proofs.Fronts.{transcript_append, front_of, front_all, all_but_last}
+use Rattle.sf_serving.proofs.Following.{Leading, Timing, IsNext, tells_on, same_told, told_now}
+
+-- ---- what waits
+
+-- before the last answer little waited
+abbrev pub HoldsFew : SessionState → Type 0
+HoldsFew t = (before : List Response) (last : Response) → t.answers ≡ before ++ last ∷ [] → length (transcript before) ≤ length t.sent + engine_held
+
+last_of_all : {A : Type 0} (P : A → Type 0) (xs : List A) (x : A) → AllByRecursion P (xs ++ x ∷ []) → P x
+last_of_all P [] x all = all.0
+last_of_all P (y ∷ xs) x all = last_of_all P xs x all.1
+
+-- what a session at which all was sent was answered since is a batch
+pub batch_of : (t t' : SessionState) (made : List Response) → t'.answers ≡ t.answers ++ made → t'.sent ≡ t.sent → HasSent t → HoldsFew t' → AllByRecursion HasShortPacket t'.answers → IsBatch engine_held made
+batch_of t t' made more same sent few short before last e =
+    let cut : t'.answers ≡ (t.answers ++ before) ++ last ∷ [] = more ∙ ap (λ (x : List Response). t.answers ++ x) e ∙ sym (append_assoc t.answers before (last ∷ [])) in
+    let bytes : length (transcript (t.answers ++ before)) ≡ length (transcript t.answers ++ transcript before) = ap (λ (x : List ℕ). length x) (transcript_append t.answers before) in
+    let waited : length t'.sent ≡ length (transcript t.answers) = ap (λ (x : List ℕ). length x) (same ∙ sent) in (
+      omega (arith, few (t.answers ++ before) last cut, bytes, waited, length-append (transcript t.answers) (transcript before)),
+      last_of_all HasShortPacket (t.answers ++ before) last (subst (λ (x : List Response). AllByRecursion HasShortPacket x) cut short),
+    )
+
+-- where all was sent nothing waits, and one answer more may
+pub few_sent : (t : SessionState) → HasSent t → HoldsFew t
+few_sent t sent before last e =
+    let bytes : length (transcript t.answers) ≡ length (transcript before ++ transcript (last ∷ [])) = ap (λ (x : List Response). length (transcript x)) e ∙ ap (λ (x : List ℕ). length x) (transcript_append before (last ∷ [])) in
+    omega (arith, ap (λ (x : List ℕ). length x) sent, bytes, length-append (transcript before) (transcript (last ∷ [])))
+
+pub few_more : (t t' : SessionState) (a : Response) → t'.answers ≡ t.answers ++ a ∷ [] → t'.sent ≡ t.sent → length (transcript t.answers) ≤ length t.sent + engine_held → HoldsFew t'
+few_more t t' a more same few before last e =
+    let all : length (transcript before) ≡ length (transcript t.answers) = ap (λ (x : List Response). length (transcript x)) (all_but_last before t.answers last a (sym more ∙ e)) in
+    omega (arith, few, all, ap (λ (x : List ℕ). length x) same)
+
+-- ---- what turns do
 
 -- what turns may do to what is told of a session that takes bytes
 pub record Turned (t t' : SessionState) : Type 0 where
@@ -62,7 +97,7 @@ read_on t rest bodies f = record { stream = refl; sent = refl; bodies = (bodies,
 answered : (t : SessionState) (rest : List ℕ) (bodies : List (List ℕ)) (a : Response) → IsLow t → Turned t (record t { unread = rest; bodies = t.bodies ++ bodies; answers = t.answers ++ a ∷ []; phase = Resting })
 answered t rest bodies a low =
     let t' = record t { unread = rest; bodies = t.bodies ++ bodies; answers = t.answers ++ a ∷ []; phase = Resting } in
-    let little : length (transcript t.answers) < length t.sent + 65536 = omega (arith, length-drop (length t.sent) (transcript t.answers), low) in
+    let little : length (transcript t.answers) ≤ length t.sent + engine_held = omega (arith, length-drop (length t.sent) (transcript t.answers), low) in
     record { stream = refl; sent = refl; bodies = (bodies, refl); answers = (a ∷ [], refl); few = λ few. few_more t t' a refl refl little }
 
 one_longer : {A : Type 0} (xs : List A) (x : A) → length xs < length (xs ++ x ∷ [])
@@ -90,7 +125,7 @@ step_turn x call r takes busy g = absurd g
 -- a reply is written
 write_turn : (t t' : SessionState) (a : Response) → TakesBytes t → t' ≡ left_if_closed t.closed (with_answer t a) → IsTurn happened.Wrote t t'
 write_turn t t' a takes now =
-    let little : IsLow t → length (transcript t.answers) < length t.sent + 65536 = λ low. omega (arith, length-drop (length t.sent) (transcript t.answers), low) in
+    let little : IsLow t → length (transcript t.answers) ≤ length t.sent + engine_held = λ low. omega (arith, length-drop (length t.sent) (transcript t.answers), low) in
     turn_to happened.Wrote t t' (with_answer t a) (now ∙ ap (λ (c : Bool). left_if_closed c (with_answer t a)) takes.0) (
       (λ low. record { stream = refl; sent = refl; bodies = front_all t.bodies; answers = (a ∷ [], refl); few = λ few. few_more t (with_answer t a) a refl refl (little low) }),
       (refl, takes.0, one_longer t.answers a),
@@ -137,7 +172,7 @@ has_turned : (r : Happened) (t t' : SessionState) → IsLow t → ComesTo r t t'
 has_turned happened.Idle t t' low to = to
 has_turned (happened.Ended cause) t t' low to = (to.0, λ e. not_closed (has_begun t.bodies) t.unread cause e to.1)
 has_turned happened.Wrote t t' low to = to
-has_turned r t t' low to = record { takes = to.0; low = subst (λ (b : List ℕ). length b < 65536) (sym to.2) low; may = to.1 }
+has_turned r t t' low to = record { takes = to.0; low = subst (λ (b : List ℕ). length b ≤ engine_held) (sym to.2) low; may = to.1 }
 
 turn_leads : (s m : ℕ) (t : SessionState) (begin : Bool) (r : Result Happened EngineFault) → HasTurn begin t → Leading s t (event.Turn s m) r (λ t'. Turned t t' × HasTurned r t t')
 turn_leads s m t begin (Ok r) has w w' added session leads =
@@ -164,12 +199,17 @@ pub record ToldOn (start : Since) (s : ℕ) (e' : EngineView) (tl' : Option (Lis
   pub has_turned : HasTurned r t now
 
 -- one turn, at a moment that the clock told, or at any where no call may begin
-one_turn : (start : Since) (s m : ℕ) (e e' : EngineView) (tl tl' : Option (List ℕ)) (t : SessionState) (begin : Bool) (moments : List ℕ) (r : Result Happened EngineFault)
+one_turn : {start : Since} {s m : ℕ} {e e' : EngineView} {tl tl' : Option (List ℕ)} {t : SessionState} {begin : Bool} {moments : List ℕ} {r : Result Happened EngineFault}
     → (T : IsTold start s e tl t) → HasTurn begin t → GoesOnTrace e (event.Turn s m) r e' → Appends tl tl' moments → (moments ≡ m ∷ []) ⊎ ((moments ≡ []) × (begin ≡ false))
     → ToldOn start s e' tl' (length T.entries) t r
-one_turn start s m e e' tl tl' t begin moments r T has goes clock timely =
-    let low : (w : World) → IsSession w s t → IsLowAt w s (event.Turn s m) = λ w is u other. subst (λ (z : SessionState). IsLow z) (same_told w s t u is other) has.low in
-    let g = tells_on start s e e' tl tl' t (event.Turn s m) r (λ u. Turned t u × HasTurned r t u) moments T goes refl clock (turn_timed s m t r begin moments has.may timely) low (turn_leads s m t begin r has) in
+one_turn {s = s} {m = m} {e' = e'} {tl' = tl'} {t = t} {begin = begin} {moments = moments} {r = r} T has goes clock timely =
+    let next : IsNext s t (event.Turn s m) r moments (λ u. Turned t u × HasTurned r t u) = record {
+      own = refl;
+      timed = turn_timed s m t r begin moments has.may timely;
+      low = λ w is u other. subst (λ (z : SessionState). IsLow z) (same_told w s t u is other) has.low;
+      leads = turn_leads s m t begin r has;
+    } in
+    let g = tells_on {e' = e'} {tl' = tl'} T goes clock next in
     record { now = g.0; tells = g.1; more = omega (arith, g.2); turned = g.3.0; has_turned = g.3.1 }
 
 -- a session whose call is on its way may have its next turn
@@ -188,14 +228,15 @@ since_first (Ok happened.Wrote) t u v p to = (to.0, to.1, omega (arith, to.2, fr
 since_first r t u v p to = to
 
 -- so many turns that go on, and a last one: the clock told no moment after the first one's
-many_turns : (n : ℕ) (start : Since) (s m : ℕ) (e e' : EngineView) (tl tl' : Option (List ℕ)) (t : SessionState) (begin : Bool) (moments : List ℕ) (r : Result Happened EngineFault)
+many_turns : (n : ℕ) {start : Since} {s m : ℕ} {e e' : EngineView} {tl tl' : Option (List ℕ)} {t : SessionState} {begin : Bool} {moments : List ℕ} {r : Result Happened EngineFault}
     → (T : IsTold start s e tl t) → HasTurn begin t → HasTurns n e (event.Turn s m) r e' → Appends tl tl' moments → (moments ≡ m ∷ []) ⊎ ((moments ≡ []) × (begin ≡ false))
     → ToldOn start s e' tl' (length T.entries) t r
 unfolding HasTurns
-many_turns zero start s m e e' tl tl' t begin moments r T has turns clock timely = one_turn start s m e e' tl tl' t begin moments r T has turns.0 clock timely
-many_turns (suc n) start s m e e' tl tl' t begin moments r T has turns clock timely =
-    let first = one_turn start s m e turns.0 tl tl' t begin moments (Ok turns.1) T has turns.2 clock timely in
-    let more = many_turns n start s m turns.0 e' tl' tl' first.now false [] r first.tells (goes_busy turns.1 t first.now turns.3 first.has_turned) turns.4 (Appends-nil tl') (inr (refl, refl)) in
+many_turns zero T has turns clock timely = one_turn T has turns.0 clock timely
+many_turns (suc n) {start = start} {s = s} {m = m} {e' = e'} {tl' = tl'} {t = t} {r = r} T has turns clock timely =
+    let first : ToldOn start s turns.0 tl' (length T.entries) t (Ok turns.1) = one_turn T has turns.2 clock timely in
+    let busy : HasTurn false first.now = goes_busy turns.1 t first.now turns.3 first.has_turned in
+    let more : ToldOn start s e' tl' (length first.tells.entries) first.now r = many_turns n {m = m} {moments = []} first.tells busy turns.4 (Appends-nil tl') (inr (refl, refl)) in
     record {
       now = more.now;
       tells = more.tells;
@@ -204,6 +245,6 @@ many_turns (suc n) start s m e e' tl tl' t begin moments r T has turns clock tim
       has_turned = since_first r t first.now more.now first.turned more.has_turned;
     }
 
-pub turns_on : (start : Since) (s : ℕ) (e e' : EngineView) (tl tl' : Option (List ℕ)) (t : SessionState) (begin : Bool) (r : Result Happened EngineFault)
+pub turns_on : {start : Since} {s : ℕ} {e e' : EngineView} {tl tl' : Option (List ℕ)} {t : SessionState} {begin : Bool} {r : Result Happened EngineFault}
     → (T : IsTold start s e tl t) → HasTurn begin t → Turns s begin tl tl' e r e' → ToldOn start s e' tl' (length T.entries) t r
-turns_on start s e e' tl tl' t begin r T has turns = many_turns turns.0 start s turns.1 e e' tl tl' t begin turns.2 r T has turns.3 turns.4 turns.5
+turns_on T has turns = many_turns turns.0 T has turns.3 turns.4 turns.5

@@ -24,7 +24,7 @@ use Rattle.sf_engine.specs.Fits.{Fits}
 use Rattle.sf_serving.specs.Ends.{IsWhole}
 use Rattle.sf_serving.specs.Hosts.{IsFront}
 use Rattle.sf_serving.specs.Serving.{Progress, ServedSoFar, IsServed}
-use Rattle.sf_serving.specs.OnEngine.{IoState, moment_of, IsEntryOf, IsTold, since_at}
+use Rattle.sf_serving.specs.OnEngine.{IoState, moment_of, IsEntryOf, engine_held, IsTold, since_at}
 
 -- What one tree answers to what session 1 asks for, when so many calls have begun. Each call takes
 -- the next number and the next moment, and the tree that it leaves answers what comes after it.
@@ -110,7 +110,7 @@ pub record ServesAlone (start now : IoState) (s : Supply) (cause : Cause) (p : P
   pub fits : Fits start.engine []
   pub session : ℕ
   pub tells : IsTold (since_at start [] fits) session now.engine now.told p.told
-  pub served : ServedSoFar start.line now.line p
+  pub served : ServedSoFar engine_held start.line now.line p
   pub incoming : start.line.incoming ≡ Some s.input
   pub ends : IsServed now.line.incoming cause p
   pub begun : moments_begun tells.entries ≡ s.moments

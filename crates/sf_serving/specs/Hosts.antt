@@ -1,5 +1,5 @@
 -- What a host does to what its session was told.
-use Rattle.std.specs.Prelude.{◌≡◌, ◌≢◌, ◌<◌, ◌≤◌, ◌+◌, ◌^◌, ◌-◌, ◌⊎◌, ℕ, List, [], ◌∷◌, ◌++◌, length, false, Option, Some, None, Result, Ok, Err}
+use Rattle.std.specs.Prelude.{◌≡◌, ◌≢◌, ◌<◌, ◌≤◌, ◌^◌, ◌-◌, ◌⊎◌, ℕ, List, [], ◌∷◌, ◌++◌, length, false, Option, Some, None, Result, Ok, Err}
 use Rattle.sf_wire.specs.declared.cutting.Cut.TheVariants as cut
 use Rattle.sf_wire.specs.Packets.{IsCut}
 use Rattle.sf_session.specs.declared.cause.Cause.TheVariants.{Closed}
@@ -7,7 +7,7 @@ use Rattle.sf_session.specs.declared.fault.ServeFault.{ServeFault}
 use Rattle.sf_session.specs.declared.fault.ServeFault.TheVariants as fault
 use Rattle.sf_engine.specs.Worlds.{Response, transcript, Resting, SessionState}
 use Rattle.sf_engine.specs.Traces.{closed_now}
-use Rattle.sf_engine.specs.Laws.{IsRead}
+use Rattle.sf_engine.specs.Laws.{IsRead, HasShortPacket}
 use Rattle.sf_serving.specs.declared.host.Went.{Went}
 use Rattle.sf_serving.specs.declared.host.Went.TheVariants as went
 use Rattle.sf_serving.specs.Ends.{IsWhole}
@@ -32,20 +32,19 @@ HasSent t = t.sent ≡ transcript t.answers
 abbrev pub Waits : SessionState → Type 0
 Waits t = IsOpen t × IsCut t.unread cut.More
 
--- Before its last answer less than 64 KiB waited to be sent: so no more waits than these and one
--- reply.
-abbrev pub HoldsFew : SessionState → Type 0
-HoldsFew t = (before : List Response) (last : Response) → t.answers ≡ before ++ last ∷ []
-    → length (transcript before) < length t.sent + 65536
+-- Replies that wait together. Where the last of them came at most so many bytes waited, and its
+-- packet is no longer than the longest of a reply. So no more waits than both.
+abbrev pub IsBatch : (held : ℕ) → List Response → Type 0
+IsBatch held answers = (before : List Response) (last : Response) → answers ≡ before ++ last ∷ []
+    → (length (transcript before) ≤ held) × HasShortPacket last
 
--- More bodies were read and answered, and nothing was fed or sent. Before the last answer little
--- waited.
-pub record IsFurther (t t' : SessionState) : Type 0 where
+-- More bodies were read and answered, in a batch, and nothing was fed or sent.
+pub record IsFurther (held : ℕ) (t t' : SessionState) : Type 0 where
   pub stream : t'.stream ≡ t.stream
   pub sent : t'.sent ≡ t.sent
   pub bodies : IsFront t.bodies t'.bodies
   pub answers : IsFront t.answers t'.answers
-  pub few : HoldsFew t'
+  pub batch : IsBatch held answers.0
   pub read : IsRead t'
 
 -- Having gone on, the session waits for bytes; it was answered more; or it has left, and all of its

@@ -1,5 +1,5 @@
 -- A session that an engine serves.
-use Rattle.std.specs.Prelude.{◌≡◌, ◌≢◌, ◌<◌, ◌≤◌, ◌⊎◌, ℕ, List, [], ◌∷◌, ◌++◌, length, Bool, true, false, Option, Result, Ok}
+use Rattle.std.specs.Prelude.{◌≡◌, ◌≢◌, ◌≤◌, ◌⊎◌, ℕ, List, [], ◌∷◌, ◌++◌, length, Bool, true, false, Option, Result, Ok}
 use Rattle.std.specs.Global.{Vec}
 use Rattle.std.specs.List.{AllByRecursion}
 use Rattle.std.specs.Io.KnownBytes.{Appends}
@@ -68,9 +68,13 @@ may_begin_after (happened.Blocked holder) = false
 may_begin_after happened.Decided = false
 may_begin_after _ = true
 
+-- so many bytes of replies may wait where a session of an engine has a turn
+abbrev pub engine_held : ℕ
+engine_held = 65535
+
 -- less than 64 KiB wait to be sent
 abbrev pub IsLow : SessionState → Type 0
-IsLow t = length (unsent t) < 65536
+IsLow t = length (unsent t) ≤ engine_held
 
 -- so it is where the session has a turn
 abbrev pub IsLowAt : World → ℕ → Event → Type 0
@@ -132,7 +136,8 @@ since_at start trace fits = since start.engine trace fits start.told
 -- it is closed.
 abbrev pub ServesLine : IoState → IoState → Cause → Type 0
 ServesLine start now cause = (trace : List TraceEntry) → (fits : Fits start.engine trace)
-    → (session : ℕ) × Serves (IsTold (since_at start trace fits) session now.engine now.told)
+    → (session : ℕ) × Serves engine_held
+    (IsTold (since_at start trace fits) session now.engine now.told)
     start.line now.line (IsServed now.line.incoming cause)
 
 -- why no session opened: the engine has all the sessions that it takes, or no number is left for
@@ -161,7 +166,7 @@ StopsEarly start now f = (trace : List TraceEntry) → (fits : Fits start.engine
     → ((now ≡ start) × MayNotOpen fits.world f)
     ⊎ ((session : ℕ) × (p : Progress)
     × (tells : IsTold (since_at start trace fits) session now.engine now.told p.told)
-    × ServedSoFar start.line now.line p × HasStoppedAt f tells.entries p)
+    × ServedSoFar engine_held start.line now.line p × HasStoppedAt f tells.entries p)
 
 -- whatever trace the engine fitted, it is as it was
 abbrev pub IsUnchanged : EngineView → EngineView → Type 0

@@ -37,14 +37,17 @@ WritesFront start now bytes =
 abbrev pub all_sent : Progress → Progress
 all_sent p = progress (with_sent p.told) p.unfed (with_sent p.told).sent
 
-abbrev pub SendsAll : (Tells Tells' : SessionState → Type 0) → LineView → LineView → Type 0
-SendsAll Tells Tells' old new = (from : LineView) (p : Progress) → Tells p.told → ServedSoFar from old p
-    → IsInStep p → Tells' (with_sent p.told) × ServedSoFar from new (all_sent p)
+abbrev pub SendsAll : (held : ℕ) → (Tells Tells' : SessionState → Type 0) → LineView → LineView
+    → Type 0
+SendsAll held Tells Tells' old new =
+    (from : LineView) (p : Progress) → Tells p.told → ServedSoFar held from old p → IsInStep p
+    → Tells' (with_sent p.told) × ServedSoFar held from new (all_sent p)
 
 -- after a beginning of it was written, and not told
-abbrev pub SendsSome : (SessionState → Type 0) → LineView → LineView → Type 0
-SendsSome Tells old new = (from : LineView) (p : Progress) → Tells p.told → ServedSoFar from old p
-    → IsInStep p → (written : List ℕ) × ServedSoFar from new (progress p.told p.unfed written)
+abbrev pub SendsSome : (held : ℕ) → (SessionState → Type 0) → LineView → LineView → Type 0
+SendsSome held Tells old new =
+    (from : LineView) (p : Progress) → Tells p.told → ServedSoFar held from old p → IsInStep p
+    → (written : List ℕ) × ServedSoFar held from new (progress p.told p.unfed written)
 
 -- It ends by this cause, once it ends.
 pub record EndsByCause (incoming : Option (List ℕ)) (cause : Cause) (p : Progress) : Type 0 where

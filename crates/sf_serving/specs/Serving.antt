@@ -1,5 +1,5 @@
 -- How far one session on a line was served, whatever serves it.
-use Rattle.std.specs.Prelude.{◌≡◌, ◌<◌, ◌≤◌, ◌⊎◌, ℕ, List, [], ◌∷◌, ◌++◌, length, Option}
+use Rattle.std.specs.Prelude.{◌≡◌, ◌≤◌, ◌⊎◌, ℕ, List, [], ◌∷◌, ◌++◌, length, Option}
 use Rattle.std.specs.List.{AllByRecursion, flat_map}
 use Rattle.std.specs.Io.KnownBytes.{Appends, Consumes, IsAtEnd}
 use Rattle.sf_wire.specs.Packets.{More, Cuts}
@@ -14,7 +14,7 @@ use Rattle.sf_engine.specs.Worlds.{Response, transcript, SessionState}
 use Rattle.sf_engine.specs.Traces.{TakesNone}
 use Rattle.sf_engine.specs.Laws.{IsRead}
 use Rattle.sf_serving.specs.Ends.{IsWhole}
-use Rattle.sf_serving.specs.Hosts.{IsFront, IsOpen, Waits, HasSent, most_counted}
+use Rattle.sf_serving.specs.Hosts.{IsFront, IsOpen, Waits, HasSent, IsBatch, most_counted}
 
 -- what a line has still to give, what it has taken, and its calls, where it tells them
 pub record LineView : Type 0 where
@@ -61,35 +61,30 @@ abbrev pub IsPiece : LineCall → Type 0
 IsPiece (Read n) = n ≤ 65536
 IsPiece (Write n) = n ≤ 65536
 
--- replies that waited together: before the last one less than 64 KiB waited
-abbrev pub IsBatch : List Response → Type 0
-IsBatch answers = (before : List Response) (last : Response) → answers ≡ before ++ last ∷ []
-    → length (transcript before) < 65536
-
 -- replies, and calls of a line
 pub record Batch : Type 0 where
   pub answers : List Response
   pub calls : List LineCall
 
--- by these calls the line took the bytes of the replies, and no more
-abbrev pub IsWritten : Batch → Type 0
-IsWritten b = IsBatch b.answers × (taken b.calls ≡ length (transcript b.answers))
+-- by these calls the line took the bytes of a batch of replies, and no more
+abbrev pub IsWritten : (held : ℕ) → Batch → Type 0
+IsWritten held b = IsBatch held b.answers × (taken b.calls ≡ length (transcript b.answers))
 
 -- The replies came in batches, one behind the other, and the line took all of a batch before the
 -- next one. The last one may wait.
-pub record AreBatched (answers : List Response) (log : List LineCall) : Type 0 where
+pub record AreBatched (held : ℕ) (answers : List Response) (log : List LineCall) : Type 0 where
   pub written : List Batch
   pub waiting : List Response
   pub since : List LineCall
-  pub each : AllByRecursion IsWritten written
-  pub last : IsBatch waiting
+  pub each : AllByRecursion (IsWritten held) written
+  pub last : IsBatch held waiting
   pub answers_are : answers ≡ flat_map (λ b. b.answers) written ++ waiting
   pub log_is : log ≡ flat_map (λ b. b.calls) written ++ since
 
 -- A session was served over a line so far. Its stream, and what is not fed yet, is what was read;
 -- what was written is a beginning of its transcript, and was written promptly, both in pieces of at
--- most 65536 bytes. No more waited at a time than less than as many, and one reply.
-pub record ServedSoFar (start now : LineView) (p : Progress) : Type 0 where
+-- most 65536 bytes. No more waited at a time than `held` bytes and one reply.
+pub record ServedSoFar (held : ℕ) (start now : LineView) (p : Progress) : Type 0 where
   pub bodies : IsRead p.told
   pub read : Consumes start.incoming now.incoming (p.told.stream ++ p.unfed)
   pub wrote : Appends start.outgoing now.outgoing p.written
@@ -100,11 +95,13 @@ pub record ServedSoFar (start now : LineView) (p : Progress) : Type 0 where
   pub took : taken log ≡ length p.written
   pub pieces : AllByRecursion IsPiece log
   pub prompt : IsPrompt p log
-  pub batches : AreBatched p.told.answers log
+  pub batches : AreBatched held p.told.answers log
 
 -- a session was served so far, and was told by its host what it was told
-abbrev pub Serves : (SessionState → Type 0) → LineView → LineView → (Progress → Type 0) → Type 0
-Serves Tells start now P = (p : Progress) × Tells p.told × ServedSoFar start now p × P p
+abbrev pub Serves : (held : ℕ) → (SessionState → Type 0) → LineView → LineView
+    → (Progress → Type 0) → Type 0
+Serves held Tells start now P =
+    (p : Progress) × Tells p.told × ServedSoFar held start now p × P p
 
 -- all that was written was told to the host as sent
 abbrev pub IsInStep : Progress → Type 0

@@ -30,6 +30,9 @@ pub trait Host<P> {
     /// Since the start, after the clock's tellings, the session was told this.
     ghost serves: { Start → Self → P → Option (List ℕ) → SessionState → Type 0 };
 
+    /// It answers only where at most so many bytes wait to be sent.
+    ghost held: { ℕ };
+
     /// The host agrees with the place.
     ghost sound: { Self → P → Type 0 };
 
@@ -61,7 +64,7 @@ pub trait Host<P> {
             → serves start self.old place.old (C.told clock.old) t
             → IsOpen t → IsRead t → HasSent t → (t' : SessionState)
             × serves start self.new place.new (C.told clock.new) t'
-            × IsFurther t t' × WentTo result t t' }
+            × IsFurther held t t' × WentTo result t t' }
         ensures fault { IfErr result (λ fault. IsHostFault fault (work self.new place.new)
             (strange self.new place.new)) };
 

@@ -6,15 +6,17 @@
 //! pieces. `serve_one` in `on_engine.rt` serves a session by an engine that may have others, and
 //! `specs/OnEngine.antt` says what it did to its line, its clock and its engine. `specs/Ends.antt`
 //! says in what a session ends. `alone_law.rt` is the law of one session alone, and
-//! `specs/Alone.antt` says what one tree answers to it.
+//! `specs/Alone.antt` says what one tree answers to it; `batch_law.rt` says how much waits.
 #![tactic(auto)]
 
 mod alone_law;
+mod batch_law;
 mod host;
 mod on_engine;
 mod serving;
 
 pub use alone_law::one_session_alone;
+pub use batch_law::batches;
 pub use host::{Host, Went};
 pub use on_engine::serve_one;
 pub use serving::{new_piece, serve_session};

@@ -123,11 +123,13 @@ struct EngineHost {
 }
 
 impl Host<Engine> for EngineHost {
-    ghost use Rattle.sf_serving.specs.OnEngine.{Since, IsToldBy};
+    ghost use Rattle.sf_serving.specs.OnEngine.{Since, IsToldBy, engine_held};
 
     ghost Start = { Since };
 
     ghost serves = { λ start h engine told t. IsToldBy h.turns start h.session engine told t };
+
+    ghost held = { engine_held };
 
     ghost sound = { λ h engine. Unit {0} };
 

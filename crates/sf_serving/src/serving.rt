@@ -46,11 +46,11 @@ fn send<P, H: Host<P>, L: Line>(host: &mut H, place: &mut P, line: &mut L) -> Re
     requires { H.sound host.old place.old }
     ensures sound { H.sound host.new place.new }
     ensures sent { OnOk result ((start : H.Start) (told : Option (List ℕ))
-        → SendsAll (H.serves start host.old place.old told) (H.serves start host.new place.new told)
+        → SendsAll H.held (H.serves start host.old place.old told) (H.serves start host.new place.new told)
         (line_view (L.incoming line.old) (L.outgoing line.old) (L.calls line.old))
         (line_view (L.incoming line.new) (L.outgoing line.new) (L.calls line.new))) }
     ensures some { OnErr result ((start : H.Start) (told : Option (List ℕ))
-        → SendsSome (H.serves start host.old place.old told)
+        → SendsSome H.held (H.serves start host.old place.old told)
         (line_view (L.incoming line.old) (L.outgoing line.old) (L.calls line.old))
         (line_view (L.incoming line.new) (L.outgoing line.new) (L.calls line.new))) }
     ensures same { OnErr result ((host.new ≡ host.old) × (place.new ≡ place.old)) }
@@ -75,15 +75,15 @@ fn drain<P, H: Host<P>, L: Line, C: Clock>(
     requires { H.sound host.old place.old }
     ensures sound { H.sound host.new place.new }
     ensures drained { IfOk result (λ ended. (start : H.Start) (from : LineView) (n : ℕ)
-        → Serves (H.serves start host.old place.old (C.told clock.old)) from
+        → Serves H.held (H.serves start host.old place.old (C.told clock.old)) from
         (line_view (L.incoming line.old) (L.outgoing line.old) (L.calls line.old)) (GoesOn n)
-        → Serves (H.serves start host.new place.new (C.told clock.new)) from
+        → Serves H.held (H.serves start host.new place.new (C.told clock.new)) from
         (line_view (L.incoming line.new) (L.outgoing line.new) (L.calls line.new))
         (IsRounded n (L.incoming line.new) ended)) }
     ensures stops { IfErr result (λ fault. (start : H.Start) (from : LineView) (n : ℕ)
-        → Serves (H.serves start host.old place.old (C.told clock.old)) from
+        → Serves H.held (H.serves start host.old place.old (C.told clock.old)) from
         (line_view (L.incoming line.old) (L.outgoing line.old) (L.calls line.old)) (GoesOn n)
-        → Serves (H.serves start host.new place.new (C.told clock.new)) from
+        → Serves H.held (H.serves start host.new place.new (C.told clock.new)) from
         (line_view (L.incoming line.new) (L.outgoing line.new) (L.calls line.new))
         (Stops fault (H.work host.new place.new))) }
     ensures failures { L.failed line.old ≤ L.failed line.new }
@@ -114,15 +114,15 @@ fn round<P, H: Host<P>, L: Line, C: Clock>(
     requires room { vec_len piece.old ≡ PIECE }
     ensures sound { H.sound host.new place.new }
     ensures rounded { IfOk result (λ ended. (start : H.Start) (from : LineView) (n : ℕ)
-        → Serves (H.serves start host.old place.old (C.told clock.old)) from
+        → Serves H.held (H.serves start host.old place.old (C.told clock.old)) from
         (line_view (L.incoming line.old) (L.outgoing line.old) (L.calls line.old)) (Rests n)
-        → Serves (H.serves start host.new place.new (C.told clock.new)) from
+        → Serves H.held (H.serves start host.new place.new (C.told clock.new)) from
         (line_view (L.incoming line.new) (L.outgoing line.new) (L.calls line.new))
         (IsRounded (n + 1) (L.incoming line.new) ended)) }
     ensures stops { IfErr result (λ fault. (start : H.Start) (from : LineView) (n : ℕ)
-        → Serves (H.serves start host.old place.old (C.told clock.old)) from
+        → Serves H.held (H.serves start host.old place.old (C.told clock.old)) from
         (line_view (L.incoming line.old) (L.outgoing line.old) (L.calls line.old)) (Rests n)
-        → Serves (H.serves start host.new place.new (C.told clock.new)) from
+        → Serves H.held (H.serves start host.new place.new (C.told clock.new)) from
         (line_view (L.incoming line.new) (L.outgoing line.new) (L.calls line.new))
         (Stops fault (H.work host.new place.new))) }
     ensures len { vec_len piece.new ≡ vec_len piece.old }
@@ -150,15 +150,15 @@ fn rounds<P, H: Host<P>, L: Line, C: Clock>(
     requires room { vec_len piece.old ≡ PIECE }
     ensures sound { H.sound host.new place.new }
     ensures ends { IfOk result (λ cause. (start : H.Start) (from : LineView)
-        → Serves (H.serves start host.old place.old (C.told clock.old)) from
+        → Serves H.held (H.serves start host.old place.old (C.told clock.old)) from
         (line_view (L.incoming line.old) (L.outgoing line.old) (L.calls line.old)) (Rests 0)
-        → Serves (H.serves start host.new place.new (C.told clock.new)) from
+        → Serves H.held (H.serves start host.new place.new (C.told clock.new)) from
         (line_view (L.incoming line.new) (L.outgoing line.new) (L.calls line.new))
         (EndsByCause (L.incoming line.new) cause)) }
     ensures stops { IfErr result (λ fault. (start : H.Start) (from : LineView)
-        → Serves (H.serves start host.old place.old (C.told clock.old)) from
+        → Serves H.held (H.serves start host.old place.old (C.told clock.old)) from
         (line_view (L.incoming line.old) (L.outgoing line.old) (L.calls line.old)) (Rests 0)
-        → Serves (H.serves start host.new place.new (C.told clock.new)) from
+        → Serves H.held (H.serves start host.new place.new (C.told clock.new)) from
         (line_view (L.incoming line.new) (L.outgoing line.new) (L.calls line.new))
         (Stops fault (H.work host.new place.new))) }
     ensures failures { L.failed line.old ≤ L.failed line.new }
@@ -185,10 +185,10 @@ fn send_last<P, H: Host<P>, L: Line>(
     requires { H.sound host.old place.old }
     ensures sound { H.sound host.new place.new }
     ensures stopped { (start : H.Start) (told : Option (List ℕ)) (from : LineView)
-        → Serves (H.serves start host.old place.old told) from
+        → Serves H.held (H.serves start host.old place.old told) from
         (line_view (L.incoming line.old) (L.outgoing line.old) (L.calls line.old))
         (Stops fault (H.work host.old place.old))
-        → Serves (H.serves start host.new place.new told) from
+        → Serves H.held (H.serves start host.new place.new told) from
         (line_view (L.incoming line.new) (L.outgoing line.new) (L.calls line.new))
         (HasStopped result (H.work host.new place.new)) }
     ensures fault { (before : ℕ) → before ≤ L.failed line.old
@@ -216,10 +216,10 @@ fn stop<P, H: Host<P>, L: Line>(
     ensures stopped { (start : H.Start) (told : Option (List ℕ)) (from : LineView) (before : ℕ)
         → before ≤ L.failed line.old
         → IsStop fault before (L.failed line.old) (H.strange host.old place.old)
-        → Serves (H.serves start host.old place.old told) from
+        → Serves H.held (H.serves start host.old place.old told) from
         (line_view (L.incoming line.old) (L.outgoing line.old) (L.calls line.old))
         (Stops fault (H.work host.old place.old))
-        → Serves (H.serves start host.new place.new told) from
+        → Serves H.held (H.serves start host.new place.new told) from
         (line_view (L.incoming line.new) (L.outgoing line.new) (L.calls line.new))
         (IsStopped result before (L.failed line.new) (H.work host.new place.new)) }
     ensures fault { (before : ℕ) → before ≤ L.failed line.old
@@ -247,15 +247,15 @@ pub fn serve_session<P, H: Host<P>, L: Line, C: Clock>(
     requires sound { H.sound host.old place.old }
     requires room { vec_len piece.old ≡ 65536 }
     ensures served { IfOk result (λ cause. (start : H.Start) (from : LineView)
-        → Serves (H.serves start host.old place.old (C.told clock.old)) from
+        → Serves H.held (H.serves start host.old place.old (C.told clock.old)) from
         (line_view (L.incoming line.old) (L.outgoing line.old) (L.calls line.old)) (Rests 0)
-        → Serves (H.serves start host.new place.new (C.told clock.new)) from
+        → Serves H.held (H.serves start host.new place.new (C.told clock.new)) from
         (line_view (L.incoming line.new) (L.outgoing line.new) (L.calls line.new))
         (IsServed (L.incoming line.new) cause)) }
     ensures stopped { IfErr result (λ fault. (start : H.Start) (from : LineView)
-        → Serves (H.serves start host.old place.old (C.told clock.old)) from
+        → Serves H.held (H.serves start host.old place.old (C.told clock.old)) from
         (line_view (L.incoming line.old) (L.outgoing line.old) (L.calls line.old)) (Rests 0)
-        → Serves (H.serves start host.new place.new (C.told clock.new)) from
+        → Serves H.held (H.serves start host.new place.new (C.told clock.new)) from
         (line_view (L.incoming line.new) (L.outgoing line.new) (L.calls line.new))
         (IsStopped fault (L.failed line.old) (L.failed line.new) (H.work host.new place.new))) }
     ensures left { OnOk result (H.left host.new place.new None) }

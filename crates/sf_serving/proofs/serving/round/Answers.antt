@@ -7,11 +7,11 @@ use Rattle.sf_serving.proofs.serving.round.Goals as goal
 
 pub returns-in_err-n-clause-stops : goal.returns-in_err-n-clause-stops
 returns-in_err-n-clause-stops g c = if_err_at c.from_residual.result Line _ c.from_residual.ensures.1 (λ start from n serves.
-    rest_stops _ from _ (line_view _ _ _) n (g.H.Host.work c.args.host.now c.args.place.now) serves c.in_err-n.ensures.err c.in_err-n.ensures.outgoing c.in_err-n.ensures.calls)
+    rest_stops _ (g.H.Host.work c.args.host.now c.args.place.now) serves c.in_err-n.ensures.err c.in_err-n.ensures.outgoing c.in_err-n.ensures.calls)
 
 pub returns-then-n-eq0-clause-rounded : goal.returns-then-n-eq0-clause-rounded
 returns-then-n-eq0-clause-rounded g c = λ start from n serves.
-    read_none _ from _ (line_view _ _ _) n c.in_ok-n.n c.read.new.buffer serves c.if-n-eq0.true
+    read_none _ c.read.new.buffer serves c.if-n-eq0.true
     (read_by _ (line_view _ _ _) c.in_ok-n.n c.read.new.buffer c.in_ok-n.ensures.taken c.in_ok-n.ensures.within (c.read.auto.buffer ∙ c.deref_mut.ensures.len ∙ c.requires.room) c.in_ok-n.ensures.outgoing c.in_ok-n.ensures.calls)
     (c.in_ok-n.ensures.ended c.if-n-eq0.true (omega (arith, c.read.auto.buffer, c.deref_mut.ensures.len, c.requires.room)))
 
@@ -23,13 +23,13 @@ returns-in_err-feed-clause-stops g c = if_err_at c.from_residual-in_err-feed.res
 
 pub returns-clause-rounded : goal.returns-clause-rounded
 returns-clause-rounded g c = if_ok_more c.drain.result _ _ c.drain.ensures.drained (λ ended drained start from n serves. drained start from (n + 1)
-    (was_fed _ _ from _ (line_view _ _ _) n c.in_ok-n.n c.read.new.buffer c.args.piece.now.items c.args.piece.now.len serves
+    (was_fed _ c.read.new.buffer c.args.piece.now.items serves
     (read_by _ (line_view _ _ _) c.in_ok-n.n c.read.new.buffer c.in_ok-n.ensures.taken c.in_ok-n.ensures.within (c.read.auto.buffer ∙ c.deref_mut.ensures.len ∙ c.requires.room) c.in_ok-n.ensures.outgoing c.in_ok-n.ensures.calls)
     (c.read.auto.buffer ∙ c.deref_mut.ensures.len) (omega (arith, c.if-n-eq0.false)) (λ t tells is_open. c.in_ok-feed.ensures.fed start (g.C.Clock.told c.args.clock.now) t tells is_open)))
 
 pub returns-clause-stops : goal.returns-clause-stops
 returns-clause-stops g c = if_err_more c.drain.result _ _ c.drain.ensures.stops (λ fault stops start from n serves. stops start from (n + 1)
-    (was_fed _ _ from _ (line_view _ _ _) n c.in_ok-n.n c.read.new.buffer c.args.piece.now.items c.args.piece.now.len serves
+    (was_fed _ c.read.new.buffer c.args.piece.now.items serves
     (read_by _ (line_view _ _ _) c.in_ok-n.n c.read.new.buffer c.in_ok-n.ensures.taken c.in_ok-n.ensures.within (c.read.auto.buffer ∙ c.deref_mut.ensures.len ∙ c.requires.room) c.in_ok-n.ensures.outgoing c.in_ok-n.ensures.calls)
     (c.read.auto.buffer ∙ c.deref_mut.ensures.len) (omega (arith, c.if-n-eq0.false)) (λ t tells is_open. c.in_ok-feed.ensures.fed start (g.C.Clock.told c.args.clock.now) t tells is_open)))
 

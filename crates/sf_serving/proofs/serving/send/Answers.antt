@@ -6,7 +6,7 @@ use Rattle.sf_serving.proofs.serving.send.Goals as goal
 pub returns-in_err-write_pieces-clause-some : goal.returns-in_err-write_pieces-clause-some
 returns-in_err-write_pieces-clause-some g c = on_err c.from_residual.result _ (λ start told from p tells S step.
     let w = c.write_pieces.ensures.front in
-    (p.written ++ w.0, wrote_serves from _ _ p c.output-output.result.now w.0 w.1 S step (c.output-output.ensures start told p.told tells) w.2 w.3))
+    (p.written ++ w.0, wrote_serves w.1 S step (c.output-output.ensures start told p.told tells) w.2 w.3))
 
 pub returns-clause-sent : goal.returns-clause-sent
 returns-clause-sent g c = λ start told from p tells S step.

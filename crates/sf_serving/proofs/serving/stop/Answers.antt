@@ -4,7 +4,7 @@ use Rattle.sf_serving.proofs.serving.stop.Goals as goal
 
 pub returns-in-Ok-clause-stopped : goal.returns-in-Ok-clause-stopped
 returns-in-Ok-clause-stopped g c = λ start told from before earlier why serves.
-    ends_so _ _ from _ _ _ (c.end.ensures.ended start told) (λ p h. stopped_ended c.send_last-answered.result before _ _ _ _ p c.end.ensures.work (c.send_last-answered.ensures.fault before earlier why) h) (c.send_last-answered.ensures.stopped start told from serves)
+    ends_so _ _ from _ _ _ (c.end.ensures.ended start told) (λ p h. stopped_ended _ p c.end.ensures.work (c.send_last-answered.ensures.fault before earlier why) h) (c.send_last-answered.ensures.stopped start told from serves)
 
 pub returns-in-Err-clause-stopped : goal.returns-in-Err-clause-stopped
 returns-in-Err-clause-stopped g c = λ start told from before earlier why serves.

@@ -25,7 +25,7 @@ loop-rest-preserved g c =
     let added : Appends (g.L.Line.outgoing c.loop-rest.line) (g.L.Line.outgoing c.write.new.self) (take n rest) =
     front_piece (λ (b : List ℕ). Appends (g.L.Line.outgoing c.loop-rest.line) (g.L.Line.outgoing c.write.new.self) b) n k rest few c.in_ok-n.ensures.added in
     record {
-      front = (h.0 ++ take n rest, whole_more c.args.bytes.now h.0 rest n h.1, writes_some _ _ (line_view _ _ _) n h.0 rest h.2 c.in_ok-n.ensures.incoming added c.in_ok-n.ensures.calls short within);
+      front = (h.0 ++ take n rest, whole_more c.args.bytes.now h.0 rest n h.1, writes_some n rest h.2 c.in_ok-n.ensures.incoming added c.in_ok-n.ensures.calls short within);
       failures = omega (arith, c.in_ok-n.ensures.failures, c.loop-rest.invariant.failures);
     }
 

@@ -5,9 +5,8 @@ use Rattle.sf_session.specs.declared.session.Next.{Next}
 use Rattle.sf_session.specs.Sessions.{NextGives}
 use Rattle.sf_serving.specs.declared.host.Went.{Went}
 use Rattle.sf_serving.specs.declared.host.Went.TheVariants as went
-use Rattle.sf_pool.specs.declared.at_desk.Standing.TheVariants as standing
 use Rattle.sf_pool.specs.Scenes.{desk_scene}
-use Rattle.sf_pool.specs.AtDesks.{standing_after, stop_fault}
+use Rattle.sf_pool.specs.AtDesks.{stop_fault}
 use Rattle.sf_pool.proofs.Talking.{goes_not, goes_more, goes_ended, goes_local, goes_called, goes_stopped, joined, may_go, goes_still}
 use Rattle.sf_pool.proofs.at_desk.DeskHostHost.go_on.Goals as goal
 
@@ -16,16 +15,16 @@ returns-in-Ended-clause-went g c = λ start t tells is_open read sent.
     let v = c.args.self.now.session in
     let w = c.next.new.self in
     let now = desk_scene (g.D.Desk.at c.args.desk.now) (g.D.Desk.begins c.args.desk.now) (g.C.Clock.told c.args.clock.now) in
-    goes_still start standing.Joined _ w w _ _ _ _ now.told (Ok (went.Ended c.in-Ended.cause)) _ t (joined _ (sym c.in_default.ensures)) refl refl refl refl
-    (goes_ended start now v w c.in-Ended.cause t (may_go start now _ v t (sym c.in_default.ensures) tells is_open read sent) (subst (λ (n : Next). NextGives v n w) c.in-Ended.is c.in-Ok.ensures.ok))
+    goes_still (Ok (went.Ended c.in-Ended.cause)) (joined _ (sym c.in_default.ensures)) refl refl refl refl
+    (goes_ended (may_go {now = now} (sym c.in_default.ensures) tells is_open read sent) (subst (λ (n : Next). NextGives v n w) c.in-Ended.is c.in-Ok.ensures.ok))
 
 pub returns-in-Local-clause-went : goal.returns-in-Local-clause-went
 returns-in-Local-clause-went g c = λ start t tells is_open read sent.
     let v = c.args.self.now.session in
     let w = c.next.new.self in
     let now = desk_scene (g.D.Desk.at c.args.desk.now) (g.D.Desk.begins c.args.desk.now) (g.C.Clock.told c.args.clock.now) in
-    goes_still start standing.Joined _ w _ _ _ _ _ now.told (Ok went.Answered) _ t (c.answered.ensures.standing ∙ joined _ (sym c.in_default.ensures)) c.answered.ensures.session c.answered.ensures.at c.answered.ensures.begins (ap (λ (x : Went). Ok x) c.answered.ensures.went)
-    (goes_local start now v w t (may_go start now _ v t (sym c.in_default.ensures) tells is_open read sent) (subst (λ (n : Next). NextGives v n w) c.in-Local.is c.in-Ok.ensures.ok))
+    goes_still (Ok went.Answered) (c.answered.ensures.standing ∙ joined _ (sym c.in_default.ensures)) c.answered.ensures.session c.answered.ensures.at c.answered.ensures.begins (ap (λ (x : Went). Ok x) c.answered.ensures.went)
+    (goes_local (may_go {now = now} (sym c.in_default.ensures) tells is_open read sent) (subst (λ (n : Next). NextGives v n w) c.in-Local.is c.in-Ok.ensures.ok) c.next.ensures.short)
 
 pub returns-in-Ok-make_call-clause-went : goal.returns-in-Ok-make_call-clause-went
 returns-in-Ok-make_call-clause-went g c = λ start t tells is_open read sent.
@@ -34,30 +33,30 @@ returns-in-Ok-make_call-clause-went g c = λ start t tells is_open read sent.
     let now = desk_scene (g.D.Desk.at c.args.desk.now) (g.D.Desk.begins c.args.desk.now) (g.C.Clock.told c.args.clock.now) in
     let now' = desk_scene (g.D.Desk.at c.make_call.new.desk) (g.D.Desk.begins c.make_call.new.desk) (g.C.Clock.told c.make_call.new.clock) in
     let after = c.answered-in-Ok-make_call.ensures in
-    goes_still start standing.Joined _ c.make_call.new.session _ _ _ _ _ now'.told (Ok went.Answered) _ t (after.standing ∙ joined _ (sym c.in_default.ensures)) after.session after.at after.begins (ap (λ (x : Went). Ok x) after.went)
-    (goes_called start now now' v m c.make_call.new.session c.in-Call.request t (may_go start now _ v t (sym c.in_default.ensures) tells is_open read sent) (subst (λ (n : Next). NextGives v n m) c.in-Call.is c.in-Ok.ensures.ok) c.in-Ok-make_call.ensures.made)
+    goes_still (Ok went.Answered) (after.standing ∙ joined _ (sym c.in_default.ensures)) after.session after.at after.begins (ap (λ (x : Went). Ok x) after.went)
+    (goes_called {now' = now'} (may_go {now = now} (sym c.in_default.ensures) tells is_open read sent) (subst (λ (n : Next). NextGives v n m) c.in-Call.is c.in-Ok.ensures.ok) c.in-Ok-make_call.ensures.made)
 
 pub returns-in-Err-clause-went : goal.returns-in-Err-clause-went
 returns-in-Err-clause-went g c = λ start t tells is_open read sent.
     let v = c.args.self.now.session in
     let m = c.next.new.self in
-    let w = c.make_call.new.session in
     let now = desk_scene (g.D.Desk.at c.args.desk.now) (g.D.Desk.begins c.args.desk.now) (g.C.Clock.told c.args.clock.now) in
     let now' = desk_scene (g.D.Desk.at c.make_call.new.desk) (g.D.Desk.begins c.make_call.new.desk) (g.C.Clock.told c.make_call.new.clock) in
     let why = c.in-Err.why in
     let after = c.stand_after.ensures in
-    goes_still start (standing_after why) _ w _ _ _ _ _ now'.told (Err (stop_fault why)) _ t after.standing after.session refl refl (ap (λ (x : ServeFault). Err x) after.fault)
-    (goes_stopped start now now' v m w c.in-Call.request t why (may_go start now _ v t (sym c.in_default.ensures) tells is_open read sent) (subst (λ (n : Next). NextGives v n m) c.in-Call.is c.in-Ok.ensures.ok) c.in-Err.ensures.session c.in-Err.ensures.fails)
+    goes_still (Err (stop_fault why)) after.standing after.session refl refl (ap (λ (x : ServeFault). Err x) after.fault)
+    (goes_stopped {now' = now'} why (may_go {now = now} (sym c.in_default.ensures) tells is_open read sent) (subst (λ (n : Next). NextGives v n m) c.in-Call.is c.in-Ok.ensures.ok) c.in-Err.ensures.session c.in-Err.ensures.fails)
 
 pub returns-in-Some-clause-went : goal.returns-in-Some-clause-went
-returns-in-Some-clause-went g c = λ start t tells is_open read sent. goes_not start _ _ _ _ OutOfMemory t tells read sent refl
+returns-in-Some-clause-went g c = λ start t tells is_open read sent. goes_not OutOfMemory tells read sent refl
 
 pub returns-in_default-next-clause-went : goal.returns-in_default-next-clause-went
-returns-in_default-next-clause-went g c = λ start t tells is_open read sent. goes_not start _ _ _ _ OutOfMemory t tells read sent c.in_default-next.ensures.err
+returns-in_default-next-clause-went g c = λ start t tells is_open read sent. goes_not OutOfMemory tells read sent c.in_default-next.ensures.err
 
 pub returns-in-More-clause-went : goal.returns-in-More-clause-went
 returns-in-More-clause-went g c = λ start t tells is_open read sent.
     let v = c.args.self.now.session in
     let w = c.next.new.self in
-    goes_still start _ _ w w _ _ _ _ (g.C.Clock.told c.args.clock.now) (Ok went.Waits) (Ok went.Waits) t refl refl c.rest.ensures.at c.rest.ensures.begins refl
-    (goes_more start _ _ v w t tells is_open read sent (subst (λ (n : Next). NextGives v n w) c.in-More.is c.in-Ok.ensures.ok))
+    let now = desk_scene (g.D.Desk.at c.args.desk.now) (g.D.Desk.begins c.args.desk.now) (g.C.Clock.told c.args.clock.now) in
+    goes_still (Ok went.Waits) refl refl c.rest.ensures.at c.rest.ensures.begins refl
+    (goes_more {now = now} tells is_open read sent (subst (λ (n : Next). NextGives v n w) c.in-More.is c.in-Ok.ensures.ok))
