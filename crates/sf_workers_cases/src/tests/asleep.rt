@@ -16,11 +16,13 @@ const MOVE_A: &str = "00000011 12 00000009 00000002 2f61 00000002 2f7a";
 const TRIES: u64 = 64;
 
 /// Which call is held, before which of its steps; which one waits for it, and sleeps after so many
-/// steps; and which one's answer wakes it.
+/// steps; and which one's answer wakes it. The first one may be held again, before a later step,
+/// until the one that waited is answered: then a move wakes it.
 #[derive(Clone, Copy)]
 struct Script {
     holder: u64,
     at: u64,
+    again: Option<u64>,
     waiter: u64,
     tries: u64,
     waker: u64,
@@ -82,6 +84,9 @@ impl StepObserver for Sleeper {
         }
         if number == script.holder && steps == script.at {
             self.hold();
+        }
+        if number == script.holder && script.again == Some(steps) {
+            self.wait_for(&self.done);
         }
         if number == script.waker && number != script.holder {
             let_run(LONGER);
@@ -176,11 +181,30 @@ fn a_decision_wakes(rt: HostRuntime) -> Result<(), Fail> {
     let script = Script {
         holder: 1,
         at: 1,
+        again: None,
         waiter: 2,
         tries: TRIES,
         waker: 1,
     };
     is_woken(&rt, alloc, script, (&one, &two, None), 2)
+}
+
+/// The second step of a STAT lets the root go. A MKDIR waits for the root, and is answered while the
+/// STAT is held further down.
+#[test]
+fn a_move_wakes(rt: HostRuntime) -> Result<(), Fail> {
+    let alloc = rt.alloc();
+    let one = hex_packets(alloc, &[INIT, MKDIR_A, STAT_A_F])?;
+    let two = hex_packets(alloc, &[INIT, MKDIR_B])?;
+    let script = Script {
+        holder: 2,
+        at: 1,
+        again: Some(2),
+        waiter: 3,
+        tries: TRIES,
+        waker: 2,
+    };
+    is_woken(&rt, alloc, script, (&one, &two, None), 3)
 }
 
 /// The third step of a WRITE copies the last of its blocks. Who would cut the file waits for that.
@@ -193,6 +217,7 @@ fn a_last_copy_wakes(rt: HostRuntime) -> Result<(), Fail> {
     let script = Script {
         holder: 2,
         at: 2,
+        again: None,
         waiter: 3,
         tries: TRIES.saturating_add(1),
         waker: 2,
@@ -212,6 +237,7 @@ fn who_carries_it_out_wakes(rt: HostRuntime) -> Result<(), Fail> {
     let script = Script {
         holder: 3,
         at: 1,
+        again: None,
         waiter: 4,
         tries: TRIES.saturating_add(2),
         waker: 5,
