@@ -1,9 +1,7 @@
 """The library for C, by its calls, for the scripts of this folder (include/lucernetick.h)."""
 
-import contextlib
 import ctypes
 import os
-import shutil
 import subprocess
 import sys
 
@@ -22,20 +20,12 @@ MOST_REPLIES = 1 << 40
 ROOM = 1 << 19
 
 
-def install_compiler():
-    """Installs Debian's packages for C, which `./library` wants, where they are missing."""
-    if shutil.which("gcc") and shutil.which("ar") and os.path.exists("/usr/include/stdio.h"):
-        return
-    for words in (["update"], ["install", "-y", "--no-install-recommends", "gcc", "libc6-dev"]):
-        with contextlib.suppress(OSError, subprocess.TimeoutExpired):
-            subprocess.run(["apt-get", *words], capture_output=True, timeout=300)
-
-
 def find_library():
     """The library that a script is given behind the program, or the one that `./library` builds."""
     if len(sys.argv) > 2:
         return os.path.abspath(sys.argv[2])
-    install_compiler()
+    packages = ["gcc", "binutils", "libc6-dev"]
+    subprocess.run(["bash", os.path.join(TOP, "interop/install.sh"), *packages], check=False)
     build = os.path.join(TOP, "library")
     subprocess.run([build], check=True, stdout=subprocess.DEVNULL, timeout=7200)
     return os.path.join(TOP, "out/liblucernetick.so")

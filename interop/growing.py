@@ -16,8 +16,11 @@ def build_preloaded():
     """Builds what is preloaded to the program."""
     install("gcc", "gcc", "libc6-dev")
     os.makedirs(os.path.dirname(PRELOADED), exist_ok=True)
-    words = [*COMPILE, "-fPIC", "-shared", "-o", PRELOADED, "interop/c/refuse.c"]
+    # Another script may be using the one that is there.
+    made = f"{PRELOADED}.{os.getpid()}"
+    words = [*COMPILE, "-fPIC", "-shared", "-o", made, "interop/c/refuse.c"]
     subprocess.run(words, cwd=TOP, check=True)
+    os.replace(made, PRELOADED)
 
 
 class Growths:

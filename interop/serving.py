@@ -20,24 +20,23 @@ WORKERS = 8
 
 def install(command, *packages):
     """Installs packages of Debian where a command is missing. Whether the command is there."""
-    for words in ([], ["update"], ["install", "-y", "--no-install-recommends", *packages]):
-        if words:
-            with contextlib.suppress(OSError, subprocess.TimeoutExpired):
-                subprocess.run(["apt-get", *words], capture_output=True, timeout=300)
-        if shutil.which(command):
-            return True
-    return False
+    if not shutil.which(command):
+        install_packages(*packages)
+    return shutil.which(command) is not None
+
+
+def install_packages(*packages):
+    subprocess.run(["bash", os.path.join(TOP, "interop/install.sh"), *packages], check=False)
 
 
 def find_paramiko():
     """The module, installed where it is missing; None where it can't be had."""
-    for words in ([], ["update"], ["install", "-y", "--no-install-recommends", "python3-paramiko"]):
-        if words:
-            with contextlib.suppress(OSError, subprocess.TimeoutExpired):
-                subprocess.run(["apt-get", *words], capture_output=True, timeout=300)
-        importlib.invalidate_caches()
-        with contextlib.suppress(ImportError):
-            return importlib.import_module("paramiko")
+    with contextlib.suppress(ImportError):
+        return importlib.import_module("paramiko")
+    install_packages("python3-paramiko")
+    importlib.invalidate_caches()
+    with contextlib.suppress(ImportError):
+        return importlib.import_module("paramiko")
     return None
 
 
