@@ -6,7 +6,7 @@ use Rattle.sf_call.specs.Histories.{IsAmong}
 use Rattle.sf_laws.specs.Examples.{b, history}
 use Rattle.sf_call.proofs.Laws.{given_before}
 use Rattle.sf_laws.proofs.Laws.{legal_history}
-use Rattle.sf_session_cases.proofs.tests.an_answer_is_appended.Goals as goal
+use Rattle.sf_engine_cases.proofs.session.an_answer_is_appended.Goals as goal
 
 pub new-requires : goal.new-requires
 unfolding IsAmong

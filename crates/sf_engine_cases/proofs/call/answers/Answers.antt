@@ -7,7 +7,7 @@ use Rattle.sf_field.specs.Attributes.{no_attrs}
 use Rattle.sf_laws.specs.Examples.{b, history}
 use Rattle.sf_call.proofs.Laws.{given_before}
 use Rattle.sf_laws.proofs.Laws.{legal_history}
-use Rattle.sf_call_cases.proofs.tests.answers.Goals as goal
+use Rattle.sf_engine_cases.proofs.call.answers.Goals as goal
 
 pub new-absent-requires : goal.new-absent-requires
 unfolding IsAmong
