@@ -2,8 +2,8 @@
 -- What the words of a command line ask for.
 use Rattle.std.specs.Prelude.{◌<◌, ◌^◌, ℕ}
 use Rattle.sf_program.specs.Commands.{paths_len}
-use Rattle.sftpd.specs.declared.program.Action.{Action}
-use Rattle.sftpd.specs.declared.program.Action.TheVariants as action
+use Rattle.sf_words.specs.declared.words.Action.{Action}
+use Rattle.sf_words.specs.declared.words.Action.TheVariants as action
 
 -- one record is kept at least, or the paths of the command have together fewer than 2^31 bytes
 abbrev pub CanBeDone : Action → Type 0
