@@ -1,10 +1,11 @@
-//! The words of the command line of `sftpd`.
+//! The words of the command line of `sftpd`, and what they ask for.
 //!
-//! `words.rt` has what they ask for, and `running.rt` begins each command on the system's streams.
-//! What each command does is in `sf_program`.
+//! Start with `Action` in `words.rt`, and `read_words`, which `clap` helps; `command.rt` has the
+//! commands of `sftpd client`.
 #![tactic(auto)]
 
-mod running;
+mod command;
 mod words;
 
-pub use running::run;
+pub use command::ClientCommand;
+pub use words::{Action, RefusedWords, Serving, read_words};

@@ -3,15 +3,27 @@
 ghost use Rattle.std.specs.Prelude.{◌<◌, IfOk};
 ghost use Rattle.sf_words.specs.Words.{CanBeDone};
 
+use crate::command::ClientCommand;
 use clap::builder::ValueParser;
 use clap::{Arg, ArgAction, ArgMatches, Command, Error};
-use sf_program::command::ClientCommand;
-use sf_program::server::Serving;
 use std::alloc::{AllocError, Global};
+
+/// What `sftpd serve` is asked for.
+#[derive(Clone, Copy, Debug, PartialEq, Eq)]
+pub struct Serving<'a> {
+    /// The path of the Unix socket.
+    pub socket: &'a str,
+    /// How many sessions are served at once.
+    pub workers: usize,
+    /// It ends after so many sessions; without a number it goes on.
+    pub sessions: Option<u64>,
+    /// How many records of calls are kept.
+    pub keep: usize,
+}
 
 /// What the program is to do.
 #[derive(Clone, Copy, Debug, PartialEq, Eq)]
-pub(crate) enum Action<'a> {
+pub enum Action<'a> {
     /// One session on standard input and output, whose engine keeps so many records.
     Stdio(usize),
     /// Sessions at a Unix socket.
@@ -24,7 +36,7 @@ pub(crate) enum Action<'a> {
 
 /// Words that ask for no action.
 #[derive(Debug, Drop)]
-pub(crate) enum RefusedWords {
+pub enum RefusedWords {
     /// With the text of `clap`, or for want of memory.
     Words(Error),
     /// An unknown command, or another count of paths than it takes.
@@ -131,7 +143,7 @@ fn client_words<'a>(alloc: Global) -> Result<Command<'a>, AllocError> {
 }
 
 /// What the words ask for, the program's own name first. The text of an error is `clap`'s.
-pub(crate) fn read_words<'a>(alloc: Global, words: &'a [String]) -> Result<Action<'a>, RefusedWords>
+pub fn read_words<'a>(alloc: Global, words: &'a [String]) -> Result<Action<'a>, RefusedWords>
     ensures { IfOk result CanBeDone }
 {
     let program = Command::new(alloc, "sftpd")

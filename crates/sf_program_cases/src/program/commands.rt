@@ -1,12 +1,12 @@
 //! The commands of `sftpd client`, on the replies of a server.
 
 ghost use Rattle.std.specs.Prelude.{◌<◌, ◌^◌};
-ghost use Rattle.sf_program.specs.Commands.{paths_len};
+ghost use Rattle.sf_words.specs.Words.{paths_len};
 
 use super::*;
 use sf_line::StreamLine;
 use sf_program::client::run_client;
-use sf_program::command::ClientCommand;
+use sf_words::ClientCommand;
 
 const VERSION: &str =
     "00000043 02 00000003 00000018 706f7369782d72656e616d65406f70656e7373682e636f6d 00000001 31 00000014 686172646c696e6b406f70656e7373682e636f6d 00000001 31";

@@ -1,7 +1,7 @@
 //! The commands of `sftpd client`.
 
 ghost use Rattle.std.specs.Prelude.{◌<◌, ◌^◌, IfSome};
-ghost use Rattle.sf_program.specs.Commands.{paths_len};
+ghost use Rattle.sf_words.specs.Words.{paths_len};
 
 /// What the client is to do on the server, by the bytes of its paths.
 #[derive(Clone, Copy, Debug, PartialEq, Eq)]

@@ -1,19 +1,18 @@
 //! Each command, begun on the system's streams.
 
 ghost use Rattle.std.specs.Prelude.{◌<◌, ◌^◌};
-ghost use Rattle.sf_program.specs.Commands.{paths_len};
+ghost use Rattle.sf_words.specs.Words.{paths_len};
 
-use crate::words::{Action, RefusedWords, read_words};
 use clap::{Error, error};
 use sf_ahead::AheadLine;
 use sf_line::StreamLine;
 use sf_program::client::run_client;
 use sf_program::clock::SystemClock;
-use sf_program::command::ClientCommand;
 use sf_program::connection::connect;
 use sf_program::descriptors::Descriptors;
-use sf_program::server::{Serving, serve};
+use sf_program::server::serve;
 use sf_program::stdio::run_stdio;
+use sf_words::{Action, ClientCommand, RefusedWords, Serving, read_words};
 use std::env;
 use std::io::{self, ErrorKind, Input, Read};
 use std::os::unix::net::UnixStream;
@@ -21,7 +20,7 @@ use std::sync::Wait;
 use std::thread::Threads;
 
 /// Does what the words of the command line ask for, and answers the exit status.
-pub fn run<T: Threads + Wait + Sync>(rt: &HostRuntime, threads: &T) -> u8 {
+pub(crate) fn run<T: Threads + Wait + Sync>(rt: &HostRuntime, threads: &T) -> u8 {
     let alloc = rt.alloc();
     let words = match env::args(rt) {
         Ok(words) => words,
