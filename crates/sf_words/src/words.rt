@@ -159,7 +159,7 @@ pub fn read_words<'a>(alloc: Global, words: &'a [String]) -> Result<Action<'a>, 
         return client_action(found);
     }
     if let Some(found) = matches.subcommand_matches("serve") {
-        return Ok(Action::Serve(serving(found)));
+        return Ok(Action::Serve(serve_action(found)));
     }
     if let Some(found) = matches.subcommand_matches("connect") {
         return Ok(Action::Connect(found.get_str("socket").unwrap_or("")));
@@ -172,7 +172,7 @@ pub fn read_words<'a>(alloc: Global, words: &'a [String]) -> Result<Action<'a>, 
 }
 
 /// What the words after `serve` ask for.
-fn serving<'a>(matches: &ArgMatches<'a>) -> Serving<'a>
+fn serve_action<'a>(matches: &ArgMatches<'a>) -> Serving<'a>
     ensures { 0 < result.keep }
 {
     Serving {
