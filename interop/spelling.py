@@ -1,7 +1,8 @@
 """Bytes, requests and replies that rows have in words, spelled as docs/PROTOCOL.md has them.
 
 Bytes: hexadecimal digits, names that the rows give, text in quotes as Python writes bytes; each so
-often as a number behind `*` says, as `78*255`; `00..fa` stands for bytes that rise by one.
+often as a number behind `*` says, as `78*255`. `00..fa` stands for bytes that rise by one, and
+`ENTRY_01..ENTRY_32` for what has these names.
 
 Requests: MKDIR, SETSTAT path attributes; OPEN path letters attributes; REMOVE, RMDIR, REALPATH,
 STAT, LSTAT, OPENDIR path; RENAME, POSIX_RENAME, LINK old new; CLOSE, FSTAT, READDIR handle;
@@ -66,14 +67,23 @@ def piece_of(word, named):
     if word.startswith('"'):
         return text_of(word)
     name, _, count = word.partition("*")
-    if name in named:
-        piece = named[name]
+    if name.split("..")[0] in named:
+        piece = b"".join(named[each] for each in numbered(name))
     elif ".." in name:
         first, last = bytes.fromhex(name.replace("..", " "))
         piece = bytes(range(first, last + 1))
     else:
         piece = bytes.fromhex(name)
     return piece * int(count or 1)
+
+
+def numbered(word):
+    """The words that one stands for: `n01..n32` for each of these."""
+    found = re.fullmatch(r"(\D*)(\d+)\.\.\1(\d+)", word)
+    if not found:
+        return [word]
+    front, first, last = found.groups()
+    return [f"{front}{number:0{len(first)}}" for number in range(int(first), int(last) + 1)]
 
 
 def number_of(word):
@@ -177,23 +187,13 @@ class Told:
         return f"{front}{self.size:8} {self.times[1]:12} ".encode("ascii") + name
 
 
-def numbered(word):
-    """The names that a word stands for: `n01..n32` for each of these."""
-    found = re.fullmatch(r"(\D*)(\d+)\.\.\1(\d+)", word)
-    if not found:
-        return [text_of(word)]
-    front, first, last = found.groups()
-    numbers = range(int(first), int(last) + 1)
-    return [f"{front}{number:0{len(first)}}".encode("ascii") for number in numbers]
-
-
 def entries_of(words):
     """The entries of a NAME, each in bytes."""
     for entry in split(words):
         name, *told = entry
         if told:
             attributes = Told(told)
-            for each in numbered(name):
+            for each in map(text_of, numbered(name)):
                 yield string(each) + string(attributes.long_name(each)) + attributes.fields()
         else:
             path = text_of(name)
