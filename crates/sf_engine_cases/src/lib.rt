@@ -1,11 +1,23 @@
-//! Cases for the engine: rows of events, with what came of each and the bytes that each session is
-//! sent.
+//! Cases for the engine and all below it.
 //!
-//! Start with `tests/sessions.rt`: several sessions on one tree, and how they are closed.
-//! `requests.rt`, `files.rt` and `links.rt` beside it have one session's requests, `renames.rt` calls
-//! that a rename overtakes, and `refusals.rt` events that are refused. In `drawn.rt` eight sessions have
-//! drawn events, and the slow tree gives the replies that each is sent.
+//! In `wire.rt` is what crosses the wire: lines, the texts of paths, and the fields, requests,
+//! replies and packets of bytes; `wire/packets.rt` has what is sent and what is answered, byte by
+//! byte, as the draft has it. `call.rt` has calls and their values, `inode.rt` the store and the
+//! contents of files, `session.rt` sessions by their calls, with the bytes that each must send, and
+//! `trees.rt` what is made of an engine's tree and what a walk finds. In `tests.rt` are sessions by
+//! drawn events, with what came of each, beside the slow tree. Cases whose answer shows on the wire
+//! are rows that `replay` replays: `interop/engine_rows`.
 #![tactic(auto)]
 
 #[cfg(test)]
+mod call;
+#[cfg(test)]
+mod inode;
+#[cfg(test)]
+mod session;
+#[cfg(test)]
 mod tests;
+#[cfg(test)]
+mod trees;
+#[cfg(test)]
+mod wire;

@@ -14,21 +14,8 @@ use Rattle.sf_reply.specs.declared.reply.StatusCode.TheVariants.{Success}
 use Rattle.sf_client.specs.Calls.{DoesCall, ByHandle, ReadsAll, WritesAll, ListsAll, to_read, to_write}
 use Rattle.sf_client.specs.Exchanges.{ClientView, Exchanged, IsStarted}
 use Rattle.sf_client.specs.Outcomes.{asked}
-use Rattle.sf_program.specs.declared.command.ClientCommand.{ClientCommand}
-use Rattle.sf_program.specs.declared.command.ClientCommand.TheVariants as command
-
--- how many bytes the paths have together
-abbrev pub paths_len : ClientCommand → ℕ
-paths_len (command.Stat path) = length path.now
-paths_len (command.List path) = length path.now
-paths_len (command.Get path) = length path.now
-paths_len (command.Put path) = length path.now
-paths_len (command.Mkdir path) = length path.now
-paths_len (command.Rmdir path) = length path.now
-paths_len (command.Remove path) = length path.now
-paths_len (command.Rename old new) = length old.now + length new.now
-paths_len (command.PosixRename old new) = length old.now + length new.now
-paths_len (command.Link old new) = length old.now + length new.now
+use Rattle.sf_words.specs.declared.command.ClientCommand.{ClientCommand}
+use Rattle.sf_words.specs.declared.command.ClientCommand.TheVariants as command
 
 -- the number, or 0 where the part wasn't sent
 abbrev pub or_zero : Option ℕ → ℕ

@@ -2,13 +2,14 @@
 
 ghost use Rattle.std.specs.Prelude.{◌≡◌, ◌<◌, ◌^◌, ◌⊎◌, ℕ, List, length, IfOk, OnOk};
 ghost use Rattle.std.specs.Io.KnownBytes.{Appends, Keeps};
-ghost use Rattle.sf_program.specs.Commands.{paths_len, lines_of, stat_text, PrintsAttrs, Lists, RunsCommand, IsDoneOver};
+ghost use Rattle.sf_words.specs.Words.{paths_len};
+ghost use Rattle.sf_program.specs.Commands.{lines_of, stat_text, PrintsAttrs, Lists, RunsCommand, IsDoneOver};
 
-use crate::command::ClientCommand;
 use sf_client::{Client, ClientFault};
 use sf_field::{Attrs, Owner, Times};
 use sf_line::Line;
 use sf_reply::Entry;
+use sf_words::ClientCommand;
 use std::alloc::{AllocError, Global};
 use std::io::{self, Write};
 

@@ -1,4 +1,5 @@
-//! What each command of `sftpd` does. The words of the command line are read by `sftpd` itself.
+//! What each command of `sftpd` does. The words of the command line are read in
+//! `sf_words`.
 //!
 //! Start with `stdio.rt`: it serves one session on standard input and output; its contract says
 //! when the exit status is 0, and `specs/Statuses.antt` which status each end has. `server.rt`
@@ -12,7 +13,6 @@
 
 pub mod client;
 pub mod clock;
-pub mod command;
 pub mod connection;
 pub mod descriptors;
 pub mod listening;

@@ -9,6 +9,7 @@ use crate::totals::tell;
 use crossbeam_channel::{Receiver, Sender, bounded};
 use sf_core::Core;
 use sf_pool::{Hall, NoObserver};
+use sf_words::Serving;
 use sf_workers::{Served, serve_all};
 use std::alloc::AllocError;
 use std::fs;
@@ -16,19 +17,6 @@ use std::io::Write;
 use std::os::unix::net::UnixListener;
 use std::sync::{Mutex, Wait};
 use std::thread::{self, Threads};
-
-/// What `sftpd serve` is asked for.
-#[derive(Clone, Copy, Debug, PartialEq, Eq)]
-pub struct Serving<'a> {
-    /// The path of the Unix socket.
-    pub socket: &'a str,
-    /// How many sessions are served at once.
-    pub workers: usize,
-    /// It ends after so many sessions; without a number it goes on.
-    pub sessions: Option<u64>,
-    /// How many records of calls are kept.
-    pub keep: usize,
-}
 
 /// Why a server ends early.
 #[derive(Clone, Copy, Debug, PartialEq, Eq)]

@@ -1,16 +1,13 @@
 //! `sftpd`, an SFTP server with its tree in memory.
 //!
-//! Here are the words of its command line, and where each command is begun on the system's streams
-//! (`program.rt`). What each command does is in `sf_program`.
+//! `running.rt` begins what the words of the command line ask for (`sf_words`) on the system's
+//! streams. What each command does is in `sf_program`.
 #![tactic(auto)]
 
-mod program;
+mod running;
 
 use std::process::ExitCode;
 
 fn main(rt: HostRuntime) -> ExitCode {
-    ExitCode::from(program::run(&rt, &rt))
+    ExitCode::from(running::run(&rt, &rt))
 }
-
-#[cfg(test)]
-mod tests;

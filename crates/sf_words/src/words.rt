@@ -1,0 +1,197 @@
+//! What the words of a command line ask for.
+
+ghost use Rattle.std.specs.Prelude.{◌<◌, IfOk};
+ghost use Rattle.sf_words.specs.Words.{CanBeDone};
+
+use crate::command::ClientCommand;
+use clap::builder::ValueParser;
+use clap::{Arg, ArgAction, ArgMatches, Command, Error};
+use std::alloc::{AllocError, Global};
+
+/// What `sftpd serve` is asked for.
+#[derive(Clone, Copy, Debug, PartialEq, Eq)]
+pub struct Serving<'a> {
+    /// The path of the Unix socket.
+    pub socket: &'a str,
+    /// How many sessions are served at once.
+    pub workers: usize,
+    /// It ends after so many sessions; without a number it goes on.
+    pub sessions: Option<u64>,
+    /// How many records of calls are kept.
+    pub keep: usize,
+}
+
+/// What the program is to do.
+#[derive(Clone, Copy, Debug, PartialEq, Eq)]
+pub enum Action<'a> {
+    /// One session on standard input and output, whose engine keeps so many records.
+    Stdio(usize),
+    /// Sessions at a Unix socket.
+    Serve(Serving<'a>),
+    /// Standard input and output, carried to and from the Unix socket of this path.
+    Connect(&'a str),
+    /// One command on the server behind the Unix socket of this path.
+    Client(&'a str, ClientCommand<'a>),
+}
+
+/// Words that ask for no action.
+#[derive(Debug, Drop)]
+pub enum RefusedWords {
+    /// With the text of `clap`, or for want of memory.
+    Words(Error),
+    /// An unknown command, or another count of paths than it takes.
+    Usage,
+}
+
+impl From<Error> for RefusedWords {
+    fn from(error: Error) -> RefusedWords {
+        RefusedWords::Words(error)
+    }
+}
+
+impl From<AllocError> for RefusedWords {
+    fn from(error: AllocError) -> RefusedWords {
+        RefusedWords::Words(Error::from(error))
+    }
+}
+
+/// As the file VERSION says at the top of the repository.
+const VERSION: &str = "0.2.0";
+
+/// How many records of calls are kept where the words don't say, and at most.
+const KEEP: usize = 256;
+
+const MOST_KEPT: u64 = 1_000_000;
+
+/// The words of `sftpd stdio`.
+fn stdio_words<'a>(alloc: Global) -> Result<Command<'a>, AllocError> {
+    let keep = Arg::new(alloc, "keep")
+        .long("keep")
+        .value_name("N")
+        .value_parser(ValueParser::unsigned(1, MOST_KEPT))
+        .help("How many records of calls are kept: 1 to 1000000, by default 256");
+    Command::new(alloc, "stdio")
+        .about("Serves one session on standard input and output, to the end of the input")
+        .arg(keep)
+}
+
+/// How many workers serve sessions where the words don't say, and at most.
+const WORKERS: usize = 64;
+
+const MOST_WORKERS: u64 = 64;
+
+const MOST_SESSIONS: u64 = 1_000_000;
+
+fn socket_word<'a>(alloc: Global) -> Arg<'a> {
+    Arg::new(alloc, "socket")
+        .long("socket")
+        .value_name("PATH")
+        .required(true)
+        .help("The Unix socket of the server")
+}
+
+/// The words of `sftpd serve`.
+fn serve_words<'a>(alloc: Global) -> Result<Command<'a>, AllocError> {
+    let workers = Arg::new(alloc, "workers")
+        .long("workers")
+        .value_name("N")
+        .value_parser(ValueParser::unsigned(1, MOST_WORKERS))
+        .help("How many sessions are served at once: 1 to 64, by default 64");
+    let sessions = Arg::new(alloc, "sessions")
+        .long("sessions")
+        .value_name("K")
+        .value_parser(ValueParser::unsigned(1, MOST_SESSIONS))
+        .help("Ends after so many sessions, and compares what they were told: 1 to 1000000");
+    let keep = Arg::new(alloc, "keep")
+        .long("keep")
+        .value_name("N")
+        .value_parser(ValueParser::unsigned(1, MOST_KEPT))
+        .help("How many records of calls are kept: 1 to 1000000, by default 256");
+    Command::new(alloc, "serve")
+        .about("Serves sessions at a Unix socket, many at once, on one tree")
+        .arg(socket_word(alloc))?
+        .arg(workers)?
+        .arg(sessions)?
+        .arg(keep)
+}
+
+/// The words of `sftpd connect`.
+fn connect_words<'a>(alloc: Global) -> Result<Command<'a>, AllocError> {
+    Command::new(alloc, "connect")
+        .about("Carries standard input and output to and from a server's Unix socket")
+        .arg(socket_word(alloc))
+}
+
+/// The words of `sftpd client`.
+fn client_words<'a>(alloc: Global) -> Result<Command<'a>, AllocError> {
+    let command = Arg::new(alloc, "command")
+        .value_name("COMMAND")
+        .required(true)
+        .help(
+            "stat, list, get, put, mkdir, rmdir or remove with one path; rename, posix-rename or hardlink with two",
+        );
+    let paths = Arg::new(alloc, "paths")
+        .value_name("PATHS")
+        .num_args(0..)
+        .action(ArgAction::Append)
+        .help("The paths on the server");
+    Command::new(alloc, "client")
+        .about("Runs one command on the server behind a Unix socket")
+        .arg(socket_word(alloc))?
+        .arg(command)?
+        .arg(paths)
+}
+
+/// What the words ask for, the program's own name first. The text of an error is `clap`'s.
+pub fn read_words<'a>(alloc: Global, words: &'a [String]) -> Result<Action<'a>, RefusedWords>
+    ensures { IfOk result CanBeDone }
+{
+    let program = Command::new(alloc, "sftpd")
+        .version(VERSION)
+        .about("An SFTP server, version 3, with its tree in memory")
+        .subcommand_required(true)
+        .subcommand(stdio_words(alloc)?)?
+        .subcommand(serve_words(alloc)?)?
+        .subcommand(connect_words(alloc)?)?
+        .subcommand(client_words(alloc)?)?;
+    let matches = program.try_get_matches_from(words)?;
+    if let Some(found) = matches.subcommand_matches("client") {
+        return client_action(found);
+    }
+    if let Some(found) = matches.subcommand_matches("serve") {
+        return Ok(Action::Serve(serve_action(found)));
+    }
+    if let Some(found) = matches.subcommand_matches("connect") {
+        return Ok(Action::Connect(found.get_str("socket").unwrap_or("")));
+    }
+    let keep = matches
+        .subcommand_matches("stdio")
+        .and_then(|found| found.get_one::<usize>("keep"))
+        .unwrap_or(KEEP);
+    Ok(Action::Stdio(keep.max(1)))
+}
+
+/// What the words after `serve` ask for.
+fn serve_action<'a>(matches: &ArgMatches<'a>) -> Serving<'a>
+    ensures { 0 < result.keep }
+{
+    Serving {
+        socket: matches.get_str("socket").unwrap_or(""),
+        workers: matches.get_one::<usize>("workers").unwrap_or(WORKERS),
+        sessions: matches.get_one::<u64>("sessions"),
+        keep: matches.get_one::<usize>("keep").unwrap_or(KEEP).max(1),
+    }
+}
+
+/// What the words after `client` ask for.
+fn client_action<'a>(matches: &ArgMatches<'a>) -> Result<Action<'a>, RefusedWords>
+    ensures { IfOk result CanBeDone }
+{
+    let socket = matches.get_str("socket").unwrap_or("");
+    let name = matches.get_str("command").unwrap_or("");
+    let paths = matches.get_strs("paths").unwrap_or(&[]);
+    match ClientCommand::from_words(name, paths) {
+        Some(command) => Ok(Action::Client(socket, command)),
+        None => Err(RefusedWords::Usage),
+    }
+}

@@ -1,0 +1,139 @@
+//! Each command, begun on the system's streams.
+
+ghost use Rattle.std.specs.Prelude.{◌<◌, ◌^◌};
+ghost use Rattle.sf_words.specs.Words.{paths_len};
+
+use clap::{Error, error};
+use sf_ahead::AheadLine;
+use sf_line::StreamLine;
+use sf_program::client::run_client;
+use sf_program::clock::SystemClock;
+use sf_program::connection::connect;
+use sf_program::descriptors::Descriptors;
+use sf_program::server::serve;
+use sf_program::stdio::run_stdio;
+use sf_words::{Action, ClientCommand, RefusedWords, Serving, read_words};
+use std::env;
+use std::io::{self, ErrorKind, Input, Read};
+use std::os::unix::net::UnixStream;
+use std::sync::Wait;
+use std::thread::Threads;
+
+/// Does what the words of the command line ask for, and answers the exit status.
+pub(crate) fn run<T: Threads + Wait + Sync>(rt: &HostRuntime, threads: &T) -> u8 {
+    let alloc = rt.alloc();
+    let words = match env::args(rt) {
+        Ok(words) => words,
+        Err(error) => return refuse_words(rt, error.kind()),
+    };
+    let Ok(words) = words.collect::<Vec<String>>(alloc) else {
+        return refuse_words(rt, ErrorKind::OutOfMemory);
+    };
+    match read_words(alloc, &words) {
+        Ok(Action::Stdio(keep)) => stdio(rt, keep),
+        Ok(Action::Serve(serving)) => serve_sessions(rt, threads, serving),
+        Ok(Action::Connect(socket)) => carry(rt, threads, socket),
+        Ok(Action::Client(socket, command)) => client(rt, socket, command),
+        Err(RefusedWords::Words(error)) => refuse(rt, &error),
+        Err(RefusedWords::Usage) => usage(rt),
+    }
+}
+
+/// Serves the session on standard input and output.
+fn stdio(rt: &HostRuntime, keep: usize) -> u8
+    requires { 0 < keep }
+{
+    let mut line = AheadLine::new(rt.alloc(), Descriptors::standard(rt));
+    let mut errors = StreamLine::new(io::empty(), rt.stderr());
+    let mut clock = SystemClock::new(rt);
+    run_stdio(rt.alloc(), keep, &mut line, &mut clock, &mut errors)
+}
+
+/// Serves sessions at a socket.
+fn serve_sessions<T: Threads + Wait + Sync>(
+    rt: &HostRuntime,
+    threads: &T,
+    serving: Serving<'_>,
+) -> u8
+    requires { 0 < serving.keep }
+{
+    match serve(rt, threads, serving) {
+        Ok(()) => 0,
+        Err(fault) => {
+            let _ = rt.eprintln(fault.line());
+            1
+        }
+    }
+}
+
+/// Carries standard input and output to and from a socket.
+fn carry<T: Threads + Wait>(rt: &HostRuntime, threads: &T, socket: &str) -> u8 {
+    let Ok(stream) = UnixStream::connect(rt, socket) else {
+        let _ = rt.eprintln("sftpd: cannot connect");
+        return 1;
+    };
+    match connect(rt, threads, &stream) {
+        Ok(()) => 0,
+        Err(error) => fail(rt, error.kind()),
+    }
+}
+
+/// Does a command on the server behind a socket. All of standard input is read first where it is to
+/// be put.
+fn client(rt: &HostRuntime, socket: &str, command: ClientCommand<'_>) -> u8
+    requires { paths_len command < 2 ^ 31 }
+{
+    let alloc = rt.alloc();
+    let mut data = Vec::new(alloc);
+    if matches!(command, ClientCommand::Put(_)) {
+        if let Err(error) = rt.reader().read_to_end(&mut data) {
+            return fail(rt, error.kind());
+        }
+    }
+    let Ok(stream) = UnixStream::connect(rt, socket) else {
+        let _ = rt.eprintln("sftpd: cannot connect");
+        return 1;
+    };
+    let line = StreamLine::new(&stream, &stream);
+    run_client(
+        alloc,
+        line,
+        command,
+        &data,
+        &mut rt.stdout(),
+        &mut rt.stderr(),
+    )
+}
+
+/// Tells that standard input failed, or that there is no memory for it.
+fn fail(rt: &impl Eprint, kind: ErrorKind) -> u8 {
+    let _ = match kind {
+        ErrorKind::OutOfMemory => rt.eprintln("sftpd: out of memory"),
+        _ => rt.eprintln("sftpd: stream"),
+    };
+    1
+}
+
+/// Tells that the words can't be used.
+fn usage(rt: &impl Eprint) -> u8 {
+    let _ = rt.eprintln("sftpd: usage");
+    2
+}
+
+/// Tells why the words can't be read: they are no text, or there is no memory for them.
+fn refuse_words(rt: &impl Eprint, kind: ErrorKind) -> u8 {
+    match kind {
+        ErrorKind::OutOfMemory => fail(rt, kind),
+        _ => usage(rt),
+    }
+}
+
+/// Prints the text of words that ask for no action: help to standard output, with status 0, else
+/// a mistake to standard error, with status 2.
+fn refuse(rt: &(impl Print + Eprint), error: &Error) -> u8 {
+    if error.kind() == error::ErrorKind::OutOfMemory {
+        return refuse_words(rt, ErrorKind::OutOfMemory);
+    }
+    let _ = error.print(rt);
+    if error.use_stderr() { 2 } else { 0 }
+}
