@@ -6,7 +6,15 @@
 //! turn 1 100                      it takes a turn, at the moment 100
 //! close 1                         it is closed
 //! sent 1 9                        9 bytes of its output are dropped
+//! run open | turn 1 100           these events, and how many of them were refused
+//! turns 1 100                     turns as long as the call is on its way, and what the last came to
+//! feed_slice 1 000000050100000003 as feed, without an event
+//! run_all                         rounds, until no call is under way, and how many there were
+//! keep 2                          a new engine, which keeps 2 records, in the place of this one
 //! state                           what each session was sent, and the records of all calls
+//! output 1 9                      what session 1 was sent, behind the first 9 bytes
+//! wants 1                         whether session 1 wants bytes
+//! look_ups                        how many names were looked up
 //! ```
 //!
 //! Before the engine is made it prints `read`, and `begun` when it is. An event that is refused for
@@ -15,8 +23,9 @@
 
 mod line;
 
+use anyhow::bail;
 use line::Line;
-use sf_engine::{Engine, EngineFault, Event};
+use sf_engine::{Engine, EngineFault, Event, Happened};
 use std::alloc::Global;
 use std::io::{self, BufRead, BufReader, BufWriter, Write};
 
@@ -44,35 +53,85 @@ fn print_state(out: &mut impl Write, engine: &Engine) -> io::Result<()> {
     Ok(())
 }
 
-/// Applies an event, and prints what came of it.
-fn try_event(out: &mut impl Write, engine: &mut Engine, event: &Event) -> io::Result<bool> {
-    match engine.apply(event) {
-        Ok(happened) => writeln!(out, "{happened:?}")?,
-        Err(fault) => {
-            writeln!(out, "refused {fault:?}")?;
-            return Ok(fault == EngineFault::OutOfMemory);
-        }
+/// Prints what a session has to be sent behind so many bytes.
+fn print_behind(
+    out: &mut impl Write,
+    engine: &Engine,
+    session: u64,
+    start: usize,
+) -> io::Result<()> {
+    match engine.output(session) {
+        Some(output) => print_output(out, session, output.get(start..).unwrap_or(&[])),
+        None => writeln!(out, "output {session} none"),
     }
-    Ok(false)
 }
 
-/// Applies an event, and once more where memory was wanting.
+/// Prints what came of an event.
+fn print_outcome(
+    out: &mut impl Write,
+    outcome: &Result<Happened, EngineFault>,
+) -> io::Result<()> {
+    match outcome {
+        Ok(happened) => writeln!(out, "{happened:?}"),
+        Err(fault) => writeln!(out, "refused {fault:?}"),
+    }
+}
+
+/// Applies an event, and once more where memory was wanting. Prints what came of it.
 fn apply(out: &mut impl Write, engine: &mut Engine, event: &Event) -> io::Result<()> {
-    if try_event(out, engine, event)? {
+    let outcome = engine.apply(event);
+    print_outcome(out, &outcome)?;
+    if outcome == Err(EngineFault::OutOfMemory) {
         print_state(out, engine)?;
-        try_event(out, engine, event)?;
+        print_outcome(out, &engine.apply(event))?;
     }
     Ok(())
 }
 
-fn replay(out: &mut impl Write, engine: &mut Engine, lines: &[Line]) -> io::Result<()> {
-    for line in lines {
-        match line {
-            Line::Event(event) => apply(out, engine, event)?,
-            Line::State => print_state(out, engine)?,
-        }
+/// An engine that keeps so many records.
+fn keeping(alloc: Global, count: usize) -> anyhow::Result<Engine> {
+    if count == 0 {
+        bail!("no record is kept");
     }
-    writeln!(out, "end")
+    Ok(Engine::with_keep(alloc, count)?)
+}
+
+/// Does what a line says, and prints what came of it.
+fn replay_line(
+    out: &mut impl Write,
+    alloc: Global,
+    engine: &mut Engine,
+    line: &Line,
+) -> anyhow::Result<()> {
+    match line {
+        Line::Event(event) => apply(out, engine, event)?,
+        Line::Run(events) => writeln!(out, "{}", engine.run(events))?,
+        Line::Turns(session, moment) => print_outcome(out, &engine.turns(*session, *moment))?,
+        Line::FeedSlice(session, bytes) => print_outcome(out, &engine.feed(*session, bytes))?,
+        Line::RunAll => writeln!(out, "{}", engine.run_all())?,
+        Line::Keep(count) => {
+            *engine = keeping(alloc, *count)?;
+            writeln!(out, "begun")?;
+        }
+        Line::State => print_state(out, engine)?,
+        Line::Output(session, start) => print_behind(out, engine, *session, *start)?,
+        Line::Wants(session) => writeln!(out, "{}", engine.wants_bytes(*session))?,
+        Line::LookUps => writeln!(out, "{}", engine.core().look_ups())?,
+    }
+    Ok(())
+}
+
+fn replay(
+    out: &mut impl Write,
+    alloc: Global,
+    engine: &mut Engine,
+    lines: &[Line],
+) -> anyhow::Result<()> {
+    for line in lines {
+        replay_line(out, alloc, engine, line)?;
+    }
+    writeln!(out, "end")?;
+    Ok(())
 }
 
 /// An engine, at the second try where memory was wanting.
@@ -101,7 +160,7 @@ fn main(rt: HostRuntime) -> anyhow::Result<()> {
     out.flush()?;
     let mut engine = make_engine(&mut out, alloc)?;
     writeln!(out, "begun")?;
-    replay(&mut out, &mut engine, lines.as_slice())?;
+    replay(&mut out, alloc, &mut engine, lines.as_slice())?;
     out.flush()?;
     Ok(())
 }
