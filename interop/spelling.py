@@ -18,6 +18,7 @@ last: a path alone, as REALPATH is answered, or name size permissions atime mtim
 
 import ast
 import re
+from collections import deque
 
 import packets
 from packets import packet, string, u32, u64
@@ -48,6 +49,17 @@ def words_of(text):
     if "".join(found).replace(" ", "") != "".join(text.split()):
         raise ValueError(f"no words: {text}")
     return found
+
+
+def parts_of(words):
+    """The words between each two bars."""
+    parts = [[]]
+    for word in words:
+        if word == "|":
+            parts.append([])
+        else:
+            parts[-1].append(word)
+    return parts
 
 
 def text_of(word):
@@ -128,8 +140,8 @@ def request_of(words, number, named):
     front = u32(number)
     if name in EXTENSIONS:
         old, new = rest
-        extension = string(EXTENSIONS[name])
-        return packet(packets.EXTENDED, front, extension, string(text_of(old)), string(text_of(new)))
+        paths = string(text_of(old)), string(text_of(new))
+        return packet(packets.EXTENDED, front, string(EXTENSIONS[name]), *paths)
     return packet(getattr(packets, name), front, *fields_of(name, rest, named))
 
 
@@ -229,3 +241,31 @@ def reply_of(words, number, named):
         entries = list(entries_of(rest))
         return packet(packets.NAME, front, u32(len(entries)), *entries)
     raise ValueError(f"no such reply: {' '.join(words)}")
+
+
+class Asked:
+    """What sessions are fed by words, and what they are sent for it. Requests have the ids 1, 2, 3
+    and so on, whichever session's they are."""
+
+    def __init__(self, named):
+        self.named = named
+        self.count = 0
+        # The ids of a session's requests whose replies weren't looked at.
+        self.waiting = {}
+
+    def fed(self, session, words):
+        """Bytes and requests with bars between them."""
+        return b"".join(self.part(session, part) for part in parts_of(words))
+
+    def part(self, session, words):
+        if not words or words[0] not in REQUESTS or words[0] in self.named:
+            return bytes_of(words, self.named)
+        self.count += 1
+        self.waiting.setdefault(session, deque()).append(self.count)
+        return request_of(words, self.count, self.named)
+
+    def sent(self, session, words):
+        """The replies to its requests, with bars between them."""
+        return b"".join(
+            reply_of(part, self.waiting[session].popleft(), self.named) for part in parts_of(words)
+        )

@@ -1,10 +1,6 @@
-//! Cases for the engine: rows of events, with what came of each and the bytes that each session is
-//! sent.
-//!
-//! Start with `tests/sessions.rt`: several sessions on one tree, and how they are closed.
-//! `requests.rt`, `files.rt` and `links.rt` beside it have one session's requests, `renames.rt` calls
-//! that a rename overtakes, and `refusals.rt` events that are refused. In `drawn.rt` eight sessions have
-//! drawn events, and the slow tree gives the replies that each is sent.
+//! Cases for the engine with drawn events: in `tests/drawn.rt` eight sessions have them, and the slow
+//! tree gives the replies that each is sent; `drawn/writes.rt` has WRITEs that renames finish. The
+//! cases whose events are known are rows of `interop/engine_rows`, which `replay` replays.
 #![tactic(auto)]
 
 #[cfg(test)]

@@ -11,6 +11,3 @@ use std::process::ExitCode;
 fn main(rt: HostRuntime) -> ExitCode {
     ExitCode::from(program::run(&rt, &rt))
 }
-
-#[cfg(test)]
-mod tests;

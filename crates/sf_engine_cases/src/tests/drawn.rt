@@ -24,8 +24,11 @@ const SESSIONS: usize = 8;
 
 /// A session opens for a new client, which has its VERSION.
 fn join(rt: &impl Abort, alloc: Global, engine: &mut Engine, session: u64) {
-    opens(rt, engine, session);
-    feeds(rt, alloc, engine, session, &[INIT]);
+    comes_to(rt, engine, Event::Open, Happened::Opened(session));
+    let Ok(bytes) = hex_bytes(alloc, INIT) else {
+        panic!(rt; "no bytes");
+    };
+    is_fed(rt, engine, session, bytes);
     turns(rt, engine, session, Happened::Wrote);
 }
 
@@ -343,7 +346,7 @@ fn event(
     match draws.below(600) {
         0 => {
             client.close();
-            comes_to(rt, engine, Event::Close(session), Ok(Happened::Closed));
+            comes_to(rt, engine, Event::Close(session), Happened::Closed);
             Ok(None)
         }
         1..=20 if !client.has_closed() => {
