@@ -6,35 +6,28 @@ ghost use Rattle.sf_walk.specs.Files.{IsSettled};
 use sf_call::{Call, Request, Stage};
 use sf_cases::requests::{
     close, link, mkdir, open, open_dir, path, posix_rename, read, read_dir, remove, rename, rmdir,
-    set_handle, set_stat, stat, stat_handle, write,
+    set_handle, stat, stat_handle, write,
 };
 use sf_cases::{sized, whole};
-use sf_field::{Attrs, NO_ATTRS, Owner, Times};
+use sf_field::{Attrs, Owner, Times};
 use sf_inode::Store;
 use sf_plain::PlainTree;
-use sf_reply::{Entry, Listing, Reply, StatusCode};
+use sf_reply::{Listing, Reply, StatusCode};
 use sf_walk::{Located, Walk, Ways, decide, from_root, left_to_copy, let_go, locate_all, route_of};
 use std::alloc::Global;
 use std::process::Abort;
 use std::test::*;
-use steps::step;
+use walks::step;
 
-mod calls;
 mod copies;
-mod directories;
 mod drawn;
-mod files;
-mod handles;
-mod links;
-mod listings;
-mod opening;
-mod renames;
-mod steps;
+mod objects;
+mod walks;
 
 /// A call makes fewer steps than this.
 const MANY_STEPS: usize = 32;
 
-/// How the calls on a store are made.
+/// How a call on a store is made.
 #[derive(Clone, Copy)]
 enum Manner {
     FromRoot,
@@ -53,19 +46,15 @@ struct Pair {
 }
 
 impl Pair {
-    /// Whose calls on the store are made from the root.
+    /// Whose calls on the store are made from the root, up to where the manner is another.
     fn new(rt: &impl Abort, alloc: Global) -> Pair {
-        Pair::in_manner(rt, alloc, Manner::FromRoot)
-    }
-
-    fn in_manner(rt: &impl Abort, alloc: Global, manner: Manner) -> Pair {
         let (Ok(plain), Ok(store)) = (PlainTree::new(alloc), Store::new(alloc)) else {
             panic!(rt; "no memory");
         };
         Pair {
             plain,
             store: Some(store),
-            manner,
+            manner: Manner::FromRoot,
             session: 1,
             number: 0,
         }

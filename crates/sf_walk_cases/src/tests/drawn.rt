@@ -5,7 +5,7 @@ use sf_cases::Numbers;
 use sf_field::{ByteString, OpenFlags};
 use sf_path::Path;
 
-const CALLS: u32 = 10_000;
+const CALLS: u32 = 20_000;
 
 /// A session leaves after one of so many calls, by the draws.
 const LEAVING: u64 = 1200;
@@ -315,7 +315,7 @@ fn is_listing(request: &Result<Request, Fail>) -> bool {
     }
 }
 
-/// Makes a call of one of the sessions on both.
+/// Makes a call of one of the sessions on both, on the store from the root or by its steps.
 fn call(
     rt: &impl Abort,
     alloc: Global,
@@ -327,6 +327,11 @@ fn call(
     let request = request(alloc, draws, handles, session);
     let listing = is_listing(&request);
     pair.session = session;
+    pair.manner = if draws.once_in(2) {
+        Manner::BySteps
+    } else {
+        Manner::FromRoot
+    };
     let reply = pair.ask(rt, request);
     if let Reply::Handle(number) = &reply {
         handles.put(session, listing, draws, *number);
@@ -337,30 +342,21 @@ fn call(
     kind_of(&reply)
 }
 
-/// Draws calls, and makes them from the root, or by their steps.
-fn draw(rt: &impl Abort, alloc: Global, manner: Manner) -> Result<(), Fail> {
-    let mut pair = Pair::in_manner(rt, alloc, manner);
+#[test]
+fn drawn_calls(rt: HostRuntime) -> Result<(), Fail> {
+    let alloc = rt.alloc();
+    let mut pair = Pair::new(&rt, alloc);
     let mut draws = Draws {
         numbers: Numbers::new(1),
     };
     let mut handles = Handles { numbers: [0; 32] };
     let mut kinds = Vec::new(alloc);
     for _ in 0..CALLS {
-        let kind = call(rt, alloc, &mut pair, &mut draws, &mut handles);
+        let kind = call(&rt, alloc, &mut pair, &mut draws, &mut handles);
         kinds.push(kind)?;
     }
     for kind in KINDS {
-        assert!(rt; kinds.contains(&kind), "no {kind:?}");
+        assert!(&rt; kinds.contains(&kind), "no {kind:?}");
     }
     Ok(())
-}
-
-#[test]
-fn drawn_calls(rt: HostRuntime) -> Result<(), Fail> {
-    draw(&rt, rt.alloc(), Manner::FromRoot)
-}
-
-#[test]
-fn drawn_calls_by_steps(rt: HostRuntime) -> Result<(), Fail> {
-    draw(&rt, rt.alloc(), Manner::BySteps)
 }
