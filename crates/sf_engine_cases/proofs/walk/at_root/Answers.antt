@@ -1,8 +1,8 @@
 use Rattle.std.proofs.Common.{rules, subst}
 use Rattle.sf_walk.specs.Routes.{Route}
 use Rattle.sf_walk.specs.Ways.{AreWays}
-use Rattle.sf_walk_cases.proofs.Settled.{settled_there}
-use Rattle.sf_walk_cases.proofs.tests.at_root.Goals as goal
+use Rattle.sf_engine_cases.proofs.Settled.{settled_there}
+use Rattle.sf_engine_cases.proofs.walk.at_root.Goals as goal
 
 pub from_root-requires : goal.from_root-requires
 from_root-requires g c = λ v at.

@@ -3,7 +3,7 @@ use Rattle.sf_walk.specs.declared.walking.Walk.{Walk}
 use Rattle.sf_walk.specs.Routes.{Route, route_of}
 use Rattle.sf_walk.specs.Steps.{walker, AdvancesTo, Advances}
 use Rattle.sf_walk.proofs.Laws.{stands_on, stands_unmoved, root_stands}
-use Rattle.sf_walk_cases.proofs.tests.walks.step.Goals as goal
+use Rattle.sf_engine_cases.proofs.walk.walks.step.Goals as goal
 
 pub returns-in-Moved-clause-root : goal.returns-in-Moved-clause-root
 returns-in-Moved-clause-root c =

@@ -1,7 +1,7 @@
 use Rattle.std.proofs.Common.{◌≡◌, true}
 use Rattle.sf_inode.specs.Stores.{is_directory_at}
 use Rattle.sf_walk.specs.Routes.{HoldsWay, route_of}
-use Rattle.sf_walk_cases.proofs.tests.by_steps.Given as goal
+use Rattle.sf_engine_cases.proofs.walk.by_steps.Given as goal
 
 abbrev pub invariant-loop : goal.invariant-loop
 invariant-loop g l = record {
