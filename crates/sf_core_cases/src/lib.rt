@@ -1,10 +1,10 @@
-//! Cases for the core: calls of several sessions, step by step.
+//! Cases for the core that don't show in the replies of an engine's sessions, and drawn ones.
 //!
-//! Start with `tests/rows.rt`: calls that wait for each other and renames that overtake them, with
-//! what each step comes to. `tests/kept.rt` has which records are kept, and `tests/book.rt` the
-//! book that keeps them. In
-//! `tests/drawn.rt` eight sessions make drawn calls, and the records that the core has at the end are what the
-//! slow tree answers in their order.
+//! `tests/lanes.rt` has what a lane is told, `tests/kept.rt` a core that keeps one record, and
+//! `tests/book.rt` the book that keeps them. In `tests/drawn.rt` eight sessions make drawn calls, and
+//! the records that the core has at the end are what the slow tree answers in their order;
+//! `tests/drawn_writes.rt` does that for WRITEs of several blocks. What shows in replies, and in
+//! how turns go, is in the rows of interop/engine_rows.
 #![tactic(auto)]
 
 #[cfg(test)]
