@@ -67,10 +67,7 @@ fn print_behind(
 }
 
 /// Prints what came of an event.
-fn print_outcome(
-    out: &mut impl Write,
-    outcome: &Result<Happened, EngineFault>,
-) -> io::Result<()> {
+fn print_outcome(out: &mut impl Write, outcome: &Result<Happened, EngineFault>) -> io::Result<()> {
     match outcome {
         Ok(happened) => writeln!(out, "{happened:?}"),
         Err(fault) => writeln!(out, "refused {fault:?}"),
