@@ -1,9 +1,7 @@
 //! Calls of several sessions on one core, step by step, with what each step comes to.
 
 use sf_call::{CoreFault, Record, Request};
-use sf_cases::requests::{
-    close, link, mkdir, open, path, posix_rename, rename, rmdir, stat, stat_handle,
-};
+use sf_cases::requests::{close, mkdir, open, path, rename, stat_handle};
 use sf_core::{Core, Lane, Share, Step};
 use sf_reply::{Reply, StatusCode};
 use std::alloc::Global;
@@ -14,8 +12,7 @@ mod book;
 mod drawn;
 mod drawn_writes;
 mod kept;
-mod rows;
-mod writes;
+mod lanes;
 
 /// What a step came to, without the contents of a reply.
 #[derive(Clone, Copy, Debug, PartialEq, Eq)]
@@ -110,12 +107,6 @@ fn step(rt: &impl Abort, core: &mut Core, lane: &mut Lane) -> Told {
     came_of(&core.step(lane))
 }
 
-/// A step comes to this.
-fn steps_to(rt: &impl Abort, core: &mut Core, lane: &mut Lane, want: Told) {
-    let told = step(rt, core, lane);
-    assert!(rt; told == want, "{told:?}, not {want:?}");
-}
-
 /// Steps up to one that doesn't move, and so many at most, come to this.
 fn walks_to(rt: &impl Abort, core: &mut Core, lane: &mut Lane, most: u64, want: Told) {
     let told = walk(rt, core, lane, most);
@@ -142,21 +133,5 @@ fn leave(rt: &impl Abort, core: &mut Core, lane: Lane) -> Share {
             back.abandon();
             panic!(rt; "a stranger")
         }
-    }
-}
-
-/// The number of the record's call, or 0 where a session left.
-fn number_of(record: &Record) -> u64 {
-    match record {
-        Record::Did { number, .. } => *number,
-        Record::Left { session: _ } => 0,
-    }
-}
-
-/// Asserts the numbers of the records that are kept, the oldest first.
-fn records_are(rt: &impl Abort, core: &Core, numbers: &[u64]) {
-    assert!(rt; core.history().len() == numbers.len());
-    for (record, number) in core.history().iter().zip(numbers.iter()) {
-        assert!(rt; number_of(record) == *number);
     }
 }

@@ -2,7 +2,7 @@
 //! directory that renames move: a rename finishes the WRITE of a file that it truncates on its way.
 
 use super::*;
-use crate::tests::drawn::{Seat, is_legal, replayed, tell_alike};
+use super::drawn::{Seat, is_legal, replayed, tell_alike};
 use sf_cases::requests::{flags, read, set_stat, write};
 use sf_cases::{Numbers, sized};
 use sf_field::NO_ATTRS;

@@ -1,32 +1,7 @@
-//! A core that keeps the last records alone.
+//! A core that keeps the last record alone.
 
 use super::*;
-use crate::tests::drawn::{Draws, drawn_request};
-
-#[test]
-fn oldest_records_go(rt: HostRuntime) -> Result<(), Fail> {
-    let alloc = rt.alloc();
-    let mut core = Core::with_keep(alloc, 2)?;
-    let mut lane = join(&rt, &mut core);
-    for text in [b"/a", b"/b", b"/c", b"/d"] {
-        begin(&rt, &mut core, &mut lane, mkdir(alloc, text));
-        walks_to(
-            &rt,
-            &mut core,
-            &mut lane,
-            300,
-            Told::Status(StatusCode::Success),
-        );
-    }
-    records_are(&rt, &core, &[3, 4]);
-    assert!(&rt; core.folded() == 2);
-    assert!(&rt; core.calls() == 4);
-    begin(&rt, &mut core, &mut lane, stat(alloc, b"/a"));
-    walks_to(&rt, &mut core, &mut lane, 300, Told::Attrs);
-    records_are(&rt, &core, &[4, 5]);
-    lane.abandon();
-    Ok(())
-}
+use super::drawn::{Draws, drawn_request};
 
 /// Of 1,000 calls each is answered alike by a core that keeps one record and by one that keeps all.
 #[test]
