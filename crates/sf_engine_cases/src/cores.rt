@@ -1,0 +1,137 @@
+//! Calls of several sessions on one core, step by step, with what each step comes to.
+
+use sf_call::{CoreFault, Record, Request};
+use sf_cases::requests::{close, mkdir, open, path, rename, stat_handle};
+use sf_core::{Core, Lane, Share, Step};
+use sf_reply::{Reply, StatusCode};
+use std::alloc::Global;
+use std::process::Abort;
+use std::test::*;
+
+mod book;
+mod drawn;
+mod drawn_writes;
+mod kept;
+mod lanes;
+
+/// What a step came to, without the contents of a reply.
+#[derive(Clone, Copy, Debug, PartialEq, Eq)]
+enum Told {
+    Moved,
+    Blocked(u64),
+    Status(StatusCode),
+    NoMemory,
+    Handle(u64),
+    Data,
+    Names,
+    Attrs,
+    Stranger,
+}
+
+fn outcome_of(reply: &Reply) -> Told {
+    match reply {
+        Reply::Status(code) => Told::Status(*code),
+        Reply::NoMemory => Told::NoMemory,
+        Reply::Handle(number) => Told::Handle(*number),
+        Reply::Data(_) => Told::Data,
+        Reply::Names(_) => Told::Names,
+        Reply::Attrs(_) => Told::Attrs,
+    }
+}
+
+fn made(rt: &impl Abort, alloc: Global) -> Core {
+    match Core::new(alloc) {
+        Ok(core) => core,
+        Err(_) => panic!(rt; "no memory"),
+    }
+}
+
+fn join(rt: &impl Abort, core: &mut Core) -> Lane {
+    match core.join() {
+        Ok(lane) => lane,
+        Err(fault) => panic!(rt; "not joined: {fault}"),
+    }
+}
+
+/// A call begins.
+fn begin(rt: &impl Abort, core: &mut Core, lane: &mut Lane, request: Result<Request, Fail>) {
+    begin_at(rt, core, lane, request, 100);
+}
+
+fn begin_at(
+    rt: &impl Abort,
+    core: &mut Core,
+    lane: &mut Lane,
+    request: Result<Request, Fail>,
+    moment: u32,
+) {
+    let Ok(request) = request else {
+        panic!(rt; "no request");
+    };
+    assert!(rt; lane.is_idle());
+    match core.begin(lane, request, moment) {
+        Ok(()) => {}
+        Err(fault) => panic!(rt; "not begun: {fault}"),
+    }
+}
+
+/// What a call was answered at once, or that it has begun.
+fn calls(
+    rt: &impl Abort,
+    core: &mut Core,
+    lane: &mut Lane,
+    request: Result<Request, Fail>,
+) -> Option<Told> {
+    let Ok(request) = request else {
+        panic!(rt; "no request");
+    };
+    assert!(rt; lane.is_idle());
+    match core.call(lane, request, 100) {
+        Ok(Some(answer)) => Some(outcome_of(answer.reply())),
+        Ok(None) => None,
+        Err(fault) => panic!(rt; "not made: {fault}"),
+    }
+}
+
+fn came_of(step: &Step) -> Told {
+    match step {
+        Step::Moved => Told::Moved,
+        Step::Blocked(holder) => Told::Blocked(*holder),
+        Step::Answered(answer) => outcome_of(answer.reply()),
+        Step::Stranger => Told::Stranger,
+    }
+}
+
+fn step(rt: &impl Abort, core: &mut Core, lane: &mut Lane) -> Told {
+    assert!(rt; !lane.is_idle());
+    came_of(&core.step(lane))
+}
+
+/// Steps up to one that doesn't move, and so many at most, come to this.
+fn walks_to(rt: &impl Abort, core: &mut Core, lane: &mut Lane, most: u64, want: Told) {
+    let told = walk(rt, core, lane, most);
+    assert!(rt; told == want, "{told:?}, not {want:?}");
+}
+
+/// Steps up to one that doesn't move, and so many at most.
+fn walk(rt: &impl Abort, core: &mut Core, lane: &mut Lane, most: u64) -> Told {
+    assert!(rt; !lane.is_idle());
+    assert!(rt; most > 0);
+    came_of(&core.walk(lane, most))
+}
+
+/// Takes the lane's call to its answer, which no other call keeps it from.
+fn finish(rt: &impl Abort, core: &mut Core, lane: &mut Lane) -> Told {
+    walk(rt, core, lane, 300)
+}
+
+fn leave(rt: &impl Abort, core: &mut Core, lane: Lane) -> Share {
+    assert!(rt; lane.is_idle());
+    match core.leave(lane) {
+        Ok(share) => share,
+        Err(back) => {
+            back.abandon();
+            panic!(rt; "a stranger")
+        }
+    }
+}

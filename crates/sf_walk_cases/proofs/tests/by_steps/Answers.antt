@@ -1,6 +1,0 @@
-use Rattle.std.proofs.Common.{rules}
-use Rattle.sf_walk.proofs.Laws.{stands_fresh}
-use Rattle.sf_walk_cases.proofs.tests.by_steps.Goals as goal
-
-pub loop-init : goal.loop-init
-loop-init g c = record { root = search rules; stands = stands_fresh c.args.store.now c.args.call.now.request }

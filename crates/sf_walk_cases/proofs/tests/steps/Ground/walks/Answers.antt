@@ -1,4 +1,0 @@
-use Rattle.sf_walk_cases.proofs.tests.steps.Ground.walks.Goals as goal
-
-pub steps-requires-clause-stands : goal.steps-requires-clause-stands
-steps-requires-clause-stands g c = c.fresh-call.ensures _
