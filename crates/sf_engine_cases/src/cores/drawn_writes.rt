@@ -1,8 +1,8 @@
 //! Random WRITEs of several blocks, READs, SETSTATs and truncating OPENs of the same files, below a
 //! directory that renames move: a rename finishes the WRITE of a file that it truncates on its way.
 
-use super::*;
 use super::drawn::{Seat, is_legal, replayed, tell_alike};
+use super::*;
 use sf_cases::requests::{flags, read, set_stat, write};
 use sf_cases::{Numbers, sized};
 use sf_field::NO_ATTRS;

@@ -1,7 +1,7 @@
 //! A core that keeps the last record alone.
 
-use super::*;
 use super::drawn::{Draws, drawn_request};
+use super::*;
 
 /// Of 1,000 calls each is answered alike by a core that keeps one record and by one that keeps all.
 #[test]
