@@ -13,7 +13,7 @@ FOLDERS = ("edits", "must-fail")
 
 COMPILE_ERROR = re.compile(r"^.*\berror\[.*$", re.M)
 PROVED = re.compile(r"^fn (\S+): proved", re.M)
-OPEN = re.compile(r"^fn (\S+): no proof: .*did not prove (`[^;]*`)", re.M)
+OPEN = re.compile(r"^fn (\S+): no proof: .*did not prove (`[^;\n]*`)", re.M)
 ANSWER = re.compile(r"^(?:\./)?proofs/(\S+)/\w+\.antt:\d+:\d+: error: `([^`]*)`: (.*)$", re.M)
 TAKEN_AWAY = re.compile(r"has no field|is not in scope|has no `|was not admitted")
 
