@@ -23,7 +23,7 @@ use Rattle.sf_engine.proofs.Tracing.{Runs-push, runs_nil}
 use Rattle.sf_engine.proofs.Orders.{leads_records}
 use Rattle.sf_engine.proofs.Reading.{new_get, among_front}
 
-among_either : (r : Record) (h more : List Record) → IsAmong r (h ++ more) → IsAmong r h ⊎ IsAmong r more
+pub among_either : (r : Record) (h more : List Record) → IsAmong r (h ++ more) → IsAmong r h ⊎ IsAmong r more
 unfolding IsAmong
 among_either r [] more k = inr k
 among_either r (x ∷ h) more (inl e) = inl (inl e)
@@ -34,20 +34,20 @@ unfolding IsAmong
 among_back r [] more k = k
 among_back r (x ∷ h) more k = inr (among_back r h more k)
 
-among_none : (r : Record) (h : List Record) → h ≡ [] → IsAmong r h → ⊥
+pub among_none : (r : Record) (h : List Record) → h ≡ [] → IsAmong r h → ⊥
 unfolding IsAmong
 among_none r h e k = subst (λ (xs : List Record). IsAmong r xs) e k
 
-among_one : (r own : Record) → IsAmong r (own ∷ []) → own ≡ r
+pub among_one : (r own : Record) → IsAmong r (own ∷ []) → own ≡ r
 unfolding IsAmong
 among_one r own (inl e) = e
 among_one r own (inr k) = absurd k
 
-no_leaving : (c : CallTold) (given : Reply) (z : ℕ) (h : List Record) → h ≡ Left z ∷ [] → IsAmong (record_of c given) h → ⊥
+pub no_leaving : (c : CallTold) (given : Reply) (z : ℕ) (h : List Record) → h ≡ Left z ∷ [] → IsAmong (record_of c given) h → ⊥
 no_leaving c given z h e k =
     let w : Left z ≡ record_of c given = among_one (record_of c given) (Left z) (subst (λ (xs : List Record). IsAmong (record_of c given) xs) e k) in absurd cc
 
-among_all : (P : Record → Type 0) (r : Record) (h : List Record) → AllByRecursion P h → IsAmong r h → P r
+pub among_all : (P : Record → Type 0) (r : Record) (h : List Record) → AllByRecursion P h → IsAmong r h → P r
 unfolding IsAmong
 among_all P r [] all k = absurd k
 among_all P r (x ∷ h) all (inl e) = subst P e all.0
@@ -76,10 +76,10 @@ record HaveBegun (front : List TraceEntry) (w : World) : Type 0 where
   records : (r : Record) → IsAmong r w.records → FollowsBeginning front r
 
 -- a call that is under way in a world
-record IsCallIn (w : World) (c : CallTold) : Type 0 where
-  told : SessionState
-  is_session : IsSession w c.session told
-  under_way : IsCallUnderWay told.phase c.number c.moment c.request
+pub record IsCallIn (w : World) (c : CallTold) : Type 0 where
+  pub told : SessionState
+  pub is_session : IsSession w c.session told
+  pub under_way : IsCallUnderWay told.phase c.number c.moment c.request
 
 abbrev BeganIn : List TraceEntry → CallTold → Type 0
 BeganIn front c = Began front c.number c.session c.moment c.request

@@ -31,10 +31,10 @@ ok = reply.Status Success
 abbrev shown : Reply
 shown = reply.Attrs (all_attrs 0 (by_owner 0 0) 0o40755 (at_times 100 100))
 
-abbrev two : SessionState → SessionState → List Record → ℕ → World
+abbrev pub two : SessionState → SessionState → List Record → ℕ → World
 two t u records begun = record { sessions = t ∷ u ∷ []; records = records; begun = begun }
 
-abbrev fed_with : List ℕ → SessionState
+abbrev pub fed_with : List ℕ → SessionState
 fed_with bytes = record new_state { stream = bytes; unread = bytes }
 
 -- both sessions, step by step
@@ -56,15 +56,15 @@ u2 = record u1 { unread = []; bodies = init_body ∷ stat_body ∷ []; phase = U
 abbrev pub u3 : SessionState
 u3 = record u2 { answers = Version ∷ ByCall 8 2 stat_a shown ∷ []; phase = Resting }
 
-leads_on : (e : TraceEntry) (entries : List TraceEntry) (w mid w' : World) → Leads w e mid → Runs mid entries w' → Runs w (e ∷ entries) w'
+pub leads_on : (e : TraceEntry) (entries : List TraceEntry) (w mid w' : World) → Leads w e mid → Runs mid entries w' → Runs w (e ∷ entries) w'
 unfolding Runs
 leads_on e entries w mid w' leads runs = (mid, leads, runs)
 
-no_more : (w : World) → Runs w [] w
+pub no_more : (w : World) → Runs w [] w
 unfolding Runs
 no_more w = refl
 
-moves_fit : 1 < bound_of mkdir
+pub moves_fit : 1 < bound_of mkdir
 unfolding bound_of
 moves_fit = omega arith
 
@@ -72,11 +72,11 @@ moves_fit_too : 1 < bound_of stat_a
 unfolding bound_of
 moves_fit_too = omega arith
 
-none_rise : IsStrictlySortedBy nat_cmp []
+pub none_rise : IsStrictlySortedBy nat_cmp []
 unfolding IsStrictlySortedBy
 none_rise = tt
 
-sure_made : AreSure [] (made ∷ [])
+pub sure_made : AreSure [] (made ∷ [])
 unfolding AreSure
 sure_made = (λ e k. cc, tt)
 

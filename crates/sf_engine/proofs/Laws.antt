@@ -9,3 +9,9 @@ pub use Rattle.sf_engine.proofs.ShortPackets.{answers_are_short, answer_is_short
 pub use Rattle.sf_engine.proofs.Asked.{all_push, begun_after, begun_is, begun_stays, begun_push, asked_push, asked_each, map_push, whole_bytes, rest_bytes}
 -- a number has no session, or one
 pub use Rattle.sf_engine.proofs.Waiting.{told_of_none}
+-- no packet closes a session
+pub use Rattle.sf_engine.proofs.Causes.{not_closed}
+-- one session alone: what it was fed and is sent is a conversation
+pub use Rattle.sf_engine.proofs.Lone.{IsOnly, begun_times, Talk, told_talk, none_due}
+-- what holds of all follows from what does
+pub use Rattle.sf_engine.proofs.Reading.{all_map}

@@ -77,7 +77,7 @@ nil_push : {A : Type 0} (ys : List A) (b : A) → [] ≡ ys ++ b ∷ [] → ⊥
 nil_push [] b e = absurd cc
 nil_push (y ∷ ys) b e = absurd cc
 
-last_same : {A : Type 0} (xs ys : List A) (a b : A) → xs ++ a ∷ [] ≡ ys ++ b ∷ [] → a ≡ b
+pub last_same : {A : Type 0} (xs ys : List A) (a b : A) → xs ++ a ∷ [] ≡ ys ++ b ∷ [] → a ≡ b
 last_same [] [] a b e = cc
 last_same [] (y ∷ ys) a b e = absurd (nil_push ys b (let w : [] ≡ ys ++ b ∷ [] = cc in w))
 last_same (x ∷ xs) [] a b e = absurd (nil_push xs a (let w : [] ≡ xs ++ a ∷ [] = cc in w))

@@ -1,6 +1,6 @@
 -- What was sent of a session's output is the front of its transcript.
 use Rattle.std.proofs.Common.{◌≡◌, ◌≢◌, ℕ, zero, suc, ◌+◌, ◌-◌, ◌<◌, ◌⊎◌, List, [], ◌∷◌, ◌++◌, Some, Bool, true, false, Result, Ok, Err, slice_get, slice_set, length, take, drop, refl, ap, sym, ◌∙◌, subst, arith, inl, inr, append-nil, append_assoc, length-append, length-set}
-use Rattle.std.specs.Prelude.{nat_eq}
+use Rattle.std.specs.Prelude.{nat_eq, if◌then◌else◌}
 use Rattle.std.proofs.Math.Seq.{drop-append_seam}
 use Rattle.std.proofs.lemmas.Bool.{cases_eq, ne_eqb, eq-eqb}
 use Rattle.std.proofs.lemmas.List.{take-append-drop, length-take-le}
@@ -13,7 +13,8 @@ use Rattle.sf_engine.specs.declared.event.Happened.TheVariants as happened
 use Rattle.sf_engine.specs.declared.event.EngineFault.{EngineFault}
 use Rattle.sf_engine.specs.Worlds.{TraceEntry, Response, ByCall, packet_for, transcript, unsent, Phase, Resting, UnderWay, Decided, Gone, SessionState, new_state, World, start, with_state}
 use Rattle.sf_engine.specs.Traces.{TurnLeads, RestLeads, Happens, LeadsBy, Runs, ReachesWorld, IsSession, calls_begun, left_if_closed, with_answer, closed_now, fed, sent_more}
-use Rattle.sf_engine.specs.Laws.{sent_if, sent_at, sent_in, IsSentAs}
+use Rattle.sf_engine.specs.Promise.{sent_at}
+use Rattle.sf_engine.specs.Laws.{sent_in, IsSentAs}
 use Rattle.sf_engine.proofs.Moving.{get_set_same, get_set_other}
 use Rattle.sf_engine.proofs.Resting.{transcript_push}
 
@@ -98,22 +99,18 @@ record HaveSent (front : List TraceEntry) (w : World) : Type 0 where
   each : (i : ℕ) (t : SessionState) → slice_get w.sessions i ≡ Some t → IsSentAs front (i + 1) t
   nobody : (s : ℕ) → length w.sessions < s → sent_in s front ≡ 0
 
-other_none : (s s' n : ℕ) (r : Result Happened EngineFault) → s' ≢ s → sent_at s (event.Sent s' n) r ≡ 0
-other_none s s' n r ne = ap (λ (b : Bool). sent_if b r n) (ne_eqb s' s ne)
+other_none : (s s' n : ℕ) (r : Happened) → s' ≢ s → sent_at s (event.Sent s' n) (Ok r) ≡ 0
+other_none s s' n r ne = ap (λ (b : Bool). if b then n else 0) (ne_eqb s' s ne)
 
 own_count : (s n : ℕ) (r : Happened) → sent_at s (event.Sent s n) (Ok r) ≡ n
-own_count s n r = ap (λ (b : Bool). sent_if b (Ok r) n) (eq-eqb s s refl)
+own_count s n r = ap (λ (b : Bool). if b then n else 0) (eq-eqb s s refl)
 
 refused_none : (s : ℕ) (ev : Event) (f : EngineFault) → sent_at s ev (Err f) ≡ 0
 refused_none s event.Open f = refl
 refused_none s (event.Feed z bytes) f = refl
 refused_none s (event.Turn z m) f = refl
 refused_none s (event.Close z) f = refl
-refused_none s (event.Sent z n) f = refused_if (nat_eq z s) n f
-  where
-    refused_if : (b : Bool) (n : ℕ) (f : EngineFault) → sent_if b (Err f) n ≡ 0
-    refused_if true n f = refl
-    refused_if false n f = refl
+refused_none s (event.Sent z n) f = refl
 
 -- an event of another session, or none that sends
 abbrev SendsNothing : ℕ → TraceEntry → Type 0
@@ -185,7 +182,7 @@ module _ (front : List TraceEntry) (w : World) (h : HaveSent front w) where
         transcript = front_is (t.sent ++ take n (unsent t)) (transcript t.answers) (drop n (unsent t)) (old.transcript ∙ more_front t.sent (unsent t) n);
         count = omega (arith, length-append t.sent (take n (unsent t)), length-take-le n (unsent t) g.2.2, old.count, sent_push s front e, own_count s n r);
       } in
-      subst (λ (z : World). HaveSent (front ++ e ∷ []) z) (sym g.2.3) (told_sent e s 0 t (sent_more t n) [] g.2.1 (λ i ne. other_none i s n (Ok r) (λ k. ne (sym k))) now)
+      subst (λ (z : World). HaveSent (front ++ e ∷ []) z) (sym g.2.3) (told_sent e s 0 t (sent_more t n) [] g.2.1 (λ i ne. other_none i s n r (λ k. ne (sym k))) now)
 
   leads_sent : (w' : World) (ev : Event) (r : Result Happened EngineFault) (added : List Record) → LeadsBy w ev r added w' → HaveSent (front ++ record { event = ev; result = r; added = added } ∷ []) w'
   leads_sent w' ev (Ok r) added g = happens_sent w' ev r added g

@@ -1,3 +1,5 @@
+pub mod Responses
+pub mod Promise
 pub mod Worlds
 pub mod Deciding
 pub mod Traces
@@ -7,4 +9,8 @@ pub mod Fits
 pub mod Turns
 pub mod Laws
 pub mod Examples
+pub mod Promised
+pub mod Conversation
+pub mod Overtaking
+pub mod Wrong
 pub mod Rounds

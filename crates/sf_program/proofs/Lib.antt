@@ -1,3 +1,4 @@
 mod Carrying
 pub mod Lines
 pub mod Parts
+mod Talks

@@ -8,6 +8,7 @@ ghost use Rattle.sf_session.specs.declared.fault.ServeFault.{ServeFault};
 ghost use Rattle.sf_engine.specs.Views.{EngineView};
 ghost use Rattle.sf_serving.specs.Serving.{line_view};
 ghost use Rattle.sf_serving.specs.OnEngine.{io_state};
+ghost use Rattle.sf_serving.specs.Talks.{talk_view, ConversesTo};
 ghost use Rattle.sf_program.specs.Statuses.{exit_status, line_of_cause, line_of, ServingComesTo, SessionEnds};
 
 use sf_engine::Engine;
@@ -34,6 +35,9 @@ pub fn run_stdio<L: Line, C: Clock, E: Line>(
         (io_state (line_view (L.incoming line.new) (L.outgoing line.new) (L.calls line.new))
         (C.told clock.new))
         (L.failed line.old) (L.failed line.new) outcome
+        × ConversesTo
+        (talk_view (L.incoming line.old) (C.told clock.old) (L.outgoing line.old))
+        (talk_view (L.incoming line.new) (C.told clock.new) (L.outgoing line.new)) outcome
         × (result ≡ exit_status outcome)
         × (Appends (E.outgoing errors.old) (E.outgoing errors.new) (line_of outcome)
         ⊎ Rose (E.failed errors.old) (E.failed errors.new)) }
@@ -52,12 +56,15 @@ fn serve<L: Line, C: Clock>(
     clock: &mut C,
 ) -> Result<Cause, ServeFault>
     requires { 0 < keep }
-    ensures { SessionEnds keep
+    ensures ends { SessionEnds keep
         (io_state (line_view (L.incoming line.old) (L.outgoing line.old) (L.calls line.old))
         (C.told clock.old))
         (io_state (line_view (L.incoming line.new) (L.outgoing line.new) (L.calls line.new))
         (C.told clock.new))
         (L.failed line.old) (L.failed line.new) result }
+    ensures talk { ConversesTo
+        (talk_view (L.incoming line.old) (C.told clock.old) (L.outgoing line.old))
+        (talk_view (L.incoming line.new) (C.told clock.new) (L.outgoing line.new)) result }
 {
     match Engine::with_keep(alloc, keep) {
         Ok(engine) => {

@@ -1,5 +1,4 @@
 pub mod Alone
-pub mod Causes
 pub mod Following
 pub mod Fronts
 pub mod Hosting
@@ -10,4 +9,5 @@ pub mod Reaching
 pub mod Rounds
 pub mod Sessions
 pub mod Standing
+pub mod Talking
 pub mod Turning

@@ -19,7 +19,7 @@ use Rattle.sf_engine.specs.Views.{EngineView}
 use Rattle.sf_engine.specs.Fits.{GoesOnTrace, HasTurns}
 use Rattle.sf_serving.specs.Hosts.{IsFront, HasSent, IsBatch}
 use Rattle.sf_serving.specs.OnEngine.{MayBegin, may_begin_after, engine_held, IsLow, Since, IsTold, Turns}
-use Rattle.sf_serving.proofs.Causes.{not_closed}
+use Rattle.sf_engine.proofs.Laws.{not_closed}
 use Rattle.sf_serving.proofs.Fronts.{transcript_append, front_of, front_all, all_but_last}
 use Rattle.sf_serving.proofs.Following.{Leading, Timing, IsNext, tells_on, same_told, told_now}
 

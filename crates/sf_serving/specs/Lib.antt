@@ -4,3 +4,4 @@ pub mod Serving
 pub mod Rounds
 pub mod OnEngine
 pub mod Alone
+pub mod Talks

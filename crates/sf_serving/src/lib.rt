@@ -13,10 +13,12 @@ mod alone_law;
 mod batch_law;
 mod host;
 mod on_engine;
+mod own_engine;
 mod serving;
 
 pub use alone_law::one_session_alone;
 pub use batch_law::batches;
 pub use host::{Host, Went};
 pub use on_engine::serve_one;
+pub use own_engine::serve_alone;
 pub use serving::{new_piece, serve_session};

@@ -1,0 +1,130 @@
+-- What the calls that make many turns tell of an engine's log.
+use Rattle.std.proofs.Common.{◌≡◌, ◌≢◌, ℕ, zero, suc, ◌+◌, ◌-◌, ◌<◌, ◌≤◌, ◌⊎◌, List, [], ◌∷◌, ◌++◌, Option, Some, None, Bool, true, false, if◌then◌else◌, Result, Ok, slice_get, length, map, refl, ap, sym, ◌∙◌, subst, arith, inl, inr, append-nil, append_assoc}
+use Rattle.std.specs.List.{AllByRecursion}
+use Rattle.sf_wire.specs.declared.cutting.Cut.TheVariants as cut
+use Rattle.sf_wire.specs.Packets.{IsCut}
+use Rattle.sf_call.specs.declared.record.Record.{Record}
+use Rattle.sf_engine.specs.declared.event.Event.{Event}
+use Rattle.sf_engine.specs.declared.event.Event.TheVariants as event
+use Rattle.sf_engine.specs.declared.event.Happened.{Happened}
+use Rattle.sf_engine.specs.declared.event.EngineFault.{EngineFault}
+use Rattle.sf_engine.specs.Responses.{RepliedCall, replied, Due, Nothing, Recorded}
+use Rattle.sf_engine.specs.Worlds.{TraceEntry, Phase, Resting, UnderWay, Decided, Gone, SessionState, World, is_here_in}
+use Rattle.sf_engine.specs.Traces.{has_begun, IsSession, goes_on, ReachesWorld}
+use Rattle.sf_engine.specs.Laws.{IsRest, AreOfBytes}
+use Rattle.sf_engine.specs.Views.{EngineView}
+use Rattle.sf_engine.specs.Fits.{GoesOnTrace, HasTurns, WantsBytesBy}
+use Rattle.sf_engine.specs.Rounds.{is_unanswered, under_way_from, AreUnderWay, HasSteps, IsRound, HasRounds}
+use Rattle.sf_engine.specs.Promise.{LogEntry, log_entry, written_in, IsKnown, IsHere, IsAnswered, IsOfBytes, AreTurns, IsStepAtZero, AreDecided, WaitsForBytes}
+use Rattle.sf_engine.specs.Promised.{traced_entry, traced, IsDue, Stands, HasLog}
+use Rattle.sf_engine.proofs.OneWorld.{one_world}
+use Rattle.sf_engine.proofs.Logging.{of_session, is_here_as}
+use Rattle.sf_engine.proofs.Promising.{session_at, answered, answered_due, answered_rest}
+use Rattle.sf_engine.proofs.Having.{goes_on_log}
+
+-- ---- turns
+
+turn_before : (ev : Event) (r : Result Happened EngineFault) (e : LogEntry) (h : Happened) (entries : List LogEntry) → e.event ≡ ev → e.result ≡ Ok h → goes_on h ≡ true → AreTurns ev r entries → AreTurns ev r (e ∷ entries)
+unfolding AreTurns
+turn_before ev r e h [] is came on turns = absurd turns
+turn_before ev r e h (x ∷ entries) is came on turns = (is, (h, came, on), turns)
+
+pub turns_on_log : (n : ℕ) (old new : EngineView) (ev : Event) (r : Result Happened EngineFault) (log : List LogEntry) → HasTurns n old ev r new → HasLog old log
+    → (entries : List LogEntry) × AreTurns ev r entries × HasLog new (log ++ entries)
+unfolding HasTurns AreTurns
+turns_on_log zero old new ev r log h has =
+    let on = goes_on_log old new ev r log h.0 has in (log_entry ev r on.0 on.1 ∷ [], (refl, refl), on.2)
+turns_on_log (suc n) old new ev r log h has =
+    let on = goes_on_log old h.0 ev (Ok h.1) log h.2 has in
+    let e : LogEntry = log_entry ev (Ok h.1) on.0 on.1 in
+    let rest = turns_on_log n h.0 new ev r (log ++ e ∷ []) h.4 on.2 in
+    (e ∷ rest.0, turn_before ev r e h.1 rest.0 refl refl h.3 rest.1, subst (λ (xs : List LogEntry). HasLog new xs) (append_assoc log (e ∷ []) rest.0) rest.2)
+
+-- ---- rounds
+
+-- steps lead from the one to the other
+abbrev StepsOnLog : EngineView → List LogEntry → Type 0
+StepsOnLog new log = (entries : List LogEntry) × AllByRecursion IsStepAtZero entries × HasLog new (log ++ entries)
+
+all_behind : (xs ys : List LogEntry) → AllByRecursion IsStepAtZero xs → AllByRecursion IsStepAtZero ys → AllByRecursion IsStepAtZero (xs ++ ys)
+all_behind [] ys h k = k
+all_behind (x ∷ xs) ys h k = (h.0, all_behind xs ys h.1 k)
+
+steps_behind : (new : EngineView) (log entries : List LogEntry) → AllByRecursion IsStepAtZero entries → StepsOnLog new (log ++ entries) → StepsOnLog new log
+steps_behind new log entries all rest = (
+  entries ++ rest.0,
+  all_behind entries rest.0 all rest.1,
+  subst (λ (xs : List LogEntry). HasLog new xs) (append_assoc log entries rest.0) rest.2,
+)
+
+steps_on_log : (sessions : List ℕ) (old new : EngineView) (log : List LogEntry) → HasSteps sessions old new → HasLog old log → StepsOnLog new log
+unfolding HasSteps
+steps_on_log [] old new log h has = ([], tt, subst (λ (xs : List LogEntry). HasLog new xs) (sym (append-nil log)) (subst (λ (e : EngineView). HasLog e log) (sym h) has))
+steps_on_log (s ∷ sessions) old new log h has =
+    let on = goes_on_log old h.0 (event.Turn s 0) (Ok h.1) log h.2 has in
+    let e : LogEntry = log_entry (event.Turn s 0) (Ok h.1) on.0 on.1 in
+    steps_behind new log (e ∷ []) ((s, h.1, refl, refl), tt) (steps_on_log sessions h.0 new (log ++ e ∷ []) h.3 on.2)
+
+rounds_on_log : (n : ℕ) (old new : EngineView) (log : List LogEntry) → HasRounds n old new → HasLog old log → StepsOnLog new log
+unfolding HasRounds
+rounds_on_log zero old new log h has = ([], tt, subst (λ (xs : List LogEntry). HasLog new xs) (sym (append-nil log)) (subst (λ (e : EngineView). HasLog e log) (sym h) has))
+rounds_on_log (suc n) old new log h has =
+    let before = rounds_on_log n old h.0 log h.1 has in
+    let round = h.2 in
+    steps_behind new log before.0 before.1 (steps_on_log (round.0 ∷ round.1) h.0 new (log ++ before.0) round.3 before.2)
+
+-- no session's call is under way
+none_here : (k : ℕ) (x t : SessionState) (ts : List SessionState) → ((i : ℕ) → under_way_from (k + 1) ts ≡ [] → slice_get ts i ≡ Some t → is_unanswered t.phase ≡ false)
+    → (b : Bool) (i : ℕ) → is_unanswered x.phase ≡ b → slice_get (x ∷ ts) i ≡ Some t → (if b then k ∷ under_way_from (k + 1) ts else under_way_from (k + 1) ts) ≡ [] → is_unanswered t.phase ≡ false
+none_here k x t ts later true i is at none = absurd cc
+none_here k x t ts later false zero is at none = let e : x ≡ t = cc in ap (λ (z : SessionState). is_unanswered z.phase) (sym e) ∙ is
+none_here k x t ts later false (suc i) is at none = later i none at
+
+none_from : (k : ℕ) (ts : List SessionState) (i : ℕ) (t : SessionState) → under_way_from k ts ≡ [] → slice_get ts i ≡ Some t → is_unanswered t.phase ≡ false
+none_from k [] i t none at = absurd cc
+none_from k (x ∷ ts) i t none at = none_here k x t ts (λ j none' at'. none_from (k + 1) ts j t none' at') (is_unanswered x.phase) i refl at none
+
+decided_due : (f : Phase) (due : Due) → is_unanswered f ≡ false → IsDue f due → (due ≡ Nothing) ⊎ ((id : ℕ) × (call : RepliedCall) × (due ≡ Recorded id call))
+decided_due Resting due not is = inl is
+decided_due (UnderWay id n m q moves) due not is = absurd cc
+decided_due (Decided id n q given) due not is = inr (id, replied n q given, is)
+decided_due (Gone cause) due not is = inl is
+
+pub run_on_log : (n : ℕ) (old new : EngineView) (log : List LogEntry) → HasRounds n old new → AreUnderWay [] new → HasLog old log
+    → (entries : List LogEntry) × AllByRecursion IsStepAtZero entries × HasLog new (log ++ entries) × AreDecided (log ++ entries)
+run_on_log n old new log rounds done has =
+    let on = rounds_on_log n old new log rounds has in
+    let now = log ++ on.0 in
+    let fits = on.2.0 in
+    let w = fits.world in
+    let none = done (traced now) fits in (
+      on.0,
+      on.1,
+      on.2,
+      λ s known.
+          let at = session_at w.sessions (s - 1) (omega (arith, known.0, known.1, on.2.1.opened)) in
+          let due = answered_due now w on.2.1 fits.tells s known in
+          (answered now w on.2.1 fits.tells s known, decided_due at.0.phase (answered now w on.2.1 fits.tells s known).due (none_from 1 w.sessions (s - 1) at.0 none at.1) due),
+    )
+
+-- ---- a session that waits for bytes
+
+waits_at : (e : EngineView) (log : List LogEntry) (s : ℕ) (has : HasLog e log) (t : SessionState) → IsSession has.0.world s t → IsHere log s → t.phase ≡ Resting → IsCut t.unread cut.More → WaitsForBytes log s
+waits_at e log s has t session here rests is_cut =
+    let w = has.0.world in
+    let at = session_at w.sessions (s - 1) (omega (arith, here.0.0, here.0.1, has.1.opened)) in
+    let same : at.0 ≡ t = let one : Some at.0 ≡ Some t = sym at.1 ∙ session.1 in cc in
+    let phase : at.0.phase ≡ Resting = ap (λ (z : SessionState). z.phase) same ∙ rests in
+    let rest = (answered log w has.1 has.0.tells s here.0).rest in
+    let left : at.0.unread ≡ rest = subst (λ (f : Phase). IsRest (has_begun at.0.bodies) f at.0.unread rest) phase (answered_rest log w has.1 has.0.tells s here.0) in
+    record {
+      here = here;
+      answered = answered log w has.1 has.0.tells s here.0;
+      none_due = subst (λ (f : Phase). IsDue f (answered log w has.1 has.0.tells s here.0).due) phase (answered_due log w has.1 has.0.tells s here.0);
+      cut = subst (λ (bs : List ℕ). IsCut bs cut.More) (ap (λ (z : SessionState). z.unread) (sym same) ∙ left) is_cut;
+    }
+
+pub waits_by : (e : EngineView) (log : List LogEntry) (s : ℕ) (b : Bool) → WantsBytesBy e s b → HasLog e log → b ≡ true → WaitsForBytes log s
+waits_by e log s b wants has so =
+    let x = (wants (traced log) has.0).0 so in
+    waits_at e log s has x.0 x.1 (is_here_as log has.0.world has.1 s x.0 x.1 (ap is_here_in x.2.0)) x.2.0 x.2.1

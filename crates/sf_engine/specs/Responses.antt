@@ -1,0 +1,106 @@
+-- What a session's bodies are answered, and which records these answers are.
+use Rattle.std.specs.Prelude.{◌^◌, ◌-◌, ℕ, nat_eq, List, [], ◌∷◌, Bool, true, false}
+use Rattle.std.specs.List.{flat_map}
+use Rattle.sf_field.specs.Fields.{packet}
+use Rattle.sf_reply.specs.declared.reply.Reply.{Reply}
+use Rattle.sf_reply.specs.Replies.{reply_body, version_body}
+use Rattle.sf_call.specs.declared.request.Request.{Request}
+use Rattle.sf_call.specs.declared.record.Record.{Record}
+use Rattle.sf_call.specs.declared.record.Record.TheVariants.{Did, Left}
+use Rattle.sf_call.specs.declared.fault.CoreFault.{CoreFault}
+use Rattle.sf_session.specs.declared.asking.Ask.{Ask}
+use Rattle.sf_session.specs.declared.asking.Ask.TheVariants as ask
+use Rattle.sf_session.specs.Asking.{AsksFor}
+use Rattle.sf_session.specs.Sessions.{refusal_of}
+
+-- so many calls may begin
+abbrev pub most_calls : ℕ
+most_calls = 2 ^ 63 - 1
+
+-- What a body was answered: VERSION; a reply that needs no tree; the reply of the call with this
+-- number; or a refusal, since the call could not begin.
+pub data Response : Type 0 where
+  Version : Response
+  Locally : (id : ℕ) → (reply : Reply) → Response
+  ByCall : (id number : ℕ) → (request : Request) → (reply : Reply) → Response
+  Refused : (id : ℕ) → (request : Request) → (fault : CoreFault) → Response
+
+-- what the body asked for
+abbrev pub ask_behind : Response → Ask
+ask_behind Version = ask.Version
+ask_behind (Locally id reply) = ask.Local id reply
+ask_behind (ByCall id number request reply) = ask.Call id request
+ask_behind (Refused id request fault) = ask.Call id request
+
+-- the packet that is sent for it
+abbrev pub packet_for : Response → List ℕ
+packet_for Version = packet version_body
+packet_for (Locally id reply) = packet (reply_body id reply)
+packet_for (ByCall id number request reply) = packet (reply_body id reply)
+packet_for (Refused id request fault) = packet (reply_body id (refusal_of fault))
+
+-- what a session is sent, packet by packet
+unfoldable pub transcript : List Response → List ℕ
+transcript answers = flat_map packet_for answers
+
+-- whether a body was read, so that the first one was answered
+abbrev pub has_begun : List (List ℕ) → Bool
+has_begun [] = false
+has_begun (body ∷ bodies) = true
+
+-- each body asks for that
+unfoldable pub AreAsked : Bool → List (List ℕ) → List Ask → Type 0
+AreAsked begun [] [] = Unit {0}
+AreAsked begun (body ∷ bodies) (a ∷ asks) = AsksFor begun body a × AreAsked true bodies asks
+AreAsked begun [] (a ∷ asks) = ⊥
+AreAsked begun (body ∷ bodies) [] = ⊥
+
+-- a list, where that is so
+abbrev pub if_so : {A : Type 0} → Bool → List A → List A
+if_so true xs = xs
+if_so false xs = []
+
+-- a call, with its reply
+pub record RepliedCall : Type 0 where
+  pub number : ℕ
+  pub request : Request
+  pub reply : Reply
+
+abbrev pub replied : ℕ → Request → Reply → RepliedCall
+replied number request reply = record { number = number; request = request; reply = reply }
+
+-- a session's calls in an order, one after the other
+abbrev pub recorded_by : ℕ → Record → List RepliedCall
+recorded_by session (Did number s moment request reply) =
+    if_so (nat_eq s session) (replied number request reply ∷ [])
+recorded_by session (Left s) = []
+
+abbrev pub recorded_in : ℕ → List Record → List RepliedCall
+recorded_in session history = flat_map (recorded_by session) history
+
+-- the calls among what a session was answered, one after the other
+abbrev pub answered_by : Response → List RepliedCall
+answered_by Version = []
+answered_by (Locally id reply) = []
+answered_by (ByCall id number request reply) = replied number request reply ∷ []
+answered_by (Refused id request fault) = []
+
+abbrev pub answered_in : List Response → List RepliedCall
+answered_in answers = flat_map answered_by answers
+
+-- What is due to a session: nothing; or the reply to a call of this request's id, which has no
+-- record yet, or has it.
+pub data Due : Type 0 where
+  Nothing : Due
+  Unrecorded : (id : ℕ) → (request : Request) → Due
+  Recorded : (id : ℕ) → (call : RepliedCall) → Due
+
+abbrev pub asked_due : Due → List Ask
+asked_due Nothing = []
+asked_due (Unrecorded id request) = ask.Call id request ∷ []
+asked_due (Recorded id call) = ask.Call id call.request ∷ []
+
+abbrev pub recorded_due : Due → List RepliedCall
+recorded_due Nothing = []
+recorded_due (Unrecorded id request) = []
+recorded_due (Recorded id call) = call ∷ []
