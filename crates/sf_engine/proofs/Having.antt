@@ -1,7 +1,7 @@
 -- An engine has a log: a new one, and one that an event led to.
-use Rattle.std.proofs.Common.{◌≡◌, ℕ, zero, suc, ◌+◌, ◌-◌, ◌<◌, ◌≤◌, List, [], ◌∷◌, ◌++◌, Option, Some, None, Result, slice_get, length, map, refl, ap, sym, ◌∙◌, subst, arith, inl, inr}
+use Rattle.std.proofs.Common.{◌≡◌, ℕ, zero, suc, ◌+◌, ◌-◌, ◌<◌, ◌≤◌, List, [], ◌∷◌, ◌++◌, Option, Some, None, Result, slice_get, length, map, take, drop, refl, ap, sym, ◌∙◌, subst, arith, inl, inr}
 use Rattle.std.specs.List.{AllByRecursion}
-use Rattle.std.proofs.lemmas.List.{map-append}
+use Rattle.std.proofs.lemmas.List.{map-append, take-append-drop}
 use Rattle.std.proofs.lemmas.Option.{slice_get_within}
 use Rattle.sf_call.specs.declared.record.Record.{Record}
 use Rattle.sf_call.specs.Histories.{IsLegal}
@@ -14,7 +14,7 @@ use Rattle.sf_engine.specs.Traces.{ReachesWorld, order}
 use Rattle.sf_engine.specs.Laws.{AreOfBytes}
 use Rattle.sf_engine.specs.Views.{EngineView}
 use Rattle.sf_engine.specs.Fits.{Fits, trace_entry, GoesOnTrace, IsSentBy, IsUnknownSession}
-use Rattle.sf_engine.specs.Promise.{LogEntry, log_entry, written_in, IsKnown, IsUnsent, IsKept, IsOfBytes}
+use Rattle.sf_engine.specs.Promise.{LogEntry, log_entry, linearization, written_in, IsKnown, IsUnsent, IsKept, IsOfBytes}
 use Rattle.sf_engine.specs.Promised.{traced_entry, traced, Stands, IsOnlyLog, HasLog}
 use Rattle.sf_engine.proofs.Orders.{leads_records}
 use Rattle.sf_engine.proofs.Tracing.{runs_nil}
@@ -98,6 +98,15 @@ has_unsent e log s output sent has =
     let x = sent (traced log) fits in
     let within : s - 1 < length fits.world.sessions = slice_get_within fits.world.sessions (s - 1) x.0 x.1.1 in
     ((x.1.0, omega (arith, within, x.1.0, has.1.opened)), unsent log fits.world has.1 fits.tells s x.0 output x.1 x.2)
+
+-- the records that its core keeps are the last of its log's
+last_of : (n : ℕ) (h rs : List Record) → rs ≡ drop n h → (gone : List Record) × (h ≡ gone ++ rs)
+last_of n h rs is = (take n h, sym (take-append-drop n h) ∙ ap (λ (xs : List Record). take n h ++ xs) (sym is))
+
+pub has_records : (e : EngineView) (log : List LogEntry) → HasLog e log → (gone : List Record) × (linearization log ≡ gone ++ e.core.records)
+has_records e log has =
+    let last = last_of _ has.0.world.records e.core.records has.0.agrees.history.records in
+    (last.0, sym has.1.ordered ∙ last.1)
 
 pub has_no_session : (e : EngineView) (log : List LogEntry) (s : ℕ) → IsUnknownSession e s → HasLog e log → IsKnown log s → ⊥
 has_no_session e log s unknown has known =

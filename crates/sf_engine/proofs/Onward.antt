@@ -1,6 +1,7 @@
 -- What the calls that make many turns tell of an engine's log.
 use Rattle.std.proofs.Common.{◌≡◌, ◌≢◌, ℕ, zero, suc, ◌+◌, ◌-◌, ◌<◌, ◌≤◌, ◌⊎◌, List, [], ◌∷◌, ◌++◌, Option, Some, None, Bool, true, false, if◌then◌else◌, Result, Ok, slice_get, length, map, refl, ap, sym, ◌∙◌, subst, arith, inl, inr, append-nil, append_assoc}
-use Rattle.std.specs.List.{AllByRecursion}
+use Rattle.std.specs.List.{AllByRecursion, sum_by}
+use Rattle.std.proofs.lemmas.List.Sums.{sum_by-cons}
 use Rattle.sf_wire.specs.declared.cutting.Cut.TheVariants as cut
 use Rattle.sf_wire.specs.Packets.{IsCut}
 use Rattle.sf_call.specs.declared.record.Record.{Record}
@@ -8,15 +9,15 @@ use Rattle.sf_engine.specs.declared.event.Event.{Event}
 use Rattle.sf_engine.specs.declared.event.Event.TheVariants as event
 use Rattle.sf_engine.specs.declared.event.Happened.{Happened}
 use Rattle.sf_engine.specs.declared.event.EngineFault.{EngineFault}
-use Rattle.sf_engine.specs.Responses.{RepliedCall, replied, Due, Nothing, Recorded}
+use Rattle.sf_engine.specs.Responses.{RepliedCall, Due, Nothing, Recorded}
 use Rattle.sf_engine.specs.Worlds.{TraceEntry, Phase, Resting, UnderWay, Decided, Gone, SessionState, World, is_here_in}
 use Rattle.sf_engine.specs.Traces.{has_begun, IsSession, goes_on, ReachesWorld}
 use Rattle.sf_engine.specs.Laws.{IsRest, AreOfBytes}
 use Rattle.sf_engine.specs.Views.{EngineView}
-use Rattle.sf_engine.specs.Fits.{GoesOnTrace, HasTurns, WantsBytesBy}
+use Rattle.sf_engine.specs.Fits.{GoesOnTrace, HasTurns, HasRun, WantsBytesBy}
 use Rattle.sf_engine.specs.Rounds.{is_unanswered, under_way_from, AreUnderWay, HasSteps, IsRound, HasRounds}
-use Rattle.sf_engine.specs.Promise.{LogEntry, log_entry, written_in, IsKnown, IsHere, IsAnswered, IsOfBytes, AreTurns, IsStepAtZero, AreDecided, WaitsForBytes}
-use Rattle.sf_engine.specs.Promised.{traced_entry, traced, IsDue, Stands, HasLog}
+use Rattle.sf_engine.specs.Promise.{LogEntry, log_entry, written_in, IsKnown, IsHere, IsAnswered, IsOfBytes, refusals, AreTurns, IsStepAtZero, AreDecided, WaitsForBytes}
+use Rattle.sf_engine.specs.Promised.{replied, traced_entry, traced, IsDue, Stands, HasLog}
 use Rattle.sf_engine.proofs.OneWorld.{one_world}
 use Rattle.sf_engine.proofs.Logging.{of_session, is_here_as}
 use Rattle.sf_engine.proofs.Promising.{session_at, answered, answered_due, answered_rest}
@@ -39,6 +40,22 @@ turns_on_log (suc n) old new ev r log h has =
     let e : LogEntry = log_entry ev (Ok h.1) on.0 on.1 in
     let rest = turns_on_log n h.0 new ev r (log ++ e ∷ []) h.4 on.2 in
     (e ∷ rest.0, turn_before ev r e h.1 rest.0 refl refl h.3 rest.1, subst (λ (xs : List LogEntry). HasLog new xs) (append_assoc log (e ∷ []) rest.0) rest.2)
+
+-- ---- events, one after the other
+
+pub run_on_log : (events : List Event) (n : ℕ) (old new : EngineView) (log : List LogEntry) → HasRun events n old new → HasLog old log
+    → (entries : List LogEntry) × (map (λ (e : LogEntry). e.event) entries ≡ events) × (n ≡ sum_by (λ (e : LogEntry). refusals e.result) entries) × HasLog new (log ++ entries)
+unfolding HasRun
+run_on_log [] n old new log h has = ([], refl, h.0, subst (λ (xs : List LogEntry). HasLog new xs) (sym (append-nil log)) (subst (λ (e : EngineView). HasLog e log) (sym h.1) has))
+run_on_log (ev ∷ events) n old new log h has =
+    let on = goes_on_log old h.0 ev h.1 log h.2 has in
+    let e : LogEntry = log_entry ev h.1 on.0 on.1 in
+    let rest = run_on_log events h.4.0 h.0 new (log ++ e ∷ []) h.4.2 on.2 in (
+      e ∷ rest.0,
+      ap (λ (evs : List Event). ev ∷ evs) rest.1,
+      h.4.1 ∙ ap (λ (k : ℕ). refusals h.1 + k) rest.2 ∙ sym (sum_by-cons (λ (x : LogEntry). refusals x.result) e rest.0),
+      subst (λ (xs : List LogEntry). HasLog new xs) (append_assoc log (e ∷ []) rest.0) rest.3,
+    )
 
 -- ---- rounds
 
@@ -90,9 +107,9 @@ decided_due (UnderWay id n m q moves) due not is = absurd cc
 decided_due (Decided id n q given) due not is = inr (id, replied n q given, is)
 decided_due (Gone cause) due not is = inl is
 
-pub run_on_log : (n : ℕ) (old new : EngineView) (log : List LogEntry) → HasRounds n old new → AreUnderWay [] new → HasLog old log
+pub rounds_to_end : (n : ℕ) (old new : EngineView) (log : List LogEntry) → HasRounds n old new → AreUnderWay [] new → HasLog old log
     → (entries : List LogEntry) × AllByRecursion IsStepAtZero entries × HasLog new (log ++ entries) × AreDecided (log ++ entries)
-run_on_log n old new log rounds done has =
+rounds_to_end n old new log rounds done has =
     let on = rounds_on_log n old new log rounds has in
     let now = log ++ on.0 in
     let fits = on.2.0 in

@@ -18,9 +18,9 @@ use Rattle.sf_engine.specs.Traces.{has_begun, IsSession, LeadsBy, Runs, ReachesW
 use Rattle.sf_engine.specs.Laws.{AreAsked, IsRest, pending, sent_in}
 use Rattle.sf_engine.specs.Views.{EngineView}
 use Rattle.sf_engine.specs.Fits.{Fits, trace_entry, GoesOnTrace, IsSentBy, IsUnknownSession}
-use Rattle.sf_engine.specs.Responses.{recorded_in, answered_in, Due, Nothing, Recorded, replied, asked_due, recorded_due}
+use Rattle.sf_engine.specs.Responses.{recorded_in, answered_in, Due, Nothing, Recorded, asked_due, recorded_due}
 use Rattle.sf_engine.specs.Promise.{LogEntry, log_entry, linearization, sent_at, sent_of, IsKnown, WasClosed, HasLeft, IsLawful, LeavesDue, IsAnswered, IsUnsent, IsKept}
-use Rattle.sf_engine.specs.Promised.{traced_entry, traced, IsDue, calls_due, LeavesPhase, IsLogged, HasCalls, Stands, LawfulFrom, HasLog}
+use Rattle.sf_engine.specs.Promised.{replied, traced_entry, traced, IsDue, calls_due, LeavesPhase, IsLogged, HasCalls, Stands, LawfulFrom, HasLog}
 use Rattle.sf_engine.proofs.Orders.{leads_records}
 use Rattle.sf_engine.proofs.Reading.{told_sessions}
 use Rattle.sf_engine.proofs.SentBytes.{told_sent_bytes}

@@ -22,8 +22,9 @@ use Rattle.sf_engine.specs.declared.event.Event.{Event}
 use Rattle.sf_engine.specs.declared.event.Happened.{Happened}
 use Rattle.sf_engine.specs.declared.event.EngineFault.{EngineFault}
 use Rattle.sf_engine.specs.Worlds.{TraceEntry, Phase, Resting, UnderWay, Decided, Gone as left, SessionState, World, transcript, here}
-use Rattle.sf_engine.specs.Traces.{has_begun, goes_on, ReachesWorld, order, AreEntries, IsSession, IsNoSession, Leads, Walking, walking}
+use Rattle.sf_engine.specs.Traces.{has_begun, goes_on, ReachesWorld, order, IsSession, IsNoSession, Leads, Walking, walking}
 use Rattle.sf_engine.specs.Works.{Passage, IsStep, IsWork}
+use Rattle.sf_engine.specs.Promise.{refusals}
 use Rattle.sf_engine.specs.Views.{EngineView}
 
 -- a resting session
@@ -151,11 +152,12 @@ HasTurns zero e turn r e' = GoesOnTrace e turn r e' × OnErr r (e' ≡ e)
 HasTurns (suc n) e turn r e' = (mid : EngineView) × (h : Happened)
     × GoesOnTrace e turn (Ok h) mid × (goes_on h ≡ true) × HasTurns n mid turn r e'
 
--- The engine fits each trace that it fitted, followed by one entry for each event, so many of them
--- refused.
-abbrev pub RunsTrace : EngineView → List Event → ℕ → EngineView → Type 0
-RunsTrace old events refused new = (trace : List TraceEntry) → Fits old trace
-    → (entries : List TraceEntry) × AreEntries events entries refused × Fits new (trace ++ entries)
+-- Events, one after the other. So many of them were refused, and changed nothing.
+unfoldable pub HasRun : List Event → ℕ → EngineView → EngineView → Type 0
+HasRun [] refused e e' = (refused ≡ 0) × (e' ≡ e)
+HasRun (event ∷ events) refused e e' = (mid : EngineView) × (r : Result Happened EngineFault)
+    × GoesOnTrace e event r mid × OnErr r (mid ≡ e)
+    × ((rest : ℕ) × (refused ≡ refusals r + rest) × HasRun events rest mid e')
 
 -- what a session's output is, by each trace that the engine fits: it follows what was sent, and
 -- both are the transcript of what the session was answered

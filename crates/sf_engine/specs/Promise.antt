@@ -278,6 +278,11 @@ abbrev pub IsOfBytes : Event → Type 0
 IsOfBytes (event.Feed s bytes) = AreBytes bytes.items
 IsOfBytes _ = Unit {0}
 
+-- how many of one event were refused
+abbrev pub refusals : Result Happened EngineFault → ℕ
+refusals (Ok r) = 0
+refusals (Err f) = 1
+
 -- whether after a turn that came to this the session's call is on its way to its reply
 abbrev pub goes_on : Happened → Bool
 goes_on happened.Begun = true

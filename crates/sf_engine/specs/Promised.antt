@@ -16,8 +16,11 @@ use Rattle.sf_engine.specs.Worlds.{TraceEntry, Response, Phase, Resting, UnderWa
 use Rattle.sf_engine.specs.Traces.{TakesNone, ReachesWorld}
 use Rattle.sf_engine.specs.Views.{EngineView}
 use Rattle.sf_engine.specs.Fits.{Fits}
-use Rattle.sf_engine.specs.Responses.{replied, recorded_in, answered_in, Due, Nothing, Unrecorded, Recorded, recorded_due}
+use Rattle.sf_engine.specs.Responses.{RepliedCall, recorded_in, answered_in, Due, Nothing, Unrecorded, Recorded, recorded_due}
 use Rattle.sf_engine.specs.Promise.{LogEntry, linearization, fed_in, written_in, WasClosed, HasLeft, opened_in, Beginning, begun_in, begun_for, EndsIn, IsLawful, IsKept, IsOfBytes}
+
+abbrev pub replied : ℕ → Request → Reply → RepliedCall
+replied number request reply = record { number = number; request = request; reply = reply }
 
 -- the entry of a trace
 abbrev pub traced_entry : LogEntry → TraceEntry

@@ -66,13 +66,10 @@ pub record RepliedCall : Type 0 where
   pub request : Request
   pub reply : Reply
 
-abbrev pub replied : ℕ → Request → Reply → RepliedCall
-replied number request reply = record { number = number; request = request; reply = reply }
-
 -- a session's calls in an order, one after the other
 abbrev pub recorded_by : ℕ → Record → List RepliedCall
 recorded_by session (Did number s moment request reply) =
-    if_so (nat_eq s session) (replied number request reply ∷ [])
+    if_so (nat_eq s session) (record { number = number; request = request; reply = reply } ∷ [])
 recorded_by session (Left s) = []
 
 abbrev pub recorded_in : ℕ → List Record → List RepliedCall
@@ -82,7 +79,8 @@ recorded_in session history = flat_map (recorded_by session) history
 abbrev pub answered_by : Response → List RepliedCall
 answered_by Version = []
 answered_by (Locally id reply) = []
-answered_by (ByCall id number request reply) = replied number request reply ∷ []
+answered_by (ByCall id number request reply) =
+    record { number = number; request = request; reply = reply } ∷ []
 answered_by (Refused id request fault) = []
 
 abbrev pub answered_in : List Response → List RepliedCall

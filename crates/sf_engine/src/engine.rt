@@ -4,12 +4,13 @@ ghost use Rattle.std.specs.Prelude.{◌≡◌, ◌<◌, ◌≤◌, ◌+◌, ◌-
 ghost use Rattle.std.specs.Global.{Vec};
 ghost use Rattle.sf_core.specs.Cores.{new_core};
 ghost use Rattle.sf_core.specs.Histories.{IsHistory};
-ghost use Rattle.sf_engine.specs.Traces.{goes_on_at, refusals};
+ghost use Rattle.sf_engine.specs.Promise.{refusals};
+ghost use Rattle.sf_engine.specs.Traces.{goes_on_at};
 ghost use Rattle.sf_engine.specs.declared.seat.Seat.{Seat};
 ghost use Rattle.sf_engine.specs.Turns.{is_under_way};
 ghost use Rattle.sf_engine.specs.Worlds.{TraceEntry};
 ghost use Rattle.sf_engine.specs.Rounds.{AreUnderWay, IsRound, HasRounds, IsWithinBounds, left_to};
-ghost use Rattle.sf_engine.specs.Fits.{IsEngine, Fits, GoesOnTrace, HasTurns, RunsTrace, IsSentBy, IsUnknownSession, WantsBytesBy, IsQuietBy};
+ghost use Rattle.sf_engine.specs.Fits.{IsEngine, Fits, GoesOnTrace, HasTurns, HasRun, IsSentBy, IsUnknownSession, WantsBytesBy, IsQuietBy};
 
 use crate::event::{EngineFault, Event, Happened};
 use crate::seat::{
@@ -237,7 +238,7 @@ impl Engine {
 
     /// Applies the events in order, and answers how many were refused.
     pub fn run(&mut self, events: &[Event]) -> usize
-        ensures { RunsTrace self.old events.now result self.new }
+        ensures { HasRun events.now result self.old self.new }
     {
         let mut refused = 0;
         for event in events {

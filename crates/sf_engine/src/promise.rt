@@ -2,10 +2,10 @@
 
 ghost use Rattle.std.specs.Prelude.{◌≡◌, ◌<◌, ◌≤◌, ◌^◌, ◌++◌, ◌∷◌, ℕ, List, [], length, map, true, IfOk, IfSome, IfNone, OnErr};
 ghost use Rattle.std.specs.Global.{Vec};
-ghost use Rattle.std.specs.List.{AllByRecursion};
+ghost use Rattle.std.specs.List.{AllByRecursion, sum_by};
 ghost use Rattle.sf_call.specs.declared.record.Record.{Record};
 ghost use Rattle.sf_engine.specs.Worlds.{Response};
-ghost use Rattle.sf_engine.specs.Promise.{LogEntry, log_entry, opened_by, IsKnown, IsUnsent, IsKept, IsOfBytes, AreTurns, IsStepAtZero, AreDecided, WaitsForBytes, IsOutcome};
+ghost use Rattle.sf_engine.specs.Promise.{LogEntry, log_entry, opened_by, IsKnown, IsUnsent, IsKept, IsOfBytes, refusals, AreTurns, IsStepAtZero, AreDecided, WaitsForBytes, IsOutcome};
 
 use crate::engine::Engine;
 use crate::event::{EngineFault, Event, Happened};
@@ -55,6 +55,13 @@ pub trait Sftp: Drop {
     fn turns(&mut self, session: u64, moment: u32) -> Result<Happened, EngineFault>
         ensures { (log : List LogEntry) → has_log self.old log → (entries : List LogEntry)
             × AreTurns (Event.Turn session moment) result entries
+            × has_log self.new (log ++ entries) };
+
+    /// Events, one after the other. How many were refused is told.
+    fn run(&mut self, events: &[Event]) -> usize
+        ensures { (log : List LogEntry) → has_log self.old log → (entries : List LogEntry)
+            × (map (λ (e : LogEntry). e.event) entries ≡ events.now)
+            × (result ≡ sum_by (λ (e : LogEntry). refusals e.result) entries)
             × has_log self.new (log ++ entries) };
 
     /// Turns of the sessions whose calls are under way, at the moment 0, until no call is. None is
@@ -108,6 +115,10 @@ impl Sftp for Engine {
 
     fn turns(&mut self, session: u64, moment: u32) -> Result<Happened, EngineFault> {
         self.turns(session, moment)
+    }
+
+    fn run(&mut self, events: &[Event]) -> usize {
+        self.run(events)
     }
 
     fn run_all(&mut self) -> u64 {
