@@ -1,2 +1,4 @@
 pub mod Once
 pub mod Bodies
+pub mod OnLogs
+pub mod Laws

@@ -13,12 +13,12 @@ use Rattle.sf_engine.specs.declared.event.Happened.{Happened}
 use Rattle.sf_engine.specs.declared.event.Happened.TheVariants as happened
 use Rattle.sf_engine.specs.declared.event.EngineFault.{EngineFault}
 use Rattle.sf_engine.specs.declared.event.EngineFault.TheVariants as engine
-use Rattle.sf_engine.specs.Fits.{GoesOnTrace, HasTurns, IsSentBy, IsUnknownSession}
 use Rattle.sf_engine.specs.Views.{EngineView}
 use Rattle.sf_trees.specs.declared.fault.TreeFault.{TreeFault}
 use Rattle.sf_trees.specs.declared.fault.TreeFault.TheVariants as fault
 use Rattle.sf_trees.specs.Deeds.{Deed, Begins, Asks, Ends}
 use Rattle.sf_asking.specs.Askers.{AskerView}
+use Rattle.sf_asking.specs.Logs.{EventLeads, FeedsBy, TurnsLead, HasUnsent, HasNoSession}
 
 -- the id of each request
 abbrev pub id : ℕ
@@ -49,16 +49,6 @@ strings_of (request.Link old new) = length old + length new
 -- takes less than 64
 abbrev pub most_strings : ℕ
 most_strings = 262080
-
--- an event led from an engine to another, and this came of it
-abbrev pub EventLeads : EngineView → Event → Result Happened EngineFault → EngineView → Type 0
-EventLeads old event r new = GoesOnTrace old event r new × OnErr r (new ≡ old)
-
--- so, by the event `Feed` of any vector of these bytes
-abbrev pub FeedsBy : EngineView → ℕ → List ℕ → Result Happened EngineFault → EngineView → Type 0
-FeedsBy old session bytes r new =
-    ((fed : Vec ℕ) → fed.items ≡ bytes → GoesOnTrace old (event.Feed session fed) r new)
-    × OnErr r (new ≡ old)
 
 -- the fault that is told of an engine's refusal
 abbrev pub fault_for : EngineFault → TreeFault
@@ -91,7 +81,7 @@ pub record Turned (session moment : ℕ) (bytes : List ℕ) (old : EngineView) (
   pub happened : Happened
   pub turns : ℕ
   pub feeds : FeedsBy old session bytes (Ok happened) fed
-  pub has_turns : HasTurns turns fed (event.Turn session moment) r new
+  pub has_turns : TurnsLead turns fed (event.Turn session moment) r new
 
 -- There was no memory for the bytes, or they were refused.
 abbrev pub IsUnfed : ℕ → List ℕ → EngineView → TreeFault → EngineView → Type 0
@@ -107,7 +97,7 @@ Converses session moment bytes old (Err why) new = IsUnfed session bytes old why
 
 -- all that a session is sent was taken
 abbrev pub IsTaken : ℕ → List ℕ → EngineView → EngineView → Type 0
-IsTaken session output old new = IsSentBy old session output
+IsTaken session output old new = HasUnsent old session output
     × ((h : Happened) × EventLeads old (event.Sent session (length output)) (Ok h) new)
 
 -- no memory to read bytes as a reply, or they are none
@@ -118,14 +108,14 @@ MayMissReply output why = (why ≡ fault.OutOfMemory) ⊎ ((why ≡ fault.Reply)
 
 -- There is no such session, or the engine refused that bytes were sent.
 abbrev pub IsUntaken : ℕ → EngineView → TreeFault → EngineView → Type 0
-IsUntaken session old why new = (IsUnknownSession old session × (why ≡ fault.Reply))
+IsUntaken session old why new = (HasNoSession old session × (why ≡ fault.Reply))
     ⊎ ((n : ℕ) × (f : EngineFault) × EventLeads old (event.Sent session n) (Err f) new × (why ≡ fault_for f))
 
 -- One reply, which is all that the session is sent, was taken; or nothing changed, and why.
 abbrev pub Gets : ℕ → EngineView → Result Reply TreeFault → EngineView → Type 0
 Gets session old (Ok r) new = IsTaken session (packet (reply_body id r)) old new
 Gets session old (Err why) new = (new ≡ old)
-    × (((output : List ℕ) × IsSentBy old session output × MayMissReply output why)
+    × (((output : List ℕ) × HasUnsent old session output × MayMissReply output why)
     ⊎ IsUntaken session old why new)
 
 -- A request's packet was fed, turns led to its reply, and that was taken, and was all that the
@@ -167,7 +157,7 @@ Greets session moment old (Err why) new = IsUngreeted session moment old why new
 abbrev pub IsClosed : ℕ → ℕ → EngineView → EngineView → Type 0
 IsClosed session moment old new = (closed : EngineView) × (turns : ℕ)
     × (came left : Result Happened EngineFault) × EventLeads old (event.Close session) came closed
-    × HasTurns turns closed (event.Turn session moment) left new
+    × TurnsLead turns closed (event.Turn session moment) left new
 
 -- A session was greeted; or it was closed, since it wasn't.
 abbrev pub Welcomes : ℕ → ℕ → EngineView → Result (Unit {0}) TreeFault → EngineView → Type 0

@@ -1,3 +1,4 @@
 pub mod Askers
+pub mod Logs
 pub mod Asking
 pub mod Laws

@@ -7,7 +7,9 @@ use Rattle.sf_engine.specs.declared.event.EngineFault.{EngineFault}
 use Rattle.sf_engine.specs.Traces.{goes_on, goes_on_at}
 use Rattle.sf_engine.specs.Fits.{HasTurns}
 use Rattle.sf_engine.specs.Views.{EngineView}
-use Rattle.sf_c.specs.Numbers.{EventLeads, leads_on, replies_of, HasTurned, HasEnded, TurnsTo}
+use Rattle.sf_asking.specs.Logs.{EventLeads}
+use Rattle.sf_asking.proofs.Laws.{event_leads}
+use Rattle.sf_c.specs.Numbers.{leads_on, replies_of, HasTurned, HasEnded, TurnsTo}
 
 -- a turn after which the call goes on leads to another one, and writes nothing
 goes_lead : (h : Happened) → goes_on h ≡ true → (leads_on (Ok h) ≡ true) × (replies_of (Ok h) ≡ 0)
@@ -57,14 +59,14 @@ wrote_leads (Err f) some = absurd (some refl)
 pub turns_lead : (n : ℕ) (e : EngineView) (turn : Event) (r : Result Happened EngineFault) (e' : EngineView)
     → HasTurns n e turn r e' → (last : EngineView) × HasTurned n 0 e turn last × EventLeads last turn r e'
 unfolding HasTurns
-turns_lead zero e turn r e' turns = (e, (refl, refl), turns)
+turns_lead zero e turn r e' turns = (e, (refl, refl), event_leads e e' turn r turns.0 turns.1)
 turns_lead (suc n) e turn r e' turns =
     let h : Happened = turns.1 in
     let lead = goes_lead h turns.3 in
     let no : replies_of (Ok h) ≡ 0 = lead.1 in
     let none : 0 ≡ replies_of (Ok h) + 0 = omega arith in
     let rest = turns_lead n turns.0 turn r e' turns.4 in
-    (rest.0, (turns.0, Ok h, (turns.2, tt), lead.0, (0, none, rest.1)), rest.2)
+    (rest.0, (turns.0, Ok h, event_leads e turns.0 turn (Ok h) turns.2 tt, lead.0, (0, none, rest.1)), rest.2)
 
 -- Turns were made, each of which led to another one, and wrote so many replies.
 pub record TurnsMade (turn : Event) (a b : EngineView) : Type 0 where

@@ -1,6 +1,7 @@
 -- The numbers that C is answered.
-use Rattle.std.specs.Prelude.{◌≡◌, ◌<◌, ◌≤◌, ◌+◌, ◌-◌, ◌⊎◌, ◌^◌, ◌++◌, Bool, true, false, ℕ, zero, suc, ℤ, pos, negsuc, List, [], length, take, drop, Option, Some, None, Result, Ok, Err, OnErr, Vec}
+use Rattle.std.specs.Prelude.{◌≡◌, ◌<◌, ◌≤◌, ◌+◌, ◌-◌, ◌⊎◌, ◌^◌, ◌++◌, Bool, true, false, ℕ, zero, suc, ℤ, pos, negsuc, List, [], length, take, drop, Option, Some, None, Result, Ok, Err, Vec}
 use Rattle.std.specs.Global.{Global}
+use Rattle.std.specs.List.{AllByRecursion}
 use Rattle.sf_session.specs.declared.cause.Cause.{Cause}
 use Rattle.sf_session.specs.declared.cause.Cause.TheVariants as cause
 use Rattle.sf_engine.specs.declared.event.Event.{Event}
@@ -9,9 +10,12 @@ use Rattle.sf_engine.specs.declared.event.Happened.{Happened}
 use Rattle.sf_engine.specs.declared.event.Happened.TheVariants as happened
 use Rattle.sf_engine.specs.declared.event.EngineFault.{EngineFault}
 use Rattle.sf_engine.specs.declared.event.EngineFault.TheVariants as fault
-use Rattle.sf_engine.specs.Fits.{Fits, GoesOnTrace, IsSentBy, IsUnknownSession}
+use Rattle.sf_engine.specs.Promise.{LogEntry, IsStepAtZero, AreDecided}
+use Rattle.sf_engine.specs.Fits.{Fits}
 use Rattle.sf_engine.specs.Rounds.{AreUnderWay, HasRounds, IsWithinBounds}
 use Rattle.sf_engine.specs.Views.{EngineView}
+use Rattle.sf_engine.specs.contracts.promise.EngineSftp.TheImpl.{ghosts}
+use Rattle.sf_asking.specs.Logs.{EventLeads, HasUnsent, HasNoSession}
 use Rattle.sf_c.specs.declared.turns.Settled.{Settled}
 
 abbrev pub cause_number : Cause → ℕ
@@ -50,11 +54,7 @@ abbrev pub IsNumber : Result Happened EngineFault → ℤ → Type 0
 IsNumber (Ok happened) n = IsHappened happened n
 IsNumber (Err fault) n = n ≡ negsuc (fault_number fault)
 
--- an event led from an engine to another, and this came of it
-abbrev pub EventLeads : EngineView → Event → Result Happened EngineFault → EngineView → Type 0
-EventLeads old event result new = GoesOnTrace old event result new × OnErr result (new ≡ old)
-
--- so, and what came of it has this number
+-- an event led from an engine to another, and what came of it has this number
 abbrev pub LeadsToNumber : EngineView → Event → ℤ → EngineView → Type 0
 LeadsToNumber old event n new =
     (result : Result Happened EngineFault) × EventLeads old event result new × IsNumber result n
@@ -142,15 +142,21 @@ AnswersSettled before turn most n moved after =
     (old : EngineView) × (new : EngineView) × (before ≡ Some old) × (after ≡ Some new)
     × SettlesAt turn most old n moved new
 
+-- turns of some sessions, up to where no call is under way
+abbrev pub RunsToEnd : EngineView → EngineView → Type 0
+RunsToEnd old new = (log : List LogEntry) → ghosts.has_log old log → (entries : List LogEntry)
+    × AllByRecursion IsStepAtZero entries × ghosts.has_log new (log ++ entries)
+    × AreDecided (log ++ entries)
+
 -- An engine made so many rounds, within the bounds of its calls, and then none is under way.
 abbrev pub RunsAll : Option EngineView → ℕ → Option EngineView → Type 0
 RunsAll before rounds after =
     (old : EngineView) × (new : EngineView) × (before ≡ Some old) × (after ≡ Some new)
-    × HasRounds rounds old new × IsWithinBounds rounds old × AreUnderWay [] new
+    × RunsToEnd old new × HasRounds rounds old new × IsWithinBounds rounds old × AreUnderWay [] new
 
 -- a new engine keeps so many records, or all for 0
 abbrev pub IsFresh : ℕ → EngineView → Type 0
-IsFresh keep engine = Fits engine [] × (keep ≡ 0 → engine.core.keep ≡ None)
+IsFresh keep engine = ghosts.has_log engine [] × Fits engine [] × (keep ≡ 0 → engine.core.keep ≡ None)
     × (0 < keep → engine.core.keep ≡ Some keep)
 
 -- a new engine was made, or there is none
@@ -167,10 +173,10 @@ FeedsBytes before session bytes n after =
 -- the output as far as there is room, and how long it is
 abbrev pub CopiesOutput : EngineView → ℕ → List ℕ → ℤ → List ℕ → Type 0
 CopiesOutput engine session old n new =
-    (output : List ℕ) × IsSentBy engine session output × (n ≡ pos (length output))
+    (output : List ℕ) × HasUnsent engine session output × (n ≡ pos (length output))
     × (new ≡ take (length old) output ++ drop (length output) old)
 
 -- a session's output was copied, or there is no such session
 abbrev pub Outputs : EngineView → ℕ → List ℕ → ℤ → List ℕ → Type 0
 Outputs engine session old n new = CopiesOutput engine session old n new
-    ⊎ (IsUnknownSession engine session × (n ≡ negsuc 1) × (new ≡ old))
+    ⊎ (HasNoSession engine session × (n ≡ negsuc 1) × (new ≡ old))

@@ -14,7 +14,9 @@ use Rattle.sf_call.specs.declared.request.Request.{Request}
 use Rattle.sf_call.specs.declared.request.Request.TheVariants as request
 use Rattle.sf_call.specs.declared.record.Record.{Record}
 use Rattle.sf_call.specs.declared.record.Record.TheVariants as record_of
+use Rattle.sf_engine.specs.Promise.{LogEntry, linearization}
 use Rattle.sf_engine.specs.Views.{EngineView}
+use Rattle.sf_engine.specs.contracts.promise.EngineSftp.TheImpl.{ghosts}
 use Rattle.sf_c.specs.declared.told.Attributes.{Attributes}
 use Rattle.sf_c.specs.declared.told.AskedParts.{AskedParts}
 use Rattle.sf_c.specs.declared.told.Answered.{Answered}
@@ -191,6 +193,11 @@ abbrev pub TellsParts : EngineView → ℕ → List ℕ → RecordParts → List
 TellsParts engine at old told new = (kept : Record) × (r : Recounted)
     × (slice_get engine.core.records at ≡ Some kept) × Recounts kept r × (told ≡ r.told)
     × (new ≡ take (length old) r.bytes.items ++ drop (length r.bytes.items) old)
+
+-- the records that are kept are the last of each log that the engine has, or all
+abbrev pub KeepsLastRecords : EngineView → Type 0
+KeepsLastRecords engine = (log : List LogEntry) → ghosts.has_log engine log
+    → (gone : List Record) × (linearization log ≡ gone ++ engine.core.records)
 
 -- how many records are kept; the one at a place was told, or there is none there, or no memory to
 -- tell it

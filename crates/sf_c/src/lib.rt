@@ -11,7 +11,7 @@
 ghost use Rattle.std.specs.Prelude.{◌≡◌, ◌++◌, length, take, drop, None, IsSome, IfOk, IfSome};
 ghost use Rattle.sf_engine.specs.declared.event.Event.TheVariants as event;
 ghost use Rattle.sf_trees.specs.Makings.{MakesDirectory, WritesFile, Links};
-ghost use Rattle.sf_c.specs.Records.{TellsRecord};
+ghost use Rattle.sf_c.specs.Records.{TellsRecord, KeepsLastRecords};
 ghost use Rattle.sf_c.specs.Trees.{AnswersMade, AnswersWalk, LeafOf};
 ghost use Rattle.sf_c.specs.Numbers.{AnswersNumber, AnswersSettled, RunsAll, IsFresh, IsNewEngine, FeedsBytes, Outputs};
 
@@ -240,6 +240,7 @@ pub extern "C" fn lucernetick_call(
     ensures same { held.new.engine ≡ held.old.engine }
     ensures told { IfSome held.old.engine
         (λ e. TellsRecord e at told.old room.old result told.new room.new) }
+    ensures last { IfSome held.old.engine KeepsLastRecords }
 {
     let engine = held.take(alloc);
     let number = copy_record(alloc, &engine, at, told, room);

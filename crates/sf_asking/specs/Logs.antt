@@ -1,0 +1,48 @@
+-- What the calls of an engine tell of its log. Of what it is for an engine to have one the trait
+-- `Sftp` says all that is said.
+use Rattle.std.specs.Prelude.{◌≡◌, ◌++◌, ◌∷◌, ℕ, List, [], Result, OnErr}
+use Rattle.std.specs.Global.{Vec}
+use Rattle.sf_call.specs.declared.record.Record.{Record}
+use Rattle.sf_engine.specs.declared.event.Event.{Event}
+use Rattle.sf_engine.specs.declared.event.Event.TheVariants as event
+use Rattle.sf_engine.specs.declared.event.Happened.{Happened}
+use Rattle.sf_engine.specs.declared.event.EngineFault.{EngineFault}
+use Rattle.sf_engine.specs.Responses.{Response}
+use Rattle.sf_engine.specs.Promise.{LogEntry, log_entry, IsKnown, IsUnsent, AreTurns}
+use Rattle.sf_engine.specs.Fits.{GoesOnTrace, HasTurns, IsSentBy, IsUnknownSession}
+use Rattle.sf_engine.specs.Views.{EngineView}
+use Rattle.sf_engine.specs.contracts.promise.EngineSftp.TheImpl.{ghosts}
+
+-- each log of the old engine, and the event's entry behind it, is one of the new engine
+abbrev pub GoesOnLog : EngineView → Event → Result Happened EngineFault → EngineView → Type 0
+GoesOnLog old event result new = (log : List LogEntry) → ghosts.has_log old log
+    → (added : List Record) × (wrote : List Response)
+    × ghosts.has_log new (log ++ log_entry event result added wrote ∷ [])
+
+-- An event led from an engine to another, and this came of it. Refused, it changed nothing.
+abbrev pub EventLeads : EngineView → Event → Result Happened EngineFault → EngineView → Type 0
+EventLeads old event result new = GoesOnLog old event result new × GoesOnTrace old event result new
+    × OnErr result (new ≡ old)
+
+-- so, by the event `Feed` of any vector of these bytes
+abbrev pub FeedsBy : EngineView → ℕ → List ℕ → Result Happened EngineFault → EngineView → Type 0
+FeedsBy old session bytes result new =
+    (fed : Vec ℕ) → fed.items ≡ bytes → EventLeads old (event.Feed session fed) result new
+
+-- turns, the last of which came to this
+abbrev pub TurnsLead : ℕ → EngineView → Event → Result Happened EngineFault → EngineView → Type 0
+TurnsLead n old turn result new = ((log : List LogEntry) → ghosts.has_log old log
+    → (entries : List LogEntry) × AreTurns turn result entries × ghosts.has_log new (log ++ entries))
+    × HasTurns n old turn result new
+
+-- what waits to be sent to a session
+abbrev pub HasUnsent : EngineView → ℕ → List ℕ → Type 0
+HasUnsent engine session output = ((log : List LogEntry) → ghosts.has_log engine log
+    → IsKnown log session × IsUnsent log session output)
+    × IsSentBy engine session output
+
+-- there is no such session
+abbrev pub HasNoSession : EngineView → ℕ → Type 0
+HasNoSession engine session =
+    ((log : List LogEntry) → ghosts.has_log engine log → ¬ IsKnown log session)
+    × IsUnknownSession engine session
