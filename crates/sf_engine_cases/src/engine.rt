@@ -8,6 +8,7 @@ use std::process::Abort;
 use std::test::*;
 
 mod drawn;
+mod promised;
 
 const INIT: &str = "00000005 01 00000003";
 
