@@ -1,4 +1,5 @@
 pub mod Places
+pub mod Gaps
 pub mod Waiting
 pub mod Laying
 pub mod Counts

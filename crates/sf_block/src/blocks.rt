@@ -187,6 +187,18 @@ impl Blocks {
         }
     }
 
+    /// The number of the first row from one on.
+    pub(crate) fn next_row(&self, from: u64) -> Option<u64>
+        ensures some { IfSome result (λ number. (r : ℕ) → from ≤ r → r < number
+            → entry_in self.now r ≡ None) }
+        ensures none { IfNone result ((r : ℕ) → from ≤ r → entry_in self.now r ≡ None) }
+    {
+        match self.map.range(from..).next() {
+            Some((number, _)) => Some(*number),
+            None => None,
+        }
+    }
+
     /// Takes out the rows from a number on.
     fn drop_rows(&mut self, end: u64)
         ensures { (r : ℕ) → row_in self.new r

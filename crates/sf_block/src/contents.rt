@@ -1,6 +1,6 @@
 //! A file's bytes in blocks.
 
-ghost use Rattle.std.specs.Prelude.{◌≡◌, ◌⊎◌, ◌+◌, ◌++◌, ◌-◌, ◌*◌, ◌/◌, ◌%◌, ◌<◌, ◌≤◌, ◌^◌, ℕ, List, [], length, take, drop, slice_index_or, Some, IsSome, IfOk, OnOk, OnErr};
+ghost use Rattle.std.specs.Prelude.{◌≡◌, ◌⊎◌, ◌+◌, ◌++◌, ◌-◌, ◌*◌, ◌/◌, ◌%◌, ◌<◌, ◌≤◌, ◌^◌, ℕ, List, [], length, take, drop, replicate, slice_index_or, Some, IsSome, IfOk, OnOk, OnErr};
 ghost use Rattle.sf_block.specs.Contents.{complete, resized, written, writing, blocks_of};
 ghost use Rattle.sf_block.specs.Blocks.{run_in, block_in, block_written, bytes_from, HasPlace, HasBytes, IsHeld, IsNoted, IsRunOf};
 
@@ -90,6 +90,22 @@ impl Contents {
             blocks: self.blocks.try_copy(alloc)?,
             first: self.first,
             fresh: VecDeque::new(alloc),
+            filling: Filling::new(alloc),
+            runs: self.runs.try_copy(alloc)?,
+        })
+    }
+
+    /// Equal ones, whose blocks are shared, those too that are still to be copied: so many blocks
+    /// are left of these as well.
+    pub(crate) fn share(&self, alloc: Global) -> Result<Contents, AllocError>
+        ensures { IfOk result (λ copy. copy ≡ self.now) }
+    {
+        let fresh = shares(alloc, &self.fresh)?;
+        Ok(Contents {
+            len: self.len,
+            blocks: self.blocks.try_copy(alloc)?,
+            first: self.first,
+            fresh: VecDeque::from_vec(fresh),
             filling: Filling::new(alloc),
             runs: self.runs.try_copy(alloc)?,
         })
@@ -213,6 +229,30 @@ impl Contents {
         }
         ByteString::from_vec(gather(alloc, &self.blocks, &self.runs, start, n as usize)?)
     }
+
+    /// How many bytes from an offset on are zeros that take no memory: as far as the next row of
+    /// blocks, or the end.
+    pub fn gap(&self, offset: u64) -> u64
+        requires { self.now.left ≡ 0 }
+        ensures { take result (drop offset self.now.bytes) ≡ replicate result 0 }
+    {
+        let end = match self.blocks.next_row(offset / RUN) {
+            Some(row) => row.saturating_mul(RUN).min(self.len),
+            None => self.len,
+        };
+        end.saturating_sub(offset)
+    }
+}
+
+/// The same blocks, whose bytes are shared.
+fn shares(alloc: Global, blocks: &VecDeque<ByteString>) -> Result<Vec<ByteString>, AllocError>
+    ensures { IfOk result (λ copy. copy.items ≡ blocks.now.items) }
+{
+    let mut copy = Vec::with_capacity(alloc, blocks.len())?;
+    for i in 0..blocks.len() {
+        copy.push(blocks[i].share()?)?;
+    }
+    Ok(copy)
 }
 
 /// Makes places for the blocks of a write, and for the runs that it writes whole.

@@ -1,6 +1,6 @@
 //! A file's bytes, of which none is still to be copied.
 
-ghost use Rattle.std.specs.Prelude.{◌≡◌, ◌+◌, ◌<◌, ◌^◌, ℕ, [], length, take, drop, IfOk, OnOk, OnErr};
+ghost use Rattle.std.specs.Prelude.{◌≡◌, ◌+◌, ◌<◌, ◌^◌, ℕ, [], length, take, drop, replicate, IfOk, OnOk, OnErr};
 ghost use Rattle.sf_block.specs.Contents.{resized, written};
 
 use crate::contents::Contents;
@@ -52,6 +52,16 @@ impl WholeContents {
         })
     }
 
+    /// The bytes of contents, whose blocks are shared: what is still to be copied among them counts
+    /// as copied.
+    pub fn of(contents: &Contents, alloc: Global) -> Result<WholeContents, AllocError>
+        ensures { IfOk result (λ whole. whole ≡ contents.now.bytes) }
+    {
+        let mut contents = contents.share(alloc)?;
+        contents.copy_rest();
+        Ok(WholeContents { contents })
+    }
+
     /// How many bytes there are.
     pub fn len(&self) -> u64
         ensures { result ≡ length self.now }
@@ -66,6 +76,14 @@ impl WholeContents {
         ensures { IfOk result (λ bytes. bytes ≡ take most (drop offset self.now)) }
     {
         self.contents.read(alloc, offset, most)
+    }
+
+    /// How many bytes from an offset on are zeros that take no memory: as far as the next 32 KiB
+    /// that something was written in, or the end.
+    pub fn gap(&self, offset: u64) -> u64
+        ensures { take result (drop offset self.now) ≡ replicate result 0 }
+    {
+        self.contents.gap(offset)
     }
 
     /// Replaces bytes from an offset on, as POSIX's `pwrite` does: a gap before them is filled with

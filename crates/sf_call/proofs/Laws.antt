@@ -42,7 +42,7 @@ pub use Rattle.sf_call.proofs.MovedNames.{after_front-append, append-after_front
 -- set or removed, and that they stay in order
 pub use Rattle.sf_call.proofs.Orders.{find_is}
 pub use Rattle.sf_call.proofs.Ordered.{put_is, and_both, and_first, and_second, sorted_put, sorted_removed, sorted_set, sorted_filtered}
-pub use Rattle.sf_call.proofs.LookUps.{lookup-put, set_there, none_set, not_at, other_put, other_set, other_removed, removed_itself}
+pub use Rattle.sf_call.proofs.LookUps.{lookup-put, lookup_below, set_there, none_set, not_at, other_put, other_set, other_removed, removed_itself}
 -- what holds of all is kept by a choice and by a beginning, and by entries that are put, set and
 -- removed; and what follows from it holds of all
 pub use Rattle.sf_call.proofs.Used.{all_by}
@@ -51,6 +51,8 @@ pub use Rattle.sf_call.proofs.FittingAnswers.{taken_short}
 -- trees in order that map alike are equal, and a change keeps the order
 pub use Rattle.sf_call.proofs.Orders.{same_tree}
 pub use Rattle.sf_call.proofs.Ordered.{ordered_changed, ordered_replay}
+-- the leaves of a tree: what is found at a path, and that they stand in order
+pub use Rattle.sf_call.proofs.Leaves.{found_leaf, ordered_leaves}
 -- what a move leaves at a path, and letting go of what nothing names or opens at a label
 pub use Rattle.sf_call.proofs.MovedNames.{at_old, label_after_move, lookup-moved, moved_to_new, moved_outside, moved_from_old}
 pub use Rattle.sf_call.proofs.Used.{object_kept}

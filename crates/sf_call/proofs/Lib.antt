@@ -4,6 +4,7 @@ pub mod Growth
 pub mod MovedNames
 pub mod Ordered
 pub mod LookUps
+pub mod Leaves
 pub mod RenameCases
 pub mod KindsOfReplies
 pub mod Links

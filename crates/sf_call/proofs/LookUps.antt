@@ -74,6 +74,13 @@ not_at Less t = refl
 not_at Equal t = absurd t
 not_at Greater t = absurd t
 
+-- nothing is found at a key that ties with one below all
+pub lookup_below : {K X : Type 0} (R : K → K → Ordering) → IsTotalOrder R → (q k : K) (es : List (K × X)) → R q k ≡ Equal → T (below_all R k es) → lookup (is_at (R q)) es ≡ None
+lookup_below R o q k [] e h = refl
+lookup_below R o q k (f ∷ es) e h =
+    ap (λ b. cond b (Some f.1) (lookup (is_at (R q)) es)) (ap is_eq (o.congr q k f.0 e) ∙ not_at (R k f.0) (and_first (is_lt (R k f.0)) (below_all R k es) h))
+    ∙ lookup_below R o q k es e (and_second (is_lt (R k f.0)) (below_all R k es) h)
+
 module _ {K X : Type 0} (R : K → K → Ordering) (exact : IsAntisymmetric R) where
   -- nothing is found at a key below all
   pub none_below : (q : K) (es : List (K × X)) → T (below_all R q es) → lookup (is_at (R q)) es ≡ None

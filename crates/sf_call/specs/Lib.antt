@@ -1,5 +1,6 @@
 pub mod Attributes
 pub mod Tree
+pub mod Leaves
 pub mod Handles
 pub mod Listings
 pub mod Moves

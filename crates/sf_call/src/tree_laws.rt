@@ -1,10 +1,13 @@
 //! Laws of the tree, which no call needs.
 
-ghost use Rattle.std.specs.Prelude.{◌≡◌, ◌<◌, ◌≤◌, ◌↔◌, ℕ, nat_eq, true, false, List, [], ◌∷◌, ◌++◌, length, take, filter_map, count_by, Option, Some, None};
+ghost use Rattle.std.specs.Prelude.{T, ◌≡◌, ◌<◌, ◌≤◌, ◌↔◌, ℕ, nat_eq, true, false, List, [], ◌∷◌, ◌++◌, length, take, filter_map, count_by, Option, Some, None, IsSome, option_and_then};
 ghost use Rattle.sf_call.specs.declared.request.Request.{Request};
 ghost use Rattle.sf_call.specs.declared.record.Record.{Record};
 ghost use Rattle.sf_call.specs.declared.record.Record.TheVariants.{Did};
+ghost use Rattle.std.specs.Map.{lookup};
+ghost use Rattle.std.specs.FinMap.{is_sorted};
 ghost use Rattle.sf_path.specs.Names.{Name, Path};
+ghost use Rattle.sf_path.specs.Order.{path_cmp, same_path};
 ghost use Rattle.sf_call.specs.Tree.{Tree, IsOrderedTree, MapsAlike, label_at, links, is_directory, is_faulty_way, after_front};
 ghost use Rattle.sf_call.specs.Moves.{moved};
 ghost use Rattle.sf_call.specs.declared.metadata.Metadata.{Metadata};
@@ -19,13 +22,27 @@ ghost use Rattle.sf_call.specs.ReplyKinds.{IsReplyTo, HasAllParts};
 ghost use Rattle.sf_reply.specs.Longname.{HasType, longname_text};
 ghost use Rattle.sf_call.specs.Listings.{entry_of, listing, listed_entry};
 ghost use Rattle.sf_call.specs.Attributes.{Object, attrs_of};
-ghost use Rattle.sf_call.specs.Histories.{after, replay};
+ghost use Rattle.sf_call.specs.Histories.{after, replay, IsLegal};
+ghost use Rattle.sf_call.specs.Leaves.{named_by, leaves_of};
 
 /// Trees are compared by what they map: each tree that a history leads to is in order, and two such
 /// trees that map alike are equal.
 pub fn ordered_trees()
     ensures alike { (s t : Tree) → IsOrderedTree s → IsOrderedTree t → MapsAlike s t → s ≡ t }
     ensures replayed { (history : List Record) → IsOrderedTree (replay history) }
+{}
+
+/// The leaves of a tree have each path once, in the order of paths, with the label and the object
+/// that it names. After a legal history no path is left out.
+#[tactic(auto, using(crate::proofs::Leaves::found_leaf, crate::proofs::Leaves::ordered_leaves, crate::proofs::Leaves::no_leaf_missing))]
+pub fn leaves_of_trees()
+    ensures named { (t : Tree) (path : Path) → IsOrderedTree t
+        → lookup (same_path path) (leaves_of t)
+        ≡ option_and_then (named_by t.objects) (label_at t.names path) }
+    ensures ordered { (t : Tree) → IsOrderedTree t → T (is_sorted path_cmp (leaves_of t)) }
+    ensures whole { (history : List Record) (path : Path) (label : ℕ) → IsLegal history
+        → label_at (replay history).names path ≡ Some label
+        → IsSome (lookup (same_path path) (leaves_of (replay history))) }
 {}
 
 /// A way is open where each proper front of the path is a directory.

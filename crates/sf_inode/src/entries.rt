@@ -6,10 +6,11 @@ ghost use Rattle.std.specs.Map.{lookup, remove_entry};
 ghost use Rattle.std.specs.BTreeMap.{insert_entry};
 ghost use Rattle.sf_path.specs.Order.{same_name, name_cmp};
 ghost use Rattle.sf_inode.specs.Nodes.{entries_past};
+ghost use Rattle.sf_inode.specs.Leaves.{below};
 ghost use Rattle.sf_call.specs.Tree.{is_nil};
 
 use crate::NodeId;
-use sf_path::Name;
+use sf_path::{Name, Path};
 use std::alloc::{AllocError, Global};
 use std::collections::BTreeMap;
 use std::marker::Model;
@@ -75,6 +76,21 @@ impl Entries {
             self.nodes.clear();
         }
         node
+    }
+
+    /// All entries of the directory at a path, by their paths.
+    pub(crate) fn below(
+        &self,
+        alloc: Global,
+        path: &Path,
+    ) -> Result<Vec<(Path, NodeId)>, AllocError>
+        ensures { IfOk result (λ children. children.items ≡ below path.now self.now) }
+    {
+        let mut children = Vec::with_capacity(alloc, self.nodes.len())?;
+        for (name, node) in &self.nodes {
+            children.push((path.below(alloc, name)?, *node))?;
+        }
+        Ok(children)
     }
 
     /// The first entries whose names come after the last one that was given, so many at most. Takes

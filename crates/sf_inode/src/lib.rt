@@ -4,7 +4,8 @@
 //! the abstract store, which is a list of nodes by number and the handles of each session. A node
 //! (`specs/Nodes.antt`) has a label, attributes, a holder, counts of its names and handles, and a
 //! file's bytes or a directory's entries; the entries are a list in the order of names (`entries`
-//! keeps them in an ordered map). A method that is refused memory changes nothing.
+//! keeps them in an ordered map). A method that is refused memory changes nothing. `Store::leaves`
+//! goes through all paths in their order (`specs/Leaves.antt`).
 #![tactic(auto)]
 
 mod entries;

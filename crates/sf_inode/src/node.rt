@@ -5,14 +5,16 @@ ghost use Rattle.std.specs.Option.{option_copied};
 ghost use Rattle.sf_field.specs.declared.attrs.Attrs.{Attrs};
 ghost use Rattle.sf_call.specs.Attributes.{attrs_of, with_parts, modified_at};
 ghost use Rattle.sf_inode.specs.Nodes.{child_in, entries_in, entries_past, is_directory_content, is_file_content, is_bare_content, object_in, new_node, with_content, with_metadata, less_content, more_content, bytes_in, blocks_left_in, with_file, with_bytes, with_left, is_unused};
+ghost use Rattle.sf_inode.specs.Leaves.{below};
+ghost use Rattle.sf_inode.specs.Stores.{shown_node};
 ghost use Rattle.sf_block.specs.Contents.{resized, written, writing};
 
 use crate::NodeId;
 use crate::entries::Entries;
-use sf_block::Contents;
-use sf_call::{FileType, Metadata};
+use sf_block::{Contents, WholeContents};
+use sf_call::{FileType, Leaf, Metadata};
 use sf_field::{Attrs, ByteString};
-use sf_path::Name;
+use sf_path::{Name, Path};
 use std::alloc::{AllocError, Global};
 
 /// A new directory without entries, or a new file without bytes.
@@ -106,6 +108,32 @@ impl Node {
             Content::Directory(entries) => entries.first_past(alloc, last, most),
             Content::File(_) => Ok(Vec::new(alloc)),
         }
+    }
+
+    /// All entries of a directory at a path, by their paths; a file has none.
+    pub(crate) fn below(
+        &self,
+        alloc: Global,
+        path: &Path,
+    ) -> Result<Vec<(Path, NodeId)>, AllocError>
+        ensures { IfOk result (λ children. children.items
+            ≡ below path.now (entries_in self.now.content)) }
+    {
+        match &self.content {
+            Content::Directory(entries) => entries.below(alloc, path),
+            Content::File(_) => Ok(Vec::new(alloc)),
+        }
+    }
+
+    /// A path that leads to the node, with what the node shows. A file's bytes are shared.
+    pub(crate) fn leaf(&self, alloc: Global, path: Path) -> Result<Leaf, AllocError>
+        ensures { IfOk result (λ leaf. leaf ≡ (path, shown_node self.now)) }
+    {
+        let contents = match &self.content {
+            Content::Directory(_) => None,
+            Content::File(contents) => Some(WholeContents::of(contents, alloc)?),
+        };
+        Ok(Leaf::new(path, self.label, self.metadata, contents))
     }
 
     /// All attributes, as they are sent; the size of a directory is 0.

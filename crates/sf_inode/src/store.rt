@@ -22,6 +22,8 @@ use std::alloc::{AllocError, Global};
 use std::collections::BTreeMap;
 use std::marker::Model;
 
+mod leaves;
+
 /// Room for fewer nodes isn't given back.
 const MANY: usize = 64;
 

@@ -6,13 +6,12 @@ use Rattle.std.proofs.lemmas.Bool.{cases_Bool, cond-true, cond-false, or_left, o
 use Rattle.std.specs.List.{list_any, IsDistinct, AllByRecursion}
 use Rattle.std.specs.Ordering.{is_eq, eq_by_cmp}
 use Rattle.std.specs.declared.cmp.Ordering.{Ordering}
-use Rattle.std.specs.declared.cmp.Ordering.TheVariants.{Equal}
 use Rattle.std.specs.Cmp.{IsTotalOrder, tied_itself, eq_by_cmp_equiv}
 use Rattle.std.specs.Map.{lookup, remove_entry, set_value, keys_of}
 use Rattle.std.specs.BTreeMap.{is_at}
 use Rattle.std.specs.FinMap.{is_sorted}
 use Rattle.std.specs.FinMap.Entries.{below_all}
-use Rattle.sf_call.proofs.Laws.{and_first, and_second, is_equal, not_at}
+use Rattle.sf_call.proofs.Laws.{and_first, and_second, is_equal, not_at, lookup_below}
 use Rattle.std.proofs.lemmas.Map.{lookup-set_value, lookup-remove_entry}
 use Rattle.sf_keeps.proofs.Through.{by_test}
 
@@ -54,16 +53,10 @@ module _ {K X : Type 0} (R : K → K → Ordering) where
     pub lookup-removed : (es : List (K × X)) (k q : K) → T (is_sorted R es) → lookup (is_at (R q)) (remove_entry (is_at (R k)) es) ≡ cond (is_at (R k) q) None (lookup (is_at (R q)) es)
     lookup-removed es k q h = lookup-remove_entry (eq_by_cmp_equiv o) (is_at (R k)) (tied_alike o k) q es (distinct es h)
 
-    pub lookup_below : (q k : K) (es : List (K × X)) → R q k ≡ Equal → T (below_all R k es) → lookup (is_at (R q)) es ≡ None
-    lookup_below q k [] e h = refl
-    lookup_below q k (f ∷ es) e h =
-        ap (λ b. cond b (Some f.1) (lookup (is_at (R q)) es)) (ap is_eq (o.congr q k f.0 e) ∙ not_at _ (and_first _ _ h))
-        ∙ lookup_below q k es e (and_second _ _ h)
-
     -- what is found further on is found
     pub found_on : (e : K × X) (es : List (K × X)) → T (is_sorted R (e ∷ es)) → (q : K) (v : X) → lookup (is_at (R q)) es ≡ Some v → lookup (is_at (R q)) (e ∷ es) ≡ Some v
     found_on e es h q v l = elim (cases_Bool (is_at (R q) e.0)) [
-      | inl at ↦ let none = lookup_below q e.0 es (is_equal (R q e.0) at) (and_first (below_all R e.0 es) (is_sorted R es) h) in cc
+      | inl at ↦ let none = lookup_below R o q e.0 es (is_equal (R q e.0) at) (and_first (below_all R e.0 es) (is_sorted R es) h) in cc
       | inr at ↦ cond-false _ _ _ at ∙ l
     ]
 

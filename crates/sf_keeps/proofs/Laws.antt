@@ -34,6 +34,8 @@ pub use Rattle.sf_keeps.proofs.ClosingAll.{keeps_closed_all}
 pub use Rattle.sf_keeps.proofs.NodesKept.{nodes_kept, looks_kept, holder_kept, holder_was, directory_kept, way_kept}
 -- a directory's entries and its listing
 pub use Rattle.sf_keeps.proofs.Listings.{one_way, path_found, label_listed, nodes_listed, names_listed}
+-- every path, with what it names
+pub use Rattle.sf_keeps.proofs.LeavesFound.{leaves_kept}
 -- lists of entries in the order of their keys: look-ups after each change; a number's own test
 pub use Rattle.sf_keeps.proofs.Keyed.{lookup-set, lookup-removed}
 pub use Rattle.sf_keeps.proofs.StoreHandles.{at_is}

@@ -41,3 +41,5 @@ pub mod SessionHandles
 pub mod ListedNames
 pub mod Listings
 pub mod Laws
+pub mod LeavesInOrder
+pub mod LeavesFound

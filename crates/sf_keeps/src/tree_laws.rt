@@ -16,7 +16,9 @@ ghost use Rattle.sf_inode.specs.Nodes.{object_in, new_content, new_node, with_me
 ghost use Rattle.sf_keeps.specs.Steps.{walk};
 ghost use Rattle.sf_block.specs.Contents.{FileBytes};
 ghost use Rattle.sf_inode.specs.Stores.{StoreState, IsFirst, Inserted, node_in, child_of, shown_of, holder_of, looked_up, edited, unlinked, linked, relinked, bytes_of, is_file_at, is_directory_at, is_bare_at, blocks_left_at, file_set, left_set, new_entry};
+ghost use Rattle.sf_inode.specs.Leaves.{AreLeaves};
 ghost use Rattle.sf_keeps.specs.Keeps.{Keeps};
+ghost use Rattle.sf_call.specs.Leaves.{Leaf, leaves_of};
 
 /// A store keeps at most one tree, and a new one the root alone.
 pub fn kept_trees()
@@ -110,6 +112,14 @@ pub fn found_paths()
         → look_up t (p ++ n ∷ q) ≡ NoWay }
     ensures empty { (s : StoreState) (t : Tree) (p : Path) (id : ℕ) → Keeps s t
         → walk (child_of s.nodes) s.root p ≡ Some id → is_empty t.names p ≡ is_bare_at s.nodes id }
+{}
+
+/// The paths of a store, in turn, are the paths of the tree: each that the tree names, once, in the
+/// order of paths, with its label and its object, and nothing else.
+#[tactic(auto, using(crate::proofs::LeavesFound::leaves_kept))]
+pub fn kept_leaves()
+    ensures { (s : StoreState) (t : Tree) (leaves : List Leaf) → Keeps s t
+        → AreLeaves s.nodes (([], s.root) ∷ []) leaves → leaves ≡ leaves_of t }
 {}
 
 /// A look-up and a holder leave the tree as it is, and so does the copying of what is written.

@@ -1,6 +1,6 @@
 //! Paths.
 
-ghost use Rattle.std.specs.Prelude.{◌≡◌, ◌≢◌, ℕ, ◌+◌, ◌<◌, ◌≤◌, ◌↔◌, [], ◌++◌, length, take, drop, slice_get, refl, IsTrue, IfOk, IsOkUnless, Some, None, Err};
+ghost use Rattle.std.specs.Prelude.{◌≡◌, ◌≢◌, ℕ, ◌+◌, ◌<◌, ◌≤◌, ◌↔◌, [], ◌∷◌, ◌++◌, length, take, drop, slice_get, refl, IsTrue, IfOk, IsOkUnless, Some, None, Err};
 ghost use Rattle.std.specs.Cmp.{eq_by_cmp_equiv, partial_equiv_from_equiv, partial_order_from_total};
 ghost use Rattle.sf_path.specs.declared.fault.PathFault.{PathFault};
 ghost use Rattle.sf_path.specs.Names.{IsPath, BeginsWith, text_of};
@@ -194,6 +194,15 @@ impl Path {
         for name in &other.as_slice()[n..] {
             names.push(name.try_copy(alloc)?)?;
         }
+        Path::of(names)
+    }
+
+    /// The path with one name more behind its own.
+    pub fn below(&self, alloc: Global, name: &Name) -> Result<Path, AllocError>
+        ensures { IfOk result (λ path. path ≡ self.now ++ name.now ∷ []) }
+    {
+        let mut names = self.front_names(alloc, self.len())?;
+        names.push(Name::from_slice(alloc, name.as_slice())?)?;
         Path::of(names)
     }
 

@@ -10,8 +10,9 @@ ghost use Rattle.sf_plain.specs.Nodes.{object_of_parts};
 
 use crate::copies::TryCopy;
 use sf_block::WholeContents;
-use sf_call::{FileType, MAX_FILE_SIZE, Metadata};
+use sf_call::{FileType, Leaf, MAX_FILE_SIZE, Metadata};
 use sf_field::Attrs;
+use sf_path::Path;
 use std::alloc::{AllocError, Global};
 use std::marker::Model;
 
@@ -80,6 +81,18 @@ impl Node {
             Kind::Directory(metadata) => Some(*metadata),
             Kind::File(_, _) => None,
         }
+    }
+
+    /// A path that leads to it under a label.
+    pub(crate) fn leaf(&self, alloc: Global, path: Path, label: u64) -> Result<Leaf, AllocError>
+        ensures { IfOk result (λ leaf. leaf ≡ (path, (label, self.now))) }
+    {
+        Ok(match &self.kind {
+            Kind::Directory(metadata) => Leaf::new(path, label, *metadata, None),
+            Kind::File(metadata, contents) => {
+                Leaf::new(path, label, *metadata, Some(contents.try_copy(alloc)?))
+            }
+        })
     }
 
     /// As they are sent.

@@ -23,6 +23,7 @@ use std::collections::BTreeMap;
 use std::marker::Model;
 
 mod handle_calls;
+mod leaves;
 mod links;
 mod listing;
 mod path_calls;
