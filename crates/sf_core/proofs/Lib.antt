@@ -40,3 +40,4 @@ pub mod AtOnce
 pub mod OneBlock
 pub mod Stuck
 pub mod Laws
+pub mod Owners

@@ -10,3 +10,4 @@ pub mod Events
 pub mod Stuck
 pub mod Finishing
 pub mod Writing
+pub mod Owners

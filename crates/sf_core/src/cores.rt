@@ -3,13 +3,15 @@
 ghost use Rattle.std.specs.Prelude.{◌≡◌, ◌≢◌, ◌<◌, ◌+◌, ◌++◌, ◌∷◌, [], List, None, Some, false, IsSome, IfOk, IfErr, IfSome, IfNone, OnOk, OnErr};
 ghost use Rattle.sf_call.specs.declared.record.Record.{Record};
 ghost use Rattle.sf_call.specs.declared.record.Record.TheVariants.{Left};
-ghost use Rattle.sf_call.specs.Histories.{IsGiven};
+ghost use Rattle.sf_call.specs.Histories.{IsGiven, replay};
+ghost use Rattle.sf_call.specs.Leaves.{leaves_of};
 ghost use Rattle.sf_core.specs.Cores.{LaneState, new_core, lane_state, joined, last_number, most_sessions};
 ghost use Rattle.sf_core.specs.Cores.LaneState.{Idle};
 ghost use Rattle.sf_core.specs.Histories.{IsHistory};
 ghost use Rattle.sf_core.specs.Progress.{is_at_once};
 ghost use Rattle.sf_reply.specs.declared.reply.Reply.{Reply};
 ghost use Rattle.sf_core.specs.Stuck.{IsNeverStuck};
+ghost use Rattle.sf_core.specs.Owners.{OwnsCalls};
 ghost use Rattle.sf_core.specs.declared.step.Step.TheVariants.{Answered};
 ghost use Rattle.sf_core.specs.Writing.{ReportsStep};
 ghost use Rattle.sf_core.specs.Events.{StepsOn, Walks, Joins, CallBegins, begun, AnswersAtOnce, Leaves, RefusesJoin, RefusesBegin, came};
@@ -18,7 +20,7 @@ use crate::lane::{Lane, Share};
 use crate::parts::{Parts, WalkOutcome};
 use crate::step::Step;
 use sf_book::Book;
-use sf_call::{Answer, CoreFault, Record, Request};
+use sf_call::{Answer, CoreFault, Leaf, Record, Request};
 use sf_reply::Reply;
 use sf_walk::Walk;
 use std::alloc::{AllocError, Global};
@@ -216,6 +218,13 @@ impl Core {
         let _parts = &self.parts;
     }
 
+    /// A law, for readers: whose calls there are.
+    pub fn owners(&self)
+        ensures { OwnsCalls self.now }
+    {
+        let _parts = &self.parts;
+    }
+
     /// Steps of the lane's call, one after the other, up to one that doesn't move, and `most` at
     /// most: what came of the last one is told. Between them nothing comes from other sessions.
     #[inline(always)]
@@ -286,6 +295,17 @@ impl Core {
         ensures whole { (h : List Record) × IsHistory self.now h }
     {
         self.parts.records()
+    }
+
+    /// Every path of the tree once, in the order of paths, with the label, the attributes and, of a
+    /// file, the contents of what it names, and nothing else: exactly the tree at the end of the
+    /// history, also while calls are under way. A WRITE that still copies counts as copied. The
+    /// contents' bytes are shared and not copied. Nothing is changed, also where memory is wanting.
+    pub fn tree(&self, alloc: Global) -> Result<Vec<Leaf>, AllocError>
+        ensures { IfOk result (λ leaves. (h : List Record) → IsHistory self.now h
+            → leaves.items ≡ leaves_of (replay h)) }
+    {
+        self.parts.leaves(alloc)
     }
 
     /// How many calls have records that are kept no more.

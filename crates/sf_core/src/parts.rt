@@ -1,6 +1,6 @@
 //! What a core is made of, and what each event does to it.
 
-ghost use Rattle.std.specs.Prelude.{◌≡◌, ◌<◌, ◌≤◌, ◌+◌, ◌-◌, ◌^◌, ◌↔◌, ◌&&◌, [], ℕ, not, nat_eq, true, false, length, Some, None, is_none, is_some, IsTrue, IsSome, IfOk, OnOk, OnErr, IfSome, IfNone};
+ghost use Rattle.std.specs.Prelude.{◌≡◌, ◌<◌, ◌≤◌, ◌+◌, ◌-◌, ◌^◌, ◌↔◌, ◌&&◌, [], ◌∷◌, ℕ, not, nat_eq, true, false, length, Some, None, is_none, is_some, IsTrue, IsSome, IfOk, OnOk, OnErr, IfSome, IfNone};
 ghost use Rattle.std.specs.Option.{option_and_then, option_copied};
 ghost use Rattle.sf_call.specs.Requests.{target_of};
 ghost use Rattle.std.specs.Vec.{vec_capacity};
@@ -10,6 +10,7 @@ ghost use Rattle.sf_call.specs.Unanswered.{at_stage};
 ghost use Rattle.sf_inode.specs.Stores.{is_directory_at};
 ghost use Rattle.sf_call.specs.declared.call.Stage.TheVariants as stage;
 ghost use Rattle.sf_inode.specs.Stores.{blocks_left_at};
+ghost use Rattle.sf_inode.specs.Leaves.{AreLeaves};
 ghost use Rattle.sf_walk.specs.Files.{IsSettled, file_handle};
 ghost use Rattle.sf_walk.specs.Ways.{IsLocated};
 ghost use Rattle.sf_walk.specs.Routes.{HoldsWay, route_of, route_in};
@@ -25,7 +26,7 @@ ghost use Rattle.sf_core.specs.Stepping.{IsNewParts, SameButRoom, JoinState, Beg
 
 use crate::sessions::Sessions;
 use sf_book::Book;
-use sf_call::{Call, Calls, Record, Request, Stage};
+use sf_call::{Call, Calls, Leaf, Record, Request, Stage};
 use sf_inode::Store;
 use sf_path::Path;
 use sf_reply::Reply;
@@ -107,6 +108,14 @@ impl Parts {
         ensures { result ≡ self.now.book.folded }
     {
         self.book.folded()
+    }
+
+    /// Every path of the tree, with what it names.
+    pub(crate) fn leaves(&self, alloc: Global) -> Result<Vec<Leaf>, AllocError>
+        ensures { IfOk result (λ leaves. AreLeaves self.now.store.nodes
+            (([], self.now.store.root) ∷ []) leaves.items) }
+    {
+        self.store.leaves(alloc)
     }
 
     /// How many call numbers were drawn.

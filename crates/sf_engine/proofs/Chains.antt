@@ -1,11 +1,13 @@
 -- Turns of a session, one after the other: from a walk of its call to turns of its place, and from these to turns of the engine.
-use Rattle.std.proofs.Common.{◌≡◌, ◌≢◌, ℕ, zero, suc, ◌+◌, ◌-◌, ◌^◌, List, [], ◌++◌, Bool, true, false, Some, None, Result, Ok, Err, IfOk, IfErr, OnErr, IfSome, IsSome, slice_get, slice_set, refl, ap, sym, ◌∙◌, subst, arith, inl, inr, zero-add, append-nil}
+use Rattle.std.proofs.Common.{◌≡◌, ◌≢◌, ℕ, zero, suc, ◌+◌, ◌-◌, ◌<◌, ◌^◌, length, List, [], ◌++◌, Bool, true, false, Some, None, Result, Ok, Err, IfOk, IfErr, OnErr, IfSome, IsSome, slice_get, slice_set, refl, ap, sym, ◌∙◌, subst, arith, inl, inr, zero-add, append-nil}
 use Rattle.sf_field.specs.Fields.{packet}
 use Rattle.sf_reply.specs.Replies.{reply_body}
 use Rattle.sf_call.specs.declared.record.Record.{Record}
 use Rattle.sf_call.specs.Answers.{AnswerView as Answer}
 use Rattle.sf_session.specs.declared.cause.Cause.{Cause}
-use Rattle.sf_session.specs.Sessions.{SessionView}
+use Rattle.sf_field.specs.Fields.{packet}
+use Rattle.sf_reply.specs.Replies.{reply_body}
+use Rattle.sf_session.specs.Sessions.{SessionView, reply_room}
 use Rattle.sf_core.specs.declared.step.Step.TheVariants as step
 use Rattle.sf_core.specs.Lanes.{LaneView}
 use Rattle.sf_core.specs.Cores.LaneState.{Idle}
@@ -149,12 +151,12 @@ written_turn a given f y b wrote settles =
     one_turn (answered a.core a.session a.lane given) f happened.Wrote b (λ h is. let g = settles h is in (g.0, g.1, (refl, (y, wrote, g.2))))
 
 -- and where memory was wanting
-pub unwritten_turn : (a : Seated) (given : Answer) (f : Finding) (y : SessionView) (lane' : LaneView) → lane' ≡ a.lane → y ≡ a.session
+pub unwritten_turn : (a : Seated) (given : Answer) (f : Finding) (y : SessionView) (lane' : LaneView) → lane' ≡ a.lane → y ≡ a.session → ((id : ℕ) → reply_room < length (packet (reply_body id given.reply)))
     → TurnsGive 0 (answered a.core a.session a.lane given) f (Err fault.OutOfMemory) (answered a.core y lane' given)
-unwritten_turn a given f y lane' same kept =
+unwritten_turn a given f y lane' same kept long =
     let was = answered a.core a.session a.lane given in
     let now = answered a.core y lane' given in
-    no_turn was f now (stand_eq was now refl kept (ap (λ (l : LaneView). state.Answered l given) same)) tt
+    no_turn was f now (stand_eq was now refl kept (ap (λ (l : LaneView). state.Answered l given) same)) long
 
 -- a place has one lane
 pub lane_same : (p : SeatState) (lane other : LaneView) → IsLaneOf p lane → IsLaneOf p other → lane ≡ other

@@ -4,7 +4,8 @@ use Rattle.std.specs.List.{AllByRecursion}
 use Rattle.std.proofs.lemmas.List.{map-append, take-append-drop}
 use Rattle.std.proofs.lemmas.Option.{slice_get_within}
 use Rattle.sf_call.specs.declared.record.Record.{Record}
-use Rattle.sf_call.specs.Histories.{IsLegal}
+use Rattle.sf_call.specs.Histories.{IsLegal, replay}
+use Rattle.sf_call.specs.Leaves.{Leaf, leaves_of}
 use Rattle.sf_engine.specs.declared.event.Event.{Event}
 use Rattle.sf_engine.specs.declared.event.Happened.{Happened}
 use Rattle.sf_engine.specs.declared.event.EngineFault.{EngineFault}
@@ -107,6 +108,11 @@ pub has_records : (e : EngineView) (log : List LogEntry) → HasLog e log → (g
 has_records e log has =
     let last = last_of _ has.0.world.records e.core.records has.0.agrees.history.records in
     (last.0, sym has.1.ordered ∙ last.1)
+
+-- what is the tree after the order of each trace is that after the order of the log
+pub has_tree : (e : EngineView) (log : List LogEntry) (leaves : List Leaf) → ((trace : List TraceEntry) → Fits e trace → leaves ≡ leaves_of (replay (order trace))) → HasLog e log → leaves ≡ leaves_of (replay (linearization log))
+has_tree e log leaves is has =
+    is (traced log) has.0 ∙ ap (λ (h : List Record). leaves_of (replay h)) (sym has.0.ordered ∙ has.1.ordered)
 
 pub has_no_session : (e : EngineView) (log : List LogEntry) (s : ℕ) → IsUnknownSession e s → HasLog e log → IsKnown log s → ⊥
 has_no_session e log s unknown has known =

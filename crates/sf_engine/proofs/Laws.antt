@@ -16,5 +16,5 @@ pub use Rattle.sf_engine.proofs.Lone.{IsOnly, begun_times, Talk, told_talk, none
 -- what holds of all follows from what does
 pub use Rattle.sf_engine.proofs.Reading.{all_map}
 -- what an engine's calls tell of a trace, they tell of a log
-pub use Rattle.sf_engine.proofs.Having.{new_has_log, goes_on_log, has_unsent, has_no_session, has_records}
+pub use Rattle.sf_engine.proofs.Having.{new_has_log, goes_on_log, has_unsent, has_no_session, has_records, has_tree}
 pub use Rattle.sf_engine.proofs.Onward.{turns_on_log, rounds_to_end}

@@ -5,6 +5,7 @@ pub mod Moving
 pub mod Deciding
 pub mod Working
 pub mod Asked
+pub mod ReplyRooms
 pub mod Resting
 pub mod TurnsUnderWay
 pub mod Writing

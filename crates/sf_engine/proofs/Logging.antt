@@ -4,19 +4,22 @@ use Rattle.std.specs.Prelude.{nat_eq, Vec}
 use Rattle.std.specs.Global.{Global}
 use Rattle.std.specs.List.{AllByRecursion, flat_map}
 use Rattle.std.proofs.lemmas.Bool.{cases_eq, ne_eqb, eq-eqb}
-use Rattle.std.proofs.lemmas.List.{flat_map_more}
+use Rattle.std.proofs.lemmas.List.{append_cancel_left, flat_map_more}
 use Rattle.std.proofs.lemmas.Grind.{flat_map-append}
 use Rattle.std.proofs.lemmas.List.Sums.{count_by-le-length}
 use Rattle.std.proofs.lemmas.Option.{slice_get_within, slice_get-get_or}
 use Rattle.std.specs.Prelude.{get_or}
 use Rattle.sf_wire.specs.declared.cutting.Cut.TheVariants as cut
 use Rattle.sf_wire.specs.Packets.{IsCut}
+use Rattle.sf_field.specs.Fields.{packet}
+use Rattle.sf_reply.specs.Replies.{reply_body}
 use Rattle.sf_reply.specs.declared.reply.Reply.{Reply}
 use Rattle.sf_call.specs.declared.request.Request.{Request}
 use Rattle.sf_call.specs.declared.record.Record.{Record}
 use Rattle.sf_call.specs.declared.record.Record.TheVariants.{Did, Left}
 use Rattle.sf_call.specs.declared.fault.CoreFault.TheVariants as core
 use Rattle.sf_call.specs.Histories.{IsLegal, IsAmong}
+use Rattle.sf_session.specs.Sessions.{reply_room}
 use Rattle.sf_session.specs.declared.cause.Cause.{Cause}
 use Rattle.sf_session.specs.declared.cause.Cause.TheVariants.{Closed}
 use Rattle.sf_engine.specs.declared.event.Event.{Event}
@@ -28,12 +31,13 @@ use Rattle.sf_engine.specs.declared.event.EngineFault.TheVariants as fault
 use Rattle.sf_engine.specs.Worlds.{Response, Version, Locally, ByCall, Refused, Phase, Resting, UnderWay, Decided, Gone, SessionState, new_state, World, with_state, transcript, unsent, is_here_in, is_here}
 use Rattle.sf_engine.specs.Traces.{has_begun, Walking, walking, IsSession, IsNoSession, TakesNone, TakesBytes, MayWantMemory, MayRefuse, IsCallUnderWay, IsOthersCall, other_call, IsHelpedRecord, IsAtOnce, DecidesCall, CarriesOut, RestLeads, StepLeads, TurnLeads, Happens, LeadsBy, Leads, ReachesWorld, calls_begun, left_if_closed, with_answer, leaving, left_by_close, closed_now, fed, sent_more}
 use Rattle.sf_engine.specs.Laws.{IsPhaseRecorded, sent_in}
-use Rattle.sf_engine.specs.Responses.{most_calls, if_so, RepliedCall, answered_by, answered_in}
+use Rattle.sf_engine.specs.Responses.{most_calls, if_so, RepliedCall, recorded_in, answered_by, answered_in, Due, recorded_due}
 use Rattle.sf_engine.specs.Promise.{LogEntry, log_entry, linearization, fed_by, fed_in, written_by, written_in, closed_by, closed_in, WasClosed, HasLeft, IsHere, HasBegun, opened_by, opened_in, Beginning, begun_by, begun_in, begun_for, sent_at, sent_of, IsKnown, MayBeRefused, IsInTheWay, MayComeTo, Leaves, MayAdd, MayWrite, Writes, IsLawful, EndsIn}
-use Rattle.sf_engine.specs.Promised.{IsAbove, HasCalls, IsNobody, traced_entry, traced, HasItsTurn, calls_due, calls_had, LeavesPhase, HasLeftFor, IsLogged, Stands}
+use Rattle.sf_engine.specs.Promised.{replied, IsDue, IsAbove, HasCalls, IsNobody, traced_entry, traced, HasItsTurn, calls_due, calls_had, LeavesPhase, HasLeftFor, IsLogged, Stands}
 use Rattle.sf_engine.proofs.Seats.{CallTold, record_of, under_way_as}
 use Rattle.sf_engine.proofs.Moving.{get_set_same, get_set_other}
 use Rattle.sf_engine.proofs.Asked.{all_push}
+use Rattle.sf_engine.proofs.ReplyRooms.{any_id}
 use Rattle.sf_engine.proofs.Orders.{leads_records}
 use Rattle.sf_engine.proofs.OneWorld.{last_same}
 use Rattle.sf_engine.proofs.Reading.{all_map, among_front, told_sessions}
@@ -780,6 +784,28 @@ module _ (log : List LogEntry) (w : World) (h : Stands log w) where
   wants_memory (Decided id n q given) g = refl
   wants_memory (Gone cause) g = absurd g
 
+  -- the reply that is due to such a session is long
+  long_reply : (f : Phase) (due : Due) (call : RepliedCall) (answers : List RepliedCall) → MayWantMemory f → IsDue f due → answers ++ recorded_due due ≡ answers ++ call ∷ [] → 1088 < length (packet (reply_body 0 call.reply))
+  long_reply Resting due call answers g is same =
+      let none : answers ++ [] ≡ answers ++ call ∷ [] = ap (λ (d : Due). answers ++ recorded_due d) (sym is) ∙ same in
+      absurd (omega (arith, ap (λ (cs : List RepliedCall). length cs) none, length-append answers [], length-append answers (call ∷ [])))
+  long_reply (UnderWay id n m q moves) due call answers g is same = absurd g
+  long_reply (Decided id n q given) due call answers g is same =
+      let one : replied n q given ∷ [] ≡ call ∷ [] = append_cancel_left answers (replied n q given ∷ []) (call ∷ []) (ap (λ (d : Due). answers ++ recorded_due d) (sym is) ∙ same) in
+      let own : replied n q given ≡ call = cc in
+      let long : reply_room < length (packet (reply_body 0 given)) = omega (arith, g, any_id id 0 given) in
+      subst (λ (c : RepliedCall). 1088 < length (packet (reply_body 0 c.reply))) own long
+  long_reply (Gone cause) due call answers g is same = absurd g
+
+  turn_refused : (s : ℕ) (t : SessionState) → IsSession w s t → MayWantMemory t.phase → (call : RepliedCall)
+      → recorded_in s (linearization log) ≡ answered_in (written_in s log) ++ call ∷ [] → 1088 < length (packet (reply_body 0 call.reply))
+  turn_refused s t session g call same =
+      let num : s - 1 + 1 ≡ s = omega (arith, session.0) in
+      let calls = subst (λ (k : ℕ). HasCalls w.begun w.records k t.answers t.phase) num (h.calls.each (s - 1) t session.1) in
+      let wrote = ap (λ (rs : List Response). answered_in rs) (of_session log w h s t session).wrote in
+      let ordered = ap (λ (rs : List Record). recorded_in s rs) h.ordered in
+      long_reply t.phase calls.due call (answered_in t.answers) g calls.is_due (sym calls.calls ∙ ordered ∙ same ∙ ap (λ (cs : List RepliedCall). cs ++ call ∷ []) wrote)
+
   sent_fits : (s n : ℕ) (t : SessionState) → ReachesWorld (traced log) w → IsSession w s t → n ≤ length (unsent t) → sent_of s log + n ≤ length (transcript (written_in s log))
   sent_fits s n t tells session fits =
       let sent = told_sent_bytes (traced log) w tells s t session in
@@ -800,7 +826,7 @@ module _ (log : List LogEntry) (w : World) (h : Stands log w) where
   may_refuse (event.Feed s bytes) fault.Sessions tells g = absurd g
   may_refuse (event.Feed s bytes) fault.NumbersSpent tells g = absurd g
   may_refuse (event.Feed s bytes) fault.NotSent tells g = absurd g
-  may_refuse (event.Turn s m) fault.OutOfMemory tells g = is_here_as log w h s g.0 g.1 (wants_memory g.0.phase g.2)
+  may_refuse (event.Turn s m) fault.OutOfMemory tells g = (is_here_as log w h s g.0 g.1 (wants_memory g.0.phase g.2), turn_refused s g.0 g.1 g.2)
   may_refuse (event.Turn s m) fault.NoSuchSession tells g = unknown_session s g
   may_refuse (event.Turn s m) fault.Ended tells g = absurd g
   may_refuse (event.Turn s m) fault.Sessions tells g = absurd g

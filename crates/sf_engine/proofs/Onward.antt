@@ -1,26 +1,29 @@
 -- What the calls that make many turns tell of an engine's log.
-use Rattle.std.proofs.Common.{◌≡◌, ◌≢◌, ℕ, zero, suc, ◌+◌, ◌-◌, ◌<◌, ◌≤◌, ◌⊎◌, List, [], ◌∷◌, ◌++◌, Option, Some, None, Bool, true, false, if◌then◌else◌, Result, Ok, slice_get, length, map, refl, ap, sym, ◌∙◌, subst, arith, inl, inr, append-nil, append_assoc}
-use Rattle.std.specs.List.{AllByRecursion, sum_by}
+use Rattle.std.proofs.Common.{◌≡◌, ◌≢◌, ℕ, zero, suc, ◌+◌, ◌-◌, ◌<◌, ◌≤◌, ◌⊎◌, ◌↔◌, IsTrue, List, [], ◌∷◌, ◌++◌, Option, Some, None, Bool, true, false, if◌then◌else◌, Result, Ok, slice_get, length, map, refl, ap, sym, ◌∙◌, subst, arith, inl, inr, append-nil, append_assoc}
+use Rattle.std.specs.List.{AllByRecursion, sum_by, flat_map}
 use Rattle.std.proofs.lemmas.List.Sums.{sum_by-cons}
 use Rattle.sf_wire.specs.declared.cutting.Cut.TheVariants as cut
-use Rattle.sf_wire.specs.Packets.{IsCut}
+use Rattle.sf_field.specs.Fields.{packet}
+use Rattle.sf_wire.specs.Packets.{IsBody, IsCut}
+use Rattle.sf_wire.proofs.Laws.{one_packet}
 use Rattle.sf_call.specs.declared.record.Record.{Record}
 use Rattle.sf_engine.specs.declared.event.Event.{Event}
 use Rattle.sf_engine.specs.declared.event.Event.TheVariants as event
 use Rattle.sf_engine.specs.declared.event.Happened.{Happened}
 use Rattle.sf_engine.specs.declared.event.EngineFault.{EngineFault}
-use Rattle.sf_engine.specs.Responses.{RepliedCall, Due, Nothing, Recorded}
+use Rattle.sf_engine.specs.Responses.{ask_behind, RepliedCall, Due, Nothing, Recorded, asked_due}
 use Rattle.sf_engine.specs.Worlds.{TraceEntry, Phase, Resting, UnderWay, Decided, Gone, SessionState, World, is_here_in}
 use Rattle.sf_engine.specs.Traces.{has_begun, IsSession, goes_on, ReachesWorld}
 use Rattle.sf_engine.specs.Laws.{IsRest, AreOfBytes}
 use Rattle.sf_engine.specs.Views.{EngineView}
-use Rattle.sf_engine.specs.Fits.{GoesOnTrace, HasTurns, HasRun, WantsBytesBy}
+use Rattle.sf_engine.specs.Fits.{GoesOnTrace, HasTurns, HasRun, WantsBytes, WantsBytesBy}
 use Rattle.sf_engine.specs.Rounds.{is_unanswered, under_way_from, AreUnderWay, HasSteps, IsRound, HasRounds}
 use Rattle.sf_engine.specs.Promise.{LogEntry, log_entry, written_in, IsKnown, IsHere, IsAnswered, IsOfBytes, refusals, AreTurns, IsStepAtZero, AreDecided, WaitsForBytes}
-use Rattle.sf_engine.specs.Promised.{replied, traced_entry, traced, IsDue, Stands, HasLog}
+use Rattle.sf_engine.specs.Promised.{replied, traced_entry, traced, IsDue, calls_due, IsLogged, Stands, HasLog}
 use Rattle.sf_engine.proofs.OneWorld.{one_world}
 use Rattle.sf_engine.proofs.Logging.{of_session, is_here_as}
-use Rattle.sf_engine.proofs.Promising.{session_at, answered, answered_due, answered_rest}
+use Rattle.sf_engine.proofs.Promising.{session_at, due_count, answered, answered_due, answered_rest}
+use Rattle.sf_engine.proofs.Asked.{asked_each}
 use Rattle.sf_engine.proofs.Having.{goes_on_log}
 
 -- ---- turns
@@ -141,7 +144,59 @@ waits_at e log s has t session here rests is_cut =
       cut = subst (λ (bs : List ℕ). IsCut bs cut.More) (ap (λ (z : SessionState). z.unread) (sym same) ∙ left) is_cut;
     }
 
-pub waits_by : (e : EngineView) (log : List LogEntry) (s : ℕ) (b : Bool) → WantsBytesBy e s b → HasLog e log → b ≡ true → WaitsForBytes log s
-waits_by e log s b wants has so =
-    let x = (wants (traced log) has.0).0 so in
-    waits_at e log s has x.0 x.1 (is_here_as log has.0.world has.1 s x.0 x.1 (ap is_here_in x.2.0)) x.2.0 x.2.1
+-- packets and a rest, so many packets: the rest is one
+one_rest : (xs ys : List (List ℕ)) (a b : List ℕ) → AllByRecursion IsBody xs → AllByRecursion IsBody ys → length xs ≡ length ys → flat_map packet xs ++ a ≡ flat_map packet ys ++ b → a ≡ b
+one_rest [] [] a b h k same e = e
+one_rest [] (y ∷ ys) a b h k same e = absurd cc
+one_rest (x ∷ xs) [] a b h k same e = absurd cc
+one_rest (x ∷ xs) (y ∷ ys) a b h k same e =
+    let front = flat_map packet xs ++ a in
+    let back = flat_map packet ys ++ b in
+    let parts : packet x ++ front ≡ packet y ++ back = sym (append_assoc (packet x) (flat_map packet xs) a) ∙ e ∙ append_assoc (packet y) (flat_map packet ys) b in
+    one_rest xs ys a b h.1 k.1 (omega (arith, same)) (one_packet x y front back h.0 k.0 parts).1
+
+-- a session has one rest where nothing is due
+one_answered : (log : List LogEntry) (s : ℕ) (x y : IsAnswered log s) → x.due ≡ Nothing → y.due ≡ Nothing → x.rest ≡ y.rest
+one_answered log s x y none none' =
+    let asks = map ask_behind (written_in s log) in
+    let xs : length (asks ++ asked_due x.due) ≡ length x.bodies = asked_each false x.bodies (asks ++ asked_due x.due) x.asked in
+    let ys : length (asks ++ asked_due y.due) ≡ length y.bodies = asked_each false y.bodies (asks ++ asked_due y.due) y.asked in
+    let same : length x.bodies ≡ length y.bodies = sym xs ∙ ap (λ (d : Due). length (asks ++ asked_due d)) (none ∙ sym none') ∙ ys in
+    one_rest x.bodies y.bodies x.rest y.rest x.are_bodies y.are_bodies same (sym x.fed ∙ y.fed)
+
+-- a call that is due is one that began
+due_begun : (log : List LogEntry) (s : ℕ) (x y : IsAnswered log s) → x.due ≡ Nothing → length (asked_due y.due) ≡ 1 → ⊥
+due_begun log s x y none one =
+    omega (arith, x.begun, y.begun, one, ap (λ (d : Due). length (asked_due d)) none)
+
+-- a session that waits for bytes rests
+rests_for : (e : EngineView) (log : List LogEntry) (s : ℕ) (has : HasLog e log) (waits : WaitsForBytes log s) (t : SessionState) (own : IsAnswered log s) → IsLogged log s t → IsDue t.phase own.due
+    → IsRest (has_begun t.bodies) t.phase t.unread own.rest → (f : Phase) → t.phase ≡ f → WantsBytes t
+rests_for e log s has waits t own x is left Resting f =
+    let none : own.due ≡ Nothing = subst (λ (z : Phase). IsDue z own.due) f is in
+    let rest : t.unread ≡ own.rest = subst (λ (z : Phase). IsRest (has_begun t.bodies) z t.unread own.rest) f left in
+    (f, subst (λ (bs : List ℕ). IsCut bs cut.More) (one_answered log s waits.answered own waits.none_due none ∙ sym rest) waits.cut)
+rests_for e log s has waits t own x is left (UnderWay id n m q moves) f =
+    absurd (due_begun log s waits.answered own waits.none_due (sym (due_count t.phase own.due is) ∙ ap calls_due f))
+rests_for e log s has waits t own x is left (Decided id n q given) f =
+    absurd (due_begun log s waits.answered own waits.none_due (sym (due_count t.phase own.due is) ∙ ap calls_due f))
+rests_for e log s has waits t own x is left (Gone cause) f = absurd (waits.here.1 (x.gone cause f).left)
+
+waits_in : (e : EngineView) (log : List LogEntry) (s : ℕ) (has : HasLog e log) → WaitsForBytes log s → (t : SessionState) × IsSession has.0.world s t × WantsBytes t
+waits_in e log s has waits =
+    let w = has.0.world in
+    let known = waits.here.0 in
+    let at = session_at w.sessions (s - 1) (omega (arith, known.0, known.1, has.1.opened)) in
+    let session : IsSession w s at.0 = (known.0, at.1) in (
+      at.0,
+      session,
+      rests_for e log s has waits at.0 (answered log w has.1 has.0.tells s known) (of_session log w has.1 s at.0 session) (answered_due log w has.1 has.0.tells s known) (answered_rest log w has.1 has.0.tells s known) at.0.phase refl,
+    )
+
+pub waits_by : (e : EngineView) (log : List LogEntry) (s : ℕ) (b : Bool) → WantsBytesBy e s b → HasLog e log → IsTrue b ↔ WaitsForBytes log s
+waits_by e log s b wants has = (
+  λ yes.
+      let x = (wants (traced log) has.0).0 yes in
+      waits_at e log s has x.0 x.1 (is_here_as log has.0.world has.1 s x.0 x.1 (ap is_here_in x.2.0)) x.2.0 x.2.1,
+  λ waits. (wants (traced log) has.0).1 (waits_in e log s has waits),
+)

@@ -14,6 +14,10 @@ use Rattle.sf_engine.specs.declared.event.Happened.TheVariants as happened
 use Rattle.sf_engine.specs.declared.event.EngineFault.{EngineFault}
 use Rattle.sf_engine.specs.declared.event.EngineFault.TheVariants as fault
 use Rattle.sf_engine.specs.Worlds.{Phase, Resting, UnderWay, Decided, Gone, SessionState, World, with_state}
+use Rattle.sf_field.specs.Fields.{packet}
+use Rattle.sf_reply.specs.declared.reply.Reply.{Reply}
+use Rattle.sf_reply.specs.Replies.{reply_body}
+use Rattle.sf_session.specs.Sessions.{reply_room}
 use Rattle.sf_engine.specs.Traces.{TurnLeads, walking, calls_begun, IsSession, IsNoSession, MayRefuse, MayWantMemory, closed_now}
 use Rattle.sf_engine.specs.Turns.{AddsRecords, part, new_part, PlaceGives, CloseGives, IsSeatState, MayRefuseTurn}
 use Rattle.sf_engine.specs.Works.{Passage, IsStep, IsWork}
@@ -119,7 +123,9 @@ no_session e s w agrees (inr past) = inr (slice_get_past w.sessions (s - 1) (ome
 wants_memory : (v : CoreView) (s : ℕ) (x : SessionView) (f : Phase) (p : SeatState) → PlaceAgrees v s x f p → MayRefuseTurn p → MayWantMemory f
 wants_memory v s x Resting p h may = tt
 wants_memory v s x (UnderWay id n m q moves) p h may = subst MayRefuseTurn h.place_is may
-wants_memory v s x (Decided id n q given) p h may = tt
+wants_memory v s x (Decided id n q given) p h may =
+    let long : (k : ℕ) → reply_room < length (packet (reply_body k h.answer.reply)) = subst MayRefuseTurn h.place_is may in
+    subst (λ (r : Reply). reply_room < length (packet (reply_body id r))) h.reply (long id)
 wants_memory v s x (Gone cause) p h may = subst MayRefuseTurn h.0 may
 
 -- a seat that is written as it was

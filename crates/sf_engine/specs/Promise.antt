@@ -5,6 +5,7 @@ use Rattle.std.specs.Prelude.{◌≡◌, ◌≢◌, ◌<◌, ◌≤◌, ◌+◌,
 use Rattle.std.specs.Global.{Vec}
 use Rattle.std.specs.List.{AllByRecursion, flat_map}
 use Rattle.sf_field.specs.Fields.{AreBytes, packet}
+use Rattle.sf_reply.specs.Replies.{reply_body}
 use Rattle.sf_wire.specs.declared.cutting.Cut.TheVariants as cut
 use Rattle.sf_wire.specs.Packets.{IsBody, IsCut}
 use Rattle.sf_call.specs.declared.record.Record.{Record}
@@ -131,7 +132,8 @@ IsInTheWay front session number = (other moment : ℕ) × (other ≢ session)
 
 -- Why an event is refused: its session was not opened, was closed or has left, or not so much waits
 -- to be sent. No session opens where 256 at least have opened, or all numbers are spent. Want of
--- memory is told where nothing else is.
+-- memory is told where nothing else is; and where a call's reply is due, only if its packet is
+-- longer than the room that a call has for it from its beginning.
 abbrev pub MayBeRefused : List LogEntry → Event → EngineFault → Type 0
 MayBeRefused front event.Open fault.OutOfMemory = Unit {0}
 MayBeRefused front event.Open fault.Sessions = 256 ≤ length (opened_in front)
@@ -142,6 +144,9 @@ MayBeRefused front (event.Feed session bytes) fault.NoSuchSession = ¬ IsKnown f
 MayBeRefused front (event.Feed session bytes) fault.Ended =
     WasClosed front session ⊎ HasLeft front session
 MayBeRefused front (event.Turn session moment) fault.OutOfMemory = IsHere front session
+    × ((call : RepliedCall) → recorded_in session (linearization front)
+    ≡ answered_in (written_in session front) ++ call ∷ []
+    → 1088 < length (packet (reply_body 0 call.reply)))
 MayBeRefused front (event.Turn session moment) fault.NoSuchSession = ¬ IsKnown front session
 MayBeRefused front (event.Close session) fault.NoSuchSession = ¬ IsKnown front session
 MayBeRefused front (event.Sent session n) fault.NoSuchSession = ¬ IsKnown front session

@@ -11,7 +11,7 @@ use Rattle.sf_call.specs.declared.fault.CoreFault.{CoreFault}
 use Rattle.sf_call.specs.Answers.{AnswerView as Answer}
 use Rattle.sf_session.specs.declared.cause.Cause.TheVariants.{Closed}
 use Rattle.sf_session.specs.declared.session.Next.TheVariants as next
-use Rattle.sf_session.specs.Sessions.{SessionView, NextGives, refusal_of}
+use Rattle.sf_session.specs.Sessions.{SessionView, NextGives, refusal_of, reply_room}
 use Rattle.sf_core.specs.Lanes.{LaneView}
 use Rattle.sf_session.specs.Sessions.{new_session}
 use Rattle.sf_core.specs.Cores.LaneState.{Idle}
@@ -224,11 +224,11 @@ OpenFault v fault.Sessions = most_sessions ≤ joined v
 OpenFault v fault.NumbersSpent = (joined v < most_sessions) × (v.joins ≡ last_number)
 OpenFault v _ = ⊥
 
--- where a turn may want memory
+-- where a turn may want memory: to read a packet, or for a reply that is longer than its room
 abbrev pub MayRefuseTurn : SeatState → Type 0
 MayRefuseTurn (state.Resting lane) = Unit {0}
 MayRefuseTurn (state.UnderWay lane) = ⊥
-MayRefuseTurn (state.Answered lane a) = Unit {0}
+MayRefuseTurn (state.Answered lane a) = (id : ℕ) → reply_room < length (packet (reply_body id a.reply))
 MayRefuseTurn (state.Left cause) = ⊥
 
 -- a core, with a session and its place

@@ -2,10 +2,12 @@
 
 ghost use Rattle.std.specs.Prelude.{◌≡◌, ◌<◌, ◌≤◌, ◌+◌, ◌-◌, ◌^◌, ◌⊎◌, ℕ, true, false, List, [], length, slice_get, Some, None, OnErr, IfOk, IfSome, IfNone};
 ghost use Rattle.std.specs.Global.{Vec};
+ghost use Rattle.sf_call.specs.Histories.{replay};
+ghost use Rattle.sf_call.specs.Leaves.{leaves_of};
 ghost use Rattle.sf_core.specs.Cores.{new_core};
 ghost use Rattle.sf_core.specs.Histories.{IsHistory};
 ghost use Rattle.sf_engine.specs.Promise.{refusals};
-ghost use Rattle.sf_engine.specs.Traces.{goes_on_at};
+ghost use Rattle.sf_engine.specs.Traces.{goes_on_at, order};
 ghost use Rattle.sf_engine.specs.declared.seat.Seat.{Seat};
 ghost use Rattle.sf_engine.specs.Turns.{is_under_way};
 ghost use Rattle.sf_engine.specs.Worlds.{TraceEntry};
@@ -17,6 +19,7 @@ use crate::seat::{
     Seat, are_quiet, close_seat, feed_seat, open_seat, send_seat, turn_seat, turns_seat,
     wants_bytes,
 };
+use sf_call::Leaf;
 use sf_core::Core;
 use std::alloc::{AllocError, Global};
 use std::marker::Model;
@@ -277,6 +280,17 @@ impl Engine {
         ensures { IsQuietBy self.now result }
     {
         are_quiet(&self.seats)
+    }
+
+    /// Every path of the tree once, in the order of paths, with the label, the attributes and, of a
+    /// file, the contents of what it names, and nothing else: exactly the tree after the calls that
+    /// were decided so far, also while others are under way. A WRITE that still copies counts as
+    /// copied. The contents' bytes are shared and not copied. Nothing is changed.
+    pub fn tree(&self, alloc: Global) -> Result<Vec<Leaf>, AllocError>
+        ensures { IfOk result (λ leaves. (trace : List TraceEntry) → Fits self.now trace
+            → leaves.items ≡ leaves_of (replay (order trace))) }
+    {
+        self.core.tree(alloc)
     }
 
     /// The core, to be looked at.

@@ -8,10 +8,10 @@
 //! added are a trace; `specs/Worlds.antt` says what a trace tells of each session,
 //! `specs/Traces.antt` is the law of results (`Leads`: from which world an entry leads to which),
 //! and `specs/Fits.antt` says when an engine fits a trace, which `new`, `apply`, `feed`, `turns`,
-//! `run` and `output` carry; each such trace is that of a kept log. `specs/Works.antt` has the steps
-//! and the work of a turn, and `trace_laws.rt` what every lawful trace tells. One session's turns
-//! are in `seat.rt`, whose contracts (`specs/Turns.antt`) name no trace. `Engine::turns` is many
-//! turns at once. No trace and no log is kept when the program runs.
+//! `run`, `output` and `tree` carry; each such trace is that of a kept log. `specs/Works.antt` has
+//! the steps and the work of a turn, and `trace_laws.rt` what every lawful trace tells. One
+//! session's turns are in `seat.rt`, whose contracts (`specs/Turns.antt`) name no trace.
+//! `Engine::turns` is many turns at once. No trace and no log is kept when the program runs.
 #![tactic(auto)]
 
 mod engine;

@@ -1,6 +1,6 @@
 //! The promise of an engine, to whoever uses one.
 
-ghost use Rattle.std.specs.Prelude.{◌≡◌, ◌<◌, ◌≤◌, ◌^◌, ◌++◌, ◌∷◌, ℕ, List, [], length, map, true, IfOk, IfSome, IfNone, OnErr};
+ghost use Rattle.std.specs.Prelude.{◌≡◌, ◌<◌, ◌≤◌, ◌^◌, ◌++◌, ◌∷◌, ◌↔◌, ℕ, List, [], length, map, IsTrue, IfOk, IfSome, IfNone, OnErr};
 ghost use Rattle.std.specs.Global.{Vec};
 ghost use Rattle.std.specs.List.{AllByRecursion, sum_by};
 ghost use Rattle.sf_call.specs.declared.record.Record.{Record};
@@ -65,7 +65,8 @@ pub trait Sftp: Drop {
             × has_log self.new (log ++ entries) };
 
     /// Turns of the sessions whose calls are under way, at the moment 0, until no call is. None is
-    /// refused.
+    /// refused. Told is the number of rounds: in each, every session whose call is under way has one
+    /// turn.
     fn run_all(&mut self) -> u64
         ensures { (log : List LogEntry) → has_log self.old log → (entries : List LogEntry)
             × AllByRecursion IsStepAtZero entries × has_log self.new (log ++ entries)
@@ -73,8 +74,8 @@ pub trait Sftp: Drop {
 
     /// Whether a session waits for bytes.
     fn wants_bytes(&self, session: u64) -> bool
-        ensures { (log : List LogEntry) → has_log self.now log → result ≡ true
-            → WaitsForBytes log session };
+        ensures { (log : List LogEntry) → has_log self.now log
+            → IsTrue result ↔ WaitsForBytes log session };
 
     /// Two logs that engines have, of bytes, are the same where events, results and records are.
     ghost one_log: { (engine other : Self) (log log' : List LogEntry) → has_log engine log
@@ -169,7 +170,7 @@ pub fn apply_all<E: Sftp>(alloc: Global, events: &[Event]) -> Result<Outcome, Al
     let mut outputs = Vec::new(alloc);
     'sessions: for session in 0..sessions {
         let Some(output) = engine.output(session + 1) else {
-            return Err(AllocError);
+            unreachable!();
         };
         outputs.push(output.to_vec(alloc)?)?;
     }

@@ -30,9 +30,9 @@ pub record SessionView : Type 0 where
   pub waiting : Option ℕ
   pub ended : Option Cause
 
--- the bytes of the longest packet that refuses a call
-abbrev pub refusal_len : ℕ
-refusal_len = 34
+-- the room for its reply that a call has from its beginning, in bytes
+abbrev pub reply_room : ℕ
+reply_room = 1088
 
 abbrev pub new_session : SessionView
 new_session = record { unread = []; output = []; begun = false; waiting = None; ended = None }

@@ -1,12 +1,12 @@
 //! One session: the bytes of its packets to requests, replies to bytes.
 
-ghost use Rattle.std.specs.Prelude.{◌≡◌, ◌≢◌, ◌≤◌, ◌+◌, ◌++◌, ◌↔◌, IsTrue, [], length, drop, true, Err, Some, None, IsSome, IfSome, IfOk, OnOk, OnErr};
+ghost use Rattle.std.specs.Prelude.{◌≡◌, ◌≢◌, ◌≤◌, ◌+◌, ◌++◌, ◌↔◌, IsTrue, [], length, drop, true, Err, Some, None, IsSome, IfSome, IsOk, IfOk, OnOk, OnErr};
 ghost use Rattle.sf_wire.specs.declared.cutting.Cut.TheVariants.{More};
 ghost use Rattle.sf_wire.specs.Packets.{IsCut};
 ghost use Rattle.sf_reply.specs.Replies.{reply_body, version_body};
 ghost use Rattle.sf_field.specs.Fields.{packet};
 ghost use Rattle.sf_call.specs.ReplyKinds.{longest_packet};
-ghost use Rattle.sf_session.specs.Sessions.{Fronts, new_session, NextGives, refusal_of};
+ghost use Rattle.sf_session.specs.Sessions.{Fronts, new_session, NextGives, refusal_of, reply_room};
 
 use crate::asking::Ask;
 use crate::cause::Cause;
@@ -20,7 +20,7 @@ use std::marker::Model;
 use std::mem;
 use thiserror::Error;
 
-/// Room for the next replies, above that of the longest packet that refuses a call. The C library
+/// Room for the next replies: for one of a call under way it is there. The C library
 /// keeps small blocks for reuse, wherever they lie, and gives back larger ones.
 const REPLIES: usize = 1088;
 
@@ -63,7 +63,7 @@ pub struct Session {
 
 impl Model for Session {
     ghost use Rattle.std.specs.Prelude.{◌≢◌, ◌≤◌, None};
-    ghost use Rattle.sf_session.specs.Sessions.{SessionView, refusal_len};
+    ghost use Rattle.sf_session.specs.Sessions.{SessionView, reply_room};
 
     ghost Value = { SessionView };
 
@@ -75,7 +75,7 @@ impl Model for Session {
       ended = s.ended;
     } };
 
-    ghost invariant = { λ s. s.waiting ≢ None → refusal_len ≤ s.output.spare };
+    ghost invariant = { λ s. s.waiting ≢ None → reply_room ≤ s.output.spare };
 }
 
 impl Session {
@@ -245,7 +245,8 @@ impl Session {
         Ok(Next::Call(request))
     }
 
-    /// Appends the reply of the request that the session waits for: one packet.
+    /// Appends the reply of the request that the session waits for: one packet. Room for a short one
+    /// was reserved.
     #[inline(always)]
     pub fn answer(&mut self, answer: &Answer) -> Result<(), SessionFault>
         requires { IsSome self.old.waiting }
@@ -255,6 +256,8 @@ impl Session {
               waiting = None;
             })) }
         ensures err { OnErr result (self.new ≡ self.old) }
+        ensures enough { IfSome self.old.waiting (λ id.
+            length (packet (reply_body id answer.now.reply)) ≤ reply_room → IsOk result) }
         ensures fault { result ≢ Err SessionFault.Ended }
         ensures short { length self.new.output ≤ length self.old.output + longest_packet }
     {

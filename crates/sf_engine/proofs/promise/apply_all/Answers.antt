@@ -73,6 +73,11 @@ sessions-preserved g c =
       );
     }
 
+pub unreachable-requires : goal.unreachable-requires
+unreachable-requires g c =
+    let inv = c.sessions.invariant.log in
+    c.in_default.ensures.none inv.0 inv.2 (omega arith, omega (arith, inv.1.count, c.sessions-test.true))
+
 pub returns : goal.returns
 returns g c =
     let inv = c.sessions.invariant in

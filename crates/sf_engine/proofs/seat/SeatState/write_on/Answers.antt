@@ -2,6 +2,7 @@ use Rattle.std.proofs.Common.{Ok, refl, subst}
 use Rattle.sf_core.specs.Lanes.{LaneView}
 use Rattle.sf_engine.specs.declared.event.Happened.TheVariants as happened
 use Rattle.sf_engine.specs.Turns.{seated, stand, TurnsGive, finding}
+use Rattle.sf_engine.proofs.ReplyRooms.{is_long}
 use Rattle.sf_engine.proofs.Chains.{answered, lane_same, written_turn, unwritten_turn}
 use Rattle.sf_engine.proofs.seat.SeatState.write_on.Goals as goal
 
@@ -18,4 +19,4 @@ pub returns-in-Err : goal.returns-in-Err
 returns-in-Err c = λ lane is moment.
     let old = c.args in
     let same = lane_same old.self.now c.take_lane-lane.result lane c.take_lane-lane.ensures is in
-    (unwritten_turn (seated old.core.now old.session.now lane) old.answer (finding old.closed moment) c.answer-2.new.self c.take_lane-lane.result same c.in-Err.ensures.err, refl)
+    (unwritten_turn (seated old.core.now old.session.now lane) old.answer (finding old.closed moment) c.answer-2.new.self c.take_lane-lane.result same c.in-Err.ensures.err (is_long old.session.now.waiting old.answer.reply (c.requires.placed lane is).2 c.in-Err.ensures.enough), refl)
