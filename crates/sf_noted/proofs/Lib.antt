@@ -1,0 +1,6 @@
+pub mod Lists
+pub mod Records
+pub mod Lanes
+pub mod Keeping
+pub mod Agreeing
+pub mod Laws

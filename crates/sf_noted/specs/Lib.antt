@@ -1,0 +1,4 @@
+pub mod Pages
+pub mod PageChanges
+pub mod Noted
+pub mod Visits
