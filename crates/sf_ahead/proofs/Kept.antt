@@ -1,6 +1,6 @@
 -- What a line gives where nothing was read ahead, and what stays as it was.
 use Rattle.std.proofs.Common.{◌≡◌, ℕ, List, [], Option, None, Some, sym, ap, refl, subst, ◌∙◌}
-use Rattle.std.specs.Io.KnownBytes.{Keeps, Consumes, IsAtEnd, prepend_known}
+use Rattle.std.specs.Io.KnownBytes.{Keeps, Appends, Consumes, IsAtEnd, prepend_known, append_known}
 use Rattle.std.proofs.KnownBytes.{Keeps-refl, prepend_known-nil}
 
 pub same_keeps : (a b : Option (List ℕ)) → b ≡ a → Keeps a b
@@ -18,3 +18,10 @@ read_alone a b bs o p none none' e =
 
 pub end_alone : (a : List ℕ) (o : Option (List ℕ)) → a ≡ [] → IsAtEnd o → IsAtEnd (prepend_known a o)
 end_alone a o none end = subst (λ (x : Option (List ℕ)). IsAtEnd x) (sym (ap (λ (x : List ℕ). prepend_known x o) none ∙ prepend_known-nil o)) end
+
+grown : (o : Option (List ℕ)) (bs : List ℕ) → Appends o (append_known o bs) bs
+grown None bs = tt
+grown (Some xs) bs = refl
+
+pub grown_appends : (o p : Option (List ℕ)) (bs : List ℕ) → p ≡ append_known o bs → Appends o p bs
+grown_appends o p bs e = subst (λ (x : Option (List ℕ)). Appends o x bs) (sym e) (grown o bs)

@@ -212,6 +212,38 @@ impl<D: Duplex> AheadLine<D> {
     }
 }
 
+impl<D: Duplex> AheadLine<D> {
+    ghost use Rattle.std.specs.Io.KnownBytes.{append_known};
+    ghost use Rattle.sf_ahead.specs.Ahead.{below_of, ahead_of, failures_of};
+
+    /// As `write` of `Line`, and what lies below tells no bytes of which it told none.
+    pub fn send(&mut self, bytes: &[u8]) -> Result<usize, LineFault>
+        ensures within { IfOk result (λ n. n ≤ length bytes.now) }
+        ensures some { 0 < length bytes.now → IfOk result (λ n. 0 < n) }
+        ensures added { IfOk result (λ n. D.outgoing (below_of self.new)
+            ≡ append_known (D.outgoing (below_of self.old)) (take n bytes.now)) }
+        ensures err { OnErr result (
+            D.outgoing (below_of self.new) ≡ D.outgoing (below_of self.old)) }
+        ensures incoming { prepend_known (ahead_of self.new) (D.incoming (below_of self.new))
+            ≡ prepend_known (ahead_of self.old) (D.incoming (below_of self.old)) }
+        ensures failures { failures_of self.old ≤ failures_of self.new }
+        ensures fault { OnErr result (Rose (failures_of self.old) (failures_of self.new)) }
+    {
+        for _ in 0..u64::MAX {
+            let Ok(wrote) = self.below.try_write(bytes) else {
+                return Err(self.fail());
+            };
+            if let Some(n) = wrote {
+                return Ok(n);
+            }
+            if self.wait().is_err() {
+                return Err(self.fail());
+            }
+        }
+        Err(self.fail())
+    }
+}
+
 impl<D: Duplex> Line for AheadLine<D> {
     ghost use Rattle.std.specs.Prelude.{None};
     ghost use Rattle.std.specs.Io.KnownBytes.{prepend_known};
@@ -239,19 +271,9 @@ impl<D: Duplex> Line for AheadLine<D> {
         }
     }
 
+    #[tactic(auto, using(crate::proofs::Kept::same_keeps, crate::proofs::Kept::grown_appends))]
     fn write(&mut self, bytes: &[u8]) -> Result<usize, LineFault> {
-        for _ in 0..u64::MAX {
-            let Ok(wrote) = self.below.try_write(bytes) else {
-                return Err(self.fail());
-            };
-            if let Some(n) = wrote {
-                return Ok(n);
-            }
-            if self.wait().is_err() {
-                return Err(self.fail());
-            }
-        }
-        Err(self.fail())
+        self.send(bytes)
     }
 
     fn failures(&self) -> u64 {

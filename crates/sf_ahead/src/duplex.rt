@@ -1,7 +1,7 @@
 //! What has two halves, one to read and one to write.
 
 ghost use Rattle.std.specs.Prelude.{◌≡◌, ◌≢◌, ℕ, ◌<◌, ◌≤◌, List, length, take, Option, Some, Ok, IsTrue, IfOk, OnErr, IfSome, IfNone};
-ghost use Rattle.std.specs.Io.KnownBytes.{Appends, IsAtEnd, prepend_known};
+ghost use Rattle.std.specs.Io.KnownBytes.{IsAtEnd, prepend_known, append_known};
 
 use sf_line::LineFault;
 
@@ -41,7 +41,7 @@ pub trait Duplex {
         ensures within { IfOk result (λ wrote. IfSome wrote (λ n. n ≤ length bytes.now)) }
         ensures some { 0 < length bytes.now → IfOk result (λ wrote. IfSome wrote (λ n. 0 < n)) }
         ensures added { IfOk result (λ wrote. IfSome wrote (λ n.
-            Appends (outgoing self.old) (outgoing self.new) (take n bytes.now))) }
+            outgoing self.new ≡ append_known (outgoing self.old) (take n bytes.now))) }
         ensures waits { IfOk result (λ wrote. IfNone wrote
             (outgoing self.new ≡ outgoing self.old)) }
         ensures err { OnErr result (outgoing self.new ≡ outgoing self.old) }

@@ -1,7 +1,7 @@
 use Rattle.std.proofs.Common.{◌≡◌}
 use Rattle.std.specs.Io.KnownBytes.{prepend_known}
 use Rattle.sf_ahead.specs.Ahead.{below_of, ahead_of, failures_of}
-use Rattle.sf_ahead.proofs.ahead_line.AheadLineLine.write.Given as goal
+use Rattle.sf_ahead.proofs.ahead_line.AheadLine.send.Given as goal
 
 -- while it waits nothing is written, and no byte to come is lost
 abbrev pub invariant-loop : goal.invariant-loop
