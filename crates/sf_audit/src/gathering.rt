@@ -71,6 +71,22 @@ fn recorded(core: &Core, calls: u64) -> u64
     core.folded() + kept as u64
 }
 
+impl Totals {
+    /// The calls of a core.
+    pub fn of(core: &Core) -> Totals
+        ensures recorded { (h : List Record) → IsHistory core.now h
+            → result.recorded ≡ count_by is_call h }
+        ensures total { result.recorded + result.under_way ≡ core.now.drawn }
+    {
+        let calls = core.calls();
+        let recorded = recorded(core, calls);
+        Totals {
+            recorded,
+            under_way: calls - recorded,
+        }
+    }
+}
+
 /// The calls of a core, if the shares are all of them.
 pub fn gather(core: Core, shares: Vec<Share>) -> Result<Totals, GatherFault>
     ensures ok { IsOk result ↔ (sum shares.items ≡ core.drawn) }
@@ -78,13 +94,8 @@ pub fn gather(core: Core, shares: Vec<Share>) -> Result<Totals, GatherFault>
         → totals.recorded ≡ count_by is_call h) }
     ensures total { IfOk result (λ totals. totals.recorded + totals.under_way ≡ core.drawn) }
 {
-    let calls = core.calls();
-    if !are_all(calls, shares.as_slice()) {
+    if !are_all(core.calls(), shares.as_slice()) {
         return Err(GatherFault::NotAll);
     }
-    let recorded = recorded(&core, calls);
-    Ok(Totals {
-        recorded,
-        under_way: calls - recorded,
-    })
+    Ok(Totals::of(&core))
 }

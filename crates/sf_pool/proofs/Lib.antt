@@ -1,4 +1,5 @@
 pub mod Calls
+pub mod Laws
 pub mod Leaving
-pub mod Noted
+pub mod Staying
 pub mod Talking

@@ -31,9 +31,10 @@ use Rattle.sf_pool.specs.declared.calling.Stop.TheVariants as stop
 use Rattle.sf_pool.specs.declared.desk.Begin.{Begin}
 use Rattle.sf_pool.specs.declared.at_desk.Standing.{Standing}
 use Rattle.sf_pool.specs.declared.at_desk.Standing.TheVariants as standing
-use Rattle.sf_pool.specs.Desks.{IsResting, DeskView, Notes, counted}
+use Rattle.sf_noted.specs.Pages.Presence.{Resting}
+use Rattle.sf_pool.specs.Desks.{DeskState, Joined, IsResting, DeskView, Notes, share_of}
 use Rattle.sf_pool.specs.Scenes.{DeskScene, desk_scene, desk_held, response_calls, phase_calls, state_calls, Attempt, attempt_of, answer_attempts, phase_attempts, attempts_told, BeginsCalls}
-use Rattle.sf_pool.specs.AtDesks.{standing_fault, MakesCall, talk, begun_by, FailsCall, IsCounted, share_of, IsToldAt, IsInCall, standing_after, stop_fault}
+use Rattle.sf_pool.specs.AtDesks.{standing_fault, MakesCall, talk, FailsCall, IsCounted, IsToldAt, IsInCall, standing_after, stop_fault}
 
 -- ---- lists
 
@@ -70,37 +71,40 @@ rest_attempts t at = ap (λ (f : Phase). flat_map answer_attempts t.answers ++ p
 
 -- ---- it joins
 
-pub told_new : {start : DeskScene} {d : DeskView} {b : Option (List Begin)} {at : Standing} {v : SessionView} → b ≡ start.begins → d.calls ≡ start.desk.calls → d.begun ≡ 0 → v ≡ new_session → at ≡ standing.Joined → IsToldAt start at v (desk_scene d b start.told) new_state
-told_new {start = start} {d = d} {b = b} {v = v} none same zero new joins = subst (λ (s : Standing). IsToldAt start s v (desk_scene d b start.told) new_state) (sym joins) (record {
+pub told_new : {start : DeskScene} {d : DeskView} {b : Option (List Begin)} {at : Standing} {v : SessionView} (session : ℕ) → b ≡ start.begins → d ≡ record start.desk { session = session; place = Joined Resting; calls = [] } → v ≡ new_session → at ≡ standing.Joined
+    → IsToldAt start at v (desk_scene d b start.told) new_state
+told_new {start = start} {d = d} {b = b} {v = v} session none joins new at = subst (λ (s : Standing). IsToldAt start s v (desk_scene d b start.told) new_state) (sym at) (record {
   notes = record {
-    noted = subst (λ (c : Option (List CallRecord)). Notes start.desk.calls c []) (sym same) (notes_none start.desk.calls);
+    noted = ap (λ (x : DeskView). x.calls) joins;
+    keeps = ap (λ (x : DeskView). x.keeps) joins;
     asked = subst (λ (x : Option (List Begin)). BeginsCalls start.told start.told start.begins x []) (sym none) (begins_none start.told start.begins);
   };
   stands = λ at. record { unread = ap (λ (x : SessionView). x.unread) new; begun = ap (λ (x : SessionView). x.begun) new; ended = ap (λ (x : SessionView). x.ended) new };
   waits = none_written ∙ sym (ap (λ (x : SessionView). x.output) new);
-  counts = zero;
+  counts = tt;
 })
 
 -- ---- it is fed, and told what was sent
 
--- what a desk counts of a session is the same where the same calls were told
-counts_same : (at : Standing) (d : DeskView) (t t' : SessionState) → state_calls t' ≡ state_calls t → (IsInCall t.phase → IsInCall t'.phase) → IsCounted at d t → IsCounted at d t'
-counts_same standing.UnderWay d t t' same to h = to h
-counts_same standing.Strange d t t' same to h = tt
-counts_same at d t t' same to h = h ∙ ap (λ (l : List CallRecord). share_of (length l)) (sym same)
+-- what is counted of a session is the same where the same calls were told
+counts_same : (at : Standing) (t t' : SessionState) → state_calls t' ≡ state_calls t → (IsInCall t.phase → IsInCall t'.phase) → IsCounted at t → IsCounted at t'
+counts_same standing.Joined t t' same to h = tt
+counts_same standing.Unanswered t t' same to h = tt
+counts_same standing.UnderWay t t' same to h = to h
+counts_same (standing.Left share) t t' same to h = h ∙ ap (λ (l : List CallRecord). share_of (length l)) (sym same)
 
 pub told_fed : {start now : DeskScene} {at : Standing} {v w : SessionView} {t : SessionState} (bytes : List ℕ) → IsToldAt start at v now t → IsOpen t → w ≡ record v { unread = v.unread ++ bytes } → IsToldAt start at w now (fed t bytes)
-told_fed {now = now} {at = at} {t = t} bytes h is_open is =
+told_fed {at = at} {t = t} bytes h is_open is =
     let s = h.stands is_open.rests in
     record {
-      notes = record { noted = h.notes.noted; asked = h.notes.asked };
+      notes = record { noted = h.notes.noted; keeps = h.notes.keeps; asked = h.notes.asked };
       stands = λ rests. record {
         unread = ap (λ (x : SessionView). x.unread) is ∙ ap (λ (b : List ℕ). b ++ bytes) s.unread;
         begun = ap (λ (x : SessionView). x.begun) is ∙ s.begun;
         ended = ap (λ (x : SessionView). x.ended) is ∙ s.ended;
       };
       waits = h.waits ∙ ap (λ (x : SessionView). t.sent ++ x.output) (sym is);
-      counts = counts_same at now.desk t (fed t bytes) refl (λ i. i) h.counts;
+      counts = counts_same at t (fed t bytes) refl (λ i. i) h.counts;
     }
 
 drop_whole : (xs : List ℕ) → drop (length xs) xs ≡ []
@@ -108,15 +112,15 @@ drop_whole [] = refl
 drop_whole (x ∷ xs) = drop_whole xs
 
 pub told_sent : {start now : DeskScene} {at : Standing} {v w : SessionView} {t : SessionState} {n : ℕ} → IsToldAt start at v now t → n ≡ length v.output → w ≡ record v { output = drop n v.output } → IsToldAt start at w now (with_sent t)
-told_sent {now = now} {at = at} {v = v} {w = w} {t = t} h count is =
+told_sent {at = at} {v = v} {w = w} {t = t} h count is =
     let none : w.output ≡ [] = ap (λ (x : SessionView). x.output) is ∙ ap (λ (k : ℕ). drop k v.output) count ∙ drop_whole v.output in
     record {
-      notes = record { noted = h.notes.noted; asked = h.notes.asked };
+      notes = record { noted = h.notes.noted; keeps = h.notes.keeps; asked = h.notes.asked };
       stands = λ rests.
           let s = h.stands rests in
           record { unread = ap (λ (x : SessionView). x.unread) is ∙ s.unread; begun = ap (λ (x : SessionView). x.begun) is ∙ s.begun; ended = ap (λ (x : SessionView). x.ended) is ∙ s.ended };
       waits = sym (append-nil (transcript t.answers)) ∙ ap (λ (b : List ℕ). transcript t.answers ++ b) (sym none);
-      counts = counts_same at now.desk t (with_sent t) refl (λ i. i) h.counts;
+      counts = counts_same at t (with_sent t) refl (λ i. i) h.counts;
     }
 
 -- a desk that rests is where it was
@@ -143,20 +147,20 @@ never_rests t AtRest at e = cc
 never_rests t f at e = let no : f ≡ AtRest = sym at ∙ e in cc
 
 -- it stands otherwise, or as it did
-pub told_ended : {start : DeskScene} {at at' : Standing} {v : SessionView} {d d' : DeskView} {b b' : Option (List Begin)} {tl : Option (List ℕ)} {t : SessionState} → IsToldAt start at v (desk_scene d b tl) t → d'.calls ≡ d.calls → b' ≡ b
-    → (IsCounted at d t → IsCounted at' d' t) → IsToldAt start at' v (desk_scene d' b' tl) (ended t)
-told_ended {start = start} {at' = at'} {v = v} {d' = d'} {b' = b'} {tl = tl} {t = t} h calls begins count =
+pub told_ended : {start : DeskScene} {at at' : Standing} {v : SessionView} {d d' : DeskView} {b b' : Option (List Begin)} {tl : Option (List ℕ)} {t : SessionState} → IsToldAt start at v (desk_scene d b tl) t → d'.calls ≡ d.calls → d'.keeps ≡ d.keeps → b' ≡ b
+    → (d.calls ≡ state_calls t → IsCounted at t → IsCounted at' t) → IsToldAt start at' v (desk_scene d' b' tl) (ended t)
+told_ended {start = start} {at' = at'} {v = v} {b' = b'} {tl = tl} {t = t} h calls keeps begins count =
     let same = ended_same t in
-    let noted : Notes start.desk.calls d'.calls (state_calls t) = subst (λ (c : Option (List CallRecord)). Notes start.desk.calls c (state_calls t)) (sym calls) h.notes.noted in
     let asked : BeginsCalls start.told tl start.begins b' (attempts_told t) = subst (λ (x : Option (List Begin)). BeginsCalls start.told tl start.begins x (attempts_told t)) (sym begins) h.notes.asked in
     record {
       notes = record {
-        noted = subst (λ (l : List CallRecord). Notes start.desk.calls d'.calls l) (sym (closed_deeds t t.phase refl)) noted;
+        noted = calls ∙ h.notes.noted ∙ sym (closed_deeds t t.phase refl);
+        keeps = keeps ∙ h.notes.keeps;
         asked = subst (λ (l : List Attempt). BeginsCalls start.told tl start.begins b' l) (sym (closed_attempts t t.phase refl)) asked;
       };
       stands = λ rests. absurd (never_rests t t.phase refl rests);
       waits = ap transcript same.answers ∙ h.waits ∙ ap (λ (b : List ℕ). b ++ v.output) (sym same.sent);
-      counts = counts_same at' d' t (ended t) (closed_deeds t t.phase refl) (closed_in_call t t.phase refl) (count h.counts);
+      counts = counts_same at' t (ended t) (closed_deeds t t.phase refl) (closed_in_call t t.phase refl) (count h.notes.noted h.counts);
     }
 
 -- ---- it goes on
@@ -215,12 +219,13 @@ goes_ended {start = start} {now = now} {v = v} {w = w} {cause = cause} {t = t} g
       ended_by t cause,
       record {
         notes = record {
-          noted = subst (λ (l : List CallRecord). Notes start.desk.calls now.desk.calls l) (sym deeds) h.notes.noted;
+          noted = h.notes.noted ∙ sym deeds;
+          keeps = h.notes.keeps;
           asked = subst (λ (l : List Attempt). BeginsCalls start.told now.told start.begins now.begins l) (sym attempts) h.notes.asked;
         };
         stands = λ rests. absurd (let no : Left cause ≡ AtRest = rests in cc);
         waits = h.waits ∙ ap (λ (b : List ℕ). t.sent ++ b) (sym (ends_output v w cause gives));
-        counts = h.counts ∙ ap (λ (l : List CallRecord). share_of (length l)) (sym deeds);
+        counts = tt;
       },
       record {
         stream = refl;
@@ -266,7 +271,8 @@ record Body (t : SessionState) (asked : Ask) : Type 0 where
 record Noted (now now' : DeskScene) (asked : Ask) (more : List Response) (f : Phase) : Type 0 where
   asks : map ask_behind more ++ pending f ≡ asked ∷ []
   left : (begun : Bool) (bytes : List ℕ) → IsRest begun f bytes bytes
-  noted : Notes now.desk.calls now'.desk.calls (flat_map response_calls more ++ phase_calls f)
+  noted : now'.desk.calls ≡ now.desk.calls ++ (flat_map response_calls more ++ phase_calls f)
+  keeps : now'.desk.keeps ≡ now.desk.keeps
   begins : BeginsCalls now.told now'.told now.begins now'.begins (flat_map answer_attempts more ++ phase_attempts f)
 
 abbrev after_body : SessionState → List ℕ → List ℕ → List Response → Phase → SessionState
@@ -274,9 +280,7 @@ after_body t body rest more f = record t { unread = rest; bodies = t.bodies ++ b
 
 -- a body more was read
 goes_body : {start now now' : DeskScene} {at : Standing} {v w : SessionView} {t : SessionState} {asked : Ask} {more : List Response} {f : Phase} (r : Result Went ServeFault) → MayGo start now v t → (b : Body t asked) → Noted now now' asked more f
-    → w ≡ record w { unread = b.rest; output = v.output ++ transcript more; begun = true; ended = None } → IsBatch desk_held more
-    → ((k : ℕ) → now.desk.begun ≡ share_of k → length (state_calls (after_body t b.body b.rest more f)) ≡ k + length (flat_map response_calls more ++ phase_calls f) → IsCounted at now'.desk (after_body t b.body b.rest more f))
-    → WentTo r t (after_body t b.body b.rest more f) → Goes start at w now' r t
+    → w ≡ record w { unread = b.rest; output = v.output ++ transcript more; begun = true; ended = None } → IsBatch desk_held more → IsCounted at (after_body t b.body b.rest more f) → WentTo r t (after_body t b.body b.rest more f) → Goes start at w now' r t
 goes_body {start = start} {now = now} {now' = now'} {v = v} {t = t} {asked = asked} {more = more} {f = f} r go b n shows batch counts to =
     let h = go.told in
     let rests = go.is_open.rests in
@@ -291,19 +295,18 @@ goes_body {start = start} {now = now} {now' = now'} {v = v} {t = t} {asked = ask
     ap (λ (l : List Ask). map ask_behind t.answers ++ l) (sym n.asks) ∙ sym (append_assoc (map ask_behind t.answers) (map ask_behind more) (pending f)) ∙ ap (λ (l : List Ask). l ++ pending f) (sym (map-append ask_behind t.answers more)) in
     let are_asked : AreAsked false t'.bodies (map ask_behind t.answers ++ asked ∷ []) =
     asked_push false t.bodies (map ask_behind t.answers) b.body asked (rest_asked t rests go.read) (subst (λ (x : Bool). AsksFor x b.body asked) (begun_is t.bodies) b.asks) in
-    let noted : Notes start.desk.calls now.desk.calls calls = subst (λ (l : List CallRecord). Notes start.desk.calls now.desk.calls l) (rest_deeds t rests) h.notes.noted in
-    let begun : BeginsCalls start.told now.told start.begins now.begins attempts = subst (λ (l : List Attempt). BeginsCalls start.told now.told start.begins now.begins l) (rest_attempts t rests) h.notes.asked in
-    let sum : length (state_calls t') ≡ length calls + length (flat_map response_calls more ++ phase_calls f) = ap (λ (l : List CallRecord). length l) (sym same_calls) ∙ length-append calls (flat_map response_calls more ++ phase_calls f) in (
+    let begun : BeginsCalls start.told now.told start.begins now.begins attempts = subst (λ (l : List Attempt). BeginsCalls start.told now.told start.begins now.begins l) (rest_attempts t rests) h.notes.asked in (
       t',
       record {
         notes = record {
-          noted = subst (λ (l : List CallRecord). Notes start.desk.calls now'.desk.calls l) same_calls (notes_more start.desk.calls now.desk.calls now'.desk.calls calls (flat_map response_calls more ++ phase_calls f) noted n.noted);
+          noted = n.noted ∙ ap (λ (l : List CallRecord). l ++ (flat_map response_calls more ++ phase_calls f)) (h.notes.noted ∙ rest_deeds t rests) ∙ same_calls;
+          keeps = n.keeps ∙ h.notes.keeps;
           asked = subst (λ (l : List Attempt). BeginsCalls start.told now'.told start.begins now'.begins l) same_attempts
               (begins_more start now now' begun n.begins);
         };
         stands = λ e. record { unread = ap (λ (x : SessionView). x.unread) shows; begun = ap (λ (x : SessionView). x.begun) shows ∙ sym (begun_push t.bodies b.body); ended = ap (λ (x : SessionView). x.ended) shows };
         waits = transcript_append t.answers more ∙ ap (λ (x : List ℕ). x ++ transcript more) h.waits ∙ append_assoc t.sent v.output (transcript more) ∙ ap (λ (x : SessionView). t.sent ++ x.output) (sym shows);
-        counts = counts (length calls) (h.counts ∙ ap (λ (l : List CallRecord). share_of (length l)) (rest_deeds t rests)) sum;
+        counts = counts;
       },
       record {
         stream = refl;
@@ -322,40 +325,29 @@ goes_body {start = start} {now = now} {now' = now'} {v = v} {t = t} {asked = ask
       to,
     )
 
-counted_more : (k n : ℕ) → n ≡ share_of k → counted n ≡ share_of (k + 1)
-counted_more k n e = omega (arith, e)
-
--- one call more was counted where one was answered
-begun_more : (a : Response) (n k : ℕ) → n ≡ share_of k → begun_by a n ≡ share_of (k + length (response_calls a))
-begun_more (ByCall id number request reply) n k e = counted_more k n e
-begun_more a n k e = omega (arith, e)
-
 one_longer : {A : Type 0} (xs : List A) (x : A) → length xs < length (xs ++ x ∷ [])
 one_longer xs x = omega (arith, length-append xs (x ∷ []))
 
 -- a body asked for this, and was answered so: its output follows
 goes_answered : {start now now' : DeskScene} {v w : SessionView} {t : SessionState} (a : Response) → MayGo start now v t → (b : Body t (ask_behind a)) → w ≡ record w { unread = b.rest; output = v.output ++ packet_for a; begun = true; ended = None }
-    → Notes now.desk.calls now'.desk.calls (response_calls a) → BeginsCalls now.told now'.told now.begins now'.begins (answer_attempts a) → now'.desk.begun ≡ begun_by a now.desk.begun → HasShortPacket a → Goes start standing.Joined w now' (Ok went.Answered) t
-goes_answered {now = now} {now' = now'} {v = v} {w = w} {t = t} a go b shows notes begins count short =
-    let t' = after_body t b.body b.rest (a ∷ []) AtRest in
+    → now'.desk.calls ≡ now.desk.calls ++ response_calls a → now'.desk.keeps ≡ now.desk.keeps → BeginsCalls now.told now'.told now.begins now'.begins (answer_attempts a) → HasShortPacket a → Goes start standing.Joined w now' (Ok went.Answered) t
+goes_answered {now = now} {now' = now'} {v = v} {w = w} {t = t} a go b shows notes keeps begins short =
     let calls : response_calls a ≡ flat_map response_calls (a ∷ []) ++ [] = sym (append-nil (flat_map response_calls (a ∷ [])) ∙ append-nil (response_calls a)) in
     let attempts : answer_attempts a ≡ flat_map answer_attempts (a ∷ []) ++ [] = sym (append-nil (flat_map answer_attempts (a ∷ [])) ∙ append-nil (answer_attempts a)) in
     let n : Noted now now' (ask_behind a) (a ∷ []) AtRest = record {
       asks = refl;
       left = λ begun bytes. refl;
-      noted = subst (λ (l : List CallRecord). Notes now.desk.calls now'.desk.calls l) calls notes;
+      noted = notes ∙ ap (λ (l : List CallRecord). now.desk.calls ++ l) calls;
+      keeps = keeps;
       begins = subst (λ (l : List Attempt). BeginsCalls now.told now'.told now.begins now'.begins l) attempts begins;
     } in
     goes_body (Ok went.Answered) go b n (subst (λ (x : List ℕ). w ≡ record w { unread = b.rest; output = v.output ++ x; begun = true; ended = None }) (sym (one_packet a)) shows)
-    (batch_one a short)
-    (λ k begun sum. count ∙ begun_more a now.desk.begun k begun ∙ ap share_of (ap (λ (l : List CallRecord). k + length l) calls ∙ sym sum))
-    (record { rests = refl; closed = go.is_open.closed }, one_longer t.answers a)
+    (batch_one a short) tt (record { rests = refl; closed = go.is_open.closed }, one_longer t.answers a)
 
 -- what answers a body with no call
-local_at : (asked : Ask) (text : List ℕ) → LocalPacket asked text
-    → (a : Response) × (ask_behind a ≡ asked) × (packet_for a ≡ text) × (answer_attempts a ≡ []) × (response_calls a ≡ []) × ((n : ℕ) → begun_by a n ≡ n)
-local_at ask.Version text h = (Version, refl, sym h, refl, refl, λ n. refl)
-local_at (ask.Local id reply) text h = (Locally id reply, refl, sym h, refl, refl, λ n. refl)
+local_at : (asked : Ask) (text : List ℕ) → LocalPacket asked text → (a : Response) × (ask_behind a ≡ asked) × (packet_for a ≡ text) × (answer_attempts a ≡ []) × (response_calls a ≡ [])
+local_at ask.Version text h = (Version, refl, sym h, refl, refl)
+local_at (ask.Local id reply) text h = (Locally id reply, refl, sym h, refl, refl)
 local_at (ask.Call id request) text h = absurd h
 local_at (ask.End cause) text h = absurd h
 
@@ -372,8 +364,8 @@ goes_local {now = now} {v = v} {w = w} go gives little =
     let b = body_at go g.begins (subst (λ (x : Ask). AsksFor v.begun g.body x) (sym a.1) g.asks) in
     let out : w ≡ record { unread = g.rest; output = v.output ++ packet_for a.0; begun = true; waiting = None; ended = None } =
     g.now ∙ ap (λ (x : List ℕ). record { unread = g.rest; output = v.output ++ x; begun = true; waiting = None; ended = None }) (sym a.2) in
-    goes_answered a.0 go b (shown w g.rest (v.output ++ packet_for a.0) None out) (subst (λ (l : List CallRecord). Notes now.desk.calls now.desk.calls l) (sym a.4) (notes_none now.desk.calls))
-    (subst (λ (l : List Attempt). BeginsCalls now.told now.told now.begins now.begins l) (sym a.3) (begins_none now.told now.begins)) (sym (a.5 now.desk.begun))
+    goes_answered a.0 go b (shown w g.rest (v.output ++ packet_for a.0) None out) (sym (append-nil now.desk.calls) ∙ ap (λ (l : List CallRecord). now.desk.calls ++ l) (sym a.4)) refl
+    (subst (λ (l : List Attempt). BeginsCalls now.told now.told now.begins now.begins l) (sym a.3) (begins_none now.told now.begins))
     (omega (arith, little, ap (λ (x : SessionView). length x.output) out, length-append v.output (packet_for a.0)))
 
 -- a packet's call was made, or refused
@@ -383,38 +375,37 @@ goes_called {now = now} {now' = now'} {v = v} {w = w} {request = request} go giv
     let g = gives.1 in
     let a = subst (λ (x : SessionView). MakesCall request (BeginsCalls now.told now'.told now.begins now'.begins) (talk now.desk x) (talk now'.desk w)) g.now made in
     let b = body_at go g.begins (subst (λ (x : Ask). AsksFor v.begun g.body x) (sym a.1) g.asks) in
-    goes_answered a.0 go b (shown w g.rest (v.output ++ packet_for a.0) None a.2) a.4 a.5 a.6 a.7
+    goes_answered a.0 go b (shown w g.rest (v.output ++ packet_for a.0) None a.2) (ap (λ (x : DeskView). x.calls) a.3) (ap (λ (x : DeskView). x.keeps) a.3) a.4 a.5
 
-pub called_ready : (Asked : List Attempt → Type 0) (d d' : DeskView) (v m w : SessionView) (request : Request) → NextGives v (next.Call request) m → MakesCall request Asked (talk d m) (talk d' w) → IsResting d'.place × (w.waiting ≡ None)
-called_ready Asked d d' v m w request gives made =
+pub called_ready : (Asked : List Attempt → Type 0) (d d' : DeskView) (v m w : SessionView) (request : Request) → IsResting d.place → NextGives v (next.Call request) m → MakesCall request Asked (talk d m) (talk d' w) → IsResting d'.place × (w.waiting ≡ None)
+called_ready Asked d d' v m w request rests gives made =
     let a = subst (λ (x : SessionView). MakesCall request Asked (talk d x) (talk d' w)) gives.1.now made in
-    (a.3, ap (λ (x : SessionView). x.waiting) a.2)
+    (ap (λ (x : DeskView). x.place) a.3 ∙ rests, ap (λ (x : SessionView). x.waiting) a.2)
 
 -- ---- a packet's call has no reply
 
 -- what its phase tells of its moment and its moves is of no account
 goes_pended : {start now now' : DeskScene} {at : Standing} {v m w : SessionView} {request : Request} {t : SessionState} {f : Phase} (g : ServeFault) → MayGo start now v t → (gives : NextGives v (next.Call request) m) → w ≡ m → Noted now now' (ask.Call gives.1.id request) [] f
-    → ((k : ℕ) (t' : SessionState) → now.desk.begun ≡ share_of k → t'.phase ≡ f → length (state_calls t') ≡ k + length (phase_calls f) → IsCounted at now'.desk t') → Goes start at w now' (Err g) t
+    → ((t' : SessionState) → t'.phase ≡ f → IsCounted at t') → Goes start at w now' (Err g) t
 goes_pended {v = v} {w = w} {t = t} {f = f} g go gives same n counts =
     let x = gives.1 in
     let b = body_at go x.begins x.asks in
     let out : v.output ≡ v.output ++ transcript [] = sym (ap (λ (l : List ℕ). v.output ++ l) none_written ∙ append-nil v.output) in
     let is : w ≡ record { unread = x.rest; output = v.output ++ transcript []; begun = true; waiting = Some x.id; ended = None } =
     same ∙ x.now ∙ ap (λ (l : List ℕ). record { unread = x.rest; output = l; begun = true; waiting = Some x.id; ended = None }) out in
-    goes_body (Err g) go b n (shown w x.rest (v.output ++ transcript []) (Some x.id) is) batch_none (λ k begun sum. counts k (after_body t x.body x.rest [] f) begun refl sum) tt
+    goes_body (Err g) go b n (shown w x.rest (v.output ++ transcript []) (Some x.id) is) batch_none (counts (after_body t x.body x.rest [] f) refl) tt
 
 pub goes_stopped : {start now now' : DeskScene} {v m w : SessionView} {request : Request} {t : SessionState} (why : Stop) → MayGo start now v t → NextGives v (next.Call request) m → w ≡ m → FailsCall request why (BeginsCalls now.told now'.told now.begins now'.begins) now.desk now'.desk
     → Goes start (standing_after why) w now' (Err (stop_fault why)) t
-goes_stopped {now = now} {request = request} stop.OutOfMemory go gives same fails =
-    goes_pended {f = Decided gives.1.id fails.0 request fails.1.0} (stop_fault stop.OutOfMemory) go gives same (record { asks = refl; left = λ begun bytes. refl; noted = fails.1.2; begins = fails.2 })
-    (λ k t' n phase e. fails.1.3 ∙ counted_more k now.desk.begun n ∙ ap share_of (sym e))
-goes_stopped {now = now} {request = request} stop.Stranger go gives same fails =
-    goes_pended {f = InCall gives.1.id fails.0 0 request 0} (stop_fault stop.Stranger) go gives same
-    (record { asks = refl; left = λ begun bytes. refl; noted = subst (λ (x : Option (List CallRecord)). Notes now.desk.calls x []) (sym fails.1.1) (notes_none now.desk.calls); begins = fails.2 }) (λ k t' n phase e. tt)
+goes_stopped {request = request} stop.OutOfMemory go gives same fails =
+    let is = fails.1.1 in
+    goes_pended {f = Decided gives.1.id fails.0 request fails.1.0} (stop_fault stop.OutOfMemory) go gives same
+    (record { asks = refl; left = λ begun bytes. refl; noted = ap (λ (x : DeskView). x.calls) is; keeps = ap (λ (x : DeskView). x.keeps) is; begins = fails.2 }) (λ t' phase. tt)
 goes_stopped {now = now} {request = request} stop.UnderWay go gives same fails =
+    let is = fails.1.1 in
     goes_pended {f = InCall gives.1.id fails.0 0 request 0} (stop_fault stop.UnderWay) go gives same
-    (record { asks = refl; left = λ begun bytes. refl; noted = subst (λ (x : Option (List CallRecord)). Notes now.desk.calls x []) (sym fails.1.1) (notes_none now.desk.calls); begins = fails.2 })
-    (λ k t' n phase e. subst (λ (f : Phase). IsInCall f) (sym phase) tt)
+    (record { asks = refl; left = λ begun bytes. refl; noted = ap (λ (x : DeskView). x.calls) is ∙ sym (append-nil now.desk.calls); keeps = ap (λ (x : DeskView). x.keeps) is; begins = fails.2 })
+    (λ t' phase. subst (λ (f : Phase). IsInCall f) (sym phase) tt)
 
 -- ---- a host goes on only where it has joined
 

@@ -1,45 +1,61 @@
--- What the events of a session's stay do to its core.
-use Rattle.std.specs.Prelude.{◌≡◌, ◌⊎◌, ◌++◌, ℕ, true, false, List, Option, Some, None}
+-- What the events of a session's stay do to its core, and what the stay comes to.
+use Rattle.std.specs.Prelude.{◌≡◌, ◌⊎◌, ◌+◌, ℕ, true, false, length, Option, Some, None}
 use Rattle.sf_call.specs.declared.request.Request.{Request}
-use Rattle.sf_call.specs.declared.record.Record.{Record}
 use Rattle.sf_call.specs.declared.fault.CoreFault.{CoreFault}
 use Rattle.sf_call.specs.declared.fault.CoreFault.TheVariants.{OutOfMemory}
 use Rattle.sf_core.specs.declared.step.Step.{Step}
 use Rattle.sf_core.specs.declared.step.Step.TheVariants as step
-use Rattle.sf_core.specs.Lanes.{LaneView}
 use Rattle.sf_core.specs.Cores.{CoreView}
-use Rattle.sf_core.specs.Histories.{IsHistory}
-use Rattle.sf_core.specs.Events.{CallBegins, RefusesBegin, TakesStep}
-use Rattle.sf_pool.specs.declared.desk.StepResult.TheVariants as step_result
+use Rattle.sf_core.specs.Events.{CallBegins, RefusesBegin, StepsOn}
+use Rattle.sf_noted.specs.Pages.{Page}
+use Rattle.sf_noted.specs.Pages.{Presence}
+use Rattle.sf_noted.specs.Pages.Presence.{UnderWay}
+use Rattle.sf_noted.specs.Noted.{lane_of}
+use Rattle.sf_pool.specs.declared.desk.StepResult.TheVariants.{Going, Answered}
 use Rattle.sf_pool.specs.declared.stay.Stepped.{Stepped}
-use Rattle.sf_pool.specs.Desks.{DeskState, UnderWay, IsLastAnswer, DeskView}
+use Rattle.sf_pool.specs.Desks.{New, Refused, Joined, IsLastAnswer, DeskView}
 
--- the number of the call under way
-abbrev pub call_in : DeskState → Option ℕ
-call_in (UnderWay number request moment) = Some number
-call_in _ = None
+-- this is the number and the page of the session at the desk
+pub record IsPageOf (d : DeskView) (x : ℕ × Page) : Type 0 where
+  pub session : x.0 ≡ d.session
+  pub place : Joined x.1.presence ≡ d.place
+  pub told : x.1.told ≡ d.calls
 
--- the lane is the session's, with the session's call
-pub record IsLaneAt (d : DeskView) (lane : LaneView) : Type 0 where
-  pub session : lane.session ≡ d.session
-  pub call : lane.call ≡ call_in d.place
+-- and this is what is noted of it, which is nothing if it hasn't joined
+abbrev pub IsVisitOf : DeskView → Option (ℕ × Page) → Type 0
+IsVisitOf d None = (d.place ≡ New) ⊎ ((fault : CoreFault) × (d.place ≡ Refused fault))
+IsVisitOf d (Some x) = IsPageOf d x
+
+-- how many calls the session began: those that it was told, and the one under way
+abbrev pub under_way : Presence → ℕ
+under_way (UnderWay number moment request) = 1
+under_way _ = 0
+
+abbrev pub calls_begun : Page → ℕ
+calls_begun p = length p.told + under_way p.presence
+
+abbrev pub calls_begun_by : Option (ℕ × Page) → ℕ
+calls_begun_by None = 0
+calls_begun_by (Some x) = calls_begun x.1
 
 -- the session's call begins on the core
 abbrev pub BeginsAt : DeskView → CoreView → CoreView → Request → ℕ → Type 0
-BeginsAt d v w request moment = (lane : LaneView) × IsLaneAt d lane × CallBegins v w lane request moment
+BeginsAt d v w request moment =
+    (x : ℕ × Page) × IsPageOf d x × CallBegins v w (lane_of x) request moment
 
 -- memory was wanting, or the core refuses the session's call
 abbrev pub RefusesAt : DeskView → CoreView → CoreFault → Type 0
 RefusesAt d v fault =
-    (fault ≡ OutOfMemory) ⊎ ((lane : LaneView) × IsLaneAt d lane × RefusesBegin v lane fault)
+    (fault ≡ OutOfMemory) ⊎ ((x : ℕ × Page) × IsPageOf d x × RefusesBegin v (lane_of x) fault)
 
--- what is told of a step of the core: whether its call was answered, and how; and whether it was blocked
-abbrev pub TellsOf : Step → Stepped → DeskState → Type 0
-TellsOf step.Moved s place = (s.told ≡ step_result.Going) × (s.blocked ≡ false)
-TellsOf (step.Blocked holder) s place = (s.told ≡ step_result.Going) × (s.blocked ≡ true)
-TellsOf (step.Answered answer) s place =
-    (s.told ≡ step_result.Answered) × (s.blocked ≡ false) × IsLastAnswer place answer.number answer.reply
-TellsOf step.Stranger s place = (s.told ≡ step_result.Stranger) × (s.blocked ≡ false)
+-- what is told of a step of the core: whether its call was answered, and how; and whether it was
+-- blocked
+abbrev pub TellsOf : Step → Stepped → DeskView → Type 0
+TellsOf step.Moved s d = (s.told ≡ Going) × (s.blocked ≡ false)
+TellsOf (step.Blocked holder) s d = (s.told ≡ Going) × (s.blocked ≡ true)
+TellsOf (step.Answered answer) s d =
+    (s.told ≡ Answered) × (s.blocked ≡ false) × IsLastAnswer d.calls answer.number answer.reply
+TellsOf step.Stranger s d = ⊥
 
 -- what a step came to: what is told of it, and the desk and the core after it
 pub record SteppedTo : Type 0 where
@@ -50,17 +66,12 @@ pub record SteppedTo : Type 0 where
 abbrev pub stepped_to : Stepped → DeskView → CoreView → SteppedTo
 stepped_to s d v = record { told = s; desk = d; core = v }
 
--- the session's call makes one step on the core, whose history then is this
-pub record StepsAt (d : DeskView) (v : CoreView) (h : List Record) (s : SteppedTo) : Type 0 where
-  pub lane : LaneView
-  pub after : LaneView
-  pub added : List Record
+-- the session's call makes one step on the core
+pub record StepsAt (d : DeskView) (v : CoreView) (s : SteppedTo) : Type 0 where
+  pub before : ℕ × Page
+  pub after : ℕ × Page
   pub came : Step
-  pub own : IsLaneAt d lane
-  pub history : IsHistory s.core (h ++ added)
-  pub steps : TakesStep (record { core = v; history = h; lane = lane }) came (record {
-    core = s.core;
-    added = added;
-    lane = after;
-  })
-  pub tells : TellsOf came s.told s.desk.place
+  pub own : IsPageOf d before
+  pub own_after : IsPageOf s.desk after
+  pub steps : StepsOn v (lane_of before) came s.core (lane_of after)
+  pub tells : TellsOf came s.told s.desk

@@ -1,5 +1,5 @@
 -- How far a session was served at a desk.
-use Rattle.std.specs.Prelude.{◌≡◌, ◌+◌, ◌-◌, ◌^◌, ◌≤◌, ◌⊎◌, ℕ, min, List, [], ◌∷◌, ◌++◌, length, map, Option, Result, Ok, Err}
+use Rattle.std.specs.Prelude.{◌≡◌, ◌+◌, ◌≤◌, ◌⊎◌, ℕ, List, [], ◌∷◌, ◌++◌, length, map, Option, Result, Ok, Err}
 use Rattle.std.specs.List.{flat_map}
 use Rattle.std.specs.Io.KnownBytes.{Appends}
 use Rattle.sf_line.specs.Lines.{Rose}
@@ -14,7 +14,8 @@ use Rattle.sf_serving.specs.Hosts.{most_counted}
 use Rattle.sf_serving.specs.Serving.{LineView, Progress, Serves, IsServed, HasWrittenFor}
 use Rattle.sf_audit.specs.Audits.{CallRecord}
 use Rattle.sf_pool.specs.declared.desk.Begin.{Begin}
-use Rattle.sf_pool.specs.Desks.{Refused, Gone, HasCallUnderWay, DeskView, Notes}
+use Rattle.sf_noted.specs.Pages.Presence.{Departed}
+use Rattle.sf_pool.specs.Desks.{Refused, Joined, HasCallUnderWay, DeskView, Notes, share_of}
 
 -- A desk, the calls that it was asked to begin, where it tells them, and the moments that a clock
 -- told.
@@ -84,15 +85,16 @@ BeginsCalls told told' begins begins' attempts =
     × (map attempt_of more ≡ attempts)
 
 -- Since the start a session was told this at the desk, which noted the calls that it was answered,
--- and no others; and it was asked to begin those that the session asked for, and no others, each at
--- the moment that was told for it.
+-- and no others, and keeps them if it did at the start; and it was asked to begin those that the
+-- session asked for, and no others, each at the moment that was told for it.
 pub record NotesCalls (start now : DeskScene) (t : SessionState) : Type 0 where
-  pub noted : Notes start.desk.calls now.desk.calls (state_calls t)
+  pub noted : now.desk.calls ≡ state_calls t
+  pub keeps : now.desk.keeps ≡ start.desk.keeps
   pub asked : BeginsCalls start.told now.told start.begins now.begins (attempts_told t)
 
 -- so many calls were added to a share, up to 2^64 - 1
 abbrev pub IsShared : ℕ → ℕ → ℕ → Type 0
-IsShared n old new = new ≡ min (old + n) (2 ^ 64 - 1)
+IsShared n old new = new ≡ share_of (old + n)
 
 -- no reply waits where a session at a desk is answered
 abbrev pub desk_held : ℕ
@@ -102,7 +104,7 @@ desk_held = 0
 -- calls that it was answered were added to a share.
 abbrev pub ServesDesk : (start now : DeskScene) → (from line : LineView) → (old new : ℕ) → Type 0
 ServesDesk start now from line old new = Serves desk_held (NotesCalls start now) from line
-    (λ p. ((cause : Cause) × IsServed line.incoming cause p) × (now.desk.place ≡ Gone)
+    (λ p. ((cause : Cause) × IsServed line.incoming cause p) × (now.desk.place ≡ Joined Departed)
     × IsShared (length (state_calls p.told)) old new)
 
 -- why a session doesn't join
@@ -121,16 +123,16 @@ NeverJoins start now f = ((f ≡ fault.OutOfMemory) × (now ≡ start))
 -- How a desk is left whose session joined: it has left, and the calls that it was answered were
 -- added to a share; or its call has no answer after 2^64 - 1 steps.
 abbrev pub HasLeft : DeskView → SessionState → (old new : ℕ) → Type 0
-HasLeft desk t old new = ((desk.place ≡ Gone) × IsShared (length (state_calls t)) old new)
+HasLeft desk t old new =
+    ((desk.place ≡ Joined Departed) × IsShared (length (state_calls t)) old new)
     ⊎ (HasCallUnderWay desk.place × (most_counted ≤ desk.steps) × (new ≡ old))
 
--- a session that the core doesn't know has no share; numbers are spent only by so many bytes or
--- steps
+-- no session that joined is a stranger; numbers are spent only by so many bytes or steps
 abbrev pub LeavesFor : ServeFault → DeskView → Progress → (old new : ℕ) → Type 0
 LeavesFor fault.Line desk p old new = HasLeft desk p.told old new
 LeavesFor fault.OutOfMemory desk p old new = HasLeft desk p.told old new
 LeavesFor fault.Sessions desk p old new = ⊥
-LeavesFor fault.Stranger desk p old new = (desk.place ≡ Gone) × (new ≡ old)
+LeavesFor fault.Stranger desk p old new = ⊥
 LeavesFor fault.NumbersSpent desk p old new = HasLeft desk p.told old new
     × ((most_counted ≤ length p.told.stream) ⊎ (most_counted ≤ desk.steps))
 
@@ -144,10 +146,10 @@ StopsDesk f start now from line failed failed' old new =
     ⊎ Serves desk_held (NotesCalls start now) from line (λ p. HasWrittenFor f failed failed' p
     × LeavesFor f now.desk p old new)
 
--- the line is told to have failed only where it did
+-- the line is told to have failed only where it did, and no session is a stranger
 abbrev pub IsDeskFault : ServeFault → ℕ → ℕ → Type 0
 IsDeskFault fault.Line failed failed' = Rose failed failed'
 IsDeskFault fault.OutOfMemory failed failed' = Unit {0}
 IsDeskFault fault.Sessions failed failed' = Unit {0}
-IsDeskFault fault.Stranger failed failed' = Unit {0}
+IsDeskFault fault.Stranger failed failed' = ⊥
 IsDeskFault fault.NumbersSpent failed failed' = Unit {0}

@@ -1,12 +1,65 @@
 -- No public clause cites this module.
 -- What is true of a session's stay between two events.
-use Rattle.std.specs.Prelude.{◌≡◌, ◌≢◌, ◌<◌, Option, Some, None, vec_len}
+use Rattle.std.specs.Prelude.{◌≡◌, ◌≢◌, ◌<◌, ◌++◌, ℕ, Bool, true, List, [], map, Option, Some, None, vec_len}
 use Rattle.std.specs.Vec.{vec_capacity}
-use Rattle.sf_core.specs.Lanes.{LaneView}
+use Rattle.sf_call.specs.declared.request.Request.{Request}
 use Rattle.sf_audit.specs.declared.transcript.Transcript.{Transcript}
+use Rattle.sf_audit.specs.Audits.{CallRecord, call_record}
+use Rattle.sf_noted.specs.Pages.{Page}
+use Rattle.sf_noted.specs.Pages.Presence.{UnderWay, Departed}
+use Rattle.sf_pool.specs.declared.stay.Place.{Place}
+use Rattle.sf_pool.specs.declared.stay.Place.TheVariants as place
+use Rattle.sf_pool.specs.Desks.{DeskState, New, Refused, Joined, DeskView}
 
--- the transcript is the session's, and has room for the call under way
-abbrev pub IsStay : Option LaneView → Transcript → Type 0
-IsStay None t = Unit {0}
-IsStay (Some lane) t = (t.session ≢ 0) × (lane.session ≡ t.session)
-    × (lane.call ≢ None → vec_len t.calls < vec_capacity t.calls)
+-- the session's number and page, where it has a lane; and where it has joined
+abbrev pub lane_in : {B : Type 0} → Place B → Option (ℕ × Page)
+lane_in (place.Joined lane) = Some lane
+lane_in _ = None
+
+abbrev pub visit_in : {B : Type 0} → Place B → Option (ℕ × Page)
+visit_in place.New = None
+visit_in (place.Refused fault) = None
+visit_in (place.Joined lane) = Some lane
+visit_in (place.Left visit) = Some visit
+
+-- what a stay shows of a session that is there
+abbrev pub desk_at : {B : Type 0} → Place B → Bool → ℕ → DeskView
+desk_at place.New keeps steps =
+    record { session = 0; place = New; calls = []; keeps = keeps; steps = steps }
+desk_at (place.Refused fault) keeps steps =
+    record { session = 0; place = Refused fault; calls = []; keeps = keeps; steps = steps }
+desk_at (place.Joined lane) keeps steps = record {
+  session = lane.0;
+  place = Joined lane.1.presence;
+  calls = lane.1.told;
+  keeps = keeps;
+  steps = steps;
+}
+desk_at (place.Left visit) keeps steps = record {
+  session = visit.0;
+  place = Joined visit.1.presence;
+  calls = visit.1.told;
+  keeps = keeps;
+  steps = steps;
+}
+
+-- who has no lane any more has departed
+abbrev pub HasDeparted : {B : Type 0} → Place B → Type 0
+HasDeparted (place.Left visit) = visit.1.presence ≡ Departed
+HasDeparted _ = Unit {0}
+
+-- what the call under way asks for is at hand, and its answer has room
+abbrev pub HasRoom : DeskState → Option Request → Transcript → Type 0
+HasRoom (Joined (UnderWay number moment request)) asked t =
+    (asked ≡ Some request) × (vec_len t.calls < vec_capacity t.calls)
+HasRoom _ asked t = Unit {0}
+
+-- The transcript is the session's. It has the last of the calls that the session was told, and one
+-- at least if it was told any: all of them, if they are kept.
+pub record IsStay (d : DeskView) (asked : Option Request) (t : Transcript) : Type 0 where
+  pub session : t.session ≡ d.session
+  pub earlier : List CallRecord
+  pub whole : d.calls ≡ earlier ++ map call_record t.calls.items
+  pub all : d.keeps ≡ true → earlier ≡ []
+  pub last : d.calls ≢ [] → t.calls.items ≢ []
+  pub room : HasRoom d.place asked t

@@ -31,8 +31,6 @@ pub(crate) enum Standing {
     Unanswered,
     /// Its call has no answer, and no number is left to count its steps.
     UnderWay,
-    /// The core doesn't know it.
-    Strange,
     /// With its share of the calls.
     Left(Share),
 }
@@ -47,17 +45,28 @@ pub(crate) struct DeskHost<'a, G> {
     standing: Standing,
 }
 
+/// Lets go of the core before a read or a write that may wait, and tells how much room the line has
+/// after it: by then it has written what it had gathered.
+fn let_go<D: Desk>(desk: &mut D) -> usize
+    ensures at { D.at desk.new ≡ D.at desk.old }
+    ensures rests { D.rests desk.new }
+    ensures begins { D.begins desk.new ≡ D.begins desk.old }
+{
+    desk.rest();
+    GATHERED
+}
+
 /// Lets go of the core where a write of so many bytes may wait, and tells how much room the line
-/// has after it: by then it has written what it had gathered.
+/// has after it.
 fn let_go_for<D: Desk>(desk: &mut D, len: usize, room: usize) -> usize
     ensures at { D.at desk.new ≡ D.at desk.old }
+    ensures rests { room ≤ len → D.rests desk.new }
     ensures begins { D.begins desk.new ≡ D.begins desk.old }
 {
     if len < room {
         return room - len;
     }
-    desk.rest();
-    GATHERED.saturating_sub(len)
+    let_go(desk).saturating_sub(len)
 }
 
 impl<'a, G> DeskHost<'a, G> {
@@ -83,7 +92,6 @@ impl<'a, G> DeskHost<'a, G> {
             Standing::Joined => None,
             Standing::Unanswered | Standing::Left(_) => Some(ServeFault::OutOfMemory),
             Standing::UnderWay => Some(ServeFault::NumbersSpent),
-            Standing::Strange => Some(ServeFault::Stranger),
         }
     }
 
@@ -107,7 +115,6 @@ impl<'a, G> DeskHost<'a, G> {
     {
         let (standing, fault) = match stop {
             Stop::OutOfMemory => (Standing::Unanswered, ServeFault::OutOfMemory),
-            Stop::Stranger => (Standing::Strange, ServeFault::Stranger),
             Stop::UnderWay => (Standing::UnderWay, ServeFault::NumbersSpent),
         };
         self.standing = standing;
@@ -134,7 +141,7 @@ impl<'a, G> DeskHost<'a, G> {
 
 impl<D: Desk, G: StepObserver> Host<D> for DeskHost<'_, G> {
     ghost use Rattle.sf_pool.specs.Scenes.{DeskScene, desk_scene, desk_held};
-    ghost use Rattle.sf_pool.specs.AtDesks.{IsToldAt, IsPlaced, IsStrange, IsOver};
+    ghost use Rattle.sf_pool.specs.AtDesks.{IsToldAt, IsPlaced, IsOver};
 
     ghost Start = { DeskScene };
 
@@ -147,7 +154,9 @@ impl<D: Desk, G: StepObserver> Host<D> for DeskHost<'_, G> {
 
     ghost work = { λ h d. (D.at d).steps };
 
-    ghost strange = { λ h d. IsStrange h.standing };
+    ghost strange = { λ h d. ⊥ };
+
+    ghost rests = { λ h d. D.rests d };
 
     ghost left = { λ h d fault. IsOver h.standing (D.at d) fault };
 
@@ -168,7 +177,7 @@ impl<D: Desk, G: StepObserver> Host<D> for DeskHost<'_, G> {
         };
         match next {
             Next::More => {
-                desk.rest();
+                self.room = let_go(desk);
                 Ok(Went::Waits)
             }
             Next::Ended(cause) => Ok(Went::Ended(cause)),
@@ -201,14 +210,9 @@ impl<D: Desk, G: StepObserver> Host<D> for DeskHost<'_, G> {
     fn end(&mut self, desk: &mut D) -> Result<(), ServeFault> {
         match &self.standing {
             Standing::UnderWay | Standing::Left(_) => return Ok(()),
-            Standing::Strange => return Err(ServeFault::Stranger),
             Standing::Joined | Standing::Unanswered => {}
         }
-        let Some(share) = desk.leave() else {
-            self.standing = Standing::Strange;
-            return Err(ServeFault::Stranger);
-        };
-        self.standing = Standing::Left(share);
+        self.standing = Standing::Left(desk.leave());
         Ok(())
     }
 }

@@ -1,9 +1,10 @@
 //! One call of a session, made at its desk.
 
-ghost use Rattle.std.specs.Prelude.{◌≡◌, IsSome, OnOk, IfErr};
-ghost use Rattle.sf_pool.specs.Desks.{IsResting, HasCallUnderWay, DeskView, AnswersUnderWay};
+ghost use Rattle.std.specs.Prelude.{◌≡◌, ◌≤◌, true, false, IsSome, OnOk, IfErr};
+ghost use Rattle.sf_serving.specs.Hosts.{most_counted};
+ghost use Rattle.sf_pool.specs.Desks.{IsResting, HasCallUnderWay};
 ghost use Rattle.sf_pool.specs.Scenes.{BeginsCalls};
-ghost use Rattle.sf_pool.specs.AtDesks.{MakesCall, talk, FailsSteps, FailsCall};
+ghost use Rattle.sf_pool.specs.AtDesks.{MakesCall, talk, after_steps, IsAnsweredAt, FailsCall};
 
 use crate::desk::{Desk, StepResult};
 use crate::observer::StepObserver;
@@ -14,8 +15,6 @@ use sf_session::{Clock, Session};
 #[derive(Clone, Copy, Debug, PartialEq, Eq)]
 pub(crate) enum Stop {
     OutOfMemory,
-    /// The core doesn't know the session.
-    Stranger,
     /// So many steps were made that no number is left to count them, and the call has no answer
     /// yet.
     UnderWay,
@@ -38,29 +37,23 @@ fn stop_at<D: Desk, G: StepObserver>(
     }
 }
 
-/// Makes steps until the call is answered.
-fn finish<D: Desk, G: StepObserver>(
-    desk: &mut D,
-    observer: &G,
-    session: u64,
-    number: u64,
-) -> Result<(), Stop>
+/// Makes steps until the call is answered, but 2^64 - 1 at most. Tells whether it was.
+fn finish<D: Desk, G: StepObserver>(desk: &mut D, observer: &G, session: u64, number: u64) -> bool
     requires { HasCallUnderWay (D.at desk.old).place }
-    ensures answered { OnOk result (AnswersUnderWay (D.at desk.old).place (D.at desk.old).calls
-        (D.at desk.new)) }
-    ensures begun { OnOk result ((D.at desk.new).begun ≡ (D.at desk.old).begun) }
-    ensures fails { IfErr result (λ stop. FailsSteps stop (D.at desk.old) (D.at desk.new)) }
+    ensures answered { result ≡ true → IsAnsweredAt (D.at desk.old) (D.at desk.new) }
+    ensures unanswered { result ≡ false
+        → (D.at desk.new ≡ after_steps (D.at desk.old) (D.at desk.new).steps)
+        × (most_counted ≤ (D.at desk.new).steps) }
     ensures begins { D.begins desk.new ≡ D.begins desk.old }
 {
     for steps in 0..u64::MAX {
         stop_at(desk, observer, session, number, steps);
         match desk.step() {
             StepResult::Going => {}
-            StepResult::Answered => return Ok(()),
-            StepResult::Stranger => return Err(Stop::Stranger),
+            StepResult::Answered => return true,
         }
     }
-    Err(Stop::UnderWay)
+    false
 }
 
 /// Makes the call that a packet asked for, at the clock's next moment. Its reply, or that of its
@@ -91,7 +84,9 @@ pub(crate) fn make_call<D: Desk, C: Clock, G: StepObserver>(
             return Ok(());
         }
     };
-    finish(desk, observer, number, call)?;
+    if !finish(desk, observer, number, call) {
+        return Err(Stop::UnderWay);
+    }
     observer.answered(number, call);
     if session.answer(desk.answer()).is_err() {
         return Err(Stop::OutOfMemory);

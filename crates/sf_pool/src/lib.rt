@@ -3,7 +3,8 @@
 //!
 //! Start with `Desk` in `desk.rt` (`specs/Desks.antt`): a session's calls are made at a desk, which
 //! notes what it was told. `LockDesk` is the desk on a core that threads share, and a `Stay` its
-//! part without the lock. `serve` in `serving.rt` serves a session over a line at a desk: what it
+//! part without the lock: the session's lane there, so that what it notes is on the session's page
+//! of that core. `serve` in `serving.rt` serves a session over a line at a desk: what it
 //! promises is in `specs/Scenes.antt`, beside what the one loop of `sf_serving` promises.
 #![tactic(auto)]
 
@@ -21,4 +22,7 @@ pub use hall::Hall;
 pub use lock_desk::LockDesk;
 pub use observer::{NoObserver, StepObserver};
 pub use serving::serve;
-pub use stay::{Stay, Stepped};
+pub use stay::{Stay, Stayed, Stepped};
+
+#[cfg(test)]
+mod tests;

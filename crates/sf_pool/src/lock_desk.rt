@@ -1,18 +1,21 @@
 //! The desk of a session on a core under a lock.
 
-ghost use Rattle.std.specs.Prelude.{◌≡◌, [], map, IfSome};
+ghost use Rattle.std.specs.Prelude.{◌≡◌, None, true, map};
 ghost use Rattle.sf_audit.specs.Audits.{call_record};
-ghost use Rattle.sf_pool.specs.Desks.{New, kept_calls};
+ghost use Rattle.sf_pool.specs.Desks.{new_desk};
+ghost use Rattle.sf_pool.specs.OnCores.{IsVisitOf, calls_begun_by};
 
 use crate::desk::{Desk, StepResult};
 use crate::hall::{Hall, LOOKS};
-use crate::stay::Stay;
-use sf_audit::Transcript;
+use crate::stay::{Stay, Stayed};
 use sf_call::{Answer, CoreFault, Request};
-use sf_core::{Core, Share};
+use sf_core::Share;
+use sf_noted::NotedCore;
+use sf_roll::RollName;
 use std::alloc::Global;
 use std::hint::spin_loop;
 use std::marker::Model;
+use std::sync::ledger::{self, Ledger};
 use std::sync::{Mutex, MutexGuard, Wait};
 use std::thread;
 
@@ -42,12 +45,12 @@ fn is_large(request: &Request) -> bool {
 /// the lock until its call is answered, and behind the door until it rests. Where another
 /// session's call is in the way of its own, its step is tried again after others ran, and at last
 /// waits until something happened on the core.
-pub struct LockDesk<'a, R: Wait> {
+pub struct LockDesk<'a, R: Wait, B: RollName + Ledger> {
     rt: &'a R,
-    core: &'a Mutex<Core>,
+    core: &'a Mutex<NotedCore<B>>,
     hall: &'a Hall,
-    stay: Stay,
-    held: Option<MutexGuard<'a, Core>>,
+    stay: Stay<B>,
+    held: Option<MutexGuard<'a, NotedCore<B>>>,
     door: Option<MutexGuard<'a, ()>>,
     // How many calls were begun since it rested, and how many between the two rests before.
     made: u64,
@@ -62,7 +65,7 @@ pub struct LockDesk<'a, R: Wait> {
     is_large: bool,
 }
 
-impl<R: Wait> Drop for LockDesk<'_, R> {
+impl<R: Wait, B: RollName + Ledger> Drop for LockDesk<'_, R, B> {
     fn drop(self) {
         let LockDesk {
             rt: _,
@@ -83,24 +86,26 @@ impl<R: Wait> Drop for LockDesk<'_, R> {
     }
 }
 
-impl<'a, R: Wait> LockDesk<'a, R> {
-    /// A session that hasn't joined. What it is told is kept, or its last call alone.
+impl<'a, R: Wait, B: RollName + Ledger> LockDesk<'a, R, B> {
+    /// A session that hasn't joined. What it is told is kept, or its last call alone, and its calls
+    /// are counted in the share.
     pub fn new(
         rt: &'a R,
         alloc: Global,
-        core: &'a Mutex<Core>,
+        core: &'a Mutex<NotedCore<B>>,
         hall: &'a Hall,
         keeps: bool,
-    ) -> LockDesk<'a, R>
-        ensures session { result.stay.session ≡ 0 }
-        ensures place { result.stay.place ≡ New }
-        ensures calls { result.stay.calls ≡ kept_calls keeps [] }
+        share: ledger::Share<B>,
+    ) -> LockDesk<'a, R, B>
+        requires part { share.parts ≡ 1 }
+        requires none { share.amount ≡ 0 }
+        ensures { result.stay ≡ new_desk keeps }
     {
         LockDesk {
             rt,
             core,
             hall,
-            stay: Stay::new(alloc, keeps),
+            stay: Stay::new(alloc, keeps, share),
             held: None,
             door: None,
             made: 0,
@@ -112,11 +117,14 @@ impl<'a, R: Wait> LockDesk<'a, R> {
         }
     }
 
-    /// What the session was told. A session that hasn't left is given up.
-    pub fn into_transcript(self) -> Transcript
-        ensures session { result.session ≡ self.entry.stay.session }
-        ensures calls { IfSome self.entry.stay.calls (λ calls. map call_record result.calls.items
-            ≡ calls) }
+    /// The session makes no more calls: what came of it. One that hasn't left is given up.
+    pub fn end(self) -> Stayed<B>
+        ensures visit { IsVisitOf self.entry.stay result.visit }
+        ensures session { result.transcript.session ≡ self.entry.stay.session }
+        ensures calls { self.entry.stay.keeps ≡ true
+            → map call_record result.transcript.calls.items ≡ self.entry.stay.calls }
+        ensures part { result.share.parts ≡ 1 }
+        ensures begun { result.share.amount ≡ calls_begun_by result.visit }
     {
         let LockDesk {
             rt: _,
@@ -134,11 +142,11 @@ impl<'a, R: Wait> LockDesk<'a, R> {
         } = self;
         drop(held);
         hall.tell();
-        stay.into_transcript()
+        stay.end()
     }
 
     /// Tries to take the lock for a while.
-    fn look(&self) -> Option<MutexGuard<'a, Core>> {
+    fn look(&self) -> Option<MutexGuard<'a, NotedCore<B>>> {
         for _ in 0..LOOKS {
             if !self.hall.is_taken() {
                 if let Some(guard) = self.core.try_lock() {
@@ -151,7 +159,7 @@ impl<'a, R: Wait> LockDesk<'a, R> {
     }
 
     /// Takes the lock: tries, lets others run, and sleeps for it at last.
-    fn take(&self) -> MutexGuard<'a, Core> {
+    fn take(&self) -> MutexGuard<'a, NotedCore<B>> {
         for _ in 0..YIELDS {
             if let Some(guard) = self.look() {
                 return guard;
@@ -162,7 +170,7 @@ impl<'a, R: Wait> LockDesk<'a, R> {
     }
 
     /// Takes the lock, and asks whoever keeps it where it isn't free soon.
-    fn ask(&self) -> MutexGuard<'a, Core> {
+    fn ask(&self) -> MutexGuard<'a, NotedCore<B>> {
         if let Some(guard) = self.look() {
             return guard;
         }
@@ -174,7 +182,7 @@ impl<'a, R: Wait> LockDesk<'a, R> {
     }
 
     /// Takes the lock for an event. Whoever has the door lets others in, and asks for nothing.
-    fn lock(&self) -> MutexGuard<'a, Core> {
+    fn lock(&self) -> MutexGuard<'a, NotedCore<B>> {
         let guard = if self.door.is_some() && self.blocked == 0 {
             self.take()
         } else {
@@ -187,7 +195,7 @@ impl<'a, R: Wait> LockDesk<'a, R> {
     /// Takes the lock for many calls, of all sessions that make so many the only one. It waits at
     /// the door with no lock, and between two calls alone: nobody can be in its way who waits for
     /// it.
-    fn lock_for_many(&mut self) -> MutexGuard<'a, Core>
+    fn lock_for_many(&mut self) -> MutexGuard<'a, NotedCore<B>>
         ensures { self.new.stay ≡ self.old.stay }
     {
         self.door = None;
@@ -196,8 +204,10 @@ impl<'a, R: Wait> LockDesk<'a, R> {
     }
 
     /// Gives the lock up.
-    fn release(&mut self, guard: MutexGuard<'a, Core>)
-        ensures { self.new.stay ≡ self.old.stay }
+    fn release(&mut self, guard: MutexGuard<'a, NotedCore<B>>)
+        ensures stay { self.new.stay ≡ self.old.stay }
+        ensures held { self.new.held ≡ self.old.held }
+        ensures door { self.new.door ≡ self.old.door }
     {
         self.tell();
         self.hall.set_taken(false);
@@ -206,7 +216,9 @@ impl<'a, R: Wait> LockDesk<'a, R> {
 
     /// Wakes those that wait for something to happen, where something happened.
     fn tell(&mut self)
-        ensures { self.new.stay ≡ self.old.stay }
+        ensures stay { self.new.stay ≡ self.old.stay }
+        ensures held { self.new.held ≡ self.old.held }
+        ensures door { self.new.door ≡ self.old.door }
     {
         if self.moved {
             self.hall.tell();
@@ -216,7 +228,11 @@ impl<'a, R: Wait> LockDesk<'a, R> {
 
     /// Lets those in that ask, if any, and takes the lock again. Where they don't come in a
     /// while, since their threads don't run, it doesn't wait for the same ones again.
-    fn let_in(&mut self, guard: MutexGuard<'a, Core>, is_over: bool) -> MutexGuard<'a, Core>
+    fn let_in(
+        &mut self,
+        guard: MutexGuard<'a, NotedCore<B>>,
+        is_over: bool,
+    ) -> MutexGuard<'a, NotedCore<B>>
         ensures { self.new.stay ≡ self.old.stay }
     {
         if !self.hall.is_asked(is_over) {
@@ -244,7 +260,7 @@ impl<'a, R: Wait> LockDesk<'a, R> {
     }
 
     /// The lock, for the next call.
-    fn lock_for_call(&mut self) -> MutexGuard<'a, Core>
+    fn lock_for_call(&mut self) -> MutexGuard<'a, NotedCore<B>>
         ensures { self.new.stay ≡ self.old.stay }
     {
         let made = self.made;
@@ -265,7 +281,7 @@ impl<'a, R: Wait> LockDesk<'a, R> {
     }
 
     /// The lock, for the next step.
-    fn lock_for_step(&mut self) -> MutexGuard<'a, Core>
+    fn lock_for_step(&mut self) -> MutexGuard<'a, NotedCore<B>>
         ensures { self.new.stay ≡ self.old.stay }
     {
         match self.held.take() {
@@ -275,7 +291,7 @@ impl<'a, R: Wait> LockDesk<'a, R> {
     }
 
     /// A step was blocked: whoever is in the way goes on.
-    fn wait(&mut self, core: MutexGuard<'a, Core>)
+    fn wait(&mut self, core: MutexGuard<'a, NotedCore<B>>)
         ensures { self.new.stay ≡ self.old.stay }
     {
         if self.blocked < TRIES {
@@ -291,7 +307,8 @@ impl<'a, R: Wait> LockDesk<'a, R> {
 
     /// Gives the lock up, where it keeps it.
     fn give_up(&mut self)
-        ensures { self.new.stay ≡ self.old.stay }
+        ensures stay { self.new.stay ≡ self.old.stay }
+        ensures held { self.new.held ≡ None }
     {
         if let Some(guard) = self.held.take() {
             self.release(guard);
@@ -300,7 +317,9 @@ impl<'a, R: Wait> LockDesk<'a, R> {
 
     /// Gives up all that it keeps.
     fn let_go(&mut self)
-        ensures { self.new.stay ≡ self.old.stay }
+        ensures stay { self.new.stay ≡ self.old.stay }
+        ensures held { self.new.held ≡ None }
+        ensures door { self.new.door ≡ None }
     {
         self.give_up();
         self.door = None;
@@ -321,8 +340,12 @@ impl<'a, R: Wait> LockDesk<'a, R> {
     }
 }
 
-impl<R: Wait> Desk for LockDesk<'_, R> {
+impl<R: Wait, B: RollName + Ledger> Desk for LockDesk<'_, R, B> {
+    ghost use Rattle.std.specs.Prelude.{◌≡◌, None};
+
     ghost at = { λ d. d.stay };
+
+    ghost rests = { λ d. (d.held ≡ None) × (d.door ≡ None) };
 
     fn join(&mut self) -> Result<u64, CoreFault> {
         let mut core = self.lock();
@@ -365,16 +388,12 @@ impl<R: Wait> Desk for LockDesk<'_, R> {
         self.stay.answer()
     }
 
-    fn leave(&mut self) -> Option<Share> {
+    fn leave(&mut self) -> Share {
         self.let_go();
         let mut core = self.lock();
         let share = self.stay.leave(&mut core);
         self.moved = true;
         self.release(core);
         share
-    }
-
-    fn transcript(&self) -> &Transcript {
-        self.stay.transcript()
     }
 }

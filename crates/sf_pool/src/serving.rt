@@ -1,6 +1,6 @@
 //! A session over a line, whose calls are made at a desk.
 
-ghost use Rattle.std.specs.Prelude.{◌≡◌, OnOk, IfErr};
+ghost use Rattle.std.specs.Prelude.{◌≡◌, ◌≢◌, OnOk, IfErr};
 ghost use Rattle.sf_serving.specs.Serving.{line_view};
 ghost use Rattle.sf_pool.specs.Desks.{New};
 ghost use Rattle.sf_pool.specs.Scenes.{desk_scene, join_refusal, ServesDesk, StopsDesk, IsDeskFault};
@@ -17,13 +17,14 @@ use std::alloc::Global;
 
 /// Why no session joined.
 fn join_refusal(fault: CoreFault) -> ServeFault
+    requires { fault ≢ CoreFault.Stranger }
     ensures { result ≡ join_refusal fault }
 {
     match fault {
         CoreFault::OutOfMemory => ServeFault::OutOfMemory,
         CoreFault::Sessions => ServeFault::Sessions,
         CoreFault::NumbersSpent => ServeFault::NumbersSpent,
-        CoreFault::Stranger => ServeFault::Stranger,
+        CoreFault::Stranger => unreachable!(),
     }
 }
 

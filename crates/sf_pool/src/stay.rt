@@ -1,38 +1,86 @@
 //! A session's stay on a core.
 
-ghost use Rattle.std.specs.Prelude.{◌≡◌, ◌≢◌, ◌<◌, ◌+◌, ◌++◌, ◌∷◌, List, [], false, map, vec_len, if◌then◌else◌, OnOk, OnErr, OnSome, IfOk, IfErr, IfSome, IfNone};
+ghost use Rattle.std.specs.Prelude.{◌≡◌, ◌≢◌, ◌<◌, ◌+◌, ◌++◌, ◌∷◌, List, [], true, false, length, map, vec_len, if◌then◌else◌, OnErr, IfOk, IfErr};
 ghost use Rattle.std.specs.Vec.{vec_capacity};
 ghost use Rattle.sf_call.specs.declared.record.Record.{Record};
 ghost use Rattle.sf_call.specs.declared.record.Record.TheVariants.{Left};
-ghost use Rattle.sf_core.specs.Cores.{lane_state};
-ghost use Rattle.sf_core.specs.Cores.LaneState.{Idle};
+ghost use Rattle.sf_call.specs.declared.fault.CoreFault.TheVariants.{Stranger};
 ghost use Rattle.sf_core.specs.Histories.{IsHistory};
 ghost use Rattle.sf_core.specs.Events.{Joins, RefusesJoin, Leaves};
 ghost use Rattle.sf_audit.specs.Audits.{call_record};
-ghost use Rattle.sf_pool.specs.OnCores.{BeginsAt, RefusesAt, StepsAt, stepped_to};
-ghost use Rattle.sf_pool.specs.Desks.{DeskState, New, Refused, UnderWay, Gone, IsResting, HasCallUnderWay, WasAnswered, IsLastAnswer, counted, Steps, kept_calls};
+ghost use Rattle.sf_noted.specs.Pages.Presence.{Resting, UnderWay, Departed};
+ghost use Rattle.sf_pool.specs.OnCores.{BeginsAt, RefusesAt, StepsAt, stepped_to, IsVisitOf, calls_begun_by};
+ghost use Rattle.sf_pool.specs.Stays.{visit_in, lane_in};
+ghost use Rattle.sf_pool.specs.Desks.{New, Refused, Joined, IsResting, HasCallUnderWay, IsLastAnswer, new_desk, share_of, Steps};
 
 use crate::desk::StepResult;
 use sf_audit::{AnsweredCall, Transcript};
 use sf_call::{Answer, CoreFault, Request};
-use sf_core::{Core, Lane, Share, Step};
+use sf_core::{Share, Step};
+use sf_noted::{NotedCore, NotedLane, Visit};
+use sf_roll::RollName;
 use std::alloc::Global;
 use std::marker::Model;
+use std::mem;
+use std::sync::ledger::{self, Ledger};
 
-/// What the call under way asks for, and when it began.
-#[derive(Debug, Drop)]
-struct CallUnderWay {
-    request: Request,
-    moment: u32,
+/// Where a session is.
+enum Place<B: RollName> {
+    New,
+    Refused(CoreFault),
+    Joined(NotedLane<B>),
+    Left(Visit<B>),
 }
 
-/// A session's place in a core, the call that it has under way, and what it was told.
-#[derive(Debug)]
-pub struct Stay {
-    lane: Option<Lane>,
-    // Why it couldn't join.
-    refused: Option<CoreFault>,
-    asked: Option<CallUnderWay>,
+impl<B: RollName> Drop for Place<B> {
+    fn drop(self) {
+        let _visit = self.end();
+    }
+}
+
+impl<B: RollName> Place<B> {
+    /// The lane of a session that hasn't left, if it has joined.
+    fn into_lane(self) -> Option<NotedLane<B>>
+        ensures { result ≡ lane_in self }
+    {
+        match self {
+            Place::Joined(lane) => Some(lane),
+            Place::New | Place::Refused(_) => None,
+            Place::Left(_visit) => None,
+        }
+    }
+
+    /// What is noted of the session, if it has joined. It makes no more calls.
+    fn end(self) -> Option<Visit<B>>
+        ensures { result ≡ visit_in self }
+    {
+        match self {
+            Place::New | Place::Refused(_) => None,
+            Place::Joined(lane) => Some(lane.abandon()),
+            Place::Left(visit) => Some(visit),
+        }
+    }
+}
+
+/// What a stay came to.
+#[derive(Drop)]
+pub struct Stayed<B: RollName + Ledger> {
+    /// What is noted of the session, if it has joined. It takes no memory.
+    pub visit: Option<Visit<B>>,
+    /// What the session was told, where that was kept, or its last call alone.
+    pub transcript: Transcript,
+    /// The part of the count that was lent, with the calls that the session began.
+    pub share: ledger::Share<B>,
+}
+
+/// A session's place in a core, and what it was told. It counts its calls in a part of the core's
+/// count that is lent to it.
+#[derive(Drop)]
+pub struct Stay<B: RollName + Ledger> {
+    place: Place<B>,
+    share: ledger::Share<B>,
+    // What the call under way asks for.
+    asked: Option<Request>,
     // How many steps were made of its calls.
     steps: u64,
     // All calls that were answered, or the last one.
@@ -40,27 +88,19 @@ pub struct Stay {
     keeps: bool,
 }
 
-impl Model for Stay {
-    ghost use Rattle.std.specs.Prelude.{◌<◌, ◌≡◌, vec_len};
-    ghost use Rattle.std.specs.Vec.{vec_capacity};
-    ghost use Rattle.sf_pool.specs.Desks.{DeskView, lane_place, lane_begun, kept_calls};
-    ghost use Rattle.sf_audit.specs.Audits.{call_record};
-    ghost use Rattle.std.specs.Prelude.{map};
+impl<B: RollName + Ledger> Model for Stay<B> {
+    ghost use Rattle.std.specs.Prelude.{◌≡◌};
+    ghost use Rattle.sf_pool.specs.Desks.{DeskView};
+    ghost use Rattle.sf_pool.specs.OnCores.{calls_begun_by};
+    ghost use Rattle.sf_pool.specs.Stays.{desk_at, visit_in, HasDeparted, IsStay};
 
     ghost Value = { DeskView };
 
-    ghost view = { λ s. record {
-      session = s.transcript.session;
-      place = lane_place s.lane s.transcript.session s.refused s.asked
-          (map call_record s.transcript.calls.items);
-      calls = kept_calls s.keeps s.transcript.calls.items;
-      begun = lane_begun s.lane;
-      steps = s.steps;
-    } };
+    ghost view = { λ s. desk_at s.place s.keeps s.steps };
 
-    ghost use Rattle.sf_pool.specs.Stays.{IsStay};
-
-    ghost invariant = { λ s. IsStay s.lane s.transcript };
+    ghost invariant = { λ s. IsStay (desk_at s.place s.keeps s.steps) s.asked s.transcript
+        × HasDeparted s.place × (s.share.parts ≡ 1)
+        × (s.share.amount ≡ calls_begun_by (visit_in s.place)) };
 }
 
 /// What a step of a stay came to.
@@ -82,43 +122,28 @@ impl Stepped {
         }
     }
 
-    fn ended(told: StepResult) -> Stepped
-        ensures told { result.told ≡ told }
+    fn answered() -> Stepped
+        ensures told { result.told ≡ StepResult.Answered }
         ensures blocked { result.blocked ≡ false }
     {
         Stepped {
-            told,
+            told: StepResult::Answered,
             blocked: false,
         }
     }
 }
 
-impl Drop for Stay {
-    fn drop(self) {
-        let Stay {
-            lane,
-            refused: _,
-            asked: _asked,
-            steps: _,
-            transcript: _transcript,
-            keeps: _,
-        } = self;
-        if let Some(lane) = lane {
-            lane.abandon();
-        }
-    }
-}
-
-impl Stay {
-    /// A session that hasn't joined. Its calls are kept, or the last one alone.
-    pub fn new(alloc: Global, keeps: bool) -> Stay
-        ensures session { result.session ≡ 0 }
-        ensures place { result.place ≡ New }
-        ensures calls { result.calls ≡ kept_calls keeps [] }
+impl<B: RollName + Ledger> Stay<B> {
+    /// A session that hasn't joined. Its calls are kept, or the last one alone, and are counted in
+    /// the share.
+    pub fn new(alloc: Global, keeps: bool, share: ledger::Share<B>) -> Stay<B>
+        requires part { share.parts ≡ 1 }
+        requires none { share.amount ≡ 0 }
+        ensures { result ≡ new_desk keeps }
     {
         Stay {
-            lane: None,
-            refused: None,
+            place: Place::New,
+            share,
             asked: None,
             steps: 0,
             transcript: Transcript {
@@ -130,162 +155,139 @@ impl Stay {
     }
 
     /// The session joins the core.
-    pub fn join(&mut self, core: &mut Core) -> Result<u64, CoreFault>
+    pub fn join(&mut self, core: &mut NotedCore<B>) -> Result<u64, CoreFault>
         requires { self.old.place ≡ New }
         ensures number { IfOk result (λ session. 0 < session) }
-        ensures session { IfOk result (λ session. self.new.session ≡ session) }
-        ensures ok { OnOk result (IsResting self.new.place) }
+        ensures ok { IfOk result (λ session. self.new ≡ record self.old {
+          session = session;
+          place = Joined Resting;
+          calls = [];
+        }) }
         ensures err { IfErr result (λ fault. self.new ≡ record self.old { place = Refused fault }) }
-        ensures calls { self.new.calls ≡ self.old.calls }
-        ensures begun { OnOk result (self.new.begun ≡ 0) }
-        ensures steps { self.new.steps ≡ self.old.steps }
-        ensures joins { IfOk result (λ session. (session ≡ core.old.joins + 1)
-            × Joins core.old core.new) }
-        ensures history { (h : List Record) → IsHistory core.old h → IsHistory core.new h }
+        ensures known { IfErr result (λ fault. fault ≢ Stranger) }
+        ensures joins { IfOk result (λ session. (session ≡ core.old.0.joins + 1)
+            × Joins core.old.0 core.new.0) }
+        ensures history { (h : List Record) → IsHistory core.old.0 h → IsHistory core.new.0 h }
         ensures refused { OnErr result (core.new ≡ core.old) }
-        ensures fault { IfErr result (λ fault. RefusesJoin core.old fault) }
+        ensures fault { IfErr result (λ fault. RefusesJoin core.old.0 fault) }
     {
-        let lane = match core.join() {
-            Ok(lane) => lane,
-            Err(fault) => {
-                self.refused = Some(fault);
-                return Err(fault);
+        match core.join() {
+            Ok(lane) => {
+                let session = lane.session();
+                self.transcript.session = session;
+                self.place = Place::Joined(lane);
+                Ok(session)
             }
-        };
-        let session = lane.session();
-        self.transcript.session = session;
-        if let Some(old) = self.lane.replace(lane) {
-            old.abandon();
+            Err(fault) => {
+                self.place = Place::Refused(fault);
+                Err(fault)
+            }
         }
-        Ok(session)
     }
 
     /// A call begins. Room to note its answer is made first.
     pub fn begin(
         &mut self,
-        core: &mut Core,
+        core: &mut NotedCore<B>,
         request: Request,
         moment: u32,
     ) -> Result<u64, CoreFault>
         requires { IsResting self.old.place }
-        ensures ok { IfOk result (λ number. self.new.place ≡ UnderWay number request moment) }
+        ensures ok { IfOk result (λ number. self.new
+            ≡ record self.old { place = Joined (UnderWay number moment request) }) }
         ensures err { OnErr result (self.new ≡ self.old) }
-        ensures session { self.new.session ≡ self.old.session }
-        ensures calls { self.new.calls ≡ self.old.calls }
-        ensures begun { OnOk result (self.new.begun ≡ counted self.old.begun) }
-        ensures count { self.new.steps ≡ self.old.steps }
-        ensures begins { IfOk result (λ number. (number ≡ core.new.drawn)
-            × BeginsAt self.old core.old core.new request moment) }
-        ensures history { (h : List Record) → IsHistory core.old h → IsHistory core.new h }
+        ensures known { IfErr result (λ fault. fault ≢ Stranger) }
+        ensures begins { IfOk result (λ number. (number ≡ core.new.0.drawn)
+            × BeginsAt self.old core.old.0 core.new.0 request moment) }
+        ensures history { (h : List Record) → IsHistory core.old.0 h → IsHistory core.new.0 h }
         ensures refused { OnErr result (core.new ≡ core.old) }
-        ensures fault { IfErr result (λ fault. RefusesAt self.old core.old fault) }
+        ensures fault { IfErr result (λ fault. RefusesAt self.old core.old.0 fault) }
     {
         self.transcript.calls.reserve(1)?;
-        let asked = CallUnderWay {
-            request: request.share()?,
-            moment,
+        let asked = request.share()?;
+        let Place::Joined(lane) = &mut self.place else {
+            unreachable!();
         };
-        let Some(lane) = &mut self.lane else {
-            return Err(CoreFault::Stranger);
-        };
-        core.begin(lane, request, moment)?;
+        let number = core.begin(lane, &mut self.share, request, moment)?;
         self.asked = Some(asked);
-        Ok(core.calls())
+        Ok(number)
     }
 
     /// One step of the call.
-    pub fn step(&mut self, core: &mut Core) -> Stepped
+    pub fn step(&mut self, core: &mut NotedCore<B>) -> Stepped
         requires { HasCallUnderWay self.old.place }
         ensures told { Steps self.old result.told self.new }
-        ensures session { self.new.session ≡ self.old.session }
-        ensures count { self.new.steps ≡ counted self.old.steps }
-        ensures steps { (h : List Record) → IsHistory core.old h
-            → StepsAt self.old core.old h (stepped_to result self.new core.new) }
+        ensures steps { StepsAt self.old core.old.0 (stepped_to result self.new core.new.0) }
     {
-        let _history = core.history();
         self.steps = self.steps.saturating_add(1);
-        let Some(lane) = &mut self.lane else {
+        let Place::Joined(lane) = &mut self.place else {
             unreachable!();
         };
         match core.step(lane) {
             Step::Moved => Stepped::going(false),
             Step::Blocked(_) => Stepped::going(true),
             Step::Answered(answer) => {
-                let Some(asked) = self.asked.take() else {
+                let Some(request) = self.asked.take() else {
                     unreachable!();
                 };
-                note(&mut self.transcript, self.keeps, asked.request, answer);
-                Stepped::ended(StepResult::Answered)
+                note(&mut self.transcript, self.keeps, request, answer);
+                Stepped::answered()
             }
-            Step::Stranger => {
-                if let Some(lane) = self.lane.take() {
-                    lane.abandon();
-                }
-                Stepped::ended(StepResult::Stranger)
-            }
+            Step::Stranger => unreachable!(),
         }
     }
 
     /// The answer to the last call.
     pub fn answer(&self) -> &Answer
-        requires { WasAnswered self.now.place }
-        ensures { IsLastAnswer self.now.place result.now.number result.now.reply }
+        requires { self.now.calls ≢ [] }
+        ensures { IsLastAnswer self.now.calls result.now.number result.now.reply }
     {
         match self.transcript.calls.as_slice().split_last() {
-            Some((exchange, _earlier)) => &exchange.answer,
+            Some((call, _earlier)) => &call.answer,
             None => unreachable!(),
         }
     }
 
-    /// The session leaves. Where the core doesn't know it, its place is given up.
-    pub fn leave(&mut self, core: &mut Core) -> Option<Share>
+    /// The session leaves, and its share of the calls is told.
+    pub fn leave(&mut self, core: &mut NotedCore<B>) -> Share
         requires { IsResting self.old.place }
-        ensures place { self.new.place ≡ Gone }
-        ensures session { self.new.session ≡ self.old.session }
-        ensures calls { self.new.calls ≡ self.old.calls }
-        ensures share { IfSome result (λ share. share ≡ self.old.begun) }
-        ensures steps { self.new.steps ≡ self.old.steps }
-        ensures leaves { OnSome result (Leaves core.old core.new self.old.session) }
-        ensures history { OnSome result ((h : List Record) → IsHistory core.old h
-            → IsHistory core.new (h ++ Left self.old.session ∷ [])) }
-        ensures stranger { IfNone result ((core.new ≡ core.old)
-            × (lane_state core.old self.old.session ≢ Idle)) }
+        ensures at { self.new ≡ record self.old { place = Joined Departed } }
+        ensures share { result ≡ share_of (length self.old.calls) }
+        ensures leaves { Leaves core.old.0 core.new.0 self.old.session }
+        ensures history { (h : List Record) → IsHistory core.old.0 h
+            → IsHistory core.new.0 (h ++ Left self.old.session ∷ []) }
     {
-        let lane = self.lane.take()?;
-        match core.leave(lane) {
-            Ok(share) => Some(share),
-            Err(lane) => {
-                lane.abandon();
-                None
-            }
-        }
+        let place = mem::replace(&mut self.place, Place::New);
+        let Some(lane) = place.into_lane() else {
+            unreachable!();
+        };
+        let (share, visit) = core.leave(lane);
+        self.place = Place::Left(visit);
+        share
     }
 
-    /// What the session was told, or its last call alone.
-    pub fn transcript(&self) -> &Transcript
-        ensures session { result.now.session ≡ self.now.session }
-        ensures calls { IfSome self.now.calls (λ calls. map call_record result.now.calls.items ≡ calls) }
-    {
-        &self.transcript
-    }
-
-    /// What the session was told, or its last call alone. A session that hasn't left is given up.
-    pub fn into_transcript(self) -> Transcript
-        ensures session { result.session ≡ self.session }
-        ensures calls { IfSome self.calls (λ calls. map call_record result.calls.items ≡ calls) }
+    /// The session makes no more calls: what came of it. One that hasn't left is given up.
+    pub fn end(self) -> Stayed<B>
+        ensures visit { IsVisitOf self result.visit }
+        ensures session { result.transcript.session ≡ self.session }
+        ensures calls { self.keeps ≡ true
+            → map call_record result.transcript.calls.items ≡ self.calls }
+        ensures part { result.share.parts ≡ 1 }
+        ensures begun { result.share.amount ≡ calls_begun_by result.visit }
     {
         let Stay {
-            lane,
-            refused: _,
+            place,
+            share,
             asked: _asked,
             steps: _,
             transcript,
             keeps: _,
         } = self;
-        if let Some(lane) = lane {
-            lane.abandon();
+        Stayed {
+            visit: place.end(),
+            transcript,
+            share,
         }
-        transcript
     }
 }
 

@@ -1,4 +1,3 @@
 mod Carrying
 pub mod Lines
-pub mod Parts
 mod Talks

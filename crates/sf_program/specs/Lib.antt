@@ -2,3 +2,4 @@ pub mod Statuses
 pub mod Commands
 pub mod Carrying
 pub mod Totals
+pub mod Descriptors

@@ -1,25 +1,17 @@
 -- What a server that ends tells of its sessions.
-use Rattle.std.specs.Prelude.{◌≡◌, ℕ, nat_eq, if◌then◌else◌, List, [], ◌∷◌, ◌++◌, map, sum, codes}
-use Rattle.std.specs.List.{flat_map}
+use Rattle.std.specs.Prelude.{◌≡◌, ℕ, nat_eq, if◌then◌else◌, Bool, Option, List, [], ◌∷◌, ◌++◌, codes}
+use Rattle.std.specs.List.{count_by}
 use Rattle.std.specs.Fmt.{decimal}
+use Rattle.std.specs.Io.KnownBytes.{Appends}
+use Rattle.sf_call.specs.declared.record.Record.{Record}
+use Rattle.sf_book.specs.Books.{is_call}
 use Rattle.sf_core.specs.Cores.{CoreView}
+use Rattle.sf_core.specs.Histories.{IsHistory}
 use Rattle.sf_audit.specs.declared.transcript.Transcript.{Transcript}
 use Rattle.sf_audit.specs.Audits.{AgreesWith}
-use Rattle.sf_workers.specs.declared.workers.Served.{Served}
+use Rattle.sf_workers.specs.Told.{HasTold}
 use Rattle.sf_program.specs.declared.server.ServerFault.{ServerFault}
 use Rattle.sf_program.specs.declared.server.ServerFault.TheVariants as fault
-
--- what all sessions were told, worker by worker
-abbrev pub transcripts_of : List Served → List Transcript
-transcripts_of all = flat_map (λ s. s.transcripts.items) all
-
-abbrev pub shares_of : List Served → List ℕ
-shares_of all = map (λ s. s.share) all
-
--- what sessions were told agrees with the history, and the shares are together all calls
-abbrev pub AreAll : CoreView → List Served → Type 0
-AreAll core all =
-    AgreesWith core.records core.folded (transcripts_of all) × (sum (shares_of all) ≡ core.drawn)
 
 -- how many calls' records are no longer kept, if any
 abbrev pub audit_line : ℕ → List ℕ
@@ -33,13 +25,23 @@ totals_text sessions calls folded =
     ++ audit_line folded
 
 -- only what doesn't agree is refused by the audit
-abbrev pub IsTellFault : CoreView → List Served → ServerFault → Type 0
-IsTellFault core all fault.Audit = ¬ AreAll core all
-IsTellFault core all fault.CannotListen = ⊥
-IsTellFault core all fault.OutOfMemory = Unit {0}
-IsTellFault core all fault.Stream = Unit {0}
+abbrev pub IsTellFault : CoreView → List Transcript → ServerFault → Type 0
+IsTellFault core transcripts fault.Audit = ¬ AgreesWith core.records core.folded transcripts
+IsTellFault core transcripts fault.CannotListen = ⊥
+IsTellFault core transcripts fault.OutOfMemory = ⊥
+IsTellFault core transcripts fault.Stream = Unit {0}
 
 -- then a part may have been written
 abbrev pub IsStream : ServerFault → Type 0
 IsStream fault.Stream = Unit {0}
 IsStream _ = ⊥
+
+-- A server has served its sessions on one core: each was told its calls in the history of that, and
+-- all agrees with the records. Its totals were written.
+pub record HasToldTotals (keeps : Bool) (sessions : ℕ) (old new : Option (List ℕ)) : Type 0 where
+  pub core : CoreView
+  pub transcripts : List Transcript
+  pub told : HasTold keeps core transcripts
+  pub agree : AgreesWith core.records core.folded transcripts
+  pub wrote : (h : List Record) → IsHistory core h
+      → Appends old new (totals_text sessions (count_by is_call h) core.folded)

@@ -1,154 +1,107 @@
 //! Standard streams and sockets, which can be asked whether they would wait.
 
-ghost use Rattle.std.specs.Io.{WritesAtMost};
+ghost use Rattle.std.specs.Prelude.{◌≡◌, ℕ, ◌<◌, ◌≤◌, List, length, take, Option, IfOk, OnErr};
+ghost use Rattle.std.specs.Io.KnownBytes.{IsAtEnd, prepend_known, append_known};
 
-use libc::net::{MSG_DONTWAIT, MSG_NOSIGNAL, POLLERR, POLLIN, POLLOUT, poll, send};
-use libc::types::pollfd;
+use crate::output::{Output, asked, shown};
+use libc::net::{POLLIN, POLLOUT, poll};
 use sf_ahead::{Duplex, Ready};
-use sf_line::{Line, LineFault, StreamLine};
-use std::fs::{self, File, OpenOptions};
-use std::io::{self, ErrorKind, Read, Sink, Stdin, Stdout, Write};
-use std::os::fd::{AsFd, AsRawFd, RawFd};
-use std::os::unix::fs::FileTypeExt;
+use sf_line::LineFault;
+use std::io::{self, ErrorKind, Read, Stdin};
+use std::os::fd::{AsRawFd, RawFd};
 use std::os::unix::net::UnixStream;
 
 /// How often a call is made again that a signal interrupted.
 const TRIES: u32 = 1024;
 
-/// How many bytes a pipe takes without waiting, once it takes any (POSIX's PIPE_BUF, on Linux).
-const PIPE_ROOM: usize = 4096;
-
 /// How long a client may take to read before more is read from it. Most read at once, and reading
 /// on costs more than to wait.
 const PATIENCE_MILLISECONDS: i32 = 10;
 
-/// Standard output as the system names it. Opening that gives a pipe anew, with modes of its own.
-const OUTPUT: &str = "/proc/self/fd/1";
+/// What is read from, by one call of the system each.
+pub trait Inlet {
+    /// The bytes that are still to be read, where they are told.
+    ghost incoming: { Self → Option (List ℕ) };
 
-fn last_error() -> io::Error {
-    io::Error::from_raw_os_error(os::errno())
+    /// One read, which waits for bytes, and which a signal may interrupt.
+    fn read_once(&mut self, buffer: &mut [u8]) -> io::Result<usize>
+        ensures within { IfOk result (λ n. n ≤ length buffer.new) }
+        ensures taken { IfOk result (λ n. incoming self.old
+            ≡ prepend_known (take n buffer.new) (incoming self.new)) }
+        ensures ended { IfOk result (λ n. n ≡ 0 → 0 < length buffer.new
+            → IsAtEnd (incoming self.new)) }
+        ensures err { OnErr result (incoming self.new ≡ incoming self.old) };
+
+    /// What can be asked whether a read would wait.
+    fn fd(&self) -> RawFd;
 }
 
-/// What is asked of a descriptor; nothing where its number is below 0.
-fn asked(fd: RawFd, events: i16) -> pollfd {
-    pollfd {
-        fd,
-        events,
-        revents: 0,
-    }
+/// What is written to, by one call of the system each.
+pub trait Outlet {
+    /// The bytes that were written, where they are told.
+    ghost outgoing: { Self → Option (List ℕ) };
+
+    /// One write of some of the bytes, which doesn't wait, and which a signal may interrupt.
+    fn write_once(&mut self, bytes: &[u8]) -> io::Result<usize>
+        ensures within { IfOk result (λ n. n ≤ length bytes.now) }
+        ensures added { IfOk result (λ n. outgoing self.new
+            ≡ append_known (outgoing self.old) (take n bytes.now)) }
+        ensures err { OnErr result (outgoing self.new ≡ outgoing self.old) };
+
+    /// What can be asked whether a write would wait.
+    fn fd(&self) -> RawFd;
 }
 
-/// What the descriptor shows, within so many milliseconds, where it is asked whether it can be
-/// written to: 0 where it would wait.
-fn shown(fd: RawFd, milliseconds: i32) -> i16 {
-    let mut all = [asked(fd, POLLOUT)];
-    if poll(&mut all, milliseconds) > 0 {
-        all[0].revents
-    } else {
-        0
-    }
-}
+impl Inlet for Stdin {
+    ghost use Rattle.std.specs.Prelude.{None};
 
-/// Sends some of the bytes, without waiting, whatever mode the socket is in.
-fn send_now(socket: RawFd, bytes: &[u8]) -> io::Result<usize>
-    ensures { WritesAtMost result bytes.now }
-{
-    let sent = unsafe { send(socket, bytes, MSG_DONTWAIT | MSG_NOSIGNAL) };
-    if sent < 0 {
-        return Err(last_error());
-    }
-    Ok((sent as usize).min(bytes.len()))
-}
+    // A descriptor tells no bytes.
+    ghost incoming = { λ _. None };
 
-/// What is written to. None of it is switched to another mode where others share it.
-#[derive(Drop)]
-enum Output {
-    Socket(UnixStream),
-    /// A pipe that was opened anew, so that its writes don't wait and those of its other users do.
-    Pipe(File),
-    /// Anything else: a file, a terminal, or a pipe that can't be opened. It is asked before each
-    /// write.
-    Other(Stdout),
-}
-
-/// A socket where standard output is one.
-fn socket_output(rt: &HostRuntime) -> Option<UnixStream> {
-    let output = rt.stdout().as_fd().try_clone_to_owned().ok()?;
-    let socket = UnixStream::from(output);
-    // Sockets alone have this option.
-    if socket.write_timeout().is_err() {
-        return None;
-    }
-    Some(socket)
-}
-
-/// A pipe where standard output is one. One that nobody reads any more isn't opened, since that
-/// would wait for a reader.
-fn pipe_output(rt: &HostRuntime) -> Option<File> {
-    let found = fs::metadata(rt, OUTPUT).ok()?;
-    if !found.file_type().is_fifo() || shown(rt.stdout().as_raw_fd(), 0) & POLLERR != 0 {
-        return None;
-    }
-    let pipe = OpenOptions::new().write(true).open(rt, OUTPUT).ok()?;
-    if os::set_nonblocking(pipe.as_raw_fd(), true) < 0 {
-        return None;
-    }
-    Some(pipe)
-}
-
-impl Output {
-    fn standard(rt: &HostRuntime) -> Output {
-        if let Some(socket) = socket_output(rt) {
-            return Output::Socket(socket);
-        }
-        match pipe_output(rt) {
-            Some(pipe) => Output::Pipe(pipe),
-            None => Output::Other(rt.stdout()),
-        }
+    fn read_once(&mut self, buffer: &mut [u8]) -> io::Result<usize> {
+        self.read(buffer)
     }
 
     fn fd(&self) -> RawFd {
-        match self {
-            Output::Socket(socket) => socket.as_raw_fd(),
-            Output::Pipe(pipe) => pipe.as_raw_fd(),
-            Output::Other(output) => output.as_raw_fd(),
-        }
-    }
-
-    /// Writes some of the bytes, without waiting.
-    fn write_now(&mut self, bytes: &[u8]) -> io::Result<usize>
-        ensures { WritesAtMost result bytes.now }
-    {
-        match self {
-            Output::Socket(socket) => send_now(socket.as_raw_fd(), bytes),
-            Output::Pipe(pipe) => pipe.write(bytes),
-            Output::Other(output) => {
-                if shown(output.as_raw_fd(), 0) == 0 {
-                    return Err(ErrorKind::WouldBlock.into());
-                }
-                output.write(&bytes[..bytes.len().min(PIPE_ROOM)])
-            }
-        }
+        self.as_raw_fd()
     }
 }
 
-/// A reader with a descriptor, and what is written to. It tells no bytes, since descriptors tell
-/// none.
+impl Inlet for UnixStream {
+    ghost use Rattle.std.specs.Prelude.{None};
+
+    // A descriptor tells no bytes.
+    ghost incoming = { λ _. None };
+
+    fn read_once(&mut self, buffer: &mut [u8]) -> io::Result<usize> {
+        self.read(buffer)
+    }
+
+    fn fd(&self) -> RawFd {
+        self.as_raw_fd()
+    }
+}
+
+/// What is read from, and what is written to. It tells the bytes that they tell.
 #[derive(Drop)]
-pub struct Descriptors<R> {
-    reader: StreamLine<R, Sink>,
-    input: RawFd,
-    output: Output,
+pub struct Descriptors<I, O> {
+    input: I,
+    output: O,
     /// The output took a part of what it was given last, or showed that it takes nothing.
     is_full: bool,
     /// It hasn't waited for the output alone since something was written.
     is_patient: bool,
 }
 
-impl<R> Descriptors<R> {
-    fn new(reader: R, input: RawFd, output: Output) -> Descriptors<R> {
+impl<I, O> Descriptors<I, O> {
+    ghost use Rattle.sf_program.specs.Descriptors.{input_of, output_of};
+
+    /// Both ends, of which none was asked for anything.
+    pub fn new(input: I, output: O) -> Descriptors<I, O>
+        ensures input { input_of result ≡ input }
+        ensures output { output_of result ≡ output }
+    {
         Descriptors {
-            reader: StreamLine::new(reader, io::sink()),
             input,
             output,
             is_full: false,
@@ -157,32 +110,37 @@ impl<R> Descriptors<R> {
     }
 }
 
-impl Descriptors<Stdin> {
+impl Descriptors<Stdin, Output> {
     /// Standard input and output.
-    pub fn standard(rt: &HostRuntime) -> Descriptors<Stdin> {
-        let input = rt.stdin();
-        Descriptors::new(input, input.as_raw_fd(), Output::standard(rt))
+    pub fn standard(rt: &HostRuntime) -> Descriptors<Stdin, Output> {
+        Descriptors::new(rt.stdin(), Output::standard(rt))
     }
 }
 
-impl Descriptors<UnixStream> {
+impl Descriptors<UnixStream, Output> {
     /// Both halves of a socket.
-    pub(crate) fn of_socket(socket: UnixStream) -> io::Result<Descriptors<UnixStream>> {
-        let reader = socket.try_clone()?;
-        let input = reader.as_raw_fd();
-        Ok(Descriptors::new(reader, input, Output::Socket(socket)))
+    pub(crate) fn of_socket(socket: UnixStream) -> io::Result<Descriptors<UnixStream, Output>> {
+        let input = socket.try_clone()?;
+        Ok(Descriptors::new(input, Output::Socket(socket)))
     }
 }
 
-impl<R: Read> Duplex for Descriptors<R> {
-    ghost use Rattle.std.specs.Prelude.{None};
+impl<I: Inlet, O: Outlet> Duplex for Descriptors<I, O> {
+    ghost use Rattle.sf_program.specs.Descriptors.{input_of, output_of};
 
-    ghost incoming = { λ _. None };
+    ghost incoming = { λ d. I.incoming (input_of d) };
 
-    ghost outgoing = { λ _. None };
+    ghost outgoing = { λ d. O.outgoing (output_of d) };
 
     fn read(&mut self, buffer: &mut [u8]) -> Result<usize, LineFault> {
-        self.reader.read(buffer)
+        for _ in 0..TRIES {
+            match self.input.read_once(buffer) {
+                Ok(n) => return Ok(n),
+                Err(error) if error.kind() == ErrorKind::Interrupted => {}
+                Err(_) => return Err(LineFault),
+            }
+        }
+        Err(LineFault)
     }
 
     fn try_write(&mut self, bytes: &[u8]) -> Result<Option<usize>, LineFault> {
@@ -190,7 +148,7 @@ impl<R: Read> Duplex for Descriptors<R> {
             return Ok(None);
         }
         for _ in 0..TRIES {
-            match self.output.write_now(bytes) {
+            match self.output.write_once(bytes) {
                 Ok(n) if n > 0 || bytes.is_empty() => {
                     self.is_full = n < bytes.len();
                     self.is_patient = true;
@@ -216,7 +174,7 @@ impl<R: Read> Duplex for Descriptors<R> {
                 return Ok(Ready::Write);
             }
         }
-        let input = if reads { self.input } else { -1 };
+        let input = if reads { self.input.fd() } else { -1 };
         let mut both = [asked(output, POLLOUT), asked(input, POLLIN)];
         for _ in 0..TRIES {
             if poll(&mut both, -1) >= 0 {

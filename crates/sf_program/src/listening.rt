@@ -1,6 +1,6 @@
 //! The Unix socket at which a server listens.
 
-use crate::socket_line::SocketLine;
+use crate::socket_line::{SocketLine, socket_line};
 use std::io::{self, ErrorKind};
 use std::os::unix::fs::FileTypeExt;
 use std::os::unix::net::{UnixListener, UnixStream};
@@ -41,7 +41,7 @@ pub fn listen(rt: &HostRuntime, path: &str) -> io::Result<UnixListener> {
 
 fn accept(rt: &HostRuntime, listener: &UnixListener) -> io::Result<SocketLine> {
     let (stream, _) = listener.accept()?;
-    SocketLine::new(rt.alloc(), stream)
+    socket_line(rt.alloc(), stream)
 }
 
 /// The next connection. Where none can be had, it is asked for again, for some ten seconds.

@@ -1,6 +1,9 @@
 //! The command `sftpd serve`.
 
-ghost use Rattle.std.specs.Prelude.{◌<◌};
+ghost use Rattle.std.specs.Prelude.{◌≡◌, ◌<◌, ◌-◌, ◌^◌, [], is_some, unwrap_or, vec_len, IfOk, OnOk};
+ghost use Rattle.sf_core.specs.Histories.{IsHistory};
+ghost use Rattle.sf_workers.specs.Told.{HasTold};
+ghost use Rattle.sf_program.specs.Totals.{HasToldTotals};
 
 use crate::clock::SystemClock;
 use crate::listening::{listen, next_line};
@@ -8,14 +11,14 @@ use crate::socket_line::SocketLine;
 use crate::totals::tell;
 use crossbeam_channel::{Receiver, Sender, bounded};
 use sf_core::Core;
-use sf_pool::{Hall, NoObserver};
+use sf_pool::NoObserver;
 use sf_words::Serving;
-use sf_workers::{Served, serve_all};
-use std::alloc::AllocError;
+use sf_workers::{Ended, serve_on_core};
+use std::alloc::{AllocError, Global};
 use std::fs;
 use std::io::Write;
 use std::os::unix::net::UnixListener;
-use std::sync::{Mutex, Wait};
+use std::sync::Wait;
 use std::thread::{self, Threads};
 
 /// Why a server ends early.
@@ -26,7 +29,8 @@ pub enum ServerFault {
     OutOfMemory,
     /// What is to be told can't be written.
     Stream,
-    /// What was told, or the workers' shares, don't agree with the history.
+    /// What was told doesn't agree with the history. It does, as is proved; that it is compared is a
+    /// check of what was built.
     Audit,
 }
 
@@ -72,7 +76,10 @@ fn accept_all<T: Wait>(
     true
 }
 
-fn clocks(rt: &HostRuntime, count: usize) -> Result<Vec<SystemClock<'_, HostRuntime>>, AllocError> {
+/// So many clocks.
+fn clocks(rt: &HostRuntime, count: u32) -> Result<Vec<SystemClock<'_, HostRuntime>>, AllocError>
+    ensures { IfOk result (λ clocks. vec_len clocks ≡ count) }
+{
     let mut clocks = Vec::new(rt.alloc());
     for _ in 0..count {
         clocks.push(SystemClock::new(rt))?;
@@ -80,45 +87,62 @@ fn clocks(rt: &HostRuntime, count: usize) -> Result<Vec<SystemClock<'_, HostRunt
     Ok(clocks)
 }
 
-/// Serves connections on a core. One more thread has the workers, and this one accepts.
+/// Serves connections on a core that no session has joined. One more thread accepts, and this one
+/// has the workers. What sessions were told is kept where they are counted.
 fn serve_core<T: Threads + Wait + Sync>(
     rt: &HostRuntime,
     threads: &T,
     listener: &UnixListener,
     serving: Serving<'_>,
-    core: &Mutex<Core>,
-) -> Result<Vec<Served>, ServerFault> {
+    core: Core,
+) -> Result<Ended, ServerFault>
+    requires new { IsHistory core [] }
+    requires none { (core.joins ≡ 0) × (core.drawn ≡ 0) }
+    ensures { IfOk result (λ ended. HasTold (is_some serving.entry.sessions) ended.core
+        ended.transcripts.items) }
+{
     let alloc = rt.alloc();
-    let hall = &Hall::new();
     let (sender, lines) = bounded(alloc, WAITING)?;
     let clocks = clocks(rt, serving.workers)?;
     let most = serving.sessions.unwrap_or(u64::MAX);
     let keeps = serving.sessions.is_some();
-    thread::scope(thread::scope_env(), threads, move |scope| {
-        let workers = scope.spawn(move || {
-            let lines = lines;
-            serve_all(
-                threads,
-                alloc,
-                core,
-                hall,
-                &lines,
-                clocks,
-                &NoObserver,
-                keeps,
-            )
-        });
-        let Ok(workers) = workers else {
-            return Err(ServerFault::OutOfMemory);
-        };
-        let had = accept_all(rt, threads, listener, sender, most);
-        let all = workers.join(threads)?;
-        if had {
-            Ok(all)
-        } else {
-            Err(ServerFault::CannotListen)
-        }
-    })
+    thread::scope(
+        thread::scope_env(),
+        threads,
+        move |scope| -> Result<Ended, ServerFault>
+            requires new { IsHistory core [] }
+            requires none { (core.joins ≡ 0) × (core.drawn ≡ 0) }
+            requires few { vec_len clocks < 2 ^ 32 }
+            ensures { IfOk result (λ ended. HasTold keeps ended.core ended.transcripts.items) }
+        {
+            let accepting = scope.spawn(move || accept_all(rt, threads, listener, sender, most));
+            let Ok(accepting) = accepting else {
+                return Err(ServerFault::OutOfMemory);
+            };
+            let ended = serve_to_end(threads, alloc, core, lines, clocks, keeps);
+            if !accepting.join(threads) {
+                return Err(ServerFault::CannotListen);
+            }
+            ended
+        },
+    )
+}
+
+/// Serves the lines that a channel gives. Nobody takes any after that.
+fn serve_to_end<T: Threads + Wait + Sync>(
+    threads: &T,
+    alloc: Global,
+    core: Core,
+    lines: Receiver<SocketLine>,
+    clocks: Vec<SystemClock<'_, HostRuntime>>,
+    keeps: bool,
+) -> Result<Ended, ServerFault>
+    requires new { IsHistory core [] }
+    requires none { (core.joins ≡ 0) × (core.drawn ≡ 0) }
+    requires few { vec_len clocks < 2 ^ 32 }
+    ensures { IfOk result (λ ended. HasTold keeps ended.core ended.transcripts.items) }
+{
+    Ok(serve_on_core(threads, alloc, core, &lines, clocks, &NoObserver, keeps)?)
 }
 
 /// Serves the connections to a listener, and writes what they came to where it was asked for a
@@ -131,11 +155,14 @@ pub fn serve_on<T: Threads + Wait + Sync, W: Write>(
     output: &mut W,
 ) -> Result<(), ServerFault>
     requires { 0 < serving.keep }
+    ensures { OnOk result (HasToldTotals (is_some serving.entry.sessions)
+        (unwrap_or serving.entry.sessions (2 ^ 64 - 1))
+        (W.contents output.old) (W.contents output.new)) }
 {
-    let core = Mutex::new(Core::with_keep(rt.alloc(), serving.keep)?);
-    let all = serve_core(rt, threads, listener, serving, &core)?;
+    let core = Core::with_keep(rt.alloc(), serving.keep)?;
+    let ended = serve_core(rt, threads, listener, serving, core)?;
     let sessions = serving.sessions.unwrap_or(u64::MAX);
-    tell(rt.alloc(), core.into_inner(), all, sessions, output)
+    tell(&ended.core, ended.transcripts.as_slice(), sessions, output)
 }
 
 /// Serves sessions at a Unix socket. Once it listens, it tells so on standard error.

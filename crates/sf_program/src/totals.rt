@@ -1,37 +1,18 @@
 //! What a server that ends tells of its sessions.
 
-ghost use Rattle.std.specs.Prelude.{◌≡◌, ◌⊎◌, OnOk, IfOk, IfErr, List};
+ghost use Rattle.std.specs.Prelude.{◌≡◌, ◌⊎◌, OnOk, IfErr, List};
 ghost use Rattle.std.specs.List.{count_by};
 ghost use Rattle.std.specs.Io.KnownBytes.{Appends};
 ghost use Rattle.sf_call.specs.declared.record.Record.{Record};
 ghost use Rattle.sf_book.specs.Books.{is_call};
 ghost use Rattle.sf_core.specs.Histories.{IsHistory};
-ghost use Rattle.sf_program.specs.Totals.{transcripts_of, shares_of, audit_line, totals_text, AreAll, IsTellFault, IsStream};
+ghost use Rattle.sf_audit.specs.Audits.{AgreesWith};
+ghost use Rattle.sf_program.specs.Totals.{audit_line, totals_text, IsTellFault, IsStream};
 
 use crate::server::ServerFault;
-use sf_audit::{Transcript, audit, gather};
-use sf_core::{Core, Share};
-use sf_workers::Served;
-use std::alloc::{AllocError, Global};
+use sf_audit::{Totals, Transcript, audit};
+use sf_core::Core;
 use std::io::{self, Write};
-
-/// All that sessions were told, and all shares.
-fn parted(alloc: Global, all: Vec<Served>) -> Result<(Vec<Transcript>, Vec<Share>), AllocError>
-    ensures transcripts { IfOk result (λ parts. parts.0.items ≡ transcripts_of all.items) }
-    ensures shares { IfOk result (λ parts. parts.1.items ≡ shares_of all.items) }
-{
-    let mut transcripts = Vec::new(alloc);
-    let mut shares = Vec::new(alloc);
-    for served in all {
-        let Served {
-            share,
-            transcripts: mut told,
-        } = served;
-        transcripts.append(&mut told)?;
-        shares.push(share)?;
-    }
-    Ok((transcripts, shares))
-}
 
 /// Writes that the audit found nothing wrong, and how many calls' records are no longer kept.
 fn write_audit<W: Write>(folded: u64, output: &mut W) -> io::Result<()>
@@ -55,32 +36,26 @@ fn write_totals<W: Write>(sessions: u64, calls: u64, folded: u64, output: &mut W
     output.flush()
 }
 
-/// Compares what sessions were told, and the workers' shares, with the history of the core. Where
-/// both agree with it, it writes how many sessions and calls there were.
+/// Compares what sessions were told with the history of the core. Where it agrees, it writes how
+/// many sessions and calls there were.
 pub fn tell<W: Write>(
-    alloc: Global,
-    core: Core,
-    all: Vec<Served>,
+    core: &Core,
+    transcripts: &[Transcript],
     sessions: u64,
     output: &mut W,
 ) -> Result<(), ServerFault>
-    ensures told { OnOk result (AreAll core all.items × ((h : List Record) → IsHistory core h
+    ensures told { OnOk result (AgreesWith core.now.records core.now.folded transcripts.now
+        × ((h : List Record) → IsHistory core.now h
         → Appends (W.contents output.old) (W.contents output.new)
-        (totals_text sessions (count_by is_call h) core.folded))) }
-    ensures fault { IfErr result (IsTellFault core all.items) }
+        (totals_text sessions (count_by is_call h) core.now.folded))) }
+    ensures fault { IfErr result (IsTellFault core.now transcripts.now) }
     ensures quiet { IfErr result (λ fault. IsStream fault ⊎ (output.new ≡ output.old)) }
 {
-    let Ok((transcripts, shares)) = parted(alloc, all) else {
-        return Err(ServerFault::OutOfMemory);
-    };
-    let Ok(()) = audit(&core, &transcripts) else {
+    let Ok(()) = audit(core, transcripts) else {
         return Err(ServerFault::Audit);
     };
-    let folded = core.folded();
-    let Ok(totals) = gather(core, shares) else {
-        return Err(ServerFault::Audit);
-    };
-    match write_totals(sessions, totals.recorded, folded, output) {
+    let totals = Totals::of(core);
+    match write_totals(sessions, totals.recorded, core.folded(), output) {
         Ok(()) => Ok(()),
         Err(_) => Err(ServerFault::Stream),
     }

@@ -1,14 +1,21 @@
 //! Transcripts of sessions that made directories, right and wrong ones, beside the history of a
 //! core.
 
+ghost use Rattle.std.specs.Prelude.{◌≡◌, [], IfOk};
+ghost use Rattle.sf_core.specs.Histories.{IsHistory};
+
 use sf_audit::{AnsweredCall, AuditFault, GatherFault, Transcript, audit, gather};
 use sf_call::{Answer, Request};
 use sf_cases::requests::mkdir;
 use sf_core::{Core, Lane, Share, Step};
-use sf_pool::{Desk, Hall, LockDesk, StepResult};
+use sf_noted::{NotedCore, Page};
+use sf_pool::{Desk, Hall, LockDesk, Stayed, StepResult};
 use sf_reply::{Reply, StatusCode};
+use sf_roll::{NewRoll, RollName};
 use std::alloc::Global;
+use std::marker::Brand;
 use std::process::Abort;
+use std::sync::ledger::{self, Blank, Ledger};
 use std::sync::{Mutex, Wait};
 use std::test::*;
 
@@ -248,38 +255,78 @@ fn a_call_under_way(rt: HostRuntime) -> Result<(), Fail> {
     Ok(())
 }
 
-/// Joins, makes one call in two steps, and leaves. What it was told and its share come out.
-fn visit(
+/// Joins, makes one call in two steps, and leaves. What came of it and its share come out.
+fn visit<B: RollName + Ledger>(
     rt: &(impl Abort + Wait),
     alloc: Global,
-    core: &Mutex<Core>,
+    core: &Mutex<NotedCore<B>>,
     hall: &Hall,
+    part: ledger::Share<B>,
     request: Result<Request, Fail>,
-) -> Result<(Transcript, Share), Fail> {
+) -> Result<(Stayed<B>, Share), Fail>
+    requires part { part.parts ≡ 1 }
+    requires none { part.amount ≡ 0 }
+    ensures { IfOk result (λ came. came.0.share.parts ≡ 1) }
+{
     let request = request?;
-    let mut desk = LockDesk::new(rt, alloc, core, hall, true);
+    let mut desk = LockDesk::new(rt, alloc, core, hall, true, part);
     let session = desk.join()?;
     let number = desk.begin(request, 100)?;
     assert_eq!(rt; desk.step(), StepResult::Going);
     assert_eq!(rt; desk.step(), StepResult::Answered);
     assert_eq!(rt; desk.answer().number(), number);
     assert_eq!(rt; desk.answer().session(), session);
-    let share = desk.leave().ok_or("a stranger")?;
-    Ok((desk.into_transcript(), share))
+    let share = desk.leave();
+    Ok((desk.end(), share))
 }
 
-/// Two sessions in turn on a core under a lock. What they were told is its history.
+/// Two sessions in turn on a core that nobody has joined, under a lock. The core comes out, and
+/// what they were told, and their shares.
+fn visit_in_turn<B: RollName + Ledger>(
+    rt: &(impl Abort + Wait),
+    alloc: Global,
+    core: Core,
+    roll: NewRoll<Page>,
+    blank: Blank,
+) -> Result<(Core, Vec<Transcript>, Vec<Share>), Fail>
+    requires new { IsHistory core [] }
+    requires none { (core.joins ≡ 0) × (core.drawn ≡ 0) }
+    requires table { roll ≡ B.table }
+    requires name { blank.name ≡ B.name }
+    requires parts { (blank.parts ≡ B.parts) × (B.parts ≡ 2) }
+{
+    let (calls, mut all) = blank.open::<B>();
+    let core = Mutex::new(NotedCore::open(core, roll, calls));
+    let hall = Hall::new();
+    let part = all.split_off(1, 0);
+    let (first, one) = visit(rt, alloc, &core, &hall, part, mkdir(alloc, b"/a"))?;
+    let (second, other) = visit(rt, alloc, &core, &hall, all, mkdir(alloc, b"/a"))?;
+    let Stayed {
+        visit: _visit,
+        transcript,
+        share: mut counted,
+    } = first;
+    let Stayed {
+        visit: _other,
+        transcript: later,
+        share,
+    } = second;
+    counted.merge(share);
+    let mut core = core.into_inner();
+    core.gather(&mut counted);
+    let told = vec![in alloc; later, transcript]?;
+    let shares = vec![in alloc; one, other]?;
+    Ok((core.into_core(), told, shares))
+}
+
+/// What they were told is the core's history.
 #[test]
 fn two_visits(rt: HostRuntime) -> Result<(), Fail> {
     let alloc = rt.alloc();
-    let core = Mutex::new(Core::new(alloc)?);
-    let hall = Hall::new();
-    let (first, one) = visit(&rt, alloc, &core, &hall, mkdir(alloc, b"/a"))?;
-    let (second, other) = visit(&rt, alloc, &core, &hall, mkdir(alloc, b"/a"))?;
-    let core = core.into_inner();
-    let told = vec![in alloc; second, first]?;
+    let core = Core::new(alloc)?;
+    let roll = NewRoll::new(alloc)?;
+    let (core, told, shares) = visit_in_turn::<Brand>(&rt, alloc, core, roll, Blank::new(2))?;
     assert_eq!(rt; audit(&core, &told), Ok(()));
-    let shares = vec![in alloc; one, other]?;
     let totals = gather(core, shares)?;
     assert_eq!(rt; (totals.recorded, totals.under_way), (2, 0));
     Ok(())

@@ -1,22 +1,26 @@
 //! Lines are sent by a channel, and what the workers' sessions were told is compared with the
 //! history.
 
+ghost use Rattle.std.specs.Prelude.{◌≡◌, [], vec_len, IfOk};
+ghost use Rattle.sf_core.specs.Histories.{IsHistory};
+
 use crossbeam_channel::{Receiver, Sender, unbounded};
-use sf_audit::{Transcript, audit, gather};
+use sf_audit::{Totals, Transcript, audit};
 use sf_cases::{FailingLine, StillClock, hex_packets};
-use sf_core::{Core, Share};
-use sf_line::{MemoryLine, Pieces};
-use sf_pool::{Hall, NoObserver, StepObserver};
-use sf_workers::{Served, serve_all};
+use sf_core::Core;
+use sf_line::{Line, MemoryLine, Pieces};
+use sf_pool::{NoObserver, StepObserver};
+use sf_workers::{Ended, serve_on_core};
 use std::alloc::Global;
 use std::process::Abort;
+use std::sync::Wait;
 use std::sync::atomic::{AtomicU64, Ordering};
-use std::sync::{Mutex, Wait};
 use std::test::*;
 use std::thread;
 use std::thread::Threads;
 
 mod asleep;
+mod beside;
 mod together;
 
 const INIT: &str = "00000005 01 00000003";
@@ -34,12 +38,40 @@ fn line(alloc: Global, input: &[u8]) -> MemoryLine<'_> {
     MemoryLine::new(alloc, input, whole, whole)
 }
 
-fn clocks(alloc: Global, count: usize) -> Result<Vec<StillClock>, Fail> {
+fn clocks(alloc: Global, count: u32) -> Result<Vec<StillClock>, Fail>
+    ensures { IfOk result (λ clocks. vec_len clocks ≡ count) }
+{
     let mut clocks = Vec::new(alloc);
     for _ in 0..count {
         clocks.push(StillClock)?;
     }
     Ok(clocks)
+}
+
+/// Serves the lines of a channel on a new core, by so many workers. What sessions were told is
+/// kept.
+fn serve_new<R: Threads + Wait + Sync, L: Line + Drop + Send, G: StepObserver + Sync>(
+    rt: &R,
+    alloc: Global,
+    lines: &Receiver<L>,
+    workers: u32,
+    observer: &G,
+) -> Result<Ended, Fail> {
+    let core = Core::new(alloc)?;
+    let clocks = clocks(alloc, workers)?;
+    Ok(serve_on_core(rt, alloc, core, lines, clocks, observer, true)?)
+}
+
+/// What was told is the history, which has so many calls. None is under way.
+fn has_told(rt: &impl Abort, ended: &Ended, calls: u64) {
+    let Ended { core, transcripts } = ended;
+    assert_eq!(rt; audit(core, transcripts), Ok(()));
+    has_calls(rt, core, calls);
+}
+
+fn has_calls(rt: &impl Abort, core: &Core, calls: u64) {
+    let totals = Totals::of(core);
+    assert_eq!(rt; (totals.recorded, totals.under_way), (calls, 0));
 }
 
 /// A channel that is closed, and gives these lines.
@@ -55,21 +87,6 @@ fn sent<'a>(
         }
     }
     Ok(lines)
-}
-
-/// What all workers' sessions were told, and all shares.
-fn parted(alloc: Global, all: Vec<Served>) -> Result<(Vec<Transcript>, Vec<Share>), Fail> {
-    let mut transcripts = Vec::new(alloc);
-    let mut shares = Vec::new(alloc);
-    for served in all {
-        let Served {
-            share,
-            transcripts: mut told,
-        } = served;
-        transcripts.append(&mut told)?;
-        shares.push(share)?;
-    }
-    Ok((transcripts, shares))
 }
 
 /// Yields until there are so many, for so many turns at most. Tells whether they came.
@@ -160,6 +177,13 @@ struct InTheWay {
 const LONGER: u64 = 10_000;
 
 impl InTheWay {
+    fn new() -> InTheWay {
+        InTheWay {
+            seen: AtomicU64::new(0),
+            third: AtomicU64::new(0),
+        }
+    }
+
     fn hold(&self) {
         for _ in 0..TURNS {
             if self.third.load(Ordering::SeqCst) == 1 {
@@ -219,28 +243,22 @@ fn gate_two_calls(rt: HostRuntime) -> Result<(), Fail> {
     let alloc = rt.alloc();
     let one = hex_packets(alloc, &[INIT, MKDIR_A, STAT_A_F])?;
     let two = hex_packets(alloc, &[INIT, MKDIR_B])?;
-    let core = Mutex::new(Core::new(alloc)?);
-    let hall = Hall::new();
     let observer = TwoCalls::new();
-    let clocks = clocks(alloc, 2)?;
     let (sender, lines) = unbounded(alloc)?;
     let first = line(alloc, &one);
     let second = line(alloc, &two);
-    let (were_sent, all) = thread::join(
+    let (were_sent, ended) = thread::join(
         &rt,
         || send_two(&rt, sender, first, second, &observer.seen),
-        || serve_all(&rt, alloc, &core, &hall, &lines, clocks, &observer, true),
+        || serve_new(&rt, alloc, &lines, 2, &observer),
     );
     assert!(rt; were_sent);
-    let (transcripts, shares) = parted(alloc, all?)?;
+    let ended = ended?;
     assert_eq!(rt; observer.held.load(Ordering::SeqCst), 1);
     assert_eq!(rt; observer.answers.load(Ordering::SeqCst), 3);
     assert_eq!(rt; observer.late.load(Ordering::SeqCst), 0);
-    let core = core.into_inner();
-    assert_eq!(rt; transcripts.len(), 2);
-    assert_eq!(rt; audit(&core, &transcripts), Ok(()));
-    let totals = gather(core, shares)?;
-    assert_eq!(rt; (totals.recorded, totals.under_way), (3, 0));
+    assert_eq!(rt; ended.transcripts.len(), 2);
+    has_told(&rt, &ended, 3);
     Ok(())
 }
 
@@ -250,27 +268,19 @@ fn waiting_call_is_woken(rt: HostRuntime) -> Result<(), Fail> {
     let alloc = rt.alloc();
     let one = hex_packets(alloc, &[INIT, MKDIR_A, STAT_A_F])?;
     let two = hex_packets(alloc, &[INIT, MKDIR_B])?;
-    let core = Mutex::new(Core::new(alloc)?);
-    let hall = Hall::new();
-    let observer = InTheWay {
-        seen: AtomicU64::new(0),
-        third: AtomicU64::new(0),
-    };
-    let clocks = clocks(alloc, 2)?;
+    let observer = InTheWay::new();
     let (sender, lines) = unbounded(alloc)?;
     let first = line(alloc, &one);
     let second = line(alloc, &two);
-    let (were_sent, all) = thread::join(
+    let (were_sent, ended) = thread::join(
         &rt,
         || send_two(&rt, sender, first, second, &observer.seen),
-        || serve_all(&rt, alloc, &core, &hall, &lines, clocks, &observer, true),
+        || serve_new(&rt, alloc, &lines, 2, &observer),
     );
     assert!(rt; were_sent);
-    let (transcripts, shares) = parted(alloc, all?)?;
-    let core = core.into_inner();
-    assert_eq!(rt; audit(&core, &transcripts), Ok(()));
-    let totals = gather(core, shares)?;
-    assert_eq!(rt; (totals.recorded, totals.under_way), (3, 0));
+    let ended = ended?;
+    assert_eq!(rt; observer.third.load(Ordering::SeqCst), 1);
+    has_told(&rt, &ended, 3);
     Ok(())
 }
 
@@ -280,19 +290,15 @@ fn serve_inputs<R: Threads + Wait + Abort + Sync>(
     alloc: Global,
     core: Core,
     inputs: &[Vec<u8>],
-    workers: usize,
+    workers: u32,
     keep: bool,
-) -> Result<(Core, Vec<Transcript>, Vec<Share>), Fail> {
-    let core = Mutex::new(core);
-    let hall = Hall::new();
+) -> Result<Ended, Fail>
+    requires new { IsHistory core [] }
+    requires none { (core.joins ≡ 0) × (core.drawn ≡ 0) }
+{
     let lines = sent(rt, alloc, inputs)?;
     let clocks = clocks(alloc, workers)?;
-    let all = serve_all(rt, alloc, &core, &hall, &lines, clocks, &NoObserver, keep)?;
-    if all.len() != workers {
-        panic!(rt; "{} workers told what they served", all.len());
-    }
-    let (transcripts, shares) = parted(alloc, all)?;
-    Ok((core.into_inner(), transcripts, shares))
+    Ok(serve_on_core(rt, alloc, core, &lines, clocks, &NoObserver, keep)?)
 }
 
 /// So many sessions that each make `/a` and ask for it, one of which alone can make it.
@@ -304,39 +310,34 @@ fn same_sessions(alloc: Global, count: usize) -> Result<Vec<Vec<u8>>, Fail> {
     Ok(inputs)
 }
 
-/// What was told is the history, and the shares are all calls.
+/// What was told is the history.
 #[test]
 fn forty_sessions(rt: HostRuntime) -> Result<(), Fail> {
     let alloc = rt.alloc();
     let inputs = same_sessions(alloc, 40)?;
     for workers in [1, 3, 8] {
         let core = Core::new(alloc)?;
-        let (core, mut transcripts, shares) = serve_inputs(
-            &rt, alloc, core, &inputs, workers, true,
-        )?;
-        assert_eq!(rt; transcripts.len(), 40);
-        assert_eq!(rt; audit(&core, &transcripts), Ok(()));
-        let Some(told) = transcripts.last_mut() else {
+        let mut ended = serve_inputs(&rt, alloc, core, &inputs, workers, true)?;
+        assert_eq!(rt; ended.transcripts.len(), 40);
+        has_told(&rt, &ended, 80);
+        let Some(told) = ended.transcripts.last_mut() else {
             panic!(rt; "nothing was told");
         };
         assert!(rt; told.calls.pop().is_some());
-        assert!(rt; audit(&core, &transcripts).is_err());
-        let totals = gather(core, shares)?;
-        assert_eq!(rt; (totals.recorded, totals.under_way), (80, 0));
+        assert!(rt; audit(&ended.core, &ended.transcripts).is_err());
     }
     Ok(())
 }
 
-/// Without `keep` no transcript comes out, and the shares are all calls.
+/// Without `keep` no transcript comes out, and all calls were made.
 #[test]
 fn nothing_kept(rt: HostRuntime) -> Result<(), Fail> {
     let alloc = rt.alloc();
     let inputs = same_sessions(alloc, 40)?;
     let core = Core::with_keep(alloc, 1)?;
-    let (core, transcripts, shares) = serve_inputs(&rt, alloc, core, &inputs, 4, false)?;
-    assert_eq!(rt; transcripts.len(), 0);
-    let totals = gather(core, shares)?;
-    assert_eq!(rt; (totals.recorded, totals.under_way), (80, 0));
+    let ended = serve_inputs(&rt, alloc, core, &inputs, 4, false)?;
+    assert_eq!(rt; ended.transcripts.len(), 0);
+    has_calls(&rt, &ended.core, 80);
     Ok(())
 }
 
@@ -350,13 +351,12 @@ fn a_thousand_sessions(rt: HostRuntime) -> Result<(), Fail> {
     }
     for keep in [true, false] {
         let core = Core::new(alloc)?;
-        let (core, transcripts, shares) = serve_inputs(&rt, alloc, core, &inputs, 1, keep)?;
-        assert_eq!(rt; transcripts.len(), if keep { 1_100 } else { 0 });
+        let ended = serve_inputs(&rt, alloc, core, &inputs, 1, keep)?;
+        assert_eq!(rt; ended.transcripts.len(), if keep { 1_100 } else { 0 });
         if keep {
-            assert_eq!(rt; audit(&core, &transcripts), Ok(()));
+            assert_eq!(rt; audit(&ended.core, &ended.transcripts), Ok(()));
         }
-        let totals = gather(core, shares)?;
-        assert_eq!(rt; (totals.recorded, totals.under_way), (1_100, 0));
+        has_calls(&rt, &ended.core, 1_100);
     }
     Ok(())
 }
@@ -369,11 +369,9 @@ fn two_folded(rt: HostRuntime) -> Result<(), Fail> {
     let mut inputs = Vec::new(alloc);
     inputs.push(hex_packets(alloc, &[INIT, MKDIR_A, MKDIR_B, STAT_A, STAT_A_F])?)?;
     let core = Core::with_keep(alloc, 3)?;
-    let (core, transcripts, shares) = serve_inputs(&rt, alloc, core, &inputs, 1, true)?;
-    assert_eq!(rt; audit(&core, &transcripts), Ok(()));
-    assert_eq!(rt; core.folded(), 2);
-    let totals = gather(core, shares)?;
-    assert_eq!(rt; (totals.recorded, totals.under_way), (4, 0));
+    let ended = serve_inputs(&rt, alloc, core, &inputs, 1, true)?;
+    assert_eq!(rt; ended.core.folded(), 2);
+    has_told(&rt, &ended, 4);
     Ok(())
 }
 
@@ -397,12 +395,10 @@ fn failing(alloc: Global, input: &[u8], fails: Fails) -> FailingLine<'_> {
 fn serve_both<R: Threads + Wait + Abort + Sync>(
     rt: &R,
     alloc: Global,
-    core: &Mutex<Core>,
     inputs: (&[u8], &[u8]),
     fails: Fails,
     keep: bool,
-) -> Result<(Vec<Transcript>, Vec<Share>), Fail> {
-    let hall = Hall::new();
+) -> Result<Ended, Fail> {
     let (sender, lines) = unbounded(alloc)?;
     let first = failing(alloc, inputs.0, fails);
     let second = failing(alloc, inputs.1, Fails::AfterReads(usize::MAX));
@@ -410,13 +406,13 @@ fn serve_both<R: Threads + Wait + Abort + Sync>(
         panic!(rt; "not sent");
     }
     drop(sender);
+    let core = Core::new(alloc)?;
     let clocks = clocks(alloc, 1)?;
-    let all = serve_all(rt, alloc, core, &hall, &lines, clocks, &NoObserver, keep)?;
-    parted(alloc, all)
+    Ok(serve_on_core(rt, alloc, core, &lines, clocks, &NoObserver, keep)?)
 }
 
 /// The worker whose first session fails takes the next line. The first one made so many calls, and
-/// the second one made `/b`: both are told of, where that is kept, and are shares of all calls.
+/// the second one made `/b`: both are told of, where that is kept.
 fn is_followed<R: Threads + Wait + Abort + Sync>(
     rt: &R,
     alloc: Global,
@@ -425,19 +421,15 @@ fn is_followed<R: Threads + Wait + Abort + Sync>(
     calls: usize,
 ) -> Result<(), Fail> {
     for keep in [true, false] {
-        let core = Mutex::new(Core::new(alloc)?);
-        let (transcripts, shares) = serve_both(rt, alloc, &core, inputs, fails, keep)?;
-        let core = core.into_inner();
+        let ended = serve_both(rt, alloc, inputs, fails, keep)?;
         if keep {
-            let [failed, next] = transcripts.as_slice() else {
-                panic!(rt; "{} sessions were told of", transcripts.len());
+            let [failed, next] = ended.transcripts.as_slice() else {
+                panic!(rt; "{} sessions were told of", ended.transcripts.len());
             };
             assert_eq!(rt; (failed.calls.len(), next.calls.len()), (calls, 1));
-            assert_eq!(rt; audit(&core, &transcripts), Ok(()));
+            assert_eq!(rt; audit(&ended.core, &ended.transcripts), Ok(()));
         }
-        let totals = gather(core, shares)?;
-        let all = (calls as u64).saturating_add(1);
-        assert_eq!(rt; (totals.recorded, totals.under_way), (all, 0));
+        has_calls(rt, &ended.core, (calls as u64).saturating_add(1));
     }
     Ok(())
 }
@@ -485,10 +477,8 @@ fn bad_session(rt: HostRuntime) -> Result<(), Fail> {
     inputs.push(hex_packets(alloc, &["00000000"])?)?;
     inputs.push(hex_packets(alloc, &[INIT, MKDIR_A])?)?;
     let core = Core::new(alloc)?;
-    let (core, transcripts, shares) = serve_inputs(&rt, alloc, core, &inputs, 1, true)?;
-    assert_eq!(rt; transcripts.len(), 2);
-    assert_eq!(rt; audit(&core, &transcripts), Ok(()));
-    let totals = gather(core, shares)?;
-    assert_eq!(rt; totals.recorded, 1);
+    let ended = serve_inputs(&rt, alloc, core, &inputs, 1, true)?;
+    assert_eq!(rt; ended.transcripts.len(), 2);
+    has_told(&rt, &ended, 1);
     Ok(())
 }

@@ -1,6 +1,6 @@
 //! What serves a session.
 
-ghost use Rattle.std.specs.Prelude.{◌≡◌, ◌<◌, ◌≤◌, ◌++◌, ◌^◌, ℕ, List, Option, Some, None, length, take, vec_len, IfErr, OnOk, OnErr};
+ghost use Rattle.std.specs.Prelude.{◌≡◌, ◌<◌, ◌≤◌, ◌++◌, ◌^◌, ℕ, List, Option, Some, None, length, take, vec_len, IfOk, IfErr, OnOk, OnErr};
 ghost use Rattle.sf_session.specs.declared.fault.ServeFault.{ServeFault};
 ghost use Rattle.sf_session.specs.declared.fault.ServeFault.TheVariants.{Stranger};
 ghost use Rattle.sf_engine.specs.Worlds.{SessionState, transcript};
@@ -42,6 +42,9 @@ pub trait Host<P> {
     /// The place doesn't know the session.
     ghost strange: { Self → P → Type 0 };
 
+    /// The host keeps nothing of the place that others wait for.
+    ghost rests: { Self → P → Type 0 } = { λ _ _. Unit {0} };
+
     /// How the place is left, where ending told this fault, or none.
     ghost left: { Self → P → Option ServeFault → Type 0 };
 
@@ -56,7 +59,8 @@ pub trait Host<P> {
         ensures err { OnErr result ((start : Start) (told : Option (List ℕ)) (t : SessionState)
             → serves start self.old place.old told t → serves start self.new place.new told t) };
 
-    /// Answers packets that are unread: none, one, or as many as it likes.
+    /// Answers packets that are unread: none, one, or as many as it likes. Where it waits for bytes
+    /// nobody else waits for it.
     fn go_on<C: Clock>(&mut self, place: &mut P, clock: &mut C) -> Result<Went, ServeFault>
         requires { sound self.old place.old }
         ensures sound { sound self.new place.new }
@@ -65,6 +69,7 @@ pub trait Host<P> {
             → IsOpen t → IsRead t → HasSent t → (t' : SessionState)
             × serves start self.new place.new (C.told clock.new) t'
             × IsFurther held t t' × WentTo result t t' }
+        ensures rests { IfOk result (λ went. went ≡ Went.Waits → rests self.new place.new) }
         ensures fault { IfErr result (λ fault. IsHostFault fault (work self.new place.new)
             (strange self.new place.new)) };
 

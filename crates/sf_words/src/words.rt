@@ -14,7 +14,7 @@ pub struct Serving<'a> {
     /// The path of the Unix socket.
     pub socket: &'a str,
     /// How many sessions are served at once.
-    pub workers: usize,
+    pub workers: u32,
     /// It ends after so many sessions; without a number it goes on.
     pub sessions: Option<u64>,
     /// How many records of calls are kept.
@@ -76,7 +76,7 @@ fn stdio_words<'a>(alloc: Global) -> Result<Command<'a>, AllocError> {
 }
 
 /// How many workers serve sessions where the words don't say, and at most.
-const WORKERS: usize = 64;
+const WORKERS: u32 = 64;
 
 const MOST_WORKERS: u64 = 64;
 
@@ -177,7 +177,7 @@ fn serve_action<'a>(matches: &ArgMatches<'a>) -> Serving<'a>
 {
     Serving {
         socket: matches.get_str("socket").unwrap_or(""),
-        workers: matches.get_one::<usize>("workers").unwrap_or(WORKERS),
+        workers: matches.get_one::<u32>("workers").unwrap_or(WORKERS),
         sessions: matches.get_one::<u64>("sessions"),
         keep: matches.get_one::<usize>("keep").unwrap_or(KEEP).max(1),
     }

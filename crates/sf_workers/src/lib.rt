@@ -1,11 +1,19 @@
-//! Workers: threads that serve sessions over lines on one core, each worker one line after the other.
+//! Workers: threads that serve sessions over lines on one core, each worker one line after the
+//! other.
 //!
-//! Start with `serve_all`: a worker for each clock takes lines from a channel, and serves each to its end at a
-//! `LockDesk`. What a worker's sessions came to is a `Served`: the worker's share of the calls, whose size
-//! `specs/Shares.antt` says, and what its sessions were told, where that is kept. `audit` and `gather` of
-//! `sf_audit` compare both with the core.
+//! Start with `serve_lines` in `lines.rt`: a worker for each clock takes lines from a channel, and
+//! serves each to its end at a `LockDesk` (`serve_line` in `workers.rt`). Once all are done the core
+//! comes out of its lock, with what its sessions were told: each of them its calls in the core's one
+//! history, and together all calls of the core (`specs/Told.antt`). `serve_on_core` gives the tokens
+//! their name.
 #![tactic(auto)]
 
+mod lines;
+mod told;
 mod workers;
 
-pub use workers::{Served, serve_all};
+pub use lines::{Ended, Outcome, serve_lines, serve_on_core};
+pub use workers::{Place, serve_line};
+
+#[cfg(test)]
+mod tests;

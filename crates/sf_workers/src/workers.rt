@@ -1,155 +1,192 @@
 //! Threads that take lines from a channel, and serve each to its end.
 
-ghost use Rattle.std.specs.Prelude.{◌≡◌, ◌<◌, [], true, vec_len, All, IfOk};
-ghost use Rattle.std.specs.Vec.{vec_capacity};
-ghost use Rattle.sf_pool.specs.Desks.{New};
-ghost use Rattle.sf_workers.specs.Shares.{IsShareOf};
+ghost use Rattle.std.specs.Prelude.{◌≡◌, ◌*◌, true, vec_len, All, IfOk, IfSome};
+ghost use Rattle.sf_serving.specs.Serving.{line_view};
+ghost use Rattle.sf_pool.specs.OnCores.{calls_begun_by};
+ghost use Rattle.sf_workers.specs.Told.{told_on, told_in, calls_of, CameOf};
 
+use crate::told::Told;
 use crossbeam_channel::Receiver;
-use sf_audit::Transcript;
-use sf_core::{Core, Share};
+use sf_core::Share;
 use sf_line::Line;
-use sf_pool::{Hall, LockDesk, StepObserver, serve};
-use sf_session::{Clock, ServeFault};
+use sf_noted::NotedCore;
+use sf_pool::{Hall, LockDesk, Stayed, StepObserver, serve};
+use sf_roll::RollName;
+use sf_session::Clock;
 use std::alloc::{AllocError, Global};
+use std::sync::ledger::{self, Ledger};
 use std::sync::{Mutex, Wait};
+use std::thread;
 use std::thread::Threads;
-use std::{mem, thread};
 
-/// What one worker's sessions came to.
-#[derive(Debug, Drop)]
-pub struct Served {
-    /// Of the calls of all its sessions.
-    pub share: Share,
-    /// What its sessions were told, in the order in which it served them, where that is kept.
-    pub transcripts: Vec<Transcript>,
+/// What a worker begins with: a part of the count for all its sessions, and one that it lends to
+/// each.
+#[derive(Drop)]
+pub(crate) struct Job<B: RollName + Ledger, C> {
+    clock: C,
+    share: ledger::Share<B>,
+    ghost two_parts: { share.parts ≡ 2 },
+    ghost none_yet: { share.amount ≡ 0 },
 }
 
-impl Served {
+fn job_of<B: RollName + Ledger, C>(clock: C, share: ledger::Share<B>) -> Job<B, C>
+    requires two_parts { share.parts ≡ 2 }
+    requires none_yet { share.amount ≡ 0 }
+{
+    Job { clock, share }
+}
+
+/// A job for each clock.
+pub(crate) fn jobs<B: RollName + Ledger, C: Drop>(
+    alloc: Global,
+    clocks: Vec<C>,
+    all: &mut ledger::Share<B>,
+) -> Result<Vec<Job<B, C>>, AllocError>
+    requires parts { all.old.parts ≡ 2 * vec_len clocks }
+    requires none { all.old.amount ≡ 0 }
+    ensures jobs { IfOk result (λ jobs. vec_len jobs ≡ vec_len clocks) }
+    ensures rest { IfOk result (λ _. (all.new.parts ≡ 0) × (all.new.amount ≡ 0)) }
+{
+    let mut clocks = clocks;
+    let mut jobs = Vec::new(alloc);
+    while let Some(clock) = clocks.pop() {
+        jobs.push(job_of(clock, all.split_off(2, 0)))?;
+    }
+    Ok(jobs)
+}
+
+/// What one worker's sessions came to: what they were told, and a share of as many calls as they
+/// began.
+#[derive(Drop)]
+pub(crate) struct Served<B: RollName + Ledger> {
+    pub(crate) told: Told<B>,
+    pub(crate) share: ledger::Share<B>,
+    ghost two_parts: { share.parts ≡ 2 },
+    ghost counted: { share.amount ≡ calls_of told.visits.items },
+}
+
+/// Where sessions are served: a core that threads share, and the hall for those that wait for it.
+#[derive(Drop)]
+pub struct Place<'a, R, B: RollName + Ledger> {
+    pub rt: &'a R,
+    pub alloc: Global,
+    pub core: &'a Mutex<NotedCore<B>>,
+    pub hall: &'a Hall,
+}
+
+/// Serves a session over a line to its end, at a desk: what its stay there came to. Its calls are
+/// counted in the part that is lent. What it was told is kept, or its last call alone.
+///
+/// A session that ends by a fault ends nothing else.
+pub fn serve_line<B: RollName + Ledger, R: Wait, L: Line, C: Clock, G: StepObserver>(
+    place: &Place<'_, R, B>,
+    lent: ledger::Share<B>,
+    keeps: bool,
+    line: &mut L,
+    clock: &mut C,
+    observer: &G,
+) -> Stayed<B>
+    requires part { lent.parts ≡ 1 }
+    requires none { lent.amount ≡ 0 }
+    ensures part { result.share.parts ≡ 1 }
+    ensures calls { result.share.amount ≡ calls_begun_by result.visit }
+    ensures told { keeps ≡ true → IfSome result.visit (λ visit. told_in result.transcript
+        ≡ told_on visit) }
+    ensures line { CameOf result.visit
+        (line_view (L.incoming line.old) (L.outgoing line.old) (L.calls line.old))
+        (line_view (L.incoming line.new) (L.outgoing line.new) (L.calls line.new)) }
+{
+    let mut desk = LockDesk::new(place.rt, place.alloc, place.core, place.hall, keeps, lent);
+    let mut share = Share::zero();
+    let _ = serve(place.alloc, &mut desk, line, clock, observer, &mut share);
+    desk.end()
+}
+
+impl<B: RollName + Ledger> Served<B> {
     /// No session was served.
-    fn none(alloc: Global) -> Served
-        ensures share { result.share ≡ 0 }
-        ensures transcripts { result.transcripts.items ≡ [] }
+    fn none(alloc: Global, keeps: bool, share: ledger::Share<B>) -> Served<B>
+        requires two_parts { share.parts ≡ 2 }
+        requires none { share.amount ≡ 0 }
+        ensures { result.told.keeps ≡ keeps }
     {
         Served {
-            share: Share::zero(),
-            transcripts: Vec::new(alloc),
+            told: Told::nothing(alloc, keeps),
+            share,
         }
     }
 
-    /// Serves a session over a line to its end, at a desk. A session that ends by a fault ends nothing else.
+    /// Serves a session over a line, too. Without room to note what it comes to the line isn't
+    /// served.
     fn serve<R: Wait, L: Line, C: Clock, G: StepObserver>(
-        &mut self,
-        alloc: Global,
-        desk: LockDesk<'_, R>,
+        self,
+        place: &Place<'_, R, B>,
         line: &mut L,
         clock: &mut C,
         observer: &G,
-    )
-        requires { desk.stay.place ≡ New }
-        ensures { self.new.transcripts ≡ self.old.transcripts }
+    ) -> Served<B>
+        ensures { result.told.keeps ≡ self.told.keeps }
     {
-        let mut desk = desk;
-        let _ = serve(alloc, &mut desk, line, clock, observer, &mut self.share);
-    }
-
-    /// Serves a session over a line to its end, at a desk that keeps its calls, and keeps what it was told.
-    /// Without room for that the line isn't served.
-    fn serve_and_keep<R: Wait, L: Line, C: Clock, G: StepObserver>(
-        &mut self,
-        alloc: Global,
-        desk: LockDesk<'_, R>,
-        line: &mut L,
-        clock: &mut C,
-        observer: &G,
-    )
-        requires { desk.stay.place ≡ New }
-        ensures { IsShareOf self.old.share self.old.transcripts.items
-            → IsShareOf self.new.share self.new.transcripts.items }
-    {
-        if self.transcripts.reserve(1).is_err() {
-            return;
+        let Served {
+            mut told,
+            mut share,
+        } = self;
+        if told.reserve().is_err() {
+            return Served { told, share };
         }
-        let mut desk = desk;
-        let mut share = Share::zero();
-        match serve(alloc, &mut desk, line, clock, observer, &mut share) {
-            Err(ServeFault::Stranger) => {}
-            _ => self.keep(share, desk.into_transcript()),
-        }
-    }
-
-    /// Keeps what a session was told, and its share. A session that was left with a call under way has no share:
-    /// what it was told isn't kept.
-    fn keep(&mut self, share: Share, told: Transcript)
-        requires { vec_len self.old.transcripts < vec_capacity self.old.transcripts }
-        ensures { IsShareOf self.old.share self.old.transcripts.items
-            → IsShareOf self.new.share self.new.transcripts.items }
-    {
-        if share.calls() != told.calls.len() as u64 {
-            return;
-        }
-        let others = mem::replace(&mut self.share, Share::zero());
-        self.share = others.merge(share);
-        self.transcripts.push_reserved(told);
+        let lent = share.split_off(1, 0);
+        let Stayed {
+            visit,
+            transcript,
+            share: own,
+        } = serve_line(place, lent, told.keeps, line, clock, observer);
+        share.merge(own);
+        told.note(visit, transcript);
+        Served { told, share }
     }
 }
 
 /// Serves lines until the channel is closed and empty.
-fn work<R: Wait, L: Line + Drop, C: Clock + Drop, G: StepObserver>(
-    rt: &R,
-    alloc: Global,
-    core: &Mutex<Core>,
-    hall: &Hall,
+fn work<B: RollName + Ledger, R: Wait, L: Line + Drop, C: Clock + Drop, G: StepObserver>(
+    place: &Place<'_, R, B>,
     lines: &Receiver<L>,
-    clock: C,
+    job: Job<B, C>,
     observer: &G,
-    keep: bool,
-) -> Served
-    ensures { keep ≡ true → IsShareOf result.share result.transcripts.items }
+    keeps: bool,
+) -> Served<B>
+    ensures { result.told.keeps ≡ keeps }
 {
-    let mut clock = clock;
-    let mut served = Served::none(alloc);
-    for _ in rt.forever() {
-        let Ok(mut line) = lines.recv(rt) else {
+    let Job { mut clock, share } = job;
+    let mut served = Served::none(place.alloc, keeps, share);
+    for _ in place.rt.forever() {
+        let Ok(mut line) = lines.recv(place.rt) else {
             break;
         };
-        let desk = LockDesk::new(rt, alloc, core, hall, keep);
-        if keep {
-            served.serve_and_keep(alloc, desk, &mut line, &mut clock, observer);
-        } else {
-            served.serve(alloc, desk, &mut line, &mut clock, observer);
-        }
+        served = served.serve(place, &mut line, &mut clock, observer);
     }
     served
 }
 
-/// Serves a session over each line that comes by the channel, until the channel is closed and empty.
-///
-/// Each clock is for one worker, a thread that serves one line to its end before it takes the next. Where
-/// fewer threads can be made the caller's own works too. What sessions were told is kept only with `keep`;
-/// without it the workers' memory doesn't grow with the sessions that they served.
-pub fn serve_all<
+/// Does all jobs, each in a thread of its own where one can be made, until the channel is closed
+/// and empty.
+pub(crate) fn work_all<
+    B: RollName + Ledger + Send + Sync,
     R: Threads + Wait + Sync,
     L: Line + Drop + Send,
     C: Clock + Drop + Send,
     G: StepObserver + Sync,
 >(
-    rt: &R,
-    alloc: Global,
-    core: &Mutex<Core>,
-    hall: &Hall,
+    place: &Place<'_, R, B>,
     lines: &Receiver<L>,
-    clocks: Vec<C>,
+    jobs: Vec<Job<B, C>>,
     observer: &G,
-    keep: bool,
-) -> Result<Vec<Served>, AllocError>
-    ensures workers { IfOk result (λ all. vec_len all ≡ vec_len clocks) }
-    ensures shares { IfOk result (λ all. keep ≡ true
-        → All (λ s. IsShareOf s.share s.transcripts.items) all.items) }
+    keeps: bool,
+) -> Result<Vec<Served<B>>, AllocError>
+    ensures workers { IfOk result (λ all. vec_len all ≡ vec_len jobs) }
+    ensures keeps { IfOk result (λ all. All (λ s. s.told.keeps ≡ keeps) all.items) }
 {
     thread::map_vec(
-        rt,
-        clocks,
-        &|clock| { work(rt, alloc, core, hall, lines, clock, observer, keep) },
+        place.rt,
+        jobs,
+        &|job| { work(place, lines, job, observer, keeps) },
     )
 }

@@ -1,16 +1,16 @@
 //! Sessions served over lines in memory, at a desk on a core that is lent to it.
 
-ghost use Rattle.std.specs.Prelude.{◌≡◌, ◌++◌, ◌∷◌, [], Some, true, map, IfSome};
-ghost use Rattle.sf_audit.specs.Audits.{call_record};
-ghost use Rattle.sf_pool.specs.Desks.{New, kept_calls};
+ghost use Rattle.std.specs.Prelude.{◌≡◌, ◌++◌, ◌∷◌, [], Some, true};
+ghost use Rattle.sf_core.specs.Histories.{IsHistory};
+ghost use Rattle.sf_pool.specs.Desks.{new_desk};
 
 use super::*;
 use sf_call::CoreFault;
 use sf_cases::requests::stat;
 use sf_cases::{RisingClock, StillClock, hex_packets};
-use sf_line::{LineCall, MemoryLine, Pieces};
+use sf_line::{Line, LineCall, MemoryLine, Pieces};
 use sf_pool::{Begin, NoObserver, Stay, serve};
-use sf_session::ServeFault;
+use sf_session::{Clock, ServeFault};
 
 mod failing;
 mod long;
@@ -44,26 +44,93 @@ const REFUSED: &str = "0000001e 65 00000008 00000004 0000000d 4f7574206f66206d65
 const TOLD_AGAIN: &str =
     "00000025 69 00000009 0000000f 0000000000000000 00000000 00000000 000041ed 00000064 00000064";
 
-/// A session's calls on a core that nobody else uses.
+/// A core that nobody else uses, and the count of its calls, of which a part is lent to one session
+/// after the other.
 #[derive(Drop)]
-struct OwnDesk<'a> {
-    core: &'a mut Core,
-    stay: Stay,
+struct OwnCore<B: RollName + Ledger> {
+    core: NotedCore<B>,
+    count: ledger::Share<B>,
+    ghost parts: { count.parts ≡ 2 },
 }
 
-impl<'a> OwnDesk<'a> {
-    fn new(alloc: Global, core: &'a mut Core) -> OwnDesk<'a>
-        ensures place { result.stay.place ≡ New }
-        ensures calls { result.stay.calls ≡ kept_calls true [] }
+/// A session's calls on a core that nobody else uses.
+#[derive(Drop)]
+struct OwnDesk<'a, B: RollName + Ledger> {
+    core: &'a mut NotedCore<B>,
+    stay: Stay<B>,
+}
+
+/// What came of a session.
+#[derive(Drop)]
+struct Came {
+    ended: Result<(), ServeFault>,
+    told: Transcript,
+    share: Share,
+}
+
+impl<B: RollName + Ledger> OwnCore<B> {
+    /// Such a core, which no session has joined.
+    fn open(core: Core, roll: NewRoll<Page>, blank: Blank) -> OwnCore<B>
+        requires new { IsHistory core [] }
+        requires none { (core.joins ≡ 0) × (core.drawn ≡ 0) }
+        requires table { roll ≡ B.table }
+        requires name { blank.name ≡ B.name }
+        requires parts { (blank.parts ≡ B.parts) × (B.parts ≡ 2) }
     {
-        OwnDesk {
-            core,
-            stay: Stay::new(alloc, true),
+        let (calls, count) = blank.open::<B>();
+        OwnCore {
+            core: NotedCore::open(core, roll, calls),
+            count,
         }
+    }
+
+    /// Serves a session over a line to its end.
+    fn serve<L: Line, C: Clock>(&mut self, alloc: Global, line: &mut L, clock: &mut C) -> Came {
+        let part = self.count.split_off(1, 0);
+        let mut desk = OwnDesk::new(alloc, &mut self.core, part);
+        let mut share = Share::zero();
+        let ended = serve(alloc, &mut desk, line, clock, &NoObserver, &mut share);
+        let (told, part) = desk.end();
+        self.count.merge(part);
+        Came { ended, told, share }
+    }
+
+    fn into_core(self) -> Core {
+        let OwnCore {
+            core,
+            count: _count,
+        } = self;
+        core.into_core()
     }
 }
 
-impl Desk for OwnDesk<'_> {
+impl<'a, B: RollName + Ledger> OwnDesk<'a, B> {
+    fn new(alloc: Global, core: &'a mut NotedCore<B>, part: ledger::Share<B>) -> OwnDesk<'a, B>
+        requires part { part.parts ≡ 1 }
+        requires none { part.amount ≡ 0 }
+        ensures { result.stay ≡ new_desk true }
+    {
+        OwnDesk {
+            core,
+            stay: Stay::new(alloc, true, part),
+        }
+    }
+
+    /// What the session was told, and the part of the count.
+    fn end(self) -> (Transcript, ledger::Share<B>)
+        ensures { result.1.parts ≡ 1 }
+    {
+        let OwnDesk { core: _, stay } = self;
+        let Stayed {
+            visit: _visit,
+            transcript,
+            share,
+        } = stay.end();
+        (transcript, share)
+    }
+}
+
+impl<B: RollName + Ledger> Desk for OwnDesk<'_, B> {
     ghost at = { λ d. d.stay };
 
     fn join(&mut self) -> Result<u64, CoreFault> {
@@ -84,32 +151,35 @@ impl Desk for OwnDesk<'_> {
         self.stay.answer()
     }
 
-    fn leave(&mut self) -> Option<Share> {
+    fn leave(&mut self) -> Share {
         self.stay.leave(self.core)
-    }
-
-    fn transcript(&self) -> &Transcript {
-        self.stay.transcript()
     }
 }
 
 /// Such a desk that tells what it was asked to begin. It refuses the second call for want of
 /// memory.
 #[derive(Drop)]
-struct TellingDesk<'a, R: Abort> {
+struct TellingDesk<'a, R: Abort, B: RollName + Ledger> {
     rt: &'a R,
-    own: OwnDesk<'a>,
+    own: OwnDesk<'a, B>,
     begins: Vec<Begin>,
 }
 
-impl<'a, R: Abort> TellingDesk<'a, R> {
-    fn new(rt: &'a R, alloc: Global, core: &'a mut Core) -> TellingDesk<'a, R>
-        ensures place { result.own.stay.place ≡ New }
+impl<'a, R: Abort, B: RollName + Ledger> TellingDesk<'a, R, B> {
+    fn new(
+        rt: &'a R,
+        alloc: Global,
+        core: &'a mut NotedCore<B>,
+        part: ledger::Share<B>,
+    ) -> TellingDesk<'a, R, B>
+        requires part { part.parts ≡ 1 }
+        requires none { part.amount ≡ 0 }
+        ensures place { result.own.stay ≡ new_desk true }
         ensures begins { result.begins.items ≡ [] }
     {
         TellingDesk {
             rt,
-            own: OwnDesk::new(alloc, core),
+            own: OwnDesk::new(alloc, core, part),
             begins: Vec::new(alloc),
         }
     }
@@ -123,9 +193,16 @@ impl<'a, R: Abort> TellingDesk<'a, R> {
             panic!(self.rt; "no memory");
         }
     }
+
+    /// What it was asked to begin, and what the session was told.
+    fn end(self) -> (Vec<Begin>, Transcript) {
+        let TellingDesk { rt: _, own, begins } = self;
+        let (told, _part) = own.end();
+        (begins, told)
+    }
 }
 
-impl<R: Abort> Desk for TellingDesk<'_, R> {
+impl<R: Abort, B: RollName + Ledger> Desk for TellingDesk<'_, R, B> {
     ghost at = { λ d. d.own.stay };
 
     ghost begins = { λ d. Some d.begins.items };
@@ -161,35 +238,44 @@ impl<R: Abort> Desk for TellingDesk<'_, R> {
         self.own.answer()
     }
 
-    fn leave(&mut self) -> Option<Share> {
+    fn leave(&mut self) -> Share {
         self.own.leave()
-    }
-
-    fn transcript(&self) -> &Transcript {
-        self.own.transcript()
     }
 }
 
-/// Serves these bytes in pieces. What came of it, what was written, and the share come out.
-fn served(
+/// One session on a core that no other joins. The core comes out, too.
+fn serve_on<B: RollName + Ledger, L: Line, C: Clock>(
     alloc: Global,
-    core: &mut Core,
-    input: &[u8],
-    pieces: Pieces,
-) -> Result<(Result<(), ServeFault>, Vec<u8>, Share), Fail> {
-    let mut desk = OwnDesk::new(alloc, core);
+    core: Core,
+    roll: NewRoll<Page>,
+    blank: Blank,
+    line: &mut L,
+    clock: &mut C,
+) -> (Core, Came)
+    requires new { IsHistory core [] }
+    requires none { (core.joins ≡ 0) × (core.drawn ≡ 0) }
+    requires table { roll ≡ B.table }
+    requires name { blank.name ≡ B.name }
+    requires parts { (blank.parts ≡ B.parts) × (B.parts ≡ 2) }
+{
+    let mut own = OwnCore::<B>::open(core, roll, blank);
+    let came = own.serve(alloc, line, clock);
+    (own.into_core(), came)
+}
+
+fn serve_alone<L: Line>(alloc: Global, line: &mut L) -> Result<(Core, Came), Fail> {
+    let core = Core::new(alloc)?;
+    let roll = NewRoll::new(alloc)?;
+    let clock = &mut StillClock;
+    Ok(serve_on::<Brand, L, StillClock>(alloc, core, roll, Blank::new(2), line, clock))
+}
+
+/// Serves these bytes in pieces. The core comes out, what came of it, and what was written.
+fn served(alloc: Global, input: &[u8], pieces: Pieces) -> Result<(Core, Came, Vec<u8>), Fail> {
     let mut line = MemoryLine::new(alloc, input, pieces, pieces);
-    let mut share = Share::zero();
-    let ended = serve(
-        alloc,
-        &mut desk,
-        &mut line,
-        &mut StillClock,
-        &NoObserver,
-        &mut share,
-    );
+    let (core, came) = serve_alone(alloc, &mut line)?;
     let written = Vec::from_slice(alloc, line.output())?;
-    Ok((ended, written, share))
+    Ok((core, came, written))
 }
 
 /// However the line moves its bytes, the replies are the same, and two calls were made.
@@ -199,12 +285,11 @@ fn mkdir_and_stat(rt: HostRuntime) -> Result<(), Fail> {
     let input = hex_packets(alloc, &ASKED)?;
     let want = hex_packets(alloc, &TOLD)?;
     for size in 1..input.len() {
-        let mut core = Core::new(alloc)?;
-        let pieces = Pieces::new(size, 1);
-        let (ended, written, share) = served(alloc, &mut core, &input, pieces)?;
+        let (core, came, written) = served(alloc, &input, Pieces::new(size, 1))?;
+        let Came { ended, told, share } = came;
         assert_eq!(rt; ended, Ok(()));
         assert_eq!(rt; written.as_slice(), want.as_slice());
-        assert_eq!(rt; share.calls(), 2);
+        assert_eq!(rt; (told.calls.len(), share.calls()), (2, 2));
         let shares = vec![in alloc; share]?;
         let totals = gather(core, shares)?;
         assert_eq!(rt; (totals.recorded, totals.under_way), (2, 0));
@@ -218,12 +303,11 @@ fn second_init(rt: HostRuntime) -> Result<(), Fail> {
     let alloc = rt.alloc();
     let input = hex_packets(alloc, &[ASKED[0], ASKED[0], ASKED[1]])?;
     let want = hex_packets(alloc, &[TOLD[0]])?;
-    let mut core = Core::new(alloc)?;
     let whole = Pieces::new(usize::MAX, usize::MAX);
-    let (ended, written, share) = served(alloc, &mut core, &input, whole)?;
-    assert_eq!(rt; ended, Ok(()));
+    let (core, came, written) = served(alloc, &input, whole)?;
+    assert_eq!(rt; came.ended, Ok(()));
     assert_eq!(rt; written.as_slice(), want.as_slice());
-    assert_eq!(rt; (share.calls(), core.calls()), (0, 0));
+    assert_eq!(rt; (came.share.calls(), core.calls()), (0, 0));
     Ok(())
 }
 
@@ -232,20 +316,10 @@ fn second_init(rt: HostRuntime) -> Result<(), Fail> {
 fn prompt_replies(rt: HostRuntime) -> Result<(), Fail> {
     let alloc = rt.alloc();
     let input = hex_packets(alloc, &ASKED)?;
-    let mut core = Core::new(alloc)?;
-    let mut desk = OwnDesk::new(alloc, &mut core);
     let reads = Pieces::new(9, 19);
     let writes = Pieces::new(usize::MAX, usize::MAX);
     let mut line = MemoryLine::new(alloc, &input, reads, writes);
-    let mut share = Share::zero();
-    serve(
-        alloc,
-        &mut desk,
-        &mut line,
-        &mut StillClock,
-        &NoObserver,
-        &mut share,
-    )?;
+    let (_core, came) = serve_alone(alloc, &mut line)?;
     let want = [
         LineCall::Read(9),
         LineCall::Write(71),
@@ -256,8 +330,53 @@ fn prompt_replies(rt: HostRuntime) -> Result<(), Fail> {
         LineCall::Read(0),
     ];
     assert_eq!(rt; line.calls(), want.as_slice());
-    assert_eq!(rt; desk.transcript().calls.len(), 2);
+    assert_eq!(rt; (came.ended, came.told.calls.len()), (Ok(()), 2));
     Ok(())
+}
+
+/// A session at a desk that tells what it was asked to begin. That comes out, what the session was
+/// told, and its share.
+fn tell_begins<B: RollName + Ledger, R: Abort, L: Line, C: Clock>(
+    rt: &R,
+    alloc: Global,
+    own: OwnCore<B>,
+    line: &mut L,
+    clock: &mut C,
+) -> Result<(Vec<Begin>, Transcript, Share), Fail> {
+    let OwnCore {
+        mut core,
+        mut count,
+    } = own;
+    let mut desk = TellingDesk::new(rt, alloc, &mut core, count.split_off(1, 0));
+    let mut share = Share::zero();
+    serve(alloc, &mut desk, line, clock, &NoObserver, &mut share)?;
+    let (begins, told) = desk.end();
+    Ok((begins, told, share))
+}
+
+/// On a core of its own.
+fn tell_alone<B: RollName + Ledger, R: Abort, L: Line, C: Clock>(
+    rt: &R,
+    alloc: Global,
+    core: Core,
+    roll: NewRoll<Page>,
+    blank: Blank,
+    line: &mut L,
+    clock: &mut C,
+) -> Result<(Vec<Begin>, Transcript, Share), Fail>
+    requires new { IsHistory core [] }
+    requires none { (core.joins ≡ 0) × (core.drawn ≡ 0) }
+    requires table { roll ≡ B.table }
+    requires name { blank.name ≡ B.name }
+    requires parts { (blank.parts ≡ B.parts) × (B.parts ≡ 2) }
+{
+    tell_begins(
+        rt,
+        alloc,
+        OwnCore::<B>::open(core, roll, blank),
+        line,
+        clock,
+    )
 }
 
 /// The calls that began, each at its moment, and the one that the desk refused, whose reply says
@@ -267,23 +386,18 @@ fn begins_and_a_refusal(rt: HostRuntime) -> Result<(), Fail> {
     let alloc = rt.alloc();
     let input = hex_packets(alloc, &[ASKED[0], ASKED[1], ASKED[2], ASKED_AGAIN])?;
     let want = hex_packets(alloc, &[TOLD[0], TOLD[1], REFUSED, TOLD_AGAIN])?;
-    let mut core = Core::new(alloc)?;
-    let mut desk = TellingDesk::new(&rt, alloc, &mut core);
     let whole = Pieces::new(usize::MAX, usize::MAX);
     let mut line = MemoryLine::new(alloc, &input, whole, whole);
     let mut clock = RisingClock::new(100);
-    let mut share = Share::zero();
-    serve(
-        alloc,
-        &mut desk,
-        &mut line,
-        &mut clock,
-        &NoObserver,
-        &mut share,
+    let core = Core::new(alloc)?;
+    let roll = NewRoll::new(alloc)?;
+    let blank = Blank::new(2);
+    let (begins, told, share) = tell_alone::<Brand, HostRuntime, MemoryLine, RisingClock>(
+        &rt, alloc, core, roll, blank, &mut line, &mut clock,
     )?;
     assert_eq!(rt; line.output(), want.as_slice());
-    assert_eq!(rt; share.calls(), 2);
-    let begins = vec![in alloc;
+    assert_eq!(rt; (told.calls.len(), share.calls()), (2, 2));
+    let want = vec![in alloc;
         Begin {
             request: mkdir(alloc, b"/a")?,
             moment: 100,
@@ -300,7 +414,6 @@ fn begins_and_a_refusal(rt: HostRuntime) -> Result<(), Fail> {
             outcome: Ok(2)
         },
     ]?;
-    assert_eq!(rt; desk.begins.as_slice(), begins.as_slice());
-    assert_eq!(rt; desk.transcript().calls.len(), 2);
+    assert_eq!(rt; begins.as_slice(), want.as_slice());
     Ok(())
 }

@@ -4,21 +4,22 @@ ghost use Rattle.std.specs.Prelude.{◌<◌};
 
 use super::*;
 use crossbeam_channel::bounded;
+use sf_audit::Transcript;
 use sf_cases::hex_packets;
 use sf_core::Core;
 use sf_line::{Line, write_all};
-use sf_pool::{Hall, NoObserver};
+use sf_pool::NoObserver;
 use sf_program::listening::listen;
 use sf_program::server::{ServerFault, serve_on};
-use sf_program::socket_line::SocketLine;
+use sf_program::socket_line::socket_line;
 use sf_program::totals::tell;
 use sf_words::Serving;
-use sf_workers::{Served, serve_all};
+use sf_workers::{Ended, serve_on_core};
 use std::fs;
 use std::io::{self, Read, Write};
 use std::net::Shutdown;
 use std::os::unix::net::{UnixListener, UnixStream};
-use std::sync::{Mutex, Wait};
+use std::sync::Wait;
 use std::thread::{self, Threads};
 
 const INIT: &str = "00000005 01 00000003";
@@ -176,7 +177,7 @@ fn left_file_is_replaced(rt: HostRuntime) -> Result<(), Fail> {
 #[test]
 fn replies_are_gathered(rt: HostRuntime) -> Result<(), Fail> {
     let (ours, theirs) = UnixStream::pair(&rt)?;
-    let mut line = SocketLine::new(rt.alloc(), ours)?;
+    let mut line = socket_line(rt.alloc(), ours)?;
     write_all(&mut line, b"ab")?;
     write_all(&mut line, b"c")?;
     theirs.set_nonblocking(true)?;
@@ -220,7 +221,7 @@ fn both_send_first(rt: HostRuntime) -> Result<(), Fail> {
     let (ours, theirs) = UnixStream::pair(&rt)?;
     let bytes: Vec<u8> = vec![in alloc; b'x'; 1048576]?;
     let mut back: Vec<u8> = vec![in alloc; 0u8; 1048576]?;
-    let line = SocketLine::new(alloc, ours)?;
+    let line = socket_line(alloc, ours)?;
     let (served, sent) = thread::join(
         &rt,
         || {
@@ -238,23 +239,20 @@ fn both_send_first(rt: HostRuntime) -> Result<(), Fail> {
     Ok(())
 }
 
-/// A core that served a session of this input, and what its worker tells.
+/// A core that served a session of this input, and what that was told.
 fn served_in_memory<R: Threads + Wait + Abort + Sync>(
     rt: &R,
     alloc: Global,
     input: &[u8],
-) -> Result<(Core, Vec<Served>), Fail> {
+) -> Result<Ended, Fail> {
     let whole = Pieces::new(usize::MAX, usize::MAX);
-    let core = Mutex::new(Core::new(alloc)?);
-    let hall = Hall::new();
     let (sender, lines) = bounded(alloc, 1)?;
     let line = MemoryLine::new(alloc, input, whole, whole);
     assert!(rt; sender.send(rt, line).is_ok());
     drop(sender);
-    let mut clocks = Vec::new(alloc);
-    clocks.push(StillClock)?;
-    let all = serve_all(rt, alloc, &core, &hall, &lines, clocks, &NoObserver, true)?;
-    Ok((core.into_inner(), all))
+    let core = Core::new(alloc)?;
+    let clocks = vec![in alloc; StillClock]?;
+    Ok(serve_on_core(rt, alloc, core, &lines, clocks, &NoObserver, true)?)
 }
 
 /// What a server that ends early says.
@@ -276,26 +274,25 @@ fn faults_of_totals(rt: HostRuntime) -> Result<(), Fail> {
     let alloc = rt.alloc();
     let input = hex_packets(alloc, &[INIT, MKDIR_A])?;
     let mut told = Vec::new(alloc);
-    let (core, all) = served_in_memory(&rt, alloc, &input)?;
-    let none = Vec::new(alloc);
-    assert_eq!(rt;
-        tell(alloc, core, none, 1, &mut told),
-        Err(ServerFault::Audit)
-    );
+    let Ended { core, transcripts } = served_in_memory(&rt, alloc, &input)?;
     let another = Core::new(alloc)?;
     assert_eq!(rt;
-        tell(alloc, another, all, 1, &mut told),
+        tell(&another, &transcripts, 1, &mut told),
         Err(ServerFault::Audit)
     );
+    let mut less = Vec::new(alloc);
+    less.push(Transcript {
+        session: 1,
+        calls: Vec::new(alloc),
+    })?;
+    assert_eq!(rt; tell(&core, &less, 1, &mut told), Err(ServerFault::Audit));
     assert_eq!(rt; told.len(), 0);
-    let (core, all) = served_in_memory(&rt, alloc, &input)?;
     let mut full: &mut [u8] = &mut [];
     assert_eq!(rt;
-        tell(alloc, core, all, 1, &mut full),
+        tell(&core, &transcripts, 1, &mut full),
         Err(ServerFault::Stream)
     );
-    let (core, all) = served_in_memory(&rt, alloc, &input)?;
-    assert_eq!(rt; tell(alloc, core, all, 1, &mut told), Ok(()));
+    assert_eq!(rt; tell(&core, &transcripts, 1, &mut told), Ok(()));
     assert_eq!(rt;
         told.as_slice(),
         b"sessions 1 calls 1\naudit ok\n".as_slice()

@@ -4,16 +4,17 @@ use super::*;
 
 const OPEN_F: &str = "00000013 03 00000005 00000002 2f66 0000000b 00000000";
 
-const OPEN_A_F: &str = "00000015 03 00000005 00000004 2f612f66 0000000b 00000000";
+pub(super) const OPEN_A_F: &str = "00000015 03 00000005 00000004 2f612f66 0000000b 00000000";
 
 const SIZE_F: &str = "00000017 09 00000009 00000002 2f66 00000001 0000000000001388";
 
-const SIZE_A_F: &str = "00000019 09 00000009 00000004 2f612f66 00000001 0000000000001388";
+pub(super) const SIZE_A_F: &str =
+    "00000019 09 00000009 00000004 2f612f66 00000001 0000000000001388";
 
-const MOVE_A: &str = "00000011 12 00000009 00000002 2f61 00000002 2f7a";
+pub(super) const MOVE_A: &str = "00000011 12 00000009 00000002 2f61 00000002 2f7a";
 
 /// How often a call that is blocked is tried before its desk sleeps.
-const TRIES: u64 = 64;
+pub(super) const TRIES: u64 = 64;
 
 /// Which call is held, before which of its steps; which one waits for it, and sleeps after so many
 /// steps; and which one's answer wakes it. The first one may be held again, before a later step,
@@ -134,10 +135,7 @@ fn is_woken<R: Threads + Wait + Abort + Sync>(
     inputs: (&[u8], &[u8], Option<&[u8]>),
     calls: u64,
 ) -> Result<(), Fail> {
-    let core = Mutex::new(Core::new(alloc)?);
-    let hall = Hall::new();
     let observer = Sleeper::new(script);
-    let clocks = clocks(alloc, 3)?;
     let (sender, lines) = unbounded(alloc)?;
     let first = line(alloc, inputs.0);
     let second = line(alloc, inputs.1);
@@ -145,24 +143,20 @@ fn is_woken<R: Threads + Wait + Abort + Sync>(
         Some(input) => Some(line(alloc, input)),
         None => None,
     };
-    let (were_sent, all) = thread::join(
+    let (were_sent, ended) = thread::join(
         rt,
         || send_in_turn(rt, sender, first, second, third, &observer),
-        || serve_all(rt, alloc, &core, &hall, &lines, clocks, &observer, true),
+        || serve_new(rt, alloc, &lines, 3, &observer),
     );
     assert!(rt; were_sent);
     assert_eq!(rt; observer.done.load(Ordering::SeqCst), 1);
     assert_eq!(rt; observer.late.load(Ordering::SeqCst), 0);
-    let (transcripts, shares) = parted(alloc, all?)?;
-    let core = core.into_inner();
-    assert_eq!(rt; audit(&core, &transcripts), Ok(()));
-    let totals = gather(core, shares)?;
-    assert_eq!(rt; (totals.recorded, totals.under_way), (calls, 0));
+    has_told(rt, &ended?, calls);
     Ok(())
 }
 
 /// Appends a WRITE of 10,000 bytes, three blocks, by the handle of this number.
-fn add_write(input: &mut Vec<u8>, handle: u64) -> Result<(), Fail> {
+pub(super) fn add_write(input: &mut Vec<u8>, handle: u64) -> Result<(), Fail> {
     input.extend_from_slice(&10_029u32.to_be_bytes())?;
     input.extend_from_slice(&[6, 0, 0, 0, 6, 0, 0, 0, 8])?;
     input.extend_from_slice(&handle.to_be_bytes())?;

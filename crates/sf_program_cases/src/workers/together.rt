@@ -1,11 +1,11 @@
 //! Two sessions at once, as the running program serves them: no observer holds a call in mid-walk.
 
-ghost use Rattle.std.specs.Prelude.{◌≤◌, None};
+ghost use Rattle.std.specs.Prelude.{◌≡◌, ◌≤◌, None, vec_len, IfOk};
 ghost use Rattle.sf_line.specs.Lines.{Rose};
 
 use super::*;
 use sf_call::Record;
-use sf_line::{Line, LineFault};
+use sf_line::LineFault;
 use sf_session::Clock;
 
 /// The first session's directory, ten names below the root.
@@ -125,12 +125,26 @@ impl Clock for CountedClock<'_> {
     }
 }
 
-fn counted_clocks(alloc: Global, two: &Two) -> Result<Vec<CountedClock<'_>>, Fail> {
+fn counted_clocks(alloc: Global, two: &Two) -> Result<Vec<CountedClock<'_>>, Fail>
+    ensures { IfOk result (λ clocks. vec_len clocks ≡ 2) }
+{
     let mut clocks = Vec::new(alloc);
-    for _ in 0..2usize {
-        clocks.push(CountedClock { two })?;
-    }
+    clocks.push(CountedClock { two })?;
+    clocks.push(CountedClock { two })?;
     Ok(clocks)
+}
+
+/// Serves the lines of a channel on a new core by two workers, whose clocks count.
+fn serve_counted<'a, R: Threads + Wait + Sync, G: StepObserver + Sync>(
+    rt: &R,
+    alloc: Global,
+    lines: &Receiver<WaitingLine<'a>>,
+    two: &'a Two,
+    observer: &G,
+) -> Result<Ended, Fail> {
+    let core = Core::with_keep(alloc, 1)?;
+    let clocks = counted_clocks(alloc, two)?;
+    Ok(serve_on_core(rt, alloc, core, lines, clocks, observer, false)?)
 }
 
 /// After so many calls of the first session the second one reads what it asks for.
@@ -295,20 +309,16 @@ fn serve_two<'a, R: Threads + Wait + Abort + Sync, G: StepObserver + Sync>(
     two: &'a Two,
     observer: &G,
 ) -> Result<Core, Fail> {
-    let core = Mutex::new(Core::with_keep(alloc, 1)?);
-    let hall = Hall::new();
-    let clocks = counted_clocks(alloc, two)?;
     let (sender, lines) = unbounded(alloc)?;
-    let (were_sent, all) = thread::join(
+    let (were_sent, ended) = thread::join(
         rt,
         || send_both(rt, sender, first, second, two),
-        || serve_all(rt, alloc, &core, &hall, &lines, clocks, observer, false),
+        || serve_counted(rt, alloc, &lines, two, observer),
     );
     assert!(rt; were_sent);
-    assert_eq!(rt; all?.len(), 2);
     assert_eq!(rt; two.late.load(Ordering::SeqCst), 0);
     assert_eq!(rt; two.is_told.load(Ordering::SeqCst), 1);
-    Ok(core.into_inner())
+    Ok(ended?.core)
 }
 
 /// Who asks for one call is let in by whoever has 100,000 packets in memory, long before the last
@@ -385,8 +395,6 @@ fn walks_side_by_side(rt: HostRuntime) -> Result<(), Fail> {
     let alloc = rt.alloc();
     let many = deep(alloc, 8_000)?;
     let single = repeated(alloc, STAT, b"/", 8_000)?;
-    let core = Mutex::new(Core::new(alloc)?);
-    let hall = Hall::new();
     let (sender, lines) = unbounded(alloc)?;
     let whole = Pieces::new(usize::MAX, usize::MAX);
     let apiece = Pieces::new(9, 14);
@@ -401,10 +409,10 @@ fn walks_side_by_side(rt: HostRuntime) -> Result<(), Fail> {
             .is_ok()
     );
     drop(sender);
+    let core = Core::new(alloc)?;
     let clocks = clocks(alloc, 2)?;
-    serve_all(&rt, alloc, &core, &hall, &lines, clocks, &NoObserver, false)?;
-    let core = core.into_inner();
-    assert_eq!(rt; core.calls(), 16_010);
-    assert!(rt; overtakings(&core) > 0);
+    let ended = serve_on_core(&rt, alloc, core, &lines, clocks, &NoObserver, false)?;
+    assert_eq!(rt; ended.core.calls(), 16_010);
+    assert!(rt; overtakings(&ended.core) > 0);
     Ok(())
 }

@@ -18,21 +18,21 @@ pub returns-in-Err-clause-stopped : goal.returns-in-Err-clause-stopped
 returns-in-Err-clause-stopped g c = inl (inr (c.in-Err.fault, c.join_refusal.ensures, c.in-Err.ensures.err), c.join.ensures.begins, refl, refl, refl)
 
 pub returns-in-Err-clause-fault : goal.returns-in-Err-clause-fault
-returns-in-Err-clause-fault g c = subst (λ (f : ServeFault). IsDeskFault f (g.L.Line.failed c.args.line.now) (g.L.Line.failed c.args.line.now)) (sym c.join_refusal.ensures) (join_fault c.in-Err.fault (g.L.Line.failed c.args.line.now) (g.L.Line.failed c.args.line.now))
+returns-in-Err-clause-fault g c = subst (λ (f : ServeFault). IsDeskFault f (g.L.Line.failed c.args.line.now) (g.L.Line.failed c.args.line.now)) (sym c.join_refusal.ensures) (join_fault c.in-Err.fault (g.L.Line.failed c.args.line.now) (g.L.Line.failed c.args.line.now) c.in-Err.ensures.known)
 
 pub returns-in-Ok-served-clause-served : goal.returns-in-Ok-served-clause-served
 returns-in-Ok-served-clause-served g c =
     let from = line_view (g.L.Line.incoming c.args.line.now) (g.L.Line.outgoing c.args.line.now) (g.L.Line.calls c.args.line.now) in
     let start = desk_scene (g.D.Desk.at c.args.desk.now) (g.D.Desk.begins c.args.desk.now) (g.C.Clock.told c.args.clock.now) in
     leaves_served _ _ c.in-Ok-served.ensures.left c.add_share.ensures
-    (c.in-Ok-served.ensures.served start from (rests_new _ from (told_new c.join.ensures.begins c.join.ensures.calls c.in-Ok.ensures.begun c.new-host.ensures.session c.new-host.ensures.standing)))
+    (c.in-Ok-served.ensures.served start from (rests_new _ from (told_new c.in-Ok.number c.join.ensures.begins c.in-Ok.ensures.ok c.new-host.ensures.session c.new-host.ensures.standing)))
 
 pub returns-clause-stopped : goal.returns-clause-stopped
 returns-clause-stopped g c =
     let from = line_view (g.L.Line.incoming c.args.line.now) (g.L.Line.outgoing c.args.line.now) (g.L.Line.calls c.args.line.now) in
     let start = desk_scene (g.D.Desk.at c.args.desk.now) (g.D.Desk.begins c.args.desk.now) (g.C.Clock.told c.args.clock.now) in
     inr (leaves_stopped c.in-Err-served.fault _ _ c.in-Err-served.ensures.left_by c.in-Err-served.ensures.fault c.add_share.ensures
-    (c.in-Err-served.ensures.stopped start from (rests_new _ from (told_new c.join.ensures.begins c.join.ensures.calls c.in-Ok.ensures.begun c.new-host.ensures.session c.new-host.ensures.standing))))
+    (c.in-Err-served.ensures.stopped start from (rests_new _ from (told_new c.in-Ok.number c.join.ensures.begins c.in-Ok.ensures.ok c.new-host.ensures.session c.new-host.ensures.standing))))
 
 pub returns-clause-fault : goal.returns-clause-fault
-returns-clause-fault g c = desk_fault c.in-Err-served.fault _ _ _ c.in-Err-served.ensures.fault
+returns-clause-fault g c = desk_fault c.in-Err-served.fault _ _ c.in-Err-served.ensures.fault

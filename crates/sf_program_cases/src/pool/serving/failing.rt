@@ -1,6 +1,9 @@
 //! Sessions over lines that fail, one after the other on one core: each has left it, and what it
 //! was told is in the history.
 
+ghost use Rattle.std.specs.Prelude.{◌≡◌, []};
+ghost use Rattle.sf_core.specs.Histories.{IsHistory};
+
 use super::*;
 use sf_call::Record;
 use sf_cases::FailingLine;
@@ -53,13 +56,11 @@ const RENAMER: [(&str, &str); 2] = [
     ),
 ];
 
-/// What came of a session.
+/// What came of a session, and what was written.
 #[derive(Drop)]
-struct Came {
-    ended: Result<(), ServeFault>,
-    written: Vec<u8>,
-    told: Transcript,
-    share: Share,
+struct Written {
+    came: Came,
+    bytes: Vec<u8>,
 }
 
 /// A line that moves 11 bytes by a read, and 5 by a write.
@@ -73,20 +74,24 @@ fn line(alloc: Global, input: &[u8], fails: Fails) -> FailingLine<'_> {
     }
 }
 
-fn serve_over(alloc: Global, core: &mut Core, input: &[u8], fails: Fails) -> Result<Came, Fail> {
-    let mut desk = OwnDesk::new(alloc, core);
+fn serve_over<B: RollName + Ledger>(
+    alloc: Global,
+    core: &mut OwnCore<B>,
+    input: &[u8],
+    fails: Fails,
+) -> Result<Written, Fail> {
     let mut line = line(alloc, input, fails);
-    let mut share = Share::zero();
-    let clock = &mut StillClock;
-    let ended = serve(alloc, &mut desk, &mut line, clock, &NoObserver, &mut share);
-    let written = Vec::from_slice(alloc, line.output())?;
-    let OwnDesk { core: _, stay } = desk;
-    Ok(Came {
-        ended,
-        written,
-        told: stay.into_transcript(),
-        share,
-    })
+    let came = core.serve(alloc, &mut line, &mut StillClock);
+    let bytes = Vec::from_slice(alloc, line.output())?;
+    Ok(Written { came, bytes })
+}
+
+/// The same on a core that no other session joins, which comes out.
+fn serve_over_alone(alloc: Global, input: &[u8], fails: Fails) -> Result<(Core, Written), Fail> {
+    let mut line = line(alloc, input, fails);
+    let (core, came) = serve_alone(alloc, &mut line)?;
+    let bytes = Vec::from_slice(alloc, line.output())?;
+    Ok((core, Written { came, bytes }))
 }
 
 /// The bytes of a session, and of its replies, and where each of these ends.
@@ -124,30 +129,19 @@ fn all_planned(alloc: Global) -> Result<Vec<Plan>, Fail> {
 
 /// What was written is a beginning of VERSION and the replies to the calls that were made; all that
 /// there are where the session ended well.
-fn is_front(rt: &impl Abort, plan: &Plan, came: &Came) {
+fn is_front(rt: &impl Abort, plan: &Plan, written: &Written) {
+    let Written { came, bytes } = written;
     let Some(end) = plan.ends.get(came.told.calls.len()) else {
         panic!(rt; "more calls than requests");
     };
-    assert!(rt; came.written.len() <= *end);
-    assert!(rt; plan.replies.starts_with(&came.written));
-    assert!(rt; came.ended.is_err() || came.written.len() == plan.replies.len());
+    assert!(rt; bytes.len() <= *end);
+    assert!(rt; plan.replies.starts_with(bytes));
+    assert!(rt; came.ended.is_err() || bytes.len() == plan.replies.len());
 }
 
-/// A session on this core, whose output is looked at where it isn't behind one that failed.
-fn visits(
-    rt: &impl Abort,
-    alloc: Global,
-    core: &mut Core,
-    plan: &Plan,
-    fails: Fails,
-    is_known: bool,
-) -> Result<Came, Fail> {
-    let came = serve_over(alloc, core, &plan.input, fails)?;
-    if is_known {
-        is_front(rt, plan, &came);
-    }
+/// The session ended well or its line failed.
+fn is_due(rt: &impl Abort, came: &Came) {
     assert!(rt; came.ended == Ok(()) || came.ended == Err(ServeFault::Line));
-    Ok(came)
 }
 
 /// How many sessions have left.
@@ -169,7 +163,6 @@ fn agree(rt: &impl Abort, alloc: Global, core: Core, all: Vec<Came>) -> Result<(
     for came in all {
         let Came {
             ended: _,
-            written: _,
             told,
             share,
         } = came;
@@ -185,28 +178,65 @@ fn agree(rt: &impl Abort, alloc: Global, core: Core, all: Vec<Came>) -> Result<(
 }
 
 /// The sessions one after the other, up to one behind that at this place, which has such a line.
-/// Tells whether it failed. The others don't.
-fn fails_at(
+/// The others don't fail. Output is looked at where it isn't behind one that failed.
+fn visit_all<B: RollName + Ledger>(
     rt: &impl Abort,
+    alloc: Global,
+    core: &mut OwnCore<B>,
+    plans: &[Plan],
+    at: usize,
+    fails: Fails,
+) -> Result<Vec<Came>, Fail> {
+    let mut all: Vec<Came> = Vec::new(alloc);
+    let visitors = &plans[..plans.len().min(at.saturating_add(2))];
+    for (place, plan) in visitors.iter().enumerate() {
+        let is_it = place == at;
+        let fails = if is_it { fails } else { Fails::Never };
+        let written = serve_over(alloc, core, &plan.input, fails)?;
+        if place <= at {
+            is_front(rt, plan, &written);
+        }
+        is_due(rt, &written.came);
+        assert!(rt; is_it || written.came.ended.is_ok());
+        all.push(written.came)?;
+    }
+    Ok(all)
+}
+
+/// These sessions on a core that no others join. Tells whether that at the place failed.
+fn fails_on<B: RollName + Ledger, R: Abort>(
+    rt: &R,
+    alloc: Global,
+    core: Core,
+    roll: NewRoll<Page>,
+    blank: Blank,
+    plans: &[Plan],
+    at: usize,
+    fails: Fails,
+) -> Result<bool, Fail>
+    requires new { IsHistory core [] }
+    requires none { (core.joins ≡ 0) × (core.drawn ≡ 0) }
+    requires table { roll ≡ B.table }
+    requires name { blank.name ≡ B.name }
+    requires parts { (blank.parts ≡ B.parts) × (B.parts ≡ 2) }
+{
+    let mut own = OwnCore::<B>::open(core, roll, blank);
+    let all = visit_all(rt, alloc, &mut own, plans, at, fails)?;
+    let failed = all.iter().any(|came| came.ended.is_err());
+    agree(rt, alloc, own.into_core(), all)?;
+    Ok(failed)
+}
+
+fn fails_at<R: Abort>(
+    rt: &R,
     alloc: Global,
     plans: &[Plan],
     at: usize,
     fails: Fails,
 ) -> Result<bool, Fail> {
-    let mut core = Core::new(alloc)?;
-    let mut all: Vec<Came> = Vec::new(alloc);
-    let mut failed = false;
-    let visitors = &plans[..plans.len().min(at.saturating_add(2))];
-    for (place, plan) in visitors.iter().enumerate() {
-        let is_it = place == at;
-        let fails = if is_it { fails } else { Fails::Never };
-        let came = visits(rt, alloc, &mut core, plan, fails, place <= at)?;
-        assert!(rt; is_it || came.ended.is_ok());
-        failed |= came.ended.is_err();
-        all.push(came)?;
-    }
-    agree(rt, alloc, core, all)?;
-    Ok(failed)
+    let core = Core::new(alloc)?;
+    let roll = NewRoll::new(alloc)?;
+    fails_on::<Brand, R>(rt, alloc, core, roll, Blank::new(2), plans, at, fails)
 }
 
 /// The line fails at its first read, at its second one, and so on: an input of 124 bytes is read in
@@ -283,12 +313,11 @@ fn numbers(alloc: Global, core: &Core) -> Result<Vec<u64>, Fail> {
 fn a_read_fails_after_mkdir(rt: HostRuntime) -> Result<(), Fail> {
     let alloc = rt.alloc();
     let plan = planned(alloc, &[(ASKED[0], TOLD[0]), (ASKED[1], TOLD[1])])?;
-    let mut core = Core::new(alloc)?;
     // the 28 bytes come by three reads
-    let came = visits(&rt, alloc, &mut core, &plan, Fails::AfterReads(3), true)?;
-    assert_eq!(rt; came.ended, Err(ServeFault::Line));
-    assert_eq!(rt; came.written, plan.replies);
-    assert_eq!(rt; came.told.calls.len(), 1);
+    let (core, written) = serve_over_alone(alloc, &plan.input, Fails::AfterReads(3))?;
+    assert_eq!(rt; written.came.ended, Err(ServeFault::Line));
+    assert_eq!(rt; written.bytes, plan.replies);
+    assert_eq!(rt; written.came.told.calls.len(), 1);
     assert_eq!(rt; numbers(alloc, &core)?.as_slice(), [1, 0].as_slice());
     Ok(())
 }
@@ -298,14 +327,13 @@ fn a_read_fails_after_mkdir(rt: HostRuntime) -> Result<(), Fail> {
 fn ten_bytes_are_taken(rt: HostRuntime) -> Result<(), Fail> {
     let alloc = rt.alloc();
     let plan = planned(alloc, &[(ASKED[0], TOLD[0]), (ASKED[1], TOLD[1])])?;
-    let mut core = Core::new(alloc)?;
-    let came = visits(&rt, alloc, &mut core, &plan, Fails::AfterBytes(10), true)?;
-    assert_eq!(rt; came.ended, Err(ServeFault::Line));
+    let (core, written) = serve_over_alone(alloc, &plan.input, Fails::AfterBytes(10))?;
+    assert_eq!(rt; written.came.ended, Err(ServeFault::Line));
     assert_eq!(rt;
-        came.written,
+        written.bytes,
         hex_packets(alloc, &["00000043 02 00000003 00"])?
     );
-    assert_eq!(rt; came.told.calls.len(), 0);
+    assert_eq!(rt; written.came.told.calls.len(), 0);
     assert_eq!(rt; numbers(alloc, &core)?.as_slice(), [0].as_slice());
     Ok(())
 }
@@ -315,10 +343,9 @@ fn ten_bytes_are_taken(rt: HostRuntime) -> Result<(), Fail> {
 fn the_end_inside_a_packet(rt: HostRuntime) -> Result<(), Fail> {
     let alloc = rt.alloc();
     let input = hex_packets(alloc, &[ASKED[0], "0000000f 0e 00000007 00000002"])?;
-    let mut core = Core::new(alloc)?;
-    let came = serve_over(alloc, &mut core, &input, Fails::Never)?;
-    assert_eq!(rt; came.ended, Ok(()));
-    assert_eq!(rt; came.written, hex_packets(alloc, &[TOLD[0]])?);
+    let (core, written) = serve_over_alone(alloc, &input, Fails::Never)?;
+    assert_eq!(rt; written.came.ended, Ok(()));
+    assert_eq!(rt; written.bytes, hex_packets(alloc, &[TOLD[0]])?);
     assert_eq!(rt; numbers(alloc, &core)?.as_slice(), [0].as_slice());
     Ok(())
 }

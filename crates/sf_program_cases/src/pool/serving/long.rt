@@ -22,13 +22,10 @@ fn reads_all(alloc: Global) -> Result<Vec<u8>, Fail> {
 
 /// How many bytes each write was given, by a line that takes them all.
 fn writes(alloc: Global, input: &[u8]) -> Result<Vec<usize>, Fail> {
-    let mut core = Core::new(alloc)?;
-    let mut desk = OwnDesk::new(alloc, &mut core);
     let whole = Pieces::new(usize::MAX, usize::MAX);
     let mut line = MemoryLine::new(alloc, input, whole, whole);
-    let mut share = Share::zero();
-    let clock = &mut StillClock;
-    serve(alloc, &mut desk, &mut line, clock, &NoObserver, &mut share)?;
+    let (_core, came) = serve_alone(alloc, &mut line)?;
+    came.ended?;
     let mut counts = Vec::new(alloc);
     for call in line.calls() {
         if let LineCall::Write(count) = call {

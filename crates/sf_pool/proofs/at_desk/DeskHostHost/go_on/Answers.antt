@@ -58,5 +58,5 @@ returns-in-More-clause-went g c = λ start t tells is_open read sent.
     let v = c.args.self.now.session in
     let w = c.next.new.self in
     let now = desk_scene (g.D.Desk.at c.args.desk.now) (g.D.Desk.begins c.args.desk.now) (g.C.Clock.told c.args.clock.now) in
-    goes_still (Ok went.Waits) refl refl c.rest.ensures.at c.rest.ensures.begins refl
+    goes_still (Ok went.Waits) refl refl c.let_go-self.ensures.at c.let_go-self.ensures.begins refl
     (goes_more {now = now} tells is_open read sent (subst (λ (n : Next). NextGives v n w) c.in-More.is c.in-Ok.ensures.ok))

@@ -1,7 +1,10 @@
-use Rattle.std.proofs.Common.{◌∙◌, sym}
-use Rattle.sf_pool.proofs.Noted.{is_last}
+use Rattle.std.proofs.Common.{◌∙◌, sym, subst}
+use Rattle.sf_pool.specs.Desks.{IsLastAnswer, DeskView}
+use Rattle.sf_pool.proofs.Staying.{last_kept}
 use Rattle.sf_pool.proofs.stay.Stay.answer.Goals as goal
 
 pub returns : goal.returns
-returns c =
-    is_last c.self.inside c.in-Some._earlier.now c.in-Some.exchange.now (sym c.self.view_is) (sym c.as_slice.ensures.value ∙ c.in-Some.ensures.cases.0) c.requires
+returns g c =
+    let call = c.in-Some.call.now in
+    subst (λ (d : DeskView). IsLastAnswer d.calls call.answer.number call.answer.reply) c.self.view_is
+    (last_kept _ _ c.self.inside.transcript c.self.invariant.0 c.in-Some._earlier.now call (sym c.as_slice.ensures.value ∙ c.in-Some.ensures.cases.0))

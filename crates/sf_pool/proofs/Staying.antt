@@ -1,0 +1,67 @@
+-- A session's stay between two events.
+use Rattle.std.proofs.Common.{◌≡◌, ◌≢◌, ◌++◌, ◌∷◌, [], ℕ, Bool, List, Option, Some, None, map, refl, sym, ap, ◌∙◌, subst, append_assoc}
+use Rattle.std.proofs.lemmas.List.{map-append}
+use Rattle.sf_reply.specs.declared.reply.Reply.{Reply}
+use Rattle.sf_call.specs.declared.request.Request.{Request}
+use Rattle.sf_call.specs.declared.fault.CoreFault.{CoreFault}
+use Rattle.sf_call.specs.declared.fault.CoreFault.TheVariants as refused
+use Rattle.sf_core.specs.Cores.{CoreView}
+use Rattle.sf_core.specs.Events.{RefusesJoin}
+use Rattle.sf_audit.specs.declared.transcript.AnsweredCall.{AnsweredCall}
+use Rattle.sf_audit.specs.declared.transcript.Transcript.{Transcript}
+use Rattle.sf_audit.specs.Audits.{CallRecord, call_record}
+use Rattle.sf_noted.specs.Pages.{Page}
+use Rattle.sf_noted.specs.Pages.{Presence}
+use Rattle.sf_noted.specs.Pages.Presence.{Resting, UnderWay, Departed}
+use Rattle.sf_noted.specs.PageChanges.{as_told}
+use Rattle.sf_noted.specs.Noted.{number_in, answered}
+use Rattle.sf_pool.specs.declared.desk.StepResult.{StepResult}
+use Rattle.sf_pool.specs.declared.desk.StepResult.TheVariants.{Answered}
+use Rattle.sf_pool.specs.declared.stay.Place.{Place}
+use Rattle.sf_pool.specs.declared.stay.Place.TheVariants as place
+use Rattle.sf_pool.specs.Desks.{IsLastAnswer, DeskView, counted, Steps}
+use Rattle.sf_pool.specs.OnCores.{IsPageOf}
+use Rattle.sf_pool.specs.Stays.{desk_at, IsStay}
+
+-- no session is refused as a stranger
+pub refused_known : (v : CoreView) (fault : CoreFault) → RefusesJoin v fault → fault ≢ refused.Stranger
+refused_known v refused.Stranger h e = h
+refused_known v refused.OutOfMemory h e = cc
+refused_known v refused.Sessions h e = cc
+refused_known v refused.NumbersSpent h e = cc
+
+-- the last call that is kept is the last that was told
+pub last_kept : (d : DeskView) (asked : Option Request) (t : Transcript) → IsStay d asked t → (earlier : List AnsweredCall) (call : AnsweredCall) → t.calls.items ≡ earlier ++ call ∷ [] → IsLastAnswer d.calls call.answer.number call.answer.reply
+last_kept d asked t stay earlier call whole = (
+  stay.earlier ++ map call_record earlier,
+  call.request,
+  stay.whole
+      ∙ (ap (λ (l : List AnsweredCall). stay.earlier ++ map call_record l) whole
+      ∙ (ap (λ (l : List CallRecord). stay.earlier ++ l) (map-append call_record earlier (call ∷ [])) ∙ sym (append_assoc stay.earlier (map call_record earlier) (call_record call ∷ [])))),
+)
+
+-- a lane's page is that of its desk
+pub own_page : {B : Type 0} (p : Place B) (lane : ℕ × Page) (keeps : Bool) (steps : ℕ) (d : DeskView) → desk_at p keeps steps ≡ d → p ≡ place.Joined lane → IsPageOf d lane
+own_page p lane keeps steps d view at =
+    subst (λ (x : DeskView). IsPageOf x lane) view (subst (λ q. IsPageOf (desk_at q keeps steps) lane) (sym at) (record { session = refl; place = refl; told = refl }))
+
+-- what a step shows that answers the lane's call
+pub answers : {B : Type 0} (p : Place B) (lane lane' : ℕ × Page) (keeps : Bool) (steps steps' : ℕ) (d : DeskView) (told : StepResult) (reply : Reply) → desk_at p keeps steps ≡ d → p ≡ place.Joined lane → told ≡ Answered → lane' ≡ answered lane reply → steps' ≡ counted steps
+    → Steps d told (desk_at {B = B} (place.Joined lane') keeps steps')
+answers {B = B} p lane lane' keeps steps steps' d told reply view at is noted more =
+    let after : ℕ × Page → ℕ → DeskView = λ l n. desk_at {B = B} (place.Joined l) keeps n in
+    subst (λ (x : DeskView). Steps x told (after lane' steps')) view (subst (λ q. Steps (desk_at q keeps steps) told (after lane' steps')) (sym at)
+    (subst (λ (k : StepResult). Steps (desk_at {B = B} (place.Joined lane) keeps steps) k (after lane' steps')) (sym is)
+    (subst (λ (l : ℕ × Page). Steps (desk_at {B = B} (place.Joined lane) keeps steps) Answered (after l steps')) (sym noted)
+    (subst (λ (n : ℕ). Steps (desk_at {B = B} (place.Joined lane) keeps steps) Answered (after (answered lane reply) n)) (sym more) (reply, refl)))))
+
+-- and the answer is the last that was told
+pub last_answered : (lane lane' : ℕ × Page) (number : ℕ) (reply : Reply) → number_in lane.1.presence ≡ Some number → lane' ≡ answered lane reply → IsLastAnswer lane'.1.told number reply
+last_answered lane lane' number reply own noted = subst (λ (l : ℕ × Page). IsLastAnswer l.1.told number reply) (sym noted) (by_presence lane.1.presence own)
+  where
+    by_presence : (presence : Presence) → number_in presence ≡ Some number → IsLastAnswer (lane.1.told ++ as_told presence reply) number reply
+    by_presence (UnderWay n moment request) e =
+        let same : n ≡ number = cc in
+        (lane.1.told, request, ap (λ (k : ℕ). lane.1.told ++ record { number = k; request = request; reply = reply } ∷ []) same)
+    by_presence Resting e = absurd (cc)
+    by_presence Departed e = absurd (cc)

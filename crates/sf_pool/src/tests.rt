@@ -1,0 +1,16 @@
+//! What may cross threads.
+
+use super::*;
+use std::marker::Brand;
+use std::test::*;
+
+fn crosses<T: Send>() {}
+
+fn is_shared<T: Sync>() {}
+
+#[test]
+fn all_may_cross_threads() {
+    crosses::<Stay<Brand>>();
+    crosses::<Stayed<Brand>>();
+    is_shared::<Hall>();
+}

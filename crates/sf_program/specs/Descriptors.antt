@@ -1,0 +1,8 @@
+-- What is read from and written to.
+use Rattle.sf_program.specs.declared.descriptors.Descriptors.{Descriptors}
+
+abbrev pub input_of : {I O : Type 0} → Descriptors I O → I
+input_of d = d.input
+
+abbrev pub output_of : {I O : Type 0} → Descriptors I O → O
+output_of d = d.output

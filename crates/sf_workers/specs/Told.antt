@@ -1,0 +1,58 @@
+-- What the sessions of a core were told, by all workers together.
+use Rattle.std.specs.Prelude.{◌≡◌, ◌⊎◌, ℕ, List, [], map, Bool, Option, Some, None, All, if◌then◌else◌}
+use Rattle.std.specs.List.{sum_by}
+use Rattle.sf_call.specs.declared.record.Record.{Record}
+use Rattle.sf_core.specs.Cores.{CoreView}
+use Rattle.sf_core.specs.Histories.{IsHistory}
+use Rattle.sf_audit.specs.declared.transcript.Transcript.{Transcript}
+use Rattle.sf_audit.specs.Audits.{CallRecord, call_record}
+use Rattle.sf_noted.specs.Pages.{Page}
+use Rattle.sf_noted.specs.Pages.Presence.{Departed}
+use Rattle.sf_noted.specs.PageChanges.{IsUnderWay}
+use Rattle.sf_noted.specs.Visits.{IsVisitIn}
+use Rattle.sf_serving.specs.Serving.{LineView, Progress, ServedSoFar}
+use Rattle.sf_pool.specs.Scenes.{state_calls, desk_held}
+use Rattle.sf_pool.specs.OnCores.{calls_begun}
+
+-- a session's number, and the calls that it was told: as they are noted, and in a transcript
+abbrev pub told_on : ℕ × Page → ℕ × List CallRecord
+told_on x = (x.0, x.1.told)
+
+abbrev pub told_in : Transcript → ℕ × List CallRecord
+told_in t = (t.session, map call_record t.calls.items)
+
+-- what transcripts have of these sessions: all, where they are kept
+abbrev pub kept_of : Bool → List (ℕ × Page) → List (ℕ × List CallRecord)
+kept_of keeps visits = if keeps then map told_on visits else []
+
+-- A session was served over a line, from where that stood to where it stands: the calls among its
+-- answers are those that it was told, and what was written is its answers' transcript, or a
+-- beginning. It has left, or its call is under way still.
+pub record WasServed (x : ℕ × Page) (from line : LineView) : Type 0 where
+  pub progress : Progress
+  pub served : ServedSoFar desk_held from line progress
+  pub told : x.1.told ≡ state_calls progress.told
+  pub stands : (x.1.presence ≡ Departed) ⊎ IsUnderWay x.1.presence
+
+-- nothing was read or written for one that never joined
+abbrev pub CameOf : Option (ℕ × Page) → (from line : LineView) → Type 0
+CameOf None from line = line ≡ from
+CameOf (Some x) from line = WasServed x from line
+
+-- how many calls they began
+abbrev pub calls_of : List (ℕ × Page) → ℕ
+calls_of visits = sum_by (λ x. calls_begun x.1) visits
+
+-- The core has one history, in which each session's calls are those that it was told, in order, and
+-- one more at most, whose reply waits. The core has no other calls than these sessions'.
+pub record AreAllTold (core : CoreView) (visits : List (ℕ × Page)) : Type 0 where
+  pub history : List Record
+  pub whole : IsHistory core history
+  pub told : All (IsVisitIn history) visits
+  pub all : calls_of visits ≡ core.drawn
+
+-- Such sessions are there, and transcripts have what they were told, where they are kept.
+pub record HasTold (keeps : Bool) (core : CoreView) (transcripts : List Transcript) : Type 0 where
+  pub visits : List (ℕ × Page)
+  pub told : AreAllTold core visits
+  pub kept : map told_in transcripts ≡ kept_of keeps visits
