@@ -20,12 +20,14 @@
  * refusals, and lt_message has their text.
  *
  * What a caller owes, which nothing checks:
- * - A pointer to an engine is NULL, or one that lt_new gave and lt_free wasn't given.
+ * - A pointer to an engine is NULL, or one that lt_new gave and lt_free wasn't given. So with a tree, lt_tree_of
+ *   and lt_tree_free.
  * - A pointer to bytes is NULL, or has as many bytes behind it as its length says, to be read by
  *   lt_feed, and to be written by lt_output. They aren't the engine's, and nobody changes them meanwhile.
- * - One call at a time for each engine, by one thread: the one that made it, or one that it was handed to
- *   by a lock, or by a thread's start or its join. Different engines may be called by different threads at
- *   the same time.
+ * - One call at a time for each engine, and for each tree, by one thread: the one that made it, or one that it was
+ *   handed to by a lock, or by a thread's start or its join. This holds of functions that take a `const` engine or
+ *   tree too, which is as before when they return. Different engines and trees may be called by different threads
+ *   at the same time, also a tree and the engine that it was taken of.
  * - No call is made by a signal handler, or by the child of a fork of a process with threads.
  * - malloc, realloc and free are of one allocator, and malloc aligns as C asks.
  */
@@ -45,46 +47,45 @@ extern "C" {
 
 typedef struct lt_engine lt_engine;
 
-/* Refusals. A refused call has changed nothing, and may be made again; but what lt_make_directory, lt_write_file and
- * lt_link did before they were refused stays. */
+/* Why a call was refused: all below 0. It has changed nothing then, and may be made again; but what lt_make_directory,
+ * lt_write_file and lt_link did before they were refused stays. */
 enum {
-    LT_OUT_OF_MEMORY = -1,
-    LT_NO_SUCH_SESSION = -2, /* no session of this number was ever opened */
-    LT_TOO_MANY_SESSIONS = -3, /* 256 sessions are open */
-    LT_HAS_ENDED = -4,       /* the session has ended or was closed, and takes no more bytes */
-    LT_NUMBERS_SPENT = -5,   /* 2^63 - 1 sessions were opened */
-    LT_NOT_SENT = -6,        /* fewer bytes wait to be sent */
-    LT_BAD_POINTER = -7,     /* NULL for an engine, NULL for bytes where the length isn't 0, or a length
-                                above PTRDIFF_MAX */
-    /* By the functions for trees alone: */
-    LT_IS_BLOCKED = -8,     /* the call of another session, which has yet to take its turns, is in the way */
-    LT_TOO_LARGE = -9,      /* a file has more than 2^30 bytes, as many as a walk takes */
-    LT_LONG_PATH = -10,     /* a path, or both of a link, have more bytes than a packet has room for: 262080 */
-    LT_NO_REPLY = -11,      /* not the reply that was due */
-    LT_STATUS_BASE = -100   /* a request was answered by a status: LT_STATUS_BASE - its code */
+    LT_REFUSAL_OUT_OF_MEMORY = -1,
+    LT_REFUSAL_NO_SUCH_SESSION = -2,   /* no session of this number was ever opened */
+    LT_REFUSAL_TOO_MANY_SESSIONS = -3, /* 256 sessions are open */
+    LT_REFUSAL_HAS_ENDED = -4,         /* the session has ended or was closed, and takes no more bytes */
+    LT_REFUSAL_NUMBERS_SPENT = -5,     /* 2^63 - 1 sessions were opened */
+    LT_REFUSAL_NOT_SENT = -6,          /* fewer bytes wait to be sent */
+    LT_REFUSAL_BAD_POINTER = -7,       /* NULL for an engine, a tree or what is to be told, NULL for bytes where the
+                                          length isn't 0, or a length above PTRDIFF_MAX */
+    /* By the functions that make trees alone: */
+    LT_REFUSAL_IS_BLOCKED = -8,    /* the call of another session, which has yet to take its turns, is in the way */
+    LT_REFUSAL_LONG_PATH = -10,    /* a path, or both of a link, have more bytes than a packet has room for: 262080 */
+    LT_REFUSAL_NO_REPLY = -11,     /* not the reply that was due */
+    LT_REFUSAL_STATUS_BASE = -100  /* a request was answered by a status: LT_REFUSAL_STATUS_BASE - its code */
 };
 
 /* What a turn did. */
 enum {
-    LT_IDLE = 0,    /* nothing: no whole packet is unread */
-    LT_WROTE = 1,   /* it wrote a reply, which lt_output has */
-    LT_BEGUN = 2,   /* it read a request, whose call begins at this turn's moment */
-    LT_MOVED = 3,   /* the call made a step on its way */
-    LT_BLOCKED = 4, /* the call of another session holds what the call wants: that one has to go on first */
-    LT_DECIDED = 5, /* the call is decided: the next turn writes its reply */
-    LT_SPENT = 6,   /* by lt_settle alone: as many replies as it may were written, and the session goes on */
-    LT_ENDED = 16   /* the session has ended: the answer is LT_ENDED + one of the causes below */
+    LT_TURN_IDLE = 0,    /* nothing: no whole packet is unread */
+    LT_TURN_WROTE = 1,   /* it wrote a reply, which lt_output has */
+    LT_TURN_BEGUN = 2,   /* it read a request, whose call begins at this turn's moment */
+    LT_TURN_MOVED = 3,   /* the call made a step on its way */
+    LT_TURN_BLOCKED = 4, /* the call of another session holds what the call wants: that one has to go on first */
+    LT_TURN_DECIDED = 5, /* the call is decided: the next turn writes its reply */
+    LT_TURN_SPENT = 6,   /* by lt_settle alone: as many replies as it may were written, and the session goes on */
+    LT_TURN_ENDED = 16   /* the session has ended: the answer is LT_TURN_ENDED + one of the causes below */
 };
 
-/* Why a session ended: an answer of LT_ENDED + LT_NOT_INIT, and so on. */
+/* Why a session ended: an answer of LT_TURN_ENDED + LT_CAUSE_NOT_INIT, and so on. */
 enum {
-    LT_NOT_INIT = 1,    /* its first packet isn't INIT */
-    LT_OLD_VERSION = 2, /* its client has a version below 3 */
-    LT_SECOND_INIT = 3,
-    LT_ZERO_LENGTH = 4, /* a packet of length 0 */
-    LT_TOO_LONG = 5,    /* a packet of a length above 262144 */
-    LT_NO_ID = 6,       /* a packet that ends before its id, or INIT before its version */
-    LT_CLOSED = 7       /* by lt_close */
+    LT_CAUSE_NOT_INIT = 1,    /* its first packet isn't INIT */
+    LT_CAUSE_OLD_VERSION = 2, /* its client has a version below 3 */
+    LT_CAUSE_SECOND_INIT = 3,
+    LT_CAUSE_ZERO_LENGTH = 4, /* a packet of length 0 */
+    LT_CAUSE_TOO_LONG = 5,    /* a packet of a length above 262144 */
+    LT_CAUSE_NO_ID = 6,       /* a packet that ends before its id, or INIT before its version */
+    LT_CAUSE_CLOSED = 7       /* by lt_close */
 };
 
 /* The library's version, as LT_VERSION. */
@@ -113,15 +114,15 @@ int64_t lt_open(lt_engine *engine);
 int64_t lt_feed(lt_engine *engine, uint64_t session, const uint8_t *bytes, size_t length);
 
 /* The session does one thing: it writes an answer, makes one step of its call, or reads a packet. A call
- * that begins has `moment`, in seconds since 1970, as its time. Answers what it did: LT_IDLE to
- * LT_DECIDED, or LT_ENDED + a cause. */
+ * that begins has `moment`, in seconds since 1970, as its time. Answers what it did: LT_TURN_IDLE to
+ * LT_TURN_DECIDED, or LT_TURN_ENDED + a cause. */
 int64_t lt_turn(lt_engine *engine, uint64_t session, uint32_t moment);
 
-/* Turns, until one answers LT_IDLE, LT_BLOCKED, LT_ENDED + a cause, or a refusal, and answers the same; or
- * LT_SPENT where `most` replies were written before. The turns before a refusal were made. Where `most` is 0,
- * the session isn't looked at, and the answer is LT_SPENT. `*moved` is set to whether any turn did something,
- * that is, answered LT_WROTE, LT_BEGUN, LT_MOVED or LT_DECIDED, for which another session may have waited;
- * `moved` may be NULL. */
+/* Turns, until one answers LT_TURN_IDLE, LT_TURN_BLOCKED, LT_TURN_ENDED + a cause, or a refusal, and answers the same; or
+ * LT_TURN_SPENT where `most` replies were written before. The turns before a refusal were made. Where `most` is 0,
+ * the session isn't looked at, and the answer is LT_TURN_SPENT. `*moved` is set to whether any turn did something,
+ * that is, answered LT_TURN_WROTE, LT_TURN_BEGUN, LT_TURN_MOVED or LT_TURN_DECIDED, for which another session may
+ * have waited; `moved` may be NULL. */
 int64_t lt_settle(lt_engine *engine, uint64_t session, uint32_t moment, uint64_t most, bool *moved);
 
 /* Rounds, until no call is under way: in each, every session whose call is under way has one turn, at the moment
@@ -131,6 +132,10 @@ int64_t lt_settle(lt_engine *engine, uint64_t session, uint32_t moment, uint64_t
  * doesn't stop it: a call that finds none is answered so. */
 int64_t lt_run_all(lt_engine *engine);
 
+/* Whether the session waits for bytes, 1 or 0: none of its calls is under way, and no whole packet is unread, so that a
+ * turn would answer LT_TURN_IDLE. 0 too for one that has ended, and for a number without a session. */
+int64_t lt_wants_bytes(const lt_engine *engine, uint64_t session);
+
 /* The session's input ends; answers 0. A call that is under way goes on to its reply by further turns, and
  * no further packet is read. */
 int64_t lt_close(lt_engine *engine, uint64_t session);
@@ -138,40 +143,40 @@ int64_t lt_close(lt_engine *engine, uint64_t session);
 /* Copies the first bytes that wait to be sent to the session's client into `room`, as many as wait but `length`
  * at most. Answers how many wait, which may be more. They go on waiting until lt_sent. Where `length` is 0,
  * `room` may be NULL. It serves sessions that have ended too. */
-int64_t lt_output(lt_engine *engine, uint64_t session, uint8_t *room, size_t length);
+int64_t lt_output(const lt_engine *engine, uint64_t session, uint8_t *room, size_t length);
 
 /* The first `count` bytes that waited were sent: they are dropped; answers 0. */
 int64_t lt_sent(lt_engine *engine, uint64_t session, size_t count);
 
 /* What a call asked: an lt_call's `kind`. Those below 200 are the types of packets; LSTAT is STAT here. */
 enum {
-    LT_LEFT = 0, /* no call: the session has left */
-    LT_OPEN = 3,
-    LT_CLOSE = 4,
-    LT_READ = 5,
-    LT_WRITE = 6,
-    LT_FSTAT = 8,
-    LT_SETSTAT = 9,
-    LT_FSETSTAT = 10,
-    LT_OPENDIR = 11,
-    LT_READDIR = 12,
-    LT_REMOVE = 13,
-    LT_MKDIR = 14,
-    LT_RMDIR = 15,
-    LT_STAT = 17,
-    LT_RENAME = 18,
-    LT_POSIX_RENAME = 201, /* posix-rename@openssh.com */
-    LT_HARDLINK = 202      /* hardlink@openssh.com */
+    LT_KIND_LEFT = 0, /* no call: the session has left */
+    LT_KIND_OPEN = 3,
+    LT_KIND_CLOSE = 4,
+    LT_KIND_READ = 5,
+    LT_KIND_WRITE = 6,
+    LT_KIND_FSTAT = 8,
+    LT_KIND_SETSTAT = 9,
+    LT_KIND_FSETSTAT = 10,
+    LT_KIND_OPENDIR = 11,
+    LT_KIND_READDIR = 12,
+    LT_KIND_REMOVE = 13,
+    LT_KIND_MKDIR = 14,
+    LT_KIND_RMDIR = 15,
+    LT_KIND_STAT = 17,
+    LT_KIND_RENAME = 18,
+    LT_KIND_POSIX_RENAME = 201, /* posix-rename@openssh.com */
+    LT_KIND_HARDLINK = 202      /* hardlink@openssh.com */
 };
 
 /* What a call was answered: an lt_call's `answer`. Those above 100 are the types of packets. */
 enum {
-    LT_NO_MEMORY = 100, /* the status FAILURE, for want of memory */
-    LT_STATUS = 101,
-    LT_HANDLE = 102,
-    LT_DATA = 103,
-    LT_NAMES = 104,
-    LT_ATTRS = 105
+    LT_ANSWER_NO_MEMORY = 100, /* the status FAILURE, for want of memory */
+    LT_ANSWER_STATUS = 101,
+    LT_ANSWER_HANDLE = 102,
+    LT_ANSWER_DATA = 103,
+    LT_ANSWER_NAMES = 104,
+    LT_ANSWER_ATTRS = 105
 };
 
 /* Attributes. `given` has the protocol's bits for those that are there: 1 for the size, 2 for uid and gid, 4 for the
@@ -194,7 +199,7 @@ typedef struct lt_bytes {
 
 /* The record of a call. What its kind, or its answer, doesn't have is 0 or no bytes. */
 typedef struct lt_call {
-    uint64_t number;  /* calls are 1, 2, 3 and so on as they begin; 0 for LT_LEFT */
+    uint64_t number;  /* calls are 1, 2, 3 and so on as they begin; 0 for LT_KIND_LEFT */
     uint64_t session;
     uint32_t moment;  /* at which it began */
     uint32_t kind;
@@ -207,11 +212,11 @@ typedef struct lt_call {
     uint32_t answer;
     lt_attributes attributes;
     lt_bytes written; /* by WRITE */
-    uint32_t status;  /* the code of LT_STATUS, or of LT_NO_MEMORY */
-    uint32_t names;   /* how many names LT_NAMES has */
+    uint32_t status;  /* the code of LT_ANSWER_STATUS, or of LT_ANSWER_NO_MEMORY */
+    uint32_t names;   /* how many names LT_ANSWER_NAMES has */
     uint64_t answer_handle;
     lt_attributes answer_attributes;
-    lt_bytes answer_bytes; /* of LT_DATA; of LT_NAMES the names, each with a byte 0 behind it */
+    lt_bytes answer_bytes; /* of LT_ANSWER_DATA; of LT_ANSWER_NAMES the names, each with a byte 0 behind it */
 } lt_call;
 
 /* The records that are kept, by their places in the order in which the calls took effect, the oldest at 0. Answers how
@@ -219,20 +224,20 @@ typedef struct lt_call {
  * of any function on it. */
 int64_t lt_calls(lt_engine *engine, uint64_t at, lt_call *call);
 
-/* The request that a function for trees stopped at. */
+/* The request at which a function that makes trees stopped. */
 typedef struct lt_place {
     uint64_t length; /* how many bytes of the path it was on: the front of the one that was given, or all of it */
-    uint32_t kind;   /* as an lt_call's, or LT_INIT; 0 where nothing was refused, or no request */
+    uint32_t kind;   /* as an lt_call's, or LT_KIND_INIT; 0 where nothing was refused, or no request */
 } lt_place;
 
 /* An lt_place's `kind` where no session began. */
-enum { LT_INIT = 1 };
+enum { LT_KIND_INIT = 1 };
 
-/* The functions for trees make requests, one after another, by sessions of their own, which begin at the next number
- * and end; they are recorded as others are (lt_calls). No other session takes a turn meanwhile. They answer 0, or why
- * they were refused; `*place` is set to where, and may be NULL. Where they answer LT_IS_BLOCKED, the request stays under
- * way in its session, which gets no further turn but by lt_run_all: it may hold a directory until then, and the session
- * is one of the 256 from then on. The calls begin at `moment`. */
+/* The functions that make trees make requests, one after another, by sessions of their own, which begin at the next
+ * number and end; they are recorded as others are (lt_calls). No other session takes a turn meanwhile. They answer 0, or
+ * why they were refused; `*place` is set to where, and may be NULL. Where they answer LT_REFUSAL_IS_BLOCKED, the request
+ * stays under way in its session, which gets no further turn but by lt_run_all: it may hold a directory until then, and
+ * the session is one of the 256 from then on. The calls begin at `moment`. */
 
 /* Makes the directory of this path, and those on its way, where they are missing. */
 int64_t lt_make_directory(lt_engine *engine, lt_bytes path, uint32_t moment, lt_place *place);
@@ -245,31 +250,38 @@ int64_t lt_write_file(lt_engine *engine, lt_bytes path, lt_bytes contents, uint3
  * is refused where the new path is there already. The place's length is of the new path. */
 int64_t lt_link(lt_engine *engine, lt_bytes path, lt_bytes new_path, uint32_t moment, lt_place *place);
 
-/* What a walk found. */
+/* The whole tree of an engine at a moment. It stays as it was taken whatever becomes of the engine, and shares the bytes of
+ * files with it: a tree of many files takes little memory beside their paths. */
 typedef struct lt_tree lt_tree;
 
 /* A file or directory, by one of its paths. */
-typedef struct lt_entry {
+typedef struct lt_leaf {
     lt_bytes path;            /* from / on */
-    lt_bytes contents;        /* of a file */
-    lt_attributes attributes; /* as a listing tells them: all are given */
-    uint64_t links;           /* how many names a file has; 1 for a directory */
-    uint64_t file;            /* a file's number, from 1 on, which all of its names share; 0 for a directory */
-} lt_entry;
+    lt_attributes attributes; /* as a listing tells them: all are given, and a directory's size is 0 */
+    uint64_t label;           /* the number of the call that made it, 0 for /: paths with one label name one file */
+} lt_leaf;
 
-/* Walks the whole tree from / on, and sets `*tree` to what it found, which lt_tree_free frees: also where it is refused,
- * then with the entry that it stopped at, or none. A tree may be NULL, which has none.
- *
- * No reply tells which names are of one file: where files have several names, their atimes are set for a moment, by one
- * session more, and set back, also where that is refused. Only if setting back is refused, as for want of memory, does
- * one of them stay, and the refusal is answered. */
-int64_t lt_walk(lt_engine *engine, uint32_t moment, lt_tree **tree, lt_place *place);
+/* Sets `*tree` to the engine's tree, which lt_tree_free frees; answers 0. It is exactly the tree after the calls that were
+ * decided so far, also while others are under way; a WRITE that was decided counts whole. Nothing of the engine changes:
+ * no session opens and no call is recorded. Refused, it sets `*tree` to NULL. */
+int64_t lt_tree_of(const lt_engine *engine, lt_tree **tree);
 
-/* The entries, by their places in the order of the bytes of their paths, / at 0. Answers how many there are. Where `at` is
- * less, `*entry` is set to the one there; its bytes are the tree's, until the next call of any function on it. */
-int64_t lt_tree_entry(lt_tree *tree, uint64_t at, lt_entry *entry);
+/* The leaves, each path once: / at 0, each directory before what is below it, and names in the order of their bytes.
+ * Answers how many there are. Where `at` is less, `*leaf` is set to the one there; its path is the tree's, until the next
+ * call of this function on it. */
+int64_t lt_tree_leaf(lt_tree *tree, uint64_t at, lt_leaf *leaf);
 
-/* Frees what a walk found. NULL: does nothing. */
+/* Copies the bytes of a leaf from an offset on into `room`: as many as there are, but `length` at most. Answers how many:
+ * 0 from the end of a file on, for a directory, and where there is no leaf. It wants memory for 32768 bytes at most, which
+ * it gives back; refused for want of it, it may have copied some. Where `length` is 0, `room` may be NULL. */
+int64_t lt_tree_read(const lt_tree *tree, uint64_t at, uint64_t offset, uint8_t *room, size_t length);
+
+/* How many bytes of a leaf, from an offset on, are zeros that take no memory, since nothing was written there: a gap of a
+ * sparse file, which ends at a multiple of 32768 or at the end of the file, and need not be read. 2^63 - 1 at most: a
+ * longer gap goes on behind. */
+int64_t lt_tree_gap(const lt_tree *tree, uint64_t at, uint64_t offset);
+
+/* Frees a tree. NULL: does nothing. */
 void lt_tree_free(lt_tree *tree);
 
 #ifdef __cplusplus

@@ -24,6 +24,7 @@ pub enum Line {
     /// Whether a session wants bytes.
     Wants(u64),
     LookUps,
+    Tree,
 }
 
 /// An event, read from the words of its line.
@@ -66,6 +67,7 @@ impl Line {
             ["output", session, start] => Line::Output(session.parse()?, start.parse()?),
             ["wants", session] => Line::Wants(session.parse()?),
             ["look_ups"] => Line::LookUps,
+            ["tree"] => Line::Tree,
             words => Line::Event(read_event(alloc, words)?),
         })
     }

@@ -15,6 +15,7 @@
 //! output 1 9                      what session 1 was sent, behind the first 9 bytes
 //! wants 1                         whether session 1 wants bytes
 //! look_ups                        how many names were looked up
+//! tree                            every path, with what it names
 //! ```
 //!
 //! Before the engine is made it prints `read`, and `begun` when it is. An event that is refused for
@@ -29,13 +30,18 @@ use sf_engine::{Engine, EngineFault, Event, Happened};
 use std::alloc::Global;
 use std::io::{self, BufRead, BufReader, BufWriter, Write};
 
-/// Prints what a session has to be sent, in hexadecimal.
-fn print_output(out: &mut impl Write, session: u64, output: &[u8]) -> io::Result<()> {
-    write!(out, "output {session} ")?;
-    for byte in output {
+/// Prints bytes in hexadecimal, and ends the line.
+fn print_bytes(out: &mut impl Write, bytes: &[u8]) -> io::Result<()> {
+    for byte in bytes {
         write!(out, "{byte:02x}")?;
     }
     writeln!(out, "")
+}
+
+/// Prints what a session has to be sent, in hexadecimal.
+fn print_output(out: &mut impl Write, session: u64, output: &[u8]) -> io::Result<()> {
+    write!(out, "output {session} ")?;
+    print_bytes(out, output)
 }
 
 /// Prints what each session has to be sent, how many calls began, and the records.
@@ -64,6 +70,22 @@ fn print_behind(
         Some(output) => print_output(out, session, output.get(start..).unwrap_or(&[])),
         None => writeln!(out, "output {session} none"),
     }
+}
+
+/// Prints every path with what it names: its label and its attributes, its text, and a file's bytes.
+fn print_tree(out: &mut impl Write, alloc: Global, engine: &Engine) -> anyhow::Result<()> {
+    let leaves = engine.tree(alloc)?;
+    writeln!(out, "leaves {}", leaves.len())?;
+    for leaf in &leaves {
+        write!(out, "leaf {} {:?} ", leaf.label(), leaf.attrs())?;
+        print_bytes(out, &leaf.path().text(alloc)?)?;
+        if let Some(contents) = leaf.contents() {
+            let bytes = contents.read(alloc, 0, contents.len() as usize)?;
+            write!(out, "contents ")?;
+            print_bytes(out, bytes.as_slice())?;
+        }
+    }
+    Ok(())
 }
 
 /// Prints what came of an event.
@@ -114,6 +136,7 @@ fn replay_line(
         Line::Output(session, start) => print_behind(out, engine, *session, *start)?,
         Line::Wants(session) => writeln!(out, "{}", engine.wants_bytes(*session))?,
         Line::LookUps => writeln!(out, "{}", engine.core().look_ups())?,
+        Line::Tree => print_tree(out, alloc, engine)?,
     }
     Ok(())
 }

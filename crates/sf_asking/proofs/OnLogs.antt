@@ -2,14 +2,18 @@
 use Rattle.std.proofs.Common.{◌≡◌, ℕ, List, Result}
 use Rattle.std.specs.Prelude.{OnErr}
 use Rattle.std.specs.Global.{Vec}
+use Rattle.sf_call.specs.Histories.{replay}
+use Rattle.sf_call.specs.Leaves.{Leaf, leaves_of}
 use Rattle.sf_engine.specs.declared.event.Event.{Event}
 use Rattle.sf_engine.specs.declared.event.Event.TheVariants as event
 use Rattle.sf_engine.specs.declared.event.Happened.{Happened}
 use Rattle.sf_engine.specs.declared.event.EngineFault.{EngineFault}
-use Rattle.sf_engine.specs.Fits.{GoesOnTrace, HasTurns, IsSentBy, IsUnknownSession}
+use Rattle.sf_engine.specs.Worlds.{TraceEntry}
+use Rattle.sf_engine.specs.Traces.{order}
+use Rattle.sf_engine.specs.Fits.{Fits, GoesOnTrace, HasTurns, IsSentBy, IsUnknownSession}
 use Rattle.sf_engine.specs.Views.{EngineView}
-use Rattle.sf_engine.proofs.Laws.{goes_on_log, turns_on_log, has_unsent, has_no_session}
-use Rattle.sf_asking.specs.Logs.{EventLeads, FeedsBy, TurnsLead, HasUnsent, HasNoSession}
+use Rattle.sf_engine.proofs.Laws.{goes_on_log, turns_on_log, has_unsent, has_no_session, has_tree}
+use Rattle.sf_asking.specs.Logs.{EventLeads, FeedsBy, TurnsLead, HasUnsent, HasNoSession, HasTree}
 
 pub event_leads : (old new : EngineView) (ev : Event) (r : Result Happened EngineFault) → GoesOnTrace old ev r new → OnErr r (new ≡ old) → EventLeads old ev r new
 event_leads old new ev r goes err = (λ log has. goes_on_log old new ev r log goes has, goes, err)
@@ -26,3 +30,6 @@ unsent e session output sent = (λ log has. has_unsent e log session output sent
 
 pub no_session : (e : EngineView) (session : ℕ) → IsUnknownSession e session → HasNoSession e session
 no_session e session unknown = (λ log has. has_no_session e log session unknown has, unknown)
+
+pub tree_told : (e : EngineView) (leaves : List Leaf) → ((trace : List TraceEntry) → Fits e trace → leaves ≡ leaves_of (replay (order trace))) → HasTree e leaves
+tree_told e leaves is = (λ log has. has_tree e log leaves is has, is)

@@ -1,15 +1,19 @@
 -- What the calls of an engine tell of its log. Of what it is for an engine to have one the trait
 -- `Sftp` says all that is said.
-use Rattle.std.specs.Prelude.{◌≡◌, ◌++◌, ◌∷◌, ℕ, List, [], Result, OnErr}
+use Rattle.std.specs.Prelude.{◌≡◌, ◌++◌, ◌∷◌, ◌↔◌, ℕ, List, [], Bool, IsTrue, Result, OnErr}
 use Rattle.std.specs.Global.{Vec}
 use Rattle.sf_call.specs.declared.record.Record.{Record}
+use Rattle.sf_call.specs.Histories.{replay}
+use Rattle.sf_call.specs.Leaves.{Leaf, leaves_of}
 use Rattle.sf_engine.specs.declared.event.Event.{Event}
 use Rattle.sf_engine.specs.declared.event.Event.TheVariants as event
 use Rattle.sf_engine.specs.declared.event.Happened.{Happened}
 use Rattle.sf_engine.specs.declared.event.EngineFault.{EngineFault}
 use Rattle.sf_engine.specs.Responses.{Response}
-use Rattle.sf_engine.specs.Promise.{LogEntry, log_entry, IsKnown, IsUnsent, AreTurns}
-use Rattle.sf_engine.specs.Fits.{GoesOnTrace, HasTurns, IsSentBy, IsUnknownSession}
+use Rattle.sf_engine.specs.Promise.{LogEntry, log_entry, linearization, IsKnown, IsUnsent, AreTurns, WaitsForBytes}
+use Rattle.sf_engine.specs.Worlds.{TraceEntry}
+use Rattle.sf_engine.specs.Traces.{order}
+use Rattle.sf_engine.specs.Fits.{Fits, GoesOnTrace, HasTurns, IsSentBy, IsUnknownSession}
 use Rattle.sf_engine.specs.Views.{EngineView}
 use Rattle.sf_engine.specs.contracts.promise.EngineSftp.TheImpl.{ghosts}
 
@@ -46,3 +50,15 @@ abbrev pub HasNoSession : EngineView → ℕ → Type 0
 HasNoSession engine session =
     ((log : List LogEntry) → ghosts.has_log engine log → ¬ IsKnown log session)
     × IsUnknownSession engine session
+
+-- whether a session waits for bytes
+abbrev pub WaitsForBytesBy : EngineView → ℕ → Bool → Type 0
+WaitsForBytesBy engine session wants =
+    (log : List LogEntry) → ghosts.has_log engine log → IsTrue wants ↔ WaitsForBytes log session
+
+-- These are the leaves of the engine's tree: each path once, in the order of paths, with what it
+-- names after the calls that were decided so far, and nothing else.
+abbrev pub HasTree : EngineView → List Leaf → Type 0
+HasTree engine leaves = ((log : List LogEntry) → ghosts.has_log engine log
+    → leaves ≡ leaves_of (replay (linearization log)))
+    × ((trace : List TraceEntry) → Fits engine trace → leaves ≡ leaves_of (replay (order trace)))

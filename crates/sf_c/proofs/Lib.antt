@@ -1,3 +1,4 @@
 mod Values
 mod Settling
 mod TreeValues
+mod Reading

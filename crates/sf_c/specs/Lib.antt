@@ -1,3 +1,4 @@
+pub mod Making
 pub mod Numbers
 pub mod Owned
 pub mod Records

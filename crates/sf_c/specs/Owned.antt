@@ -1,13 +1,13 @@
 -- No public clause cites this module.
--- What C has of an engine, and of a walk.
-use Rattle.std.specs.Prelude.{Option, Some, None}
+-- What C has of an engine, and of a tree.
+use Rattle.std.specs.Prelude.{List, Option, Some, None}
 use Rattle.std.specs.Global.{Global}
 use Rattle.std.specs.Box.Ownership.{box_owns}
 use Rattle.std.specs.contracts.impls.GlobalAllocator.TheImpl.{ghosts}
 use Rattle.sf_engine.specs.contracts.engine.Engine.{the_row}
 use Rattle.sf_engine.specs.Views.{EngineView}
-use Rattle.sf_trees.specs.contracts.found.FoundTree as tree
-use Rattle.sf_trees.specs.declared.found.FoundTree.{FoundTree}
+use Rattle.sf_call.specs.Leaves.{Leaf}
+use Rattle.sf_c.specs.contracts.leaves.Leaves as tree
 use denote.RawPtr.{Ptr}
 use base.Fml.{Fml, ftrue}
 
@@ -17,6 +17,6 @@ engine_owned alloc at None = ftrue
 engine_owned alloc at (Some engine) = box_owns (ghosts.dealloc_token alloc) the_row at engine
 
 -- the box of a tree, if there is one
-abbrev pub tree_owned : Global → Ptr → Option FoundTree → Fml
+abbrev pub tree_owned : Global → Ptr → Option (List Leaf) → Fml
 tree_owned alloc at None = ftrue
-tree_owned alloc at (Some found) = box_owns (ghosts.dealloc_token alloc) tree.the_row at found
+tree_owned alloc at (Some leaves) = box_owns (ghosts.dealloc_token alloc) tree.the_row at leaves

@@ -1,84 +1,68 @@
--- What C is told of trees.
-use Rattle.std.specs.Prelude.{◌≡◌, ◌<◌, ◌≤◌, ◌+◌, ◌⊎◌, ◌++◌, ℕ, ℤ, pos, negsuc, List, length, drop, slice_get, Option, Some, None, Result, Ok, Err}
-use Rattle.sf_reply.specs.Replies.{number_of}
+-- What C is told of a tree.
+use Rattle.std.specs.Prelude.{◌≡◌, ◌⊎◌, ◌++◌, ℕ, ℤ, pos, negsuc, List, [], length, min, take, drop, replicate, slice_get, Option, Some, None}
+use Rattle.sf_path.specs.Names.{text_of}
+use Rattle.sf_call.specs.Attributes.{attrs_of}
+use Rattle.sf_call.specs.Leaves.{Leaf, contents_of}
 use Rattle.sf_engine.specs.Views.{EngineView}
-use Rattle.sf_trees.specs.declared.fault.TreeFault.{TreeFault}
-use Rattle.sf_trees.specs.declared.fault.TreeFault.TheVariants as fault
-use Rattle.sf_trees.specs.declared.fault.Refused.{Refused}
-use Rattle.sf_trees.specs.declared.found.Found.{Found}
-use Rattle.sf_trees.specs.declared.found.FoundTree.{FoundTree}
-use Rattle.sf_trees.specs.Deeds.{Deed, BySession}
-use Rattle.sf_trees.specs.Whole.{FindsTree}
-use Rattle.sf_asking.specs.Asking.{AreDone}
-use Rattle.sf_c.specs.declared.trees.At.{At}
-use Rattle.sf_c.specs.declared.trees.Leaf.{Leaf}
+use Rattle.sf_asking.specs.Logs.{HasTree}
+use Rattle.sf_c.specs.declared.leaves.LeafParts.{LeafParts}
 use Rattle.sf_c.specs.Records.{attributes_told}
 
--- The number of a refusal, below 0: those of an engine, further ones, and from -100 on the codes of
--- statuses.
-abbrev pub tree_fault_number : TreeFault → ℤ
-tree_fault_number fault.OutOfMemory = negsuc 0
-tree_fault_number fault.Sessions = negsuc 2
-tree_fault_number fault.NumbersSpent = negsuc 4
-tree_fault_number fault.Blocked = negsuc 7
-tree_fault_number (fault.TooLarge size) = negsuc 8
-tree_fault_number fault.Path = negsuc 9
-tree_fault_number fault.Reply = negsuc 10
-tree_fault_number (fault.Status code) = negsuc (99 + number_of code)
+-- the engine's tree is kept, or there was no memory for it
+abbrev pub TakesTree : EngineView → ℤ → Option (List Leaf) → Type 0
+TakesTree engine n kept = ((n ≡ negsuc 0) × (kept ≡ None))
+    ⊎ ((leaves : List Leaf) × (n ≡ pos 0) × (kept ≡ Some leaves) × HasTree engine leaves)
 
--- The number of what came of it, and which request it stopped at.
-abbrev pub TellsMade : Result (Unit {0}) Refused → ℤ → At → Type 0
-TellsMade (Ok done) n at = (n ≡ pos 0) × (at ≡ record { length = 0; kind = 0 })
-TellsMade (Err r) n at = (n ≡ tree_fault_number r.fault)
-    × (at ≡ record { length = r.place.length; kind = r.place.kind })
-
--- Deeds led from an engine to another, and came to this.
-abbrev pub DoesIn : {R : Type 0} → ℕ → (List Deed → R → Type 0) → EngineView → R → EngineView → Type 0
-DoesIn moment P old r new = (deeds : List Deed) × AreDone moment deeds old new × P deeds r
-
--- so of the engines that C has, and it is told so
-abbrev pub AnswersMade : Option EngineView → ℕ → (List Deed → Result (Unit {0}) Refused → Type 0) → ℤ
-    → At → Option EngineView → Type 0
-AnswersMade before moment P n at after = (old : EngineView) × (new : EngineView)
-    × (r : Result (Unit {0}) Refused) × (before ≡ Some old) × (after ≡ Some new)
-    × DoesIn moment P old r new × TellsMade r n at
-
--- So of a walk, by a session of its own, which finds this tree.
-abbrev pub WalksTree : FoundTree → List Deed → Result (Unit {0}) Refused → Type 0
-WalksTree tree deeds r =
-    BySession (λ session. FindsTree session tree) deeds r
-
--- There was no memory for a tree, and nothing was done; or a walk was made, and its tree is kept.
-abbrev pub AnswersWalk : Option EngineView → ℕ → ℤ → At → At → Option EngineView → Option FoundTree → Type 0
-AnswersWalk before moment n at' at after kept =
-    ((n ≡ negsuc 0) × (at ≡ at') × (after ≡ before) × (kept ≡ None))
-    ⊎ ((tree : FoundTree) × (kept ≡ Some tree) × AnswersMade before moment (WalksTree tree) n at after)
-
-abbrev pub mark_number : Option ℕ → ℕ
-mark_number (Some n) = n
-mark_number None = 0
-
-abbrev pub leaf_of : Found → ℕ → Leaf
-leaf_of found file = record {
-  attributes = attributes_told found.name.attrs;
-  links = found.name.links;
-  file = file;
-  path = length found.name.path.items;
-  contents = length found.contents.items;
+-- the numbers of a leaf, and how long the text of its path is
+abbrev pub leaf_told : Leaf → LeafParts
+leaf_told leaf = record {
+  attributes = attributes_told (attrs_of leaf.1.1);
+  label = leaf.1.0;
+  path = length (text_of leaf.0);
 }
 
--- Both stand one behind another in the room, if that is large enough for both; else it is as it
--- was.
-abbrev pub HasBoth : List ℕ → List ℕ → List ℕ → List ℕ → Type 0
-HasBoth path contents old new =
-    (length path + length contents ≤ length old
-    → new ≡ (path ++ contents) ++ drop (length path + length contents) old)
-    × (length old < length path + length contents → new ≡ old)
+-- The leaf at a place was told, and the text of its path copied as far as there is room.
+abbrev pub TellsPath : List Leaf → ℕ → List ℕ → LeafParts → List ℕ → Type 0
+TellsPath leaves at old told new = (leaf : Leaf) × (slice_get leaves at ≡ Some leaf)
+    × (told ≡ leaf_told leaf)
+    × (new ≡ take (length old) (text_of leaf.0) ++ drop (length (text_of leaf.0)) old)
 
--- how many entries there are; the one at a place was told, or there is none
-abbrev pub LeafOf : FoundTree → ℕ → Leaf → List ℕ → ℤ → Leaf → List ℕ → Type 0
-LeafOf tree at before old n leaf new = (n ≡ pos (length tree.found.items))
-    × (((found : Found) × (slice_get tree.found.items at ≡ Some found)
-    × (leaf ≡ leaf_of found (mark_number (slice_get tree.numbers.items at)))
-    × HasBoth found.name.path.items found.contents.items old new)
-    ⊎ ((slice_get tree.found.items at ≡ None) × (leaf ≡ before) × (new ≡ old)))
+-- how many leaves there are; the one at a place was told, or there is none there, or no memory to
+-- tell it
+abbrev pub TellsLeaf : List Leaf → ℕ → LeafParts → List ℕ → ℤ → LeafParts → List ℕ → Type 0
+TellsLeaf leaves at before old n told new = ((n ≡ pos (length leaves)) × TellsPath leaves at old told new)
+    ⊎ (((n ≡ negsuc 0) ⊎ ((n ≡ pos (length leaves)) × (slice_get leaves at ≡ None)))
+    × (told ≡ before) × (new ≡ old))
+
+-- the bytes of a file; none of a directory, or where there is no leaf
+abbrev pub bytes_of_object : Option (List ℕ) → List ℕ
+bytes_of_object (Some contents) = contents
+bytes_of_object None = []
+
+abbrev pub bytes_of : Option Leaf → List ℕ
+bytes_of (Some leaf) = bytes_of_object (contents_of leaf.1.1)
+bytes_of None = []
+
+abbrev pub bytes_at : List Leaf → ℕ → List ℕ
+bytes_at leaves at = bytes_of (slice_get leaves at)
+
+-- so many of these bytes stand in the room, and behind them it is as it was
+abbrev pub IsFilled : List ℕ → ℕ → List ℕ → List ℕ → Type 0
+IsFilled bytes n old new = new ≡ take n bytes ++ drop n old
+
+-- The bytes from an offset on were copied, as far as there is room, and their count was told; or
+-- there was no memory, after some of them.
+abbrev pub ReadsBytes : List ℕ → List ℕ → ℤ → List ℕ → Type 0
+ReadsBytes bytes old n new =
+    ((count : ℕ) × (count ≡ min (length old) (length bytes)) × (n ≡ pos count) × IsFilled bytes count old new)
+    ⊎ ((n ≡ negsuc 0) × ((count : ℕ) × IsFilled bytes count old new))
+
+abbrev pub ReadsLeaf : List Leaf → ℕ → ℕ → List ℕ → ℤ → List ℕ → Type 0
+ReadsLeaf leaves at offset old n new = ReadsBytes (drop offset (bytes_at leaves at)) old n new
+
+-- so many bytes at the front are zeros
+abbrev pub HasGap : List ℕ → ℤ → Type 0
+HasGap bytes n = (count : ℕ) × (n ≡ pos count) × (take count bytes ≡ replicate count 0)
+
+abbrev pub TellsGap : List Leaf → ℕ → ℕ → ℤ → Type 0
+TellsGap leaves at offset n = HasGap (drop offset (bytes_at leaves at)) n

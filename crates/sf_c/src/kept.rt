@@ -1,23 +1,24 @@
-//! A walk's tree in a box, as the box's pointer: what C has of it.
+//! A tree in a box, as the box's pointer: what C has of it.
 
 ghost use Rattle.std.specs.Prelude.{◌≡◌, Option, Some, None, IsSome};
 ghost use Rattle.std.specs.Coded.{coded_option};
-ghost use Rattle.sf_trees.specs.contracts.found.FoundTree.{the_row};
-ghost use Rattle.sf_trees.specs.declared.found.FoundTree.{FoundTree};
+ghost use Rattle.std.specs.Prelude.{List};
+ghost use Rattle.sf_call.specs.Leaves.{Leaf};
+ghost use Rattle.sf_c.specs.contracts.leaves.Leaves.{the_row};
 
 use crate::held::Loose;
-use sf_trees::FoundTree;
+use crate::leaves::Leaves;
 use std::alloc::Global;
 use std::marker::Model;
 use std::{mem, ptr};
 
-/// What C has of a walk: the box of its tree, or nothing.
+/// What C has of a tree: the box of its leaves, or nothing.
 #[repr(C)]
 #[derive(Drop)]
 pub struct Kept {
     at: *mut u8,
     alloc: Global,
-    pub ghost tree: { Option FoundTree } by { coded_option the_row.coded },
+    pub ghost tree: { Option (List Leaf) } by { coded_option the_row.coded },
 }
 
 impl Model for Kept {
@@ -30,7 +31,7 @@ impl Model for Kept {
 unsafe impl Send for Kept {}
 
 impl Kept {
-    fn of(loose: Loose<FoundTree, Global>) -> Kept
+    fn of(loose: Loose<Leaves, Global>) -> Kept
         ensures { result.tree ≡ Some loose.value }
     {
         let Loose { at, alloc } = loose;
@@ -49,19 +50,19 @@ impl Kept {
         }
     }
 
-    fn loose(self) -> Loose<FoundTree, Global>
+    fn loose(self) -> Loose<Leaves, Global>
         requires { IsSome self.tree }
         ensures { self.tree ≡ Some result.value }
     {
         let Kept { at, alloc } = self;
         Loose {
-            at: at as *mut FoundTree,
+            at: at as *mut Leaves,
             alloc,
         }
     }
 
     /// Takes the tree. It has to be put back, or freed.
-    pub fn take(&mut self, alloc: Global) -> Box<FoundTree, Global>
+    pub fn take(&mut self, alloc: Global) -> Box<Leaves, Global>
         requires { IsSome self.old.tree }
         ensures tree { self.old.tree ≡ Some result.value }
         ensures taken { self.new.tree ≡ None }
@@ -70,7 +71,7 @@ impl Kept {
     }
 
     /// Puts a tree in place of nothing.
-    pub fn put(&mut self, tree: Box<FoundTree, Global>)
+    pub fn put(&mut self, tree: Box<Leaves, Global>)
         ensures { self.new.tree ≡ Some tree.value }
     {
         *self = Kept::of(Loose::of(tree));

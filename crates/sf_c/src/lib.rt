@@ -2,33 +2,35 @@
 //!
 //! Start with `lucernetick_turn`. Each function takes an engine as a `Held` (`held.rt`), makes one
 //! event of what it is given, and answers the engine again and a number: `specs/Numbers.antt` says
-//! which, for what the engine answered. Those for trees make many (`specs/Trees.antt`), and what a
-//! walk finds is a
-//! `Kept` (`kept.rt`). `bindings/c/lucernetick.c` has the functions of `include/lucernetick.h`,
-//! which call these.
+//! which, for what the engine answered. Those that make trees make many (`specs/Making.antt`). A
+//! whole tree is a `Kept` (`kept.rt`), of which `specs/Trees.antt` says what is told.
+//! `bindings/c/lucernetick.c` has the functions of `include/lucernetick.h`, which call these.
 #![tactic(auto)]
 
 ghost use Rattle.std.specs.Prelude.{◌≡◌, ◌++◌, length, take, drop, None, IsSome, IfOk, IfSome};
 ghost use Rattle.sf_engine.specs.declared.event.Event.TheVariants as event;
 ghost use Rattle.sf_trees.specs.Makings.{MakesDirectory, WritesFile, Links};
 ghost use Rattle.sf_c.specs.Records.{TellsRecord, KeepsLastRecords};
-ghost use Rattle.sf_c.specs.Trees.{AnswersMade, AnswersWalk, LeafOf};
+ghost use Rattle.sf_asking.specs.Logs.{WaitsForBytesBy};
+ghost use Rattle.sf_c.specs.Making.{AnswersMade};
+ghost use Rattle.sf_c.specs.Trees.{TakesTree, TellsLeaf, ReadsLeaf, TellsGap};
 ghost use Rattle.sf_c.specs.Numbers.{AnswersNumber, AnswersSettled, RunsAll, IsFresh, IsNewEngine, FeedsBytes, Outputs};
 
 mod held;
 mod kept;
+mod leaves;
+mod making;
 mod number;
 mod told;
-mod trees;
 mod turns;
 
 use held::Held;
 use kept::Kept;
-use sf_engine::{Engine, Event};
-use sf_trees::FoundTree;
+use leaves::{LeafParts, copy_leaf, gap_at, read_leaf, tree_of};
+use making::{At, link_in, make_directory_in, tell_made, write_file_in};
+use sf_engine::{Engine, Event, Sftp};
 use std::alloc::{AllocError, Global};
 use told::{RecordParts, recount};
-use trees::{At, Leaf, copy_leaf, link_in, make_directory_in, tell_made, walk_in, write_file_in};
 use turns::{apply, feed, settle_at};
 
 /// Makes an engine that keeps the last `keep` records, or all of them.
@@ -168,6 +170,26 @@ pub extern "C" fn lucernetick_sent(
     answer(alloc, held, &Event::Sent(session, count))
 }
 
+/// Whether a session rests with no whole packet unread. A number without a session wants no bytes.
+#[unsafe(no_mangle)]
+pub extern "C" fn lucernetick_wants_bytes(alloc: Global, held: &mut Held, session: u64) -> bool
+    requires { IsSome held.old.engine }
+    ensures same { held.new.engine ≡ held.old.engine }
+    ensures wants { IfSome held.old.engine (λ e. WaitsForBytesBy e session result) }
+{
+    let engine = held.take(alloc);
+    let wants = wants_bytes(&engine, session);
+    held.put(engine);
+    wants
+}
+
+/// Whether a session waits for bytes, as the engine's log tells.
+fn wants_bytes(engine: &Engine, session: u64) -> bool
+    ensures { WaitsForBytesBy engine.now session result }
+{
+    <Engine as Sftp>::wants_bytes(engine, session)
+}
+
 /// Copies bytes into a room, as far as there is room.
 fn copy_front(room: &mut [u8], bytes: &[u8])
     ensures { room.new ≡ take (length room.old) bytes.now ++ drop (length bytes.now) room.old }
@@ -305,55 +327,84 @@ pub extern "C" fn lucernetick_link(
     tell_made(made, at)
 }
 
-/// Walks the whole tree, and puts what it finds in place of nothing. Where it stops, that is the
-/// entry at which that was, or none.
+/// Puts the tree of an engine in place of nothing: each path, with what it names. Answers 0, or -1
+/// for want of memory, which leaves nothing.
 #[unsafe(no_mangle)]
-pub extern "C" fn lucernetick_walk(
-    alloc: Global,
-    held: &mut Held,
-    kept: &mut Kept,
-    moment: u32,
-    at: &mut At,
-) -> i64
+pub extern "C" fn lucernetick_tree(alloc: Global, held: &mut Held, kept: &mut Kept) -> i64
     requires engine { IsSome held.old.engine }
     requires none { kept.old.tree ≡ None }
-    ensures { AnswersWalk held.old.engine moment result at.old at.new held.new.engine kept.new.tree }
+    ensures same { held.new.engine ≡ held.old.engine }
+    ensures taken { IfSome held.old.engine (λ e. TakesTree e result kept.new.tree) }
 {
-    let Ok(mut tree) = Box::new(alloc, FoundTree::new(alloc)) else {
+    let engine = held.take(alloc);
+    let taken = tree_of(&engine, alloc);
+    held.put(engine);
+    let Ok(leaves) = taken else {
         return -1;
     };
-    let (engine, walked) = walk_in(held.take(alloc), alloc, moment, &mut tree);
-    held.put(engine);
-    kept.put(tree);
-    tell_made(walked, at)
+    kept.put(leaves);
+    0
 }
 
-/// Tells one of the entries that a walk found, by their places, and how many these are. The bytes
-/// are copied into the room, if there is room for all.
+/// Tells one of a tree's leaves, by their places, and how many these are. The text of its path is
+/// copied into the room, as far as there is room.
 #[unsafe(no_mangle)]
-pub extern "C" fn lucernetick_tree_entry(
+pub extern "C" fn lucernetick_tree_leaf(
     alloc: Global,
     kept: &mut Kept,
     at: u64,
-    leaf: &mut Leaf,
+    told: &mut LeafParts,
     room: &mut [u8],
 ) -> i64
     requires { IsSome kept.old.tree }
     ensures same { kept.new.tree ≡ kept.old.tree }
     ensures told { IfSome kept.old.tree
-        (λ t. LeafOf t at leaf.old room.old result leaf.new room.new) }
+        (λ t. TellsLeaf t at told.old room.old result told.new room.new) }
 {
-    let tree = kept.take(alloc);
-    let number = copy_leaf(&tree, at, leaf, room);
-    kept.put(tree);
+    let leaves = kept.take(alloc);
+    let number = copy_leaf(alloc, &leaves, at, told, room);
+    kept.put(leaves);
     number
 }
 
-/// Drops what a walk found.
+/// Copies the bytes of a leaf into the room, from an offset on and as far as there is room. Answers
+/// how many, or -1 for want of memory. A directory has none, and so has a place without a leaf.
+#[unsafe(no_mangle)]
+pub extern "C" fn lucernetick_tree_read(
+    alloc: Global,
+    kept: &mut Kept,
+    at: u64,
+    offset: u64,
+    room: &mut [u8],
+) -> i64
+    requires { IsSome kept.old.tree }
+    ensures same { kept.new.tree ≡ kept.old.tree }
+    ensures read { IfSome kept.old.tree (λ t. ReadsLeaf t at offset room.old result room.new) }
+{
+    let leaves = kept.take(alloc);
+    let number = read_leaf(alloc, &leaves, at, offset, room);
+    kept.put(leaves);
+    number
+}
+
+/// Tells how many bytes of a leaf, from an offset on, are zeros that take no memory.
+#[unsafe(no_mangle)]
+pub extern "C" fn lucernetick_tree_gap(alloc: Global, kept: &mut Kept, at: u64, offset: u64) -> i64
+    requires { IsSome kept.old.tree }
+    ensures same { kept.new.tree ≡ kept.old.tree }
+    ensures gap { IfSome kept.old.tree (λ t. TellsGap t at offset result) }
+{
+    let leaves = kept.take(alloc);
+    let number = gap_at(&leaves, at, offset);
+    kept.put(leaves);
+    number
+}
+
+/// Drops a tree.
 #[unsafe(no_mangle)]
 pub extern "C" fn lucernetick_tree_free(alloc: Global, kept: &mut Kept)
     requires { IsSome kept.old.tree }
     ensures { kept.new.tree ≡ None }
 {
-    let _tree = kept.take(alloc);
+    let _leaves = kept.take(alloc);
 }

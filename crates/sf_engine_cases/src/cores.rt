@@ -13,6 +13,7 @@ mod drawn;
 mod drawn_writes;
 mod kept;
 mod lanes;
+mod tree;
 
 /// What a step came to, without the contents of a reply.
 #[derive(Clone, Copy, Debug, PartialEq, Eq)]

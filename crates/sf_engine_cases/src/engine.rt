@@ -9,6 +9,7 @@ use std::test::*;
 
 mod drawn;
 mod promised;
+mod snapshots;
 
 const INIT: &str = "00000005 01 00000003";
 

@@ -6,8 +6,9 @@
 //! contents of files, and `session.rt` sessions by their calls, with the bytes that each must send. In
 //! `walk.rt` the slow tree and the store are asked the same, and in `cores.rt` and `engine.rt` eight
 //! sessions have drawn events, which the slow tree answers too; `cores.rt` also has which records are
-//! kept, and the book that keeps them. `trees.rt` has what is made of an engine's tree and what a walk
-//! finds. Cases whose events are known are rows of `interop/engine_rows`, which `replay` replays.
+//! kept, the book that keeps them, and the
+//! tree whole, with `leaves.rt` to compare two. `trees.rt` has trees that are made by requests. Cases whose
+//! events are known are rows of `interop/engine_rows`, which `replay` replays.
 #![tactic(auto)]
 
 #[cfg(test)]
@@ -18,6 +19,8 @@ mod cores;
 mod engine;
 #[cfg(test)]
 mod inode;
+#[cfg(test)]
+mod leaves;
 #[cfg(test)]
 mod session;
 #[cfg(test)]

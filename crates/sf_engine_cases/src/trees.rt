@@ -1,20 +1,17 @@
-//! Trees on an engine.
+//! Trees that are made on an engine.
 
+use crate::leaves::{at, has_bytes, text_of};
 use sf_asking::Asker;
+use sf_call::Leaf;
 use sf_engine::Engine;
-use sf_field::{Attrs, NO_ATTRS, Times};
-use sf_reply::{Reply, StatusCode};
-use sf_request::{ByteStr, WireRequest};
-use sf_trees::{
-    FoundTree, Place, Refused, Server, TreeFault, link, make_directory, walk, write_file,
-};
+use sf_reply::StatusCode;
+use sf_trees::{Place, Refused, TreeFault, link, make_directory, write_file};
 use std::alloc::Global;
 use std::process::Abort;
 use std::test::*;
 
 mod made;
 mod refusals;
-mod several_names;
 
 /// An engine whose sessions ask at the moment 77.
 fn asker(rt: &impl Abort, alloc: Global) -> Asker {
@@ -43,32 +40,22 @@ fn links(rt: &impl Abort, asker: &mut Asker, old: &[u8], new: &[u8]) {
     assert!(rt; linked == Ok(()), "{linked:?}");
 }
 
-/// The whole tree.
-fn tree_of(rt: &impl Abort, alloc: Global, asker: &mut Asker) -> FoundTree {
-    let mut tree = FoundTree::new(alloc);
-    let walked = walk(asker, alloc, &mut tree);
-    assert!(rt; walked == Ok(()), "{walked:?}");
-    tree
-}
-
-/// The tree has these paths, in this order, with these numbers.
-fn has(rt: &impl Abort, tree: &FoundTree, wanted: &[(&str, u64)]) {
-    assert!(rt;
-        tree.found.len() == wanted.len(),
-        "{} entries",
-        tree.found.len()
-    );
-    for ((one, number), (path, file)) in tree.found.iter().zip(&tree.numbers).zip(wanted) {
-        assert!(rt; one.name.path.as_slice() == path.as_bytes(), "not {path}");
-        assert!(rt; *number == *file, "{path} has {number}");
+/// The whole tree, in the end.
+fn tree_of(rt: &impl Abort, alloc: Global, asker: Asker) -> Vec<Leaf> {
+    match asker.into_engine().tree(alloc) {
+        Ok(leaves) => leaves,
+        Err(_) => panic!(rt; "no memory for a tree"),
     }
 }
 
-/// The entry at a place has these contents.
-fn has_contents(rt: &impl Abort, tree: &FoundTree, at: usize, wanted: &[u8]) {
-    match tree.found.get(at) {
-        Some(one) => assert!(rt; one.contents.as_slice() == wanted, "other contents at {at}"),
-        None => panic!(rt; "no entry at {at}"),
+/// The tree has these paths, in this order.
+fn has(rt: &impl Abort, alloc: Global, tree: &[Leaf], wanted: &[&str]) {
+    assert_eq!(rt; tree.len(), wanted.len());
+    for (leaf, path) in tree.iter().zip(wanted) {
+        assert!(rt;
+            text_of(rt, alloc, leaf).as_slice() == path.as_bytes(),
+            "not {path}"
+        );
     }
 }
 
@@ -78,23 +65,4 @@ fn refused(fault: TreeFault, kind: u32, length: usize) -> Result<(), Refused> {
         fault,
         place: Place { kind, length },
     })
-}
-
-/// Sets attributes, by a session of its own.
-fn sets(rt: &impl Abort, asker: &mut Asker, path: &[u8], attrs: Attrs) {
-    let Ok(session) = asker.begin() else {
-        panic!(rt; "no session");
-    };
-    let reply = asker.ask(
-        session,
-        &WireRequest::SetStat {
-            path: ByteStr::new(path),
-            attrs,
-        },
-    );
-    asker.finish(session);
-    match reply {
-        Ok(Reply::Status(StatusCode::Success)) => {}
-        _ => panic!(rt; "not set"),
-    }
 }

@@ -66,14 +66,6 @@ by_session {a = a} {b = b} {c = c} {d = d} s session P r begun does ended = (
   inl (record { session = session; inner = does.0; parts = refl; done = does.2 }),
 )
 
--- what was done by a session, in other words
-pub session_as : {R T : Type 0} (P : ℕ → List Deed → Result R Refused → Type 0) (Q : ℕ → List Deed → Result T Refused → Type 0)
-    (deeds : List Deed) (r : Result R Refused) (t : Result T Refused)
-    → ((session : ℕ) (inner : List Deed) → P session inner r → Q session inner t)
-    → ((why : Refused) → r ≡ Err why → t ≡ Err why) → BySession P deeds r → BySession Q deeds t
-session_as P Q deeds r t mean same (inl h) = inl (record { session = h.session; inner = h.inner; parts = h.parts; done = mean h.session h.inner h.done })
-session_as P Q deeds r t mean same (inr none) = inr (none.0, none.1, same _ none.2)
-
 -- ---- many things in order
 
 -- Things that are done in order, until one is refused: each of them, and those before a number.

@@ -1,8 +1,6 @@
 -- What is done on a server, and what comes of it.
-use Rattle.std.specs.Prelude.{◌≡◌, ◌⊎◌, ℕ, List, [], ◌∷◌, ◌++◌, Option, Some, None, Result, Ok, Err}
+use Rattle.std.specs.Prelude.{◌≡◌, ◌⊎◌, ℕ, List, [], ◌∷◌, ◌++◌, Result, Ok, Err}
 use Rattle.sf_request.specs.declared.request.WireRequest.{WireRequest}
-use Rattle.sf_field.specs.declared.attrs.Attrs.{Attrs}
-use Rattle.sf_reply.specs.declared.reply.Entry.{Entry}
 use Rattle.sf_reply.specs.declared.reply.Reply.{Reply}
 use Rattle.sf_reply.specs.declared.reply.Reply.TheVariants as reply
 use Rattle.sf_reply.specs.declared.reply.StatusCode.TheVariants as status
@@ -90,22 +88,3 @@ abbrev pub BySession : {R : Type 0} → (ℕ → List Deed → Result R Refused 
 BySession P deeds result = HasSession P deeds result
     ⊎ ((why : TreeFault) × (deeds ≡ Begins (Err why) ∷ [])
     × (result ≡ Err (refused_at (request_place 1 0) why)))
-
--- what READ gave
-abbrev pub data_by : Place → Result Reply TreeFault → Result (List ℕ) Refused
-data_by place (Ok (reply.Data bytes)) = Ok bytes
-data_by place (Ok other) = Err (refused_at place (fault_in_reply other))
-data_by place (Err why) = Err (refused_at place why)
-
--- what STAT told
-abbrev pub attrs_by : Place → Result Reply TreeFault → Result Attrs Refused
-attrs_by place (Ok (reply.Attrs attrs)) = Ok attrs
-attrs_by place (Ok other) = Err (refused_at place (fault_in_reply other))
-attrs_by place (Err why) = Err (refused_at place why)
-
--- the names of a piece of a listing, or its end
-abbrev pub names_by : Place → Result Reply TreeFault → Result (Option (List Entry)) Refused
-names_by place (Ok (reply.Names entries)) = Ok (Some entries)
-names_by place (Ok (reply.Status status.EndOfFile)) = Ok None
-names_by place (Ok other) = Err (refused_at place (fault_in_reply other))
-names_by place (Err why) = Err (refused_at place why)

@@ -18,9 +18,6 @@ pub enum TreeFault {
     /// The server refused, by this code.
     #[error("status: {0:?}")]
     Status(StatusCode),
-    /// A file of so many bytes is too large for a walk.
-    #[error("a file of {0} bytes is too large for a walk")]
-    TooLarge(u64),
     /// A path that is too long for a request.
     #[error("too long a path")]
     Path,

@@ -54,7 +54,7 @@ fn ends_name(whole: bool, path: &[u8], at: usize) -> bool
 }
 
 /// Whether these are the permissions of a directory.
-pub(crate) fn is_directory(attrs: &Attrs) -> bool
+fn is_directory(attrs: &Attrs) -> bool
     ensures { result ≡ is_directory_attrs attrs.now }
 {
     match attrs.permissions {
@@ -219,12 +219,7 @@ fn write_pieces<S: Server>(
 }
 
 /// Closes a handle.
-pub(crate) fn close<S: Server>(
-    server: &mut S,
-    session: u64,
-    named: usize,
-    handle: u64,
-) -> Result<(), Refused>
+fn close<S: Server>(server: &mut S, session: u64, named: usize, handle: u64) -> Result<(), Refused>
     ensures { Does S.reaches server.old server.new (ClosesHandle session handle named) result }
 {
     let text = handle.to_be_bytes();
@@ -259,7 +254,7 @@ fn write_all<S: Server>(
 }
 
 /// Opens a file.
-pub(crate) fn open_file<S: Server>(
+fn open_file<S: Server>(
     server: &mut S,
     session: u64,
     path: &[u8],

@@ -3,6 +3,7 @@
 //! of the history, and its replies are those that the session was sent.
 
 use super::*;
+use crate::leaves::are_alike;
 use sf_call::Request;
 use sf_cases::requests::{
     close, link, mkdir, open, open_dir, posix_rename, read, read_dir, remove, rename, rmdir, stat,
@@ -270,7 +271,8 @@ fn takes_reply(
     Ok(())
 }
 
-/// The slow tree is given each record's request as its client asked it.
+/// The slow tree is given each record's request as its client asked it. In the end it has the same
+/// paths.
 fn compare(
     rt: &impl Abort,
     alloc: Global,
@@ -301,6 +303,7 @@ fn compare(
             Record::Left { session } => plain.leave(*session),
         }
     }
+    are_alike(rt, alloc, &engine.tree(alloc)?, &plain.leaves()?);
     for client in clients.iter() {
         match engine.output(client.session()) {
             Some(output) => assert!(rt; client.unread(output).is_empty()),

@@ -70,6 +70,11 @@ impl File {
         self.reads(rt, offset, want.len(), want);
     }
 
+    /// So many zeros from an offset on take no memory.
+    fn has_gap(&self, rt: &impl Abort, offset: u64, want: u64) {
+        assert_eq!(rt; self.contents.gap(offset), want);
+    }
+
     /// The whole contents, and no more of them where more is asked for.
     fn is(&self, rt: &impl Abort, want: &[u8]) {
         self.has_len(rt, want.len() as u64);
@@ -90,6 +95,29 @@ fn write_over_behind_and_past_the_end(rt: HostRuntime) {
     file.is(&rt, b"\0xyz123");
     file.write(&rt, 8, b"");
     file.is(&rt, b"\0xyz123\0");
+}
+
+/// Memory is taken for the 32 KiB that a byte is written in: here those from 98304 on. A gap ends
+/// there, or with the file, also where that has a TiB.
+#[test]
+fn gaps(rt: HostRuntime) {
+    let alloc = rt.alloc();
+    let mut file = File::new(alloc);
+    file.has_gap(&rt, 0, 0);
+    file.write(&rt, 100_000, b"x");
+    file.has_gap(&rt, 0, 98_304);
+    file.has_gap(&rt, 98_303, 1);
+    file.has_gap(&rt, 98_304, 0);
+    file.has_gap(&rt, 100_001, 0);
+    file.set_len(1 << 40);
+    file.has_gap(&rt, 131_071, 0);
+    file.has_gap(&rt, 131_072, (1 << 40) - 131_072);
+    file.has_gap(&rt, (1 << 40) - 1, 1);
+    file.has_gap(&rt, 1 << 40, 0);
+    file.has_gap(&rt, u64::MAX, 0);
+    file.set_len(0);
+    file.set_len(50_000);
+    file.has_gap(&rt, 1, 49_999);
 }
 
 #[test]

@@ -11,37 +11,38 @@ fn files_with_their_ways(rt: HostRuntime) {
     writes(&rt, &mut asker, b"/a/b", b"one");
     writes(&rt, &mut asker, b"c", b"");
     writes(&rt, &mut asker, b"/a/deep//er/d", &large);
-    let tree = tree_of(&rt, alloc, &mut asker);
+    let tree = tree_of(&rt, alloc, asker);
     has(
         &rt,
+        alloc,
         &tree,
         &[
-            ("/", 0),
-            ("/a", 0),
-            ("/a/b", 1),
-            ("/a/deep", 0),
-            ("/a/deep/er", 0),
-            ("/a/deep/er/d", 2),
-            ("/c", 3),
+            "/",
+            "/a",
+            "/a/b",
+            "/a/deep",
+            "/a/deep/er",
+            "/a/deep/er/d",
+            "/c",
         ],
     );
-    has_contents(&rt, &tree, 2, b"one");
-    has_contents(&rt, &tree, 5, &large);
-    has_contents(&rt, &tree, 6, b"");
+    has_bytes(&rt, alloc, at(&rt, &tree, 2), b"one");
+    has_bytes(&rt, alloc, at(&rt, &tree, 5), &large);
+    has_bytes(&rt, alloc, at(&rt, &tree, 6), b"");
 }
 
 /// More bytes than one WRITE has, and one that is full.
 #[test]
 fn pieces(rt: HostRuntime) {
     let alloc = rt.alloc();
-    let mut asker = asker(&rt, alloc);
     for count in [131072, 131073, 300000] {
+        let mut asker = asker(&rt, alloc);
         let Ok(contents) = vec![in alloc; 7u8; count] else {
             panic!(&rt; "no memory");
         };
         writes(&rt, &mut asker, b"/f", &contents);
-        let tree = tree_of(&rt, alloc, &mut asker);
-        has_contents(&rt, &tree, 1, &contents);
+        let tree = tree_of(&rt, alloc, asker);
+        has_bytes(&rt, alloc, at(&rt, &tree, 1), &contents);
     }
 }
 
@@ -52,8 +53,8 @@ fn replaced(rt: HostRuntime) {
     let mut asker = asker(&rt, alloc);
     writes(&rt, &mut asker, b"/f", b"a long text");
     writes(&rt, &mut asker, b"/f", b"short");
-    let tree = tree_of(&rt, alloc, &mut asker);
-    has_contents(&rt, &tree, 1, b"short");
+    let tree = tree_of(&rt, alloc, asker);
+    has_bytes(&rt, alloc, at(&rt, &tree, 1), b"short");
 }
 
 /// Directories, twice; the root is one.
@@ -65,26 +66,27 @@ fn directories(rt: HostRuntime) {
         let made = make_directory(&mut asker, path);
         assert!(&rt; made == Ok(()), "{made:?}");
     }
-    let tree = tree_of(&rt, alloc, &mut asker);
-    has(&rt, &tree, &[("/", 0), ("/a", 0), ("/a/b", 0)]);
+    let tree = tree_of(&rt, alloc, asker);
+    has(&rt, alloc, &tree, &["/", "/a", "/a/b"]);
 }
 
-/// More names than one listing's piece has.
+/// A further name, with the directories on its way: both name one file.
 #[test]
-fn many_names(rt: HostRuntime) {
+fn a_further_name(rt: HostRuntime) {
     let alloc = rt.alloc();
     let mut asker = asker(&rt, alloc);
-    for name in 0..100u8 {
-        writes(
-            &rt,
-            &mut asker,
-            &[b'/', b'd', b'/', b'0' + name / 10, b'0' + name % 10],
-            &[name],
-        );
-    }
-    let tree = tree_of(&rt, alloc, &mut asker);
-    assert!(&rt; tree.found.len() == 102);
-    for (at, one) in tree.found.iter().enumerate().skip(2) {
-        assert!(&rt; one.contents.as_slice() == [(at - 2) as u8].as_slice());
-    }
+    writes(&rt, &mut asker, b"/f", b"same");
+    writes(&rt, &mut asker, b"/g", b"same");
+    links(&rt, &mut asker, b"/f", b"/d/e/h");
+    let tree = tree_of(&rt, alloc, asker);
+    has(
+        &rt,
+        alloc,
+        &tree,
+        &["/", "/d", "/d/e", "/d/e/h", "/f", "/g"],
+    );
+    has_bytes(&rt, alloc, at(&rt, &tree, 3), b"same");
+    let label = at(&rt, &tree, 3).label();
+    assert_eq!(&rt; at(&rt, &tree, 4).label(), label);
+    assert!(&rt; at(&rt, &tree, 5).label() != label);
 }

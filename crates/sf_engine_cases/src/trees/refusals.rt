@@ -17,11 +17,8 @@ fn paths(rt: HostRuntime) {
     assert!(&rt; below == refused(failure, 14, 2), "{below:?}");
     let directory = make_directory(&mut asker, b"/d/a\0b");
     assert!(&rt; directory == refused(failure, 17, 6), "{directory:?}");
-    has(
-        &rt,
-        &tree_of(&rt, alloc, &mut asker),
-        &[("/", 0), ("/d", 0), ("/f", 1)],
-    );
+    let tree = tree_of(&rt, alloc, asker);
+    has(&rt, alloc, &tree, &["/", "/d", "/f"]);
 }
 
 #[test]
@@ -45,25 +42,4 @@ fn names_of_files(rt: HostRuntime) {
         there == refused(TreeFault::Status(StatusCode::Failure), 202, 4),
         "{there:?}"
     );
-}
-
-/// The entry at which the walk stopped is told.
-#[test]
-fn too_large(rt: HostRuntime) {
-    let alloc = rt.alloc();
-    let mut asker = asker(&rt, alloc);
-    writes(&rt, &mut asker, b"/d/f", b"2");
-    let size = Attrs {
-        size: Some(1 << 40),
-        ..NO_ATTRS
-    };
-    sets(&rt, &mut asker, b"/d/f", size);
-    let mut tree = FoundTree::new(alloc);
-    let walked = walk(&mut asker, alloc, &mut tree);
-    assert!(&rt;
-        walked == refused(TreeFault::TooLarge(1 << 40), 5, 4),
-        "{walked:?}"
-    );
-    assert!(&rt; tree.found.len() == 1);
-    assert!(&rt; tree.found[0].name.path.as_slice() == b"/d/f".as_slice());
 }

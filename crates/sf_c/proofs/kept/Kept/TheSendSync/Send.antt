@@ -1,5 +1,5 @@
--- A `Held` may go to another thread: what it has is a box that may, or nothing.
-use Rattle.std.proofs.Common.{Option, Some, None}
+-- A `Kept` may go to another thread: what it has is a box that may, or nothing.
+use Rattle.std.proofs.Common.{List, Option, Some, None}
 use mir.Raw.{raw}
 use base.Shift.{Keyless}
 use denote.Builtin.{RawPtr}
@@ -12,18 +12,18 @@ use Rattle.std.specs.Global.{Global}
 use Rattle.std.proofs.alloc.Global.TheSendSync as handle
 use Rattle.std.proofs.Crossing.{frees}
 use Rattle.std_alloc.proofs.SendSync.{lies, quiet}
-use Rattle.sf_trees.specs.declared.found.FoundTree.{FoundTree}
-use Rattle.sf_trees.specs.contracts.found.FoundTree as engine
-use Rattle.sf_trees.proofs.found.FoundTree.TheSendSync as crosses
+use Rattle.sf_call.specs.Leaves.{Leaf}
+use Rattle.sf_c.specs.contracts.leaves.Leaves as tree
+use Rattle.sf_c.proofs.leaves.Leaves.TheSendSync as crosses
 use Rattle.sf_c.specs.Owned.{tree_owned}
 use Rattle.sf_c.specs.contracts.kept.Kept as kept
 
 pointer : IsSend RawPtr
 pointer = search sendable
 
-owned : (alloc : Global) (at : Ptr) (tree : Option FoundTree) → Keyless (tree_owned alloc at tree)
+owned : (alloc : Global) (at : Ptr) (tree : Option (List Leaf)) → Keyless (tree_owned alloc at tree)
 owned alloc at None = tt
-owned alloc at (Some x) = (lies engine.the_row crosses.the_send at x, frees.frees alloc (raw (lone engine.the_row.mir)) at)
+owned alloc at (Some x) = (lies tree.the_row crosses.the_send at x, frees.frees alloc (raw (lone tree.the_row.mir)) at)
 
 pub send : IsSend kept.the_row
 send =

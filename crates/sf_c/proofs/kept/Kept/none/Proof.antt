@@ -23,8 +23,8 @@ use Rattle.std.proofs.raw_atomic.Walks.{proved_at, leaves}
 use Rattle.std.specs.contracts.alloc.Global as heap
 use Rattle.std.specs.contracts.impls.GlobalAllocator.TheImpl.{ghosts}
 use Rattle.std_alloc.proofs.ResultValues.{and_tt}
-use Rattle.sf_trees.specs.contracts.found.FoundTree as engine
-use Rattle.sf_trees.specs.declared.found.FoundTree.{FoundTree}
+use Rattle.sf_c.specs.contracts.leaves.Leaves as tree
+use Rattle.sf_call.specs.Leaves.{Leaf}
 use Rattle.sf_c.proofs.TreeValues.{al, both, kept_in}
 use Rattle.sf_c.specs.contracts.kept.Kept.none.{ended, clauses}
 use Rattle.sf_c.specs.contracts.kept.Kept.none.Key.{name as #self}
@@ -33,12 +33,12 @@ use Rattle.sf_c.proofs.kept.Kept.none.Code as code
 
 pub none_spec : {M : Type 1} → statement M
 none_spec 𝓤 𝓛 𝓜 𝓡 wired =
-    let H = 𝓛.H in let 𝓣 = tables 𝓤 H 𝓜 𝓡 𝓡.env in let Z : RattleType = heap.the_row in let c = clauses 𝓛 𝓜.mem 𝓡.returns in let no_tree : Option FoundTree = None in
+    let H = 𝓛.H in let 𝓣 = tables 𝓤 H 𝓜 𝓡 𝓡.env in let Z : RattleType = heap.the_row in let c = clauses 𝓛 𝓜.mem 𝓡.returns in let no_tree : Option (List Leaf) = None in
     let hs : Stays ended.signature.params ended.kept = (stay_dropped (plain (λ _. Z)) yes, tt) in
     proved_at 𝓛 ended hs c 𝓜 𝓡 (Goes-blank 𝓛 0 (plain (λ _. Z)) yes (λ κs x f. tt), tt) #self code.function (code.unfolded 𝓤 H 𝓜 𝓡 wired) (λ z are.
     let κs = z.0.0 in let a = z.0.3.0 in let Post : Val → SProp 𝓤 = (walk_of 𝓛 ended hs c).post z in let Run : List Val → SProp 𝓤 = λ ws. WpFn 𝓤 H 𝓣.C 𝓣.Λ code.function ws Post in
     qed 𝓛 ((‵ ftrue ⊛ ‵ (owns (types_at ended.signature.params κs) z.0.3 z.0.4)) ∷ raw ((c κs z.0.3).requires z.1) ∷ []) ∵ split ! $ move ! (1 ∷ []) $ fsplit ! $
-    handle_tells (al engine.the_row Z the_row_laws ghosts) ! a z.0.4.0 (λ h ws fits.
+    handle_tells (al tree.the_row Z the_row_laws ghosts) ! a z.0.4.0 (λ h ws fits.
     let w : Val = both (ptr_val null_ptr) h in
     suffices ! (Run (h ∷ [])) (subst (λ (us : List Val). ent 𝓤 (Run (h ∷ [])) (Run us)) (sym (λ i. ws i ++ [])) (id⊢ 𝓤 (Run (h ∷ [])))) $
     enter ! 𝓣.C 𝓣.Λ code.function (h ∷ []) Post $ alloc_all ! (λ l. pass_all ! refl (fits, tt) $

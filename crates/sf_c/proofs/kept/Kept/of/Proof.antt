@@ -21,7 +21,7 @@ use Rattle.std.proofs.alloc.Global.TheLaws.{the_row_laws}
 use Rattle.std.proofs.raw_atomic.Walks.{proved_at, leaves}
 use Rattle.std.specs.contracts.alloc.Global as heap
 use Rattle.std.specs.contracts.impls.GlobalAllocator.TheImpl.{ghosts}
-use Rattle.sf_trees.specs.contracts.found.FoundTree as engine
+use Rattle.sf_c.specs.contracts.leaves.Leaves as tree
 use Rattle.sf_c.specs.contracts.held.Loose as loose
 use Rattle.sf_c.proofs.TreeValues.{both, loose_good, loose_out, kept_in}
 use Rattle.sf_c.specs.contracts.kept.Kept.of.{ended, clauses}
@@ -31,7 +31,7 @@ use Rattle.sf_c.proofs.kept.Kept.of.Code as code
 
 pub of_spec : {M : Type 1} → statement M
 of_spec 𝓤 𝓛 𝓜 𝓡 wired =
-    let H = 𝓛.H in let 𝓣 = tables 𝓤 H 𝓜 𝓡 𝓡.env in let R : RattleType = engine.the_row in let Z : RattleType = heap.the_row in let Lo : RattleType = loose.the_row R Z ghosts in let c = clauses 𝓛 𝓜.mem 𝓡.returns in
+    let H = 𝓛.H in let 𝓣 = tables 𝓤 H 𝓜 𝓡 𝓡.env in let R : RattleType = tree.the_row in let Z : RattleType = heap.the_row in let Lo : RattleType = loose.the_row R Z ghosts in let c = clauses 𝓛 𝓜.mem 𝓡.returns in
     let hs : Stays ended.signature.params ended.kept = (stay_dropped (plain (λ _. Lo)) yes, tt) in
     proved_at 𝓛 ended hs c 𝓜 𝓡 (Goes-blank 𝓛 0 (plain (λ _. Lo)) yes (λ κs x f. tt), tt) #self code.function (code.unfolded 𝓤 H 𝓜 𝓡 wired) (λ z are.
     let κs = z.0.0 in let v = z.0.3.0 in let a = v.alloc in let Post : Val → SProp 𝓤 = (walk_of 𝓛 ended hs c).post z in let Run : List Val → SProp 𝓤 = λ ws. WpFn 𝓤 H 𝓣.C 𝓣.Λ code.function ws Post in
