@@ -15,20 +15,18 @@ struct lt_engine {
     size_t capacity;
 };
 
-/* What the crate has of a walk, its box or NULL, and room for the bytes of an entry. */
+/* What the crate has of a tree, its box or NULL, and room for the text of a path. */
 struct lt_tree {
     void *at;
     uint8_t *room;
     size_t capacity;
 };
 
-/* An entry as the crate tells it, in `src/trees.rt`. */
+/* A leaf as the crate tells it, in `src/leaves.rt`. */
 struct leaf {
     lt_attributes attributes;
-    uint64_t links;
-    uint64_t file;
+    uint64_t label;
     uint64_t path;
-    uint64_t contents;
 };
 
 /* A record as the crate tells it, in `src/told.rt`. */
@@ -61,6 +59,7 @@ struct told {
     uint32_t moment;
 };
 
+/* Where one takes a `const` engine or tree, the crate takes the box out for the call and puts it back. */
 int64_t lucernetick_new(lt_engine *engine, uint64_t keep);
 void lucernetick_free(lt_engine *engine);
 int64_t lucernetick_open(lt_engine *engine);
@@ -69,7 +68,8 @@ int64_t lucernetick_turn(lt_engine *engine, uint64_t session, uint32_t moment);
 int64_t lucernetick_settle(lt_engine *engine, uint64_t session, uint32_t moment, uint64_t most, bool *moved);
 uint64_t lucernetick_run_all(lt_engine *engine);
 int64_t lucernetick_close(lt_engine *engine, uint64_t session);
-int64_t lucernetick_output(lt_engine *engine, uint64_t session, uint8_t *room, size_t length);
+bool lucernetick_wants_bytes(const lt_engine *engine, uint64_t session);
+int64_t lucernetick_output(const lt_engine *engine, uint64_t session, uint8_t *room, size_t length);
 int64_t lucernetick_sent(lt_engine *engine, uint64_t session, size_t count);
 int64_t lucernetick_call(lt_engine *engine, uint64_t at, struct told *told, uint8_t *room, size_t length);
 int64_t lucernetick_make_directory(lt_engine *engine, const uint8_t *path, size_t length, uint32_t moment,
@@ -78,8 +78,10 @@ int64_t lucernetick_write_file(lt_engine *engine, const uint8_t *path, size_t pa
                                const uint8_t *contents, size_t length, uint32_t moment, lt_place *at);
 int64_t lucernetick_link(lt_engine *engine, const uint8_t *old_path, size_t old_length,
                          const uint8_t *new_path, size_t new_length, uint32_t moment, lt_place *at);
-int64_t lucernetick_walk(lt_engine *engine, lt_tree *tree, uint32_t moment, lt_place *at);
-int64_t lucernetick_tree_entry(lt_tree *tree, uint64_t at, struct leaf *leaf, uint8_t *room, size_t length);
+int64_t lucernetick_tree(const lt_engine *engine, lt_tree *tree);
+int64_t lucernetick_tree_leaf(const lt_tree *tree, uint64_t at, struct leaf *leaf, uint8_t *room, size_t length);
+int64_t lucernetick_tree_read(const lt_tree *tree, uint64_t at, uint64_t offset, uint8_t *room, size_t length);
+int64_t lucernetick_tree_gap(const lt_tree *tree, uint64_t at, uint64_t offset);
 void lucernetick_tree_free(lt_tree *tree);
 
 /* Whether so many bytes may be there. */
@@ -118,30 +120,28 @@ static const char *status_text(int64_t code)
 
 static const char *refusal_text(int64_t answer)
 {
-    if (answer <= LT_STATUS_BASE)
-        return status_text(LT_STATUS_BASE - answer);
+    if (answer <= LT_REFUSAL_STATUS_BASE)
+        return status_text(LT_REFUSAL_STATUS_BASE - answer);
     switch (answer) {
-    case LT_OUT_OF_MEMORY:
+    case LT_REFUSAL_OUT_OF_MEMORY:
         return "out of memory";
-    case LT_NO_SUCH_SESSION:
+    case LT_REFUSAL_NO_SUCH_SESSION:
         return "no session of this number was ever opened";
-    case LT_TOO_MANY_SESSIONS:
+    case LT_REFUSAL_TOO_MANY_SESSIONS:
         return "256 sessions are open";
-    case LT_HAS_ENDED:
+    case LT_REFUSAL_HAS_ENDED:
         return "the session has ended, and takes no more bytes";
-    case LT_NUMBERS_SPENT:
+    case LT_REFUSAL_NUMBERS_SPENT:
         return "all session numbers are spent";
-    case LT_NOT_SENT:
+    case LT_REFUSAL_NOT_SENT:
         return "fewer bytes wait to be sent";
-    case LT_BAD_POINTER:
+    case LT_REFUSAL_BAD_POINTER:
         return "the engine was closed, or a pointer is NULL, or a length too large";
-    case LT_IS_BLOCKED:
+    case LT_REFUSAL_IS_BLOCKED:
         return "the call of another session is in the way";
-    case LT_TOO_LARGE:
-        return "a file is too large for a walk";
-    case LT_LONG_PATH:
+    case LT_REFUSAL_LONG_PATH:
         return "a path is too long for a packet";
-    case LT_NO_REPLY:
+    case LT_REFUSAL_NO_REPLY:
         return "not the reply that was due";
     default:
         return "an unknown refusal";
@@ -151,19 +151,19 @@ static const char *refusal_text(int64_t answer)
 static const char *ending_text(int64_t cause)
 {
     switch (cause) {
-    case LT_NOT_INIT:
+    case LT_CAUSE_NOT_INIT:
         return "ended: the first packet isn't INIT";
-    case LT_OLD_VERSION:
+    case LT_CAUSE_OLD_VERSION:
         return "ended: the client has a version below 3";
-    case LT_SECOND_INIT:
+    case LT_CAUSE_SECOND_INIT:
         return "ended: a later packet is INIT";
-    case LT_ZERO_LENGTH:
+    case LT_CAUSE_ZERO_LENGTH:
         return "ended: a packet of length 0";
-    case LT_TOO_LONG:
+    case LT_CAUSE_TOO_LONG:
         return "ended: a packet of a length above 262144";
-    case LT_NO_ID:
+    case LT_CAUSE_NO_ID:
         return "ended: a packet ends before its id";
-    case LT_CLOSED:
+    case LT_CAUSE_CLOSED:
         return "ended: the session was closed";
     default:
         return "an unknown answer";
@@ -173,22 +173,22 @@ static const char *ending_text(int64_t cause)
 static const char *turn_text(int64_t answer)
 {
     switch (answer) {
-    case LT_IDLE:
+    case LT_TURN_IDLE:
         return "no whole packet is unread";
-    case LT_WROTE:
+    case LT_TURN_WROTE:
         return "a reply was written";
-    case LT_BEGUN:
+    case LT_TURN_BEGUN:
         return "a call has begun";
-    case LT_MOVED:
+    case LT_TURN_MOVED:
         return "the call made a step";
-    case LT_BLOCKED:
+    case LT_TURN_BLOCKED:
         return "the call of another session is in the way";
-    case LT_DECIDED:
+    case LT_TURN_DECIDED:
         return "the call is decided";
-    case LT_SPENT:
+    case LT_TURN_SPENT:
         return "as many replies as may be were written";
     default:
-        return ending_text(answer - LT_ENDED);
+        return ending_text(answer - LT_TURN_ENDED);
     }
 }
 
@@ -226,26 +226,26 @@ void lt_free(lt_engine *engine)
 
 int64_t lt_open(lt_engine *engine)
 {
-    return engine == NULL ? LT_BAD_POINTER : lucernetick_open(engine);
+    return engine == NULL ? LT_REFUSAL_BAD_POINTER : lucernetick_open(engine);
 }
 
 int64_t lt_feed(lt_engine *engine, uint64_t session, const uint8_t *bytes, size_t length)
 {
     static const uint8_t none[1];
     if (engine == NULL || !are_bytes(bytes, length))
-        return LT_BAD_POINTER;
+        return LT_REFUSAL_BAD_POINTER;
     return lucernetick_feed(engine, session, length == 0 ? none : bytes, length);
 }
 
 int64_t lt_turn(lt_engine *engine, uint64_t session, uint32_t moment)
 {
-    return engine == NULL ? LT_BAD_POINTER : lucernetick_turn(engine, session, moment);
+    return engine == NULL ? LT_REFUSAL_BAD_POINTER : lucernetick_turn(engine, session, moment);
 }
 
 int64_t lt_settle(lt_engine *engine, uint64_t session, uint32_t moment, uint64_t most, bool *moved)
 {
     bool told = false;
-    int64_t answer = LT_BAD_POINTER;
+    int64_t answer = LT_REFUSAL_BAD_POINTER;
     if (engine != NULL)
         answer = lucernetick_settle(engine, session, moment, most, &told);
     if (moved != NULL)
@@ -255,25 +255,30 @@ int64_t lt_settle(lt_engine *engine, uint64_t session, uint32_t moment, uint64_t
 
 int64_t lt_run_all(lt_engine *engine)
 {
-    return engine == NULL ? LT_BAD_POINTER : (int64_t)lucernetick_run_all(engine);
+    return engine == NULL ? LT_REFUSAL_BAD_POINTER : (int64_t)lucernetick_run_all(engine);
+}
+
+int64_t lt_wants_bytes(const lt_engine *engine, uint64_t session)
+{
+    return engine == NULL ? LT_REFUSAL_BAD_POINTER : lucernetick_wants_bytes(engine, session);
 }
 
 int64_t lt_close(lt_engine *engine, uint64_t session)
 {
-    return engine == NULL ? LT_BAD_POINTER : lucernetick_close(engine, session);
+    return engine == NULL ? LT_REFUSAL_BAD_POINTER : lucernetick_close(engine, session);
 }
 
-int64_t lt_output(lt_engine *engine, uint64_t session, uint8_t *room, size_t length)
+int64_t lt_output(const lt_engine *engine, uint64_t session, uint8_t *room, size_t length)
 {
     uint8_t none[1];
     if (engine == NULL || !are_bytes(room, length))
-        return LT_BAD_POINTER;
+        return LT_REFUSAL_BAD_POINTER;
     return lucernetick_output(engine, session, length == 0 ? none : room, length);
 }
 
 int64_t lt_sent(lt_engine *engine, uint64_t session, size_t count)
 {
-    return engine == NULL ? LT_BAD_POINTER : lucernetick_sent(engine, session, count);
+    return engine == NULL ? LT_REFUSAL_BAD_POINTER : lucernetick_sent(engine, session, count);
 }
 
 /* The next so many bytes at a place, which moves behind them. */
@@ -326,16 +331,16 @@ int64_t lt_calls(lt_engine *engine, uint64_t at, lt_call *call)
 {
     struct told told;
     if (engine == NULL || call == NULL)
-        return LT_BAD_POINTER;
+        return LT_REFUSAL_BAD_POINTER;
     if (!make_room(&engine->room, &engine->capacity, 1))
-        return LT_OUT_OF_MEMORY;
+        return LT_REFUSAL_OUT_OF_MEMORY;
     int64_t count = lucernetick_call(engine, at, &told, engine->room, engine->capacity);
     if (count < 0 || at >= (uint64_t)count)
         return count;
     uint64_t length = told.path + told.new_path + told.written + told.answer;
     if (length > engine->capacity) {
         if (!make_room(&engine->room, &engine->capacity, (size_t)length))
-            return LT_OUT_OF_MEMORY;
+            return LT_REFUSAL_OUT_OF_MEMORY;
         count = lucernetick_call(engine, at, &told, engine->room, engine->capacity);
         if (count < 0)
             return count;
@@ -368,7 +373,7 @@ static int64_t stopped_at(int64_t answer, lt_place at, lt_place *place)
 int64_t lt_make_directory(lt_engine *engine, lt_bytes path, uint32_t moment, lt_place *place)
 {
     lt_place at = {0};
-    int64_t answer = LT_BAD_POINTER;
+    int64_t answer = LT_REFUSAL_BAD_POINTER;
     if (engine != NULL && are_there(path))
         answer = lucernetick_make_directory(engine, place_of(path), path.length, moment, &at);
     return stopped_at(answer, at, place);
@@ -377,7 +382,7 @@ int64_t lt_make_directory(lt_engine *engine, lt_bytes path, uint32_t moment, lt_
 int64_t lt_write_file(lt_engine *engine, lt_bytes path, lt_bytes contents, uint32_t moment, lt_place *place)
 {
     lt_place at = {0};
-    int64_t answer = LT_BAD_POINTER;
+    int64_t answer = LT_REFUSAL_BAD_POINTER;
     if (engine != NULL && are_there(path) && are_there(contents))
         answer = lucernetick_write_file(engine, place_of(path), path.length, place_of(contents),
                                         contents.length, moment, &at);
@@ -387,64 +392,70 @@ int64_t lt_write_file(lt_engine *engine, lt_bytes path, lt_bytes contents, uint3
 int64_t lt_link(lt_engine *engine, lt_bytes path, lt_bytes new_path, uint32_t moment, lt_place *place)
 {
     lt_place at = {0};
-    int64_t answer = LT_BAD_POINTER;
+    int64_t answer = LT_REFUSAL_BAD_POINTER;
     if (engine != NULL && are_there(path) && are_there(new_path))
         answer = lucernetick_link(engine, place_of(path), path.length, place_of(new_path), new_path.length,
                                   moment, &at);
     return stopped_at(answer, at, place);
 }
 
-int64_t lt_walk(lt_engine *engine, uint32_t moment, lt_tree **tree, lt_place *place)
+int64_t lt_tree_of(const lt_engine *engine, lt_tree **tree)
 {
-    lt_place at = {0};
     if (tree != NULL)
         *tree = NULL;
     if (engine == NULL || tree == NULL)
-        return stopped_at(LT_BAD_POINTER, at, place);
-    lt_tree *found = malloc(sizeof *found);
-    if (found == NULL)
-        return stopped_at(LT_OUT_OF_MEMORY, at, place);
-    *found = (lt_tree){.at = NULL};
-    int64_t answer = lucernetick_walk(engine, found, moment, &at);
-    *tree = found;
-    return stopped_at(answer, at, place);
+        return LT_REFUSAL_BAD_POINTER;
+    lt_tree *taken = malloc(sizeof *taken);
+    if (taken == NULL)
+        return LT_REFUSAL_OUT_OF_MEMORY;
+    *taken = (lt_tree){.at = NULL};
+    int64_t answer = lucernetick_tree(engine, taken);
+    if (answer < 0)
+        free(taken);
+    else
+        *tree = taken;
+    return answer;
 }
 
-static lt_entry entry_of(const struct leaf *leaf, const uint8_t *bytes)
+int64_t lt_tree_leaf(lt_tree *tree, uint64_t at, lt_leaf *leaf)
 {
-    lt_entry entry = {.attributes = leaf->attributes, .links = leaf->links, .file = leaf->file};
-    entry.path = next_bytes(&bytes, leaf->path);
-    entry.contents = next_bytes(&bytes, leaf->contents);
-    return entry;
-}
-
-int64_t lt_tree_entry(lt_tree *tree, uint64_t at, lt_entry *entry)
-{
-    struct leaf leaf;
-    if (entry == NULL)
-        return LT_BAD_POINTER;
-    if (tree == NULL || tree->at == NULL)
-        return 0;
+    struct leaf told;
+    if (tree == NULL || leaf == NULL)
+        return LT_REFUSAL_BAD_POINTER;
     if (!make_room(&tree->room, &tree->capacity, 1))
-        return LT_OUT_OF_MEMORY;
-    int64_t count = lucernetick_tree_entry(tree, at, &leaf, tree->room, tree->capacity);
+        return LT_REFUSAL_OUT_OF_MEMORY;
+    int64_t count = lucernetick_tree_leaf(tree, at, &told, tree->room, tree->capacity);
     if (count < 0 || at >= (uint64_t)count)
         return count;
-    if (leaf.path + leaf.contents > tree->capacity) {
-        if (!make_room(&tree->room, &tree->capacity, (size_t)(leaf.path + leaf.contents)))
-            return LT_OUT_OF_MEMORY;
-        count = lucernetick_tree_entry(tree, at, &leaf, tree->room, tree->capacity);
+    if (told.path > tree->capacity) {
+        if (!make_room(&tree->room, &tree->capacity, (size_t)told.path))
+            return LT_REFUSAL_OUT_OF_MEMORY;
+        count = lucernetick_tree_leaf(tree, at, &told, tree->room, tree->capacity);
+        if (count < 0)
+            return count;
     }
-    *entry = entry_of(&leaf, tree->room);
+    *leaf = (lt_leaf){{tree->room, (size_t)told.path}, told.attributes, told.label};
     return count;
+}
+
+int64_t lt_tree_read(const lt_tree *tree, uint64_t at, uint64_t offset, uint8_t *room, size_t length)
+{
+    uint8_t none[1];
+    if (tree == NULL || !are_bytes(room, length))
+        return LT_REFUSAL_BAD_POINTER;
+    return lucernetick_tree_read(tree, at, offset, length == 0 ? none : room, length);
+}
+
+int64_t lt_tree_gap(const lt_tree *tree, uint64_t at, uint64_t offset)
+{
+    return tree == NULL ? LT_REFUSAL_BAD_POINTER : lucernetick_tree_gap(tree, at, offset);
 }
 
 void lt_tree_free(lt_tree *tree)
 {
     if (tree == NULL)
         return;
-    if (tree->at != NULL)
-        lucernetick_tree_free(tree);
+    lucernetick_tree_free(tree);
     free(tree->room);
     free(tree);
 }

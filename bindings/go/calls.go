@@ -15,22 +15,22 @@ type Kind uint32
 
 // The kinds of calls.
 const (
-	KindOpen        Kind = C.LT_OPEN
-	KindClose       Kind = C.LT_CLOSE
-	KindRead        Kind = C.LT_READ
-	KindWrite       Kind = C.LT_WRITE
-	KindFstat       Kind = C.LT_FSTAT
-	KindSetstat     Kind = C.LT_SETSTAT
-	KindFsetstat    Kind = C.LT_FSETSTAT
-	KindOpendir     Kind = C.LT_OPENDIR
-	KindReaddir     Kind = C.LT_READDIR
-	KindRemove      Kind = C.LT_REMOVE
-	KindMkdir       Kind = C.LT_MKDIR
-	KindRmdir       Kind = C.LT_RMDIR
-	KindStat        Kind = C.LT_STAT
-	KindRename      Kind = C.LT_RENAME
-	KindPosixRename Kind = C.LT_POSIX_RENAME
-	KindHardlink    Kind = C.LT_HARDLINK
+	KindOpen        Kind = C.LT_KIND_OPEN
+	KindClose       Kind = C.LT_KIND_CLOSE
+	KindRead        Kind = C.LT_KIND_READ
+	KindWrite       Kind = C.LT_KIND_WRITE
+	KindFstat       Kind = C.LT_KIND_FSTAT
+	KindSetstat     Kind = C.LT_KIND_SETSTAT
+	KindFsetstat    Kind = C.LT_KIND_FSETSTAT
+	KindOpendir     Kind = C.LT_KIND_OPENDIR
+	KindReaddir     Kind = C.LT_KIND_READDIR
+	KindRemove      Kind = C.LT_KIND_REMOVE
+	KindMkdir       Kind = C.LT_KIND_MKDIR
+	KindRmdir       Kind = C.LT_KIND_RMDIR
+	KindStat        Kind = C.LT_KIND_STAT
+	KindRename      Kind = C.LT_KIND_RENAME
+	KindPosixRename Kind = C.LT_KIND_POSIX_RENAME
+	KindHardlink    Kind = C.LT_KIND_HARDLINK
 )
 
 // An AnswerKind is what a call was answered.
@@ -38,12 +38,12 @@ type AnswerKind uint32
 
 // The kinds of answers.
 const (
-	AnswerNoMemory AnswerKind = C.LT_NO_MEMORY // the status FAILURE, for want of memory
-	AnswerStatus   AnswerKind = C.LT_STATUS
-	AnswerHandle   AnswerKind = C.LT_HANDLE
-	AnswerData     AnswerKind = C.LT_DATA
-	AnswerNames    AnswerKind = C.LT_NAMES
-	AnswerAttrs    AnswerKind = C.LT_ATTRS
+	AnswerNoMemory AnswerKind = C.LT_ANSWER_NO_MEMORY // the status FAILURE, for want of memory
+	AnswerStatus   AnswerKind = C.LT_ANSWER_STATUS
+	AnswerHandle   AnswerKind = C.LT_ANSWER_HANDLE
+	AnswerData     AnswerKind = C.LT_ANSWER_DATA
+	AnswerNames    AnswerKind = C.LT_ANSWER_NAMES
+	AnswerAttrs    AnswerKind = C.LT_ANSWER_ATTRS
 )
 
 // A CallAttributes has the attributes that a call asks for, or is answered. Given has the protocol's bits for
@@ -103,7 +103,7 @@ func (engine *Engine) Calls() ([]Call, error) {
 		if at >= count {
 			return calls, nil
 		}
-		if call.kind != C.LT_LEFT {
+		if call.kind != C.LT_KIND_LEFT {
 			calls = append(calls, callOf(&call))
 		}
 	}

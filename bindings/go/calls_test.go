@@ -39,7 +39,7 @@ func TestAnUploadByATemporaryName(t *testing.T) {
 func TestWhatCallsAreAnswered(t *testing.T) {
 	engine, err := FromFiles(map[string][]byte{"/d/a": []byte("1"), "/d/b": []byte("22")}, 0)
 	must(t, err)
-	t.Cleanup(engine.Close)
+	t.Cleanup(func() { engine.Close() })
 	before, err := engine.Calls()
 	must(t, err)
 	found, err := connect(t, engine, WallClock).ReadDir("/d")

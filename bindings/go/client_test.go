@@ -30,7 +30,7 @@ func newEngine(t *testing.T) *Engine {
 	t.Helper()
 	engine, err := New()
 	must(t, err)
-	t.Cleanup(engine.Close)
+	t.Cleanup(func() { engine.Close() })
 	return engine
 }
 
@@ -75,7 +75,7 @@ func TestWriteAndRead(t *testing.T) {
 	same(t, bytes.Equal(read(t, client, "/f"), contents), true)
 	found, err := engine.Snapshot()
 	must(t, err)
-	same(t, bytes.Equal(found["/f"].Contents, contents), true)
+	same(t, bytes.Equal(found["/f"].Contents(), contents), true)
 }
 
 func TestList(t *testing.T) {
@@ -151,8 +151,9 @@ func TestAConnWaitsForACallThatIsHeld(t *testing.T) {
 	must(t, engine.WriteFiles(map[string][]byte{"/f": []byte("1")}, 0))
 	held := open(t, engine, makes)
 	hold(t, held)
-	_, err := engine.Snapshot()
-	same(t, errors.Is(err, ErrBlocked), true)
+	_, made := snapshot(t, engine)["/a"]
+	same(t, made, false)
+	same(t, errors.Is(engine.WriteFiles(map[string][]byte{"/g": {}}, 0), ErrBlocked), true)
 	client := connect(t, engine, WallClock)
 	told := make(chan error, 1)
 	go func() {
@@ -164,7 +165,7 @@ func TestAConnWaitsForACallThatIsHeld(t *testing.T) {
 		t.Fatalf("answered %v before the other call", err)
 	case <-time.After(200 * time.Millisecond):
 	}
-	_, err = held.Settle(100, 1000)
+	_, err := held.Settle(100, 1000)
 	must(t, err)
 	must(t, <-told)
 }
@@ -251,15 +252,15 @@ func TestFilesAtTheStart(t *testing.T) {
 	}
 	sort.Strings(paths)
 	same(t, paths, []string{"/", "/a", "/a/b", "/a/deep", "/a/deep/er", "/c", "/e"})
-	same(t, found["/a/deep/er"].Contents, long)
-	same(t, found["/c"].Contents, []byte{})
+	same(t, found["/a/deep/er"].Contents(), long)
+	same(t, found["/c"].Contents(), []byte{})
 	same(t, []bool{found["/e"].IsDir(), found["/c"].IsDir()}, []bool{true, false})
 	same(t, []uint32{found["/e"].Mode, found["/c"].Mode}, []uint32{0o40755, 0o100644})
 }
 
 func TestAPathThatIsRefused(t *testing.T) {
 	err := newEngine(t).WriteFiles(map[string][]byte{"a\x00b": {}}, 0)
-	var status *Status
+	var status *StatusError
 	same(t, errors.As(err, &status), true)
 	same(t, []interface{}{status.Code, status.Message}, []interface{}{uint32(4), "Failure"})
 }

@@ -83,7 +83,7 @@ func (conn *Conn) Read(room []byte) (int, error) {
 		if err := conn.turns(); err != nil {
 			return 0, err
 		}
-		count, err := conn.take(room)
+		count, err := conn.session.take(room)
 		if count > 0 || err != nil {
 			return count, err
 		}
@@ -123,16 +123,4 @@ func (conn *Conn) turns() error {
 		}
 	}
 	return nil
-}
-
-// take takes the first bytes that wait, as many as there is room for.
-func (conn *Conn) take(room []byte) (int, error) {
-	count, err := conn.session.look(room)
-	if err != nil {
-		return 0, err
-	}
-	if count > len(room) {
-		count = len(room)
-	}
-	return count, conn.session.sent(count)
 }

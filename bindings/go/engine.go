@@ -14,6 +14,7 @@ package lucernetick
 import "C"
 
 import (
+	"io"
 	"sync"
 	"unsafe"
 )
@@ -23,15 +24,15 @@ type Refusal int64
 
 // The refusals.
 const (
-	ErrOutOfMemory     Refusal = C.LT_OUT_OF_MEMORY
-	ErrNoSuchSession   Refusal = C.LT_NO_SUCH_SESSION
-	ErrTooManySessions Refusal = C.LT_TOO_MANY_SESSIONS // 256 sessions are open
-	ErrHasEnded        Refusal = C.LT_HAS_ENDED         // the session has ended or was closed, and takes no more bytes
-	ErrNumbersSpent    Refusal = C.LT_NUMBERS_SPENT
-	ErrNotSent         Refusal = C.LT_NOT_SENT    // fewer bytes wait to be sent
-	ErrBadPointer      Refusal = C.LT_BAD_POINTER // the engine was closed
-	ErrLongPath        Refusal = C.LT_LONG_PATH   // a path has more bytes than a packet has room for: 262080
-	ErrNoReply         Refusal = C.LT_NO_REPLY    // not the reply that was due
+	ErrOutOfMemory     Refusal = C.LT_REFUSAL_OUT_OF_MEMORY
+	ErrNoSuchSession   Refusal = C.LT_REFUSAL_NO_SUCH_SESSION
+	ErrTooManySessions Refusal = C.LT_REFUSAL_TOO_MANY_SESSIONS // 256 sessions are open
+	ErrHasEnded        Refusal = C.LT_REFUSAL_HAS_ENDED         // the session has ended or was closed, and takes no more bytes
+	ErrNumbersSpent    Refusal = C.LT_REFUSAL_NUMBERS_SPENT
+	ErrNotSent         Refusal = C.LT_REFUSAL_NOT_SENT    // fewer bytes wait to be sent
+	ErrBadPointer      Refusal = C.LT_REFUSAL_BAD_POINTER // the engine was closed
+	ErrLongPath        Refusal = C.LT_REFUSAL_LONG_PATH   // a path has more bytes than a packet has room for: 262080
+	ErrNoReply         Refusal = C.LT_REFUSAL_NO_REPLY    // not the reply that was due
 )
 
 // Error is the library's text.
@@ -42,27 +43,27 @@ type Turn int64
 
 // What turns do. Those from NotInit on are endings.
 const (
-	Idle       Turn = C.LT_IDLE    // nothing: no whole packet is unread
-	Wrote      Turn = C.LT_WROTE   // it wrote a reply, which the output has
-	Begun      Turn = C.LT_BEGUN   // it read a request, whose call begins at this turn's moment
-	Moved      Turn = C.LT_MOVED   // the call made a step on its way
-	Blocked    Turn = C.LT_BLOCKED // the call of another session has to go on first
-	Decided    Turn = C.LT_DECIDED // the call is decided: the next turn writes its reply
-	Spent      Turn = C.LT_SPENT   // by Settle alone: as many replies as it may were written
-	NotInit    Turn = C.LT_ENDED + C.LT_NOT_INIT
-	OldVersion Turn = C.LT_ENDED + C.LT_OLD_VERSION
-	SecondInit Turn = C.LT_ENDED + C.LT_SECOND_INIT
-	ZeroLength Turn = C.LT_ENDED + C.LT_ZERO_LENGTH
-	TooLong    Turn = C.LT_ENDED + C.LT_TOO_LONG
-	NoID       Turn = C.LT_ENDED + C.LT_NO_ID
-	Closed     Turn = C.LT_ENDED + C.LT_CLOSED
+	Idle       Turn = C.LT_TURN_IDLE    // nothing: no whole packet is unread
+	Wrote      Turn = C.LT_TURN_WROTE   // it wrote a reply, which the output has
+	Begun      Turn = C.LT_TURN_BEGUN   // it read a request, whose call begins at this turn's moment
+	Moved      Turn = C.LT_TURN_MOVED   // the call made a step on its way
+	Blocked    Turn = C.LT_TURN_BLOCKED // the call of another session has to go on first
+	Decided    Turn = C.LT_TURN_DECIDED // the call is decided: the next turn writes its reply
+	Spent      Turn = C.LT_TURN_SPENT   // by Settle alone: as many replies as it may were written
+	NotInit    Turn = C.LT_TURN_ENDED + C.LT_CAUSE_NOT_INIT
+	OldVersion Turn = C.LT_TURN_ENDED + C.LT_CAUSE_OLD_VERSION
+	SecondInit Turn = C.LT_TURN_ENDED + C.LT_CAUSE_SECOND_INIT
+	ZeroLength Turn = C.LT_TURN_ENDED + C.LT_CAUSE_ZERO_LENGTH
+	TooLong    Turn = C.LT_TURN_ENDED + C.LT_CAUSE_TOO_LONG
+	NoID       Turn = C.LT_TURN_ENDED + C.LT_CAUSE_NO_ID
+	Closed     Turn = C.LT_TURN_ENDED + C.LT_CAUSE_CLOSED
 )
 
 // String is the library's text.
 func (turn Turn) String() string { return message(C.int64_t(turn)) }
 
 // HasEnded tells whether the session has ended.
-func (turn Turn) HasEnded() bool { return turn > C.LT_ENDED }
+func (turn Turn) HasEnded() bool { return turn > C.LT_TURN_ENDED }
 
 // An Engine is one tree of files, and any sessions on it. Goroutines may share it: one call is made at a
 // time.
@@ -89,13 +90,17 @@ func over(pointer *C.lt_engine) (*Engine, error) {
 	return engine, nil
 }
 
-// Close frees the engine. Further calls on it and its sessions are refused.
-func (engine *Engine) Close() {
+var _ io.Closer = (*Engine)(nil)
+
+// Close frees the engine. Further calls on it and its sessions are refused; a further Close does nothing.
+// The error is always nil.
+func (engine *Engine) Close() error {
 	engine.lock.Lock()
 	defer engine.lock.Unlock()
 	C.lt_free(engine.pointer)
 	engine.pointer = nil
 	engine.moved.Broadcast()
+	return nil
 }
 
 // Open opens a session. At most 256 are open at a time.
@@ -155,6 +160,15 @@ func (session *Session) Settle(moment uint32, most uint64) (Turn, error) {
 	return session.settle(moment, most)
 }
 
+// WantsBytes tells whether the session waits for bytes of its client: none of its calls is under way, no
+// whole packet is unread, and it hasn't ended.
+func (session *Session) WantsBytes() (bool, error) {
+	session.engine.lock.Lock()
+	defer session.engine.lock.Unlock()
+	wants, err := checked(C.lt_wants_bytes(session.engine.pointer, session.number))
+	return wants == 1, err
+}
+
 // Output copies the bytes that wait to be sent to the client.
 func (session *Session) Output() ([]byte, error) {
 	session.engine.lock.Lock()
@@ -168,6 +182,8 @@ func (session *Session) Sent(count int) error {
 	defer session.engine.lock.Unlock()
 	return session.sent(count)
 }
+
+var _ io.Closer = (*Session)(nil)
 
 // Close ends the session's input. A call that is under way goes on to its reply by further turns.
 func (session *Session) Close() error {
@@ -218,6 +234,18 @@ func (session *Session) look(room []byte) (int, error) {
 	answer := C.lt_output(session.engine.pointer, session.number, start(room), C.size_t(len(room)))
 	waiting, err := checked(answer)
 	return int(waiting), err
+}
+
+// take takes the first bytes that wait, as many as there is room for.
+func (session *Session) take(room []byte) (int, error) {
+	count, err := session.look(room)
+	if err != nil {
+		return 0, err
+	}
+	if count > len(room) {
+		count = len(room)
+	}
+	return count, session.sent(count)
 }
 
 func (session *Session) sent(count int) error {

@@ -1,8 +1,10 @@
 package lucernetick
 
 import (
+	"bytes"
 	"encoding/binary"
-	"errors"
+	"io"
+	"os"
 	"testing"
 )
 
@@ -174,17 +176,102 @@ func setSize(t *testing.T, engine *Engine, path string, size uint64) {
 	set(t, engine, path, append(number(1), binary.BigEndian.AppendUint64(nil, size)...))
 }
 
-func TestAFileTooLargeForASnapshot(t *testing.T) {
-	engine, err := FromFiles(map[string][]byte{"/a": []byte("1"), "/d/f": []byte("2")}, 0)
+// A sparse file's gaps are told and not read.
+func TestASparseFile(t *testing.T) {
+	engine, err := FromFiles(map[string][]byte{"/d/f": []byte("one")}, 0)
 	must(t, err)
-	t.Cleanup(engine.Close)
+	t.Cleanup(func() { engine.Close() })
 	setSize(t, engine, "/d/f", 1<<40)
-	_, err = engine.Snapshot()
-	var refused *TooLarge
-	same(t, errors.As(err, &refused), true)
-	same(t, *refused, TooLarge{"/d/f", 1 << 40})
-	setSize(t, engine, "/d/f", 2)
-	same(t, string(snapshot(t, engine)["/d/f"].Contents), "2\x00")
+	client := connect(t, engine, WallClock)
+	file, err := client.OpenFile("/d/f", os.O_WRONLY)
+	must(t, err)
+	_, err = file.WriteAt([]byte("two"), 1<<39+5)
+	must(t, err)
+	must(t, file.Close())
+	found := snapshot(t, engine)["/d/f"]
+	same(t, found.Size, uint64(1)<<40)
+	front, middle := make([]byte, unit), make([]byte, unit)
+	copy(front, "one")
+	copy(middle[5:], "two")
+	same(t, found.Pieces, []Piece{{0, front}, {1 << 39, middle}})
+	room := make([]byte, 5)
+	count, err := found.ReadAt(room, 1<<39+4)
+	must(t, err)
+	same(t, string(room[:count]), "\x00two\x00")
+	count, err = found.ReadAt(room, 1<<40-2)
+	same(t, err, io.EOF)
+	same(t, string(room[:count]), "\x00\x00")
+}
+
+// Zeros that were written are as a gap.
+func TestAGapIsZeros(t *testing.T) {
+	long := make([]byte, 100_000)
+	long[0] = '1'
+	engine, err := FromFiles(map[string][]byte{"/f": long, "/g": []byte("1")}, 0)
+	must(t, err)
+	t.Cleanup(func() { engine.Close() })
+	setSize(t, engine, "/g", 100_000)
+	found := snapshot(t, engine)
+	same(t, found["/f"].Contents(), long)
+	same(t, found["/g"].Pieces, found["/f"].Pieces)
+}
+
+// No session opens, also where as many are open as may be, and no call is recorded; and a snapshot stays.
+func TestASnapshotAsksForNothing(t *testing.T) {
+	engine, err := FromFiles(map[string][]byte{"/f": bytes.Repeat([]byte("1"), 40_000)}, 0)
+	must(t, err)
+	t.Cleanup(func() { engine.Close() })
+	before, err := engine.Calls()
+	must(t, err)
+	number := open(t, engine, "").Number()
+	found := snapshot(t, engine)
+	after, err := engine.Calls()
+	must(t, err)
+	same(t, after, before)
+	for count := uint64(1); count <= 255; count++ {
+		same(t, open(t, engine, "").Number(), number+count)
+	}
+	same(t, snapshot(t, engine), found)
+	engine.Close()
+	same(t, found["/f"].Contents(), bytes.Repeat([]byte("1"), 40_000))
+}
+
+// A snapshot has what took effect so far, also while a call stands half way.
+func TestASnapshotWhileACallStandsHalfWay(t *testing.T) {
+	engine := newEngine(t)
+	held := open(t, engine, makes)
+	hold(t, held)
+	same(t, len(snapshot(t, engine)), 1)
+	turn, err := held.Turn(100)
+	must(t, err)
+	same(t, turn, Decided)
+	same(t, snapshot(t, engine)["/a"].Mode, uint32(0o40755))
+}
+
+func TestWhoWantsBytes(t *testing.T) {
+	engine := newEngine(t)
+	session := open(t, engine, "")
+	wants := func(wanted bool) {
+		t.Helper()
+		got, err := session.WantsBytes()
+		must(t, err)
+		same(t, got, wanted)
+	}
+	wants(true)
+	must(t, session.Feed([]byte(makes[:5])))
+	wants(true)
+	must(t, session.Feed([]byte(makes[5:])))
+	for _, wanted := range []Turn{Wrote, Begun, Moved, Decided, Wrote} {
+		wants(false)
+		turn, err := session.Turn(100)
+		must(t, err)
+		same(t, turn, wanted)
+	}
+	wants(true)
+	must(t, session.Close())
+	wants(false)
+	session = &Session{engine, 2}
+	wants(false)
 }
 
 func TestVersionAndTexts(t *testing.T) {

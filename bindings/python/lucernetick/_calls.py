@@ -5,7 +5,7 @@ from __future__ import annotations
 import ctypes
 import enum
 from dataclasses import dataclass
-from typing import Iterator, Optional
+from typing import Iterator, Optional, Union
 
 from ._library import library
 
@@ -143,7 +143,7 @@ class LtBytes(ctypes.Structure):
         return ctypes.string_at(self.at, self.length)
 
 
-class _Call(ctypes.Structure):
+class LtCall(ctypes.Structure):
     """As lt_call in include/lucernetick.h."""
 
     _fields_ = [
@@ -203,14 +203,18 @@ def text(path: bytes) -> str:
     return path.decode("utf-8", "surrogateescape")
 
 
+def path_bytes(path: Union[str, bytes]) -> bytes:
+    return path.encode("utf-8", "surrogateescape") if isinstance(path, str) else path
+
+
 library.lt_calls.restype = ctypes.c_int64
-library.lt_calls.argtypes = [ctypes.c_void_p, ctypes.c_uint64, ctypes.POINTER(_Call)]
+library.lt_calls.argtypes = [ctypes.c_void_p, ctypes.c_uint64, ctypes.POINTER(LtCall)]
 
 
 def read_calls(engine: Optional[int]) -> Iterator[tuple[int, Optional[Call]]]:
     """What the library answers for each record and one place more, with the record; None where a session left, and
     where there is no record."""
-    at, count, call = 0, 1, _Call()
+    at, count, call = 0, 1, LtCall()
     while at < count:
         count = library.lt_calls(engine, at, call)
         yield count, call.read() if at < count and call.kind else None

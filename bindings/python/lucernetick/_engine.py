@@ -4,13 +4,16 @@ from __future__ import annotations
 
 import ctypes
 import enum
+import os
 import threading
-from typing import Optional
+from typing import Optional, Union
 
 from ._calls import Call, read_calls
 from ._faults import Refusal, RefusedError
+from ._folders import Snapshot, read_folder
 from ._library import library
-from ._tree import Entry, Files, read_tree, write_tree
+from ._log import Log
+from ._tree import Files, read_tree, write_tree
 
 ROOM = 65536
 KEEP = 256
@@ -70,12 +73,13 @@ class Engine:
     def __init__(self, keep: int = KEEP) -> None:
         """An engine whose tree is the root alone. It keeps the records of its last `keep` calls, or of all
         of them where `keep` is 0. They take memory, with what was written and read, and change no answer."""
-        self.lock = threading.RLock()
-        self.moved = threading.Condition(self.lock)
+        self._lock = threading.RLock()
+        self._moved = threading.Condition(self._lock)
         """Told when a session did something, so that one that was blocked may try again."""
         self._engine: Optional[int] = library.lt_new_keeping(unsigned(keep))
         if not self._engine:
             raise RefusedError(Refusal.OUT_OF_MEMORY)
+        self._log: Optional[Log] = None
         self._room = ctypes.create_string_buffer(ROOM)
 
     @classmethod
@@ -89,6 +93,16 @@ class Engine:
             raise
         return engine
 
+    @classmethod
+    def from_folder(
+        cls, folder: Union[str, os.PathLike[str]], *, moment: int = 0, keep: int = KEEP
+    ) -> Engine:
+        """An engine whose tree has what is in this folder of the system: names, contents, and which
+        names are of one file. Permissions and times aren't taken along, so that the tree is the
+        same on each machine. Raises `ValueError` where there is something else than files and
+        directories, as a symbolic link."""
+        return cls.from_files(read_folder(os.fspath(folder)), moment=moment, keep=keep)
+
     def write_files(self, files: Files, *, moment: int = 0) -> None:
         """Makes or replaces these files, by requests of sessions of their own at this moment.
 
@@ -99,48 +113,49 @@ class Engine:
         """
         write_tree(self, files, moment)
 
-    def snapshot(self) -> dict[str, Entry]:
-        """The whole tree by paths, `/` first, in the order of their bytes, read by requests of a session of
-        its own. Names that aren't UTF-8 are decoded as `os.fsdecode` does. Raises `BlockedError` where a call of
-        another session is under way and holds a directory, and `TooLargeError` at a file of more than 2^30 bytes.
+    def snapshot(self) -> Snapshot:
+        """The whole tree by paths: each directory before what is below it, `/` first, and names in the order
+        of their bytes. It is exactly the tree after the calls that took effect so far, also while others are
+        under way: none is waited for. Names that aren't UTF-8 are decoded as `os.fsdecode` does.
 
-        The engine's lock is held: no other session takes a turn meanwhile. Where files have several names,
-        their atimes are set for a moment, to tell which names are of one file. They are set back, also where
-        a request fails; only if that is refused, as for want of memory, does one of them stay, and the
-        refusal is raised.
+        Nothing is asked of the engine as a client asks: no session opens, no call is recorded, and no time
+        changes. Its lock is held while the tree is taken, and not while files are read.
         """
-        return read_tree(self)
+        return Snapshot(read_tree(self))
 
     def run_all(self) -> int:
         """Rounds, until no call is under way: in each, every session whose call is under way has one turn, at
         the moment 0, by rising session numbers. Answers how many there were. What these calls are answered
         waits for later turns, which write it."""
-        with self.moved:
+        with self._moved:
             rounds = checked(library.lt_run_all(self._engine))
             if rounds:
-                self.moved.notify_all()
+                self._has_moved()
             return rounds
 
     def calls(self) -> list[Call]:
         """The records of calls that are kept, in the order in which they took effect, the oldest first.
 
-        Those of `write_files` and of snapshots are among them, by sessions of their own.
+        Those of `write_files` are among them, by sessions of their own.
         """
-        with self.lock:
+        with self._lock:
             told = [(checked(answer), call) for answer, call in read_calls(self._engine)]
             return [call for _, call in told if call is not None]
 
     def open(self) -> Session:
         """Opens a session. At most 256 are open at a time."""
-        with self.lock:
-            return Session(self, checked(library.lt_open(self._engine)))
+        with self._lock:
+            session = checked(library.lt_open(self._engine))
+            if self._log:
+                self._log.opened(session)
+            return Session(self, session)
 
     def close(self) -> None:
         """Frees the engine. Further calls on it and its sessions are refused."""
-        with self.moved:
+        with self._moved:
             engine, self._engine = self._engine, None
             library.lt_free(engine)
-            self.moved.notify_all()
+            self._moved.notify_all()
 
     def __enter__(self) -> Engine:
         return self
@@ -152,33 +167,50 @@ class Engine:
         if getattr(self, "_engine", None):
             self.close()
 
+    def _watch(self, log: Optional[Log]) -> None:
+        """What is done from now on is told to this log alone."""
+        with self._lock:
+            self._log = log
+            if log:
+                log.begin(self._engine)
+
+    def _has_moved(self) -> None:
+        """A session did something."""
+        self._moved.notify_all()
+        if self._log:
+            self._log.look(self._engine)
+
     def _feed(self, session: int, data: bytes) -> None:
-        with self.lock:
+        with self._lock:
             checked(library.lt_feed(self._engine, session, data, len(data)))
 
     def _turn(self, session: int, moment: int) -> Turn:
-        with self.moved:
+        with self._moved:
             turn = Turn(checked(library.lt_turn(self._engine, session, moment)))
             if turn not in (Turn.IDLE, Turn.BLOCKED):
-                self.moved.notify_all()
+                self._has_moved()
             return turn
 
     def _settle(self, session: int, moment: int, most: int) -> Turn:
         """Where something moved, also before a refusal, sessions that were blocked are told."""
         moved = ctypes.c_bool()
-        with self.moved:
+        with self._moved:
             answer = library.lt_settle(self._engine, session, moment, most, moved)
-            if moved:
-                self.moved.notify_all()
+            if moved or answer > Turn.SPENT:
+                self._has_moved()
             return Turn(checked(answer))
 
+    def _wants_bytes(self, session: int) -> bool:
+        with self._lock:
+            return bool(checked(library.lt_wants_bytes(self._engine, session)))
+
     def _close(self, session: int) -> None:
-        with self.moved:
+        with self._moved:
             checked(library.lt_close(self._engine, session))
-            self.moved.notify_all()
+            self._has_moved()
 
     def _output(self, session: int) -> bytes:
-        with self.lock:
+        with self._lock:
             waiting = checked(library.lt_output(self._engine, session, self._room, len(self._room)))
             if waiting > len(self._room):
                 self._room = ctypes.create_string_buffer(waiting)
@@ -186,7 +218,7 @@ class Engine:
             return ctypes.string_at(self._room, waiting)
 
     def _sent(self, session: int, count: int) -> None:
-        with self.lock:
+        with self._lock:
             checked(library.lt_sent(self._engine, session, count))
 
 
@@ -213,6 +245,11 @@ class Session:
         """Turns until one is idle or blocked or the session has ended, or until `most` replies were written."""
         return self.engine._settle(self.number, seconds(moment), unsigned(most))
 
+    def wants_bytes(self) -> bool:
+        """Whether it waits for bytes of its client: none of its calls is under way, no whole packet is
+        unread, and it hasn't ended."""
+        return self.engine._wants_bytes(self.number)
+
     def output(self) -> bytes:
         """The bytes that wait to be sent to its client."""
         return self.engine._output(self.number)
@@ -223,7 +260,7 @@ class Session:
 
     def take(self) -> bytes:
         """The bytes that wait to be sent, which are dropped at once."""
-        with self.engine.lock:
+        with self.engine._lock:
             waiting = self.output()
             self.sent(len(waiting))
             return waiting

@@ -20,9 +20,7 @@ class Refusal(enum.IntEnum):
     NOT_SENT = -6
     BAD_POINTER = -7
     IS_BLOCKED = -8
-    """Of trees, as those below: it is raised as `BlockedError`."""
-    TOO_LARGE = -9
-    """It is raised as `TooLargeError`."""
+    """Of `write_files`, as those below: it is raised as `BlockedError`."""
     LONG_PATH = -10
     """A path, or both of a link, have more bytes than a packet has room for: 262080."""
     NO_REPLY = -11
@@ -33,27 +31,24 @@ class RefusedError(Error):
     """The engine refused a call."""
 
     def __init__(self, refusal: Refusal) -> None:
-        super().__init__(message(refusal))
+        super().__init__(refusal)
         self.refusal = refusal
+
+    def __str__(self) -> str:
+        return message(self.refusal)
 
 
 class StatusError(Error):
-    """A request of `write_files` or `snapshot` was answered by a status other than OK."""
+    """A request of `write_files` was answered by a status other than OK."""
 
     def __init__(self, code: int, message: str, request: str) -> None:
-        super().__init__(f"{request}: {message}")
+        super().__init__(code, message, request)
         self.code = code
         self.message = message
+        self.request = request
 
-
-class TooLargeError(Error):
-    """A file has more bytes than a snapshot takes of one. A sparse file may have 2^40 and take little memory in
-    the engine; in a snapshot each byte would be there."""
-
-    def __init__(self, path: str, size: int) -> None:
-        super().__init__(f"{path}: a file of {size} bytes is too large for a snapshot")
-        self.path = path
-        self.size = size
+    def __str__(self) -> str:
+        return f"{self.request}: {self.message}"
 
 
 class BlockedError(Error):

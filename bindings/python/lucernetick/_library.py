@@ -7,6 +7,8 @@ from typing import Iterator
 
 NAME = "liblucernetick.so"
 VARIABLE = "LUCERNETICK_LIBRARY"
+STATUS_BASE = -100
+"""The answer of a status is this less its code."""
 
 
 def places() -> Iterator[pathlib.Path]:
@@ -47,6 +49,7 @@ def load(path: pathlib.Path) -> ctypes.CDLL:
         ("lt_turn", count, [engine, number, moment]),
         ("lt_settle", count, [engine, number, moment, number, truth]),
         ("lt_run_all", count, [engine]),
+        ("lt_wants_bytes", count, [engine, number]),
         ("lt_close", count, [engine, number]),
         ("lt_output", count, [engine, number, data, size]),
         ("lt_sent", count, [engine, number, size]),

@@ -7,26 +7,38 @@ import contextlib
 import select
 import socket
 import threading
-from collections import deque
-from typing import Optional, Protocol
+from typing import TYPE_CHECKING, NamedTuple, Optional, Protocol
 
 from ._calls import Call
 from ._clock import Clock, wall_clock
+from ._closing import Closes
 from ._engine import Engine, Session, Turn
 from ._faults import RefusedError, Refusal
-from ._tree import Entry
+from ._folders import Snapshot
+from ._lines import PIECE, REPLIES, BadLine, Line
+from ._log import Log
 
-PIECE = 65536
-REPLIES = 64
-"""How many replies are written before the output goes out."""
-MOST_AHEAD = 1 << 24
-"""How many bytes of requests are read ahead at most, while the replies before them can't be sent."""
+if TYPE_CHECKING:
+    from _typeshed import WriteableBuffer
+
 PATIENCE = 5.0
 """Seconds that a server which is left waits for each of its threads."""
 
 
 class Connection(socket.socket):
     """The client's end of a connection. It has what `paramiko.SFTPClient` wants of a channel."""
+
+    piece: Optional[int] = None
+    """How many bytes it is given at most at a time."""
+
+    def recv(self, bufsize: int, flags: int = 0) -> bytes:
+        return super().recv(self._at_most(bufsize), flags)
+
+    def recv_into(self, buffer: WriteableBuffer, nbytes: int = 0, flags: int = 0) -> int:
+        return super().recv_into(buffer, self._at_most(nbytes or memoryview(buffer).nbytes), flags)
+
+    def _at_most(self, count: int) -> int:
+        return count if self.piece is None else min(count, self.piece)
 
     def get_name(self) -> str:
         return "lucernetick"
@@ -35,50 +47,17 @@ class Connection(socket.socket):
         return bool(select.select([self], [], [], 0)[0])
 
 
-class _Line:
-    """The server's end of a connection. While it can't send, it reads on, and keeps what it read for later: so a client
-    that sends before it reads doesn't hang."""
+class Served(NamedTuple):
+    """A connection: both of its ends, and the thread that serves it."""
 
-    def __init__(self, line: socket.socket) -> None:
-        self._line = line
-        self._ahead: deque[bytearray] = deque()
-        self._count = 0
-        self._has_ended = False
+    connection: Connection
+    line: Line
+    thread: threading.Thread
 
-    def recv(self) -> bytes:
-        """The next bytes, none at the end of the input."""
-        if self._ahead:
-            data = bytes(self._ahead.popleft())
-            self._count -= len(data)
-            return data
-        return b"" if self._has_ended else self._line.recv(PIECE)
-
-    def sendall(self, data: bytes) -> None:
-        rest = memoryview(data)
-        while rest:
-            try:
-                rest = rest[self._line.send(rest, socket.MSG_DONTWAIT) :]
-            except BlockingIOError:
-                self._wait()
-
-    def _wait(self) -> None:
-        """Waits until it can send, or something comes, which it reads."""
-        poll = select.poll()
-        reads = not self._has_ended and self._count < MOST_AHEAD
-        poll.register(self._line, select.POLLOUT | (select.POLLIN if reads else 0))
-        [(_, events)] = poll.poll()
-        if reads and not events & select.POLLOUT:
-            self._read_ahead()
-
-    def _read_ahead(self) -> None:
-        data = self._line.recv(PIECE)
-        self._has_ended = not data
-        self._count += len(data)
-        # Small pieces are joined, so that what is kept takes no more than its bytes.
-        if data and self._ahead and len(self._ahead[-1]) + len(data) <= PIECE:
-            self._ahead[-1] += data
-        elif data:
-            self._ahead.append(bytearray(data))
+    @property
+    def is_over(self) -> bool:
+        """Whether its client has closed it, and its session has ended."""
+        return self.connection.fileno() == -1 and not self.thread.is_alive()
 
 
 class StreamReader(Protocol):
@@ -104,6 +83,13 @@ class StreamWriter(Protocol):
         """Closes it."""
 
 
+def check_line(cut_after: Optional[int], piece: Optional[int], delay: float) -> None:
+    """Whether a line may be like that."""
+    if (cut_after is not None and cut_after < 0) or (piece is not None and piece < 1) or delay < 0:
+        told = f"cut_after={cut_after}, piece={piece}, delay={delay}"
+        raise ValueError(f"no line is like that: {told}")
+
+
 async def _pass_on(reader: StreamReader, writer: StreamWriter) -> None:
     """Passes bytes on to their end, which is told."""
     with contextlib.suppress(ConnectionError):
@@ -113,7 +99,7 @@ async def _pass_on(reader: StreamReader, writer: StreamWriter) -> None:
         writer.write_eof()
 
 
-class Server:
+class Server(Closes):
     """Serves sessions on one tree, each over a connected socket whose other end a thread has.
 
         with lucernetick.Server() as server:
@@ -123,29 +109,45 @@ class Server:
     Where it is left, its connections are closed, and so is an engine that it made itself.
     """
 
-    def __init__(self, engine: Optional[Engine] = None, clock: Clock = wall_clock) -> None:
-        """Serves this engine, or a new one. `clock` tells the moment at which each call begins."""
+    def __init__(
+        self, engine: Optional[Engine] = None, clock: Clock = wall_clock, log: Optional[Log] = None
+    ) -> None:
+        """Serves this engine, or a new one. `clock` tells the moment at which each call begins.
+        What clients do from now on is written to `log`."""
         self.engine = engine if engine is not None else Engine()
         self.clock = clock
+        if log is not None:
+            self.engine._watch(log)
         self._owned = engine is None
-        self._connections: list[Connection] = []
-        self._lines: list[socket.socket] = []
-        self._threads: list[threading.Thread] = []
+        self._served: list[Served] = []
         self._left = False
 
-    def connect(self) -> Connection:
-        """Opens a session, and gives its client's end. Closing that ends the session; what isn't closed is
-        when the server is left."""
+    def connect(
+        self, *, cut_after: Optional[int] = None, piece: Optional[int] = None, delay: float = 0.0
+    ) -> Connection:
+        """Opens a session, and gives its client's end. Closing that ends the session; what isn't
+        closed is when the server is left.
+
+        The line may be a bad one. With `cut_after` it is cut as soon as so many bytes have come
+        from the client, or so many have gone to it. Requests that came whole until then are carried
+        out and answered one after the other; where a reply is cut, none after it is carried out.
+        With `piece` the client is given at most so many bytes at a time. With `delay` each reply
+        goes so many seconds late.
+        """
+        check_line(cut_after, piece, delay)
         session = self.engine.open()
         ours, theirs = socket.socketpair()
-        thread = threading.Thread(
-            target=self._serve, args=(session, theirs), name=repr(session), daemon=True
-        )
+        is_bad = cut_after is not None or delay
+        line = BadLine(theirs, cut_after, delay) if is_bad else Line(theirs)
         connection = Connection(fileno=ours.detach())
-        self._connections.append(connection)
-        self._lines.append(theirs)
-        self._threads.append(thread)
+        connection.piece = piece
+        thread = threading.Thread(
+            target=self._serve, args=(session, line), name=repr(session), daemon=True
+        )
         thread.start()
+        with self.engine._lock:
+            self._served = [served for served in self._served if not served.is_over]
+            self._served.append(Served(connection, line, thread))
         return connection
 
     async def serve(self, reader: StreamReader, writer: StreamWriter) -> None:
@@ -160,7 +162,7 @@ class Server:
             forth.close()
             writer.close()
 
-    def snapshot(self) -> dict[str, Entry]:
+    def snapshot(self) -> Snapshot:
         """The whole tree now, as `Engine.snapshot`."""
         return self.engine.snapshot()
 
@@ -170,58 +172,51 @@ class Server:
 
     def close(self) -> None:
         """Ends all connections at both ends, and waits until their threads are done."""
-        with self.engine.moved:
+        with self.engine._moved:
             self._left = True
-            self.engine.moved.notify_all()
-        for line in self._lines:
-            with contextlib.suppress(OSError):
-                line.shutdown(socket.SHUT_RDWR)
-        for thread in self._threads:
-            thread.join(PATIENCE)
-        for connection in self._connections:
-            connection.close()
+            self.engine._moved.notify_all()
+        for served in self._served:
+            served.line.shutdown()
+        for served in self._served:
+            served.thread.join(PATIENCE)
+            served.connection.close()
         if self._owned:
             self.engine.close()
 
-    def __enter__(self) -> Server:
-        return self
-
-    def __exit__(self, *_fault: object) -> None:
-        self.close()
-
-    def _serve(self, session: Session, line: socket.socket) -> None:
+    def _serve(self, session: Session, line: Line) -> None:
         """Serves a session until its client, it or the engine ends."""
         try:
-            with line, contextlib.suppress(OSError):
-                self._pump(session, _Line(line))
+            with contextlib.closing(line), contextlib.suppress(OSError):
+                self._pump(session, line)
             self._leave(session)
         except RefusedError as refused:
             if refused.refusal != Refusal.BAD_POINTER:
                 raise
 
-    def _pump(self, session: Session, line: _Line) -> None:
+    def _pump(self, session: Session, line: Line) -> None:
         """Passes bytes on, both ways, until the client or the session ends."""
         while data := line.recv():
             session.feed(data)
             if self._settle(session, line).has_ended:
                 return
 
-    def _settle(self, session: Session, line: _Line) -> Turn:
+    def _settle(self, session: Session, line: Line) -> Turn:
         """Takes the session's turns until it waits for bytes or has ended, and sends what it wrote."""
         while True:
-            turn = self._turns(session)
+            turn = self._turns(session, line.replies)
             if output := session.take():
                 line.sendall(output)
             if turn not in (Turn.SPENT, Turn.BLOCKED) or self._left:
                 return turn
 
-    def _turns(self, session: Session) -> Turn:
-        """Some turns; where the call of another session is in its way, waits until one has moved. No call
-        stands half way while its client is slow to read, so none keeps other clients waiting."""
-        with self.engine.moved:
-            turn = session.settle(self.clock(), REPLIES)
+    def _turns(self, session: Session, replies: int = REPLIES) -> Turn:
+        """The turns of so many replies; where the call of another session is in its way, waits
+        until one has moved. No call stands half way while its client is slow to read, so none keeps
+        other clients waiting."""
+        with self.engine._moved:
+            turn = session.settle(self.clock(), replies)
             if turn == Turn.BLOCKED and not session.output() and not self._left:
-                self.engine.moved.wait()
+                self.engine._moved.wait()
             return turn
 
     def _leave(self, session: Session) -> None:

@@ -1,21 +1,23 @@
-"""Whole trees, written and read by the library, which does it by requests of sessions of its own."""
+"""Whole trees: written by the library, which does it by requests of sessions of its own, and taken."""
 
 from __future__ import annotations
 
 import ctypes
 import stat
+import struct
 from dataclasses import dataclass
 from typing import TYPE_CHECKING, Iterator, Mapping, Optional, Union
 
-from ._calls import Attributes, Kind, LtAttributes, LtBytes, text
-from ._faults import BlockedError, EndedError, Refusal, RefusedError, StatusError, TooLargeError
-from ._library import library, message
+from ._calls import Kind, LtAttributes, LtBytes, path_bytes, text
+from ._faults import BlockedError, EndedError, Refusal, RefusedError, StatusError
+from ._library import STATUS_BASE, library, message
 
 if TYPE_CHECKING:
     from ._engine import Engine
 
-STATUS_BASE = -100
 INIT = 1
+UNIT = 32768
+"""A sparse file's gaps begin and end at multiples of it, or at the file's end."""
 
 
 @dataclass(frozen=True)
@@ -47,11 +49,27 @@ class Entry:
     atime: int
     """Seconds since 1970, as `mtime`."""
     mtime: int
-    contents: Optional[bytes]
-    """A file's bytes; None for a directory."""
+    size: int
+    """How many bytes a file has; 0 for a directory."""
+    pieces: tuple[tuple[int, bytes], ...]
+    """A file's bytes, by their offsets, without the gaps of a sparse one: all that is in no piece is zeros.
+    A piece begins at a multiple of 32768. None is 32768 zeros, so that files of the same bytes have the
+    same pieces."""
     file: Optional[int]
     """A file's number, which all of its names share and no other one has; None for a directory. Numbers are
-    given by each snapshot, from 1 in the order of the paths."""
+    given by each snapshot, from 1 in its order."""
+
+    @property
+    def contents(self) -> Optional[bytes]:
+        """All bytes of a file, a sparse one's gaps as zeros; None for a directory."""
+        if self.file is None:
+            return None
+        if len(self.pieces) == 1 and len(self.pieces[0][1]) == self.size:
+            return self.pieces[0][1]
+        contents = bytearray(self.size)
+        for offset, piece in self.pieces:
+            contents[offset : offset + len(piece)] = piece
+        return bytes(contents)
 
     @property
     def is_directory(self) -> bool:
@@ -74,34 +92,22 @@ class LtPlace(ctypes.Structure):
         return " ".join([name, *map(text, paths)])
 
 
-class LtEntry(ctypes.Structure):
-    """As lt_entry in include/lucernetick.h."""
-
-    _fields_ = [
-        ("path", LtBytes),
-        ("contents", LtBytes),
-        ("attributes", LtAttributes),
-        ("links", ctypes.c_uint64),
-        ("file", ctypes.c_uint64),
-    ]
-
-    def read(self) -> Entry:
-        found: LtAttributes = self.attributes
-        times = (found.atime, found.mtime)
-        contents = self.contents.read() if self.file else None
-        return Entry(found.permissions, found.uid, found.gid, *times, contents, self.file or None)
+LEAF = struct.Struct("PNQ6IQ")
+"""The fields of lt_leaf in include/lucernetick.h."""
 
 
 def declare() -> None:
     """The library's functions for trees."""
     engine, moment, answer = ctypes.c_void_p, ctypes.c_uint32, ctypes.c_int64
-    place, tree = ctypes.POINTER(LtPlace), ctypes.c_void_p
+    place, tree, number = ctypes.POINTER(LtPlace), ctypes.c_void_p, ctypes.c_uint64
     for name, words in (
         ("lt_make_directory", [engine, LtBytes, moment, place]),
         ("lt_write_file", [engine, LtBytes, LtBytes, moment, place]),
         ("lt_link", [engine, LtBytes, LtBytes, moment, place]),
-        ("lt_walk", [engine, moment, ctypes.POINTER(tree), place]),
-        ("lt_tree_entry", [tree, ctypes.c_uint64, ctypes.POINTER(LtEntry)]),
+        ("lt_tree_of", [engine, ctypes.POINTER(tree)]),
+        ("lt_tree_leaf", [tree, number, ctypes.c_char_p]),
+        ("lt_tree_read", [tree, number, number, ctypes.c_char_p, ctypes.c_size_t]),
+        ("lt_tree_gap", [tree, number, number]),
     ):
         function = getattr(library, name)
         function.restype, function.argtypes = answer, words
@@ -109,10 +115,6 @@ def declare() -> None:
 
 
 declare()
-
-
-def path_bytes(path: Union[str, bytes]) -> bytes:
-    return path.encode("utf-8", "surrogateescape") if isinstance(path, str) else path
 
 
 def done(answer: int, request: str) -> None:
@@ -145,39 +147,93 @@ def place(engine: Optional[int], path: bytes, contents: Contents, moment: int) -
 def write_tree(engine: Engine, files: Files, moment: int) -> None:
     """Links come last, in their order."""
     parts = sorted(files.items(), key=lambda part: isinstance(part[1], Link))
-    with engine.lock:
+    with engine._lock:
         for name, contents in parts:
             place(engine._engine, path_bytes(name), contents, moment)
 
 
-def entries(tree: ctypes.c_void_p) -> Iterator[tuple[bytes, LtEntry]]:
-    """The entries of a walk, in the order of their paths."""
-    at, count, entry = 0, 1, LtEntry()
-    while at < count:
-        count = library.lt_tree_entry(tree, at, entry)
-        done(count, "")
-        if at < count:
-            yield entry.path.read(), entry
-        at += 1
+class Tree:
+    """A tree that the library took. It stays as it is, and is freed at the end of a `with`."""
+
+    def __init__(self, engine: Engine) -> None:
+        self._tree = ctypes.c_void_p()
+        self._leaf = ctypes.create_string_buffer(LEAF.size)
+        self._room = ctypes.create_string_buffer(UNIT)
+        self._numbers: dict[int, int] = {}
+        """Of files, by their labels."""
+        with engine._lock:
+            done(library.lt_tree_of(engine._engine, self._tree), "")
+
+    def __enter__(self) -> Tree:
+        return self
+
+    def __exit__(self, *_fault: object) -> None:
+        library.lt_tree_free(self._tree)
+
+    def entries(self) -> Iterator[tuple[bytes, Entry]]:
+        """What is at each path, in the order of the tree."""
+        at, count = 0, 1
+        while at < count:
+            count = library.lt_tree_leaf(self._tree, at, self._leaf)
+            if count < 0:
+                done(count, "")
+            path, length, size, _, uid, gid, mode, atime, mtime, label = LEAF.unpack(self._leaf)
+            name, pieces = ctypes.string_at(path, length), self._pieces(at, size)
+            yield name, Entry(mode, uid, gid, atime, mtime, size, pieces, self._number(mode, label))
+            at += 1
+
+    def _number(self, mode: int, label: int) -> Optional[int]:
+        """The number of a file."""
+        if stat.S_ISDIR(mode):
+            return None
+        return self._numbers.setdefault(label, len(self._numbers) + 1)
+
+    def _pieces(self, at: int, size: int) -> tuple[tuple[int, bytes], ...]:
+        """A file's bytes, as an `Entry` has them."""
+        if size > UNIT:
+            return tuple(self._joined(at, size))
+        unit = self._read(at, 0) if size else b""
+        return ((0, unit),) if has_bytes(unit) else ()
+
+    def _read(self, at: int, offset: int) -> bytes:
+        """The unit at this offset."""
+        count = library.lt_tree_read(self._tree, at, offset, self._room, UNIT)
+        if count < 0:
+            done(count, "")
+        return ctypes.string_at(self._room, count)
+
+    def _units(self, at: int, size: int) -> Iterator[tuple[int, bytes]]:
+        """The units that aren't in a gap."""
+        offset = 0
+        while offset < size:
+            gap = library.lt_tree_gap(self._tree, at, offset)
+            if not gap:
+                yield offset, self._read(at, offset)
+            offset += gap or UNIT
+
+    def _joined(self, at: int, size: int) -> Iterator[tuple[int, bytes]]:
+        """Those that aren't all zeros, joined where they are next to each other."""
+        begin = 0
+        units: list[bytes] = []
+        for offset, unit in self._units(at, size):
+            if not has_bytes(unit):
+                continue
+            if units and offset != begin + len(units) * UNIT:
+                yield begin, b"".join(units)
+                units = []
+            if not units:
+                begin = offset
+            units.append(unit)
+        if units:
+            yield begin, b"".join(units)
 
 
-def stopped(answer: int, at: LtPlace, tree: ctypes.c_void_p) -> None:
-    """Raises why a walk was refused. Its tree has the entry that it stopped at, or none."""
-    for path, entry in entries(tree):
-        if answer == Refusal.TOO_LARGE:
-            raise TooLargeError(text(path), entry.attributes.size)
-        done(answer, at.request(path))
-    done(answer, at.request())
+def has_bytes(unit: bytes) -> bool:
+    """Whether there is anything but zeros."""
+    return unit != bytes(len(unit))
 
 
 def read_tree(engine: Engine) -> dict[str, Entry]:
-    """No other session takes a turn meanwhile."""
-    tree, at = ctypes.c_void_p(), LtPlace()
-    with engine.lock:
-        answer = library.lt_walk(engine._engine, 0, tree, at)
-        try:
-            if answer < 0:
-                stopped(answer, at, tree)
-            return {text(path): entry.read() for path, entry in entries(tree)}
-        finally:
-            library.lt_tree_free(tree)
+    """The engine's lock is held while its tree is taken, and no longer."""
+    with Tree(engine) as tree:
+        return {text(path): entry for path, entry in tree.entries()}

@@ -7,6 +7,7 @@ import pytest
 from ._clock import VirtualTime
 from ._engine import Engine
 from ._server import Server
+from ._ssh import SshServer
 
 BEGIN = 1_000_000_000
 
@@ -23,3 +24,10 @@ def sftp_tree(virtual_time: VirtualTime) -> Iterator[Server]:
     whole tree. Every time in it is what `virtual_time` says."""
     with Engine() as engine, Server(engine, virtual_time) as server:
         yield server
+
+
+@pytest.fixture
+def sftp_ssh(sftp_tree: Server) -> Iterator[SshServer]:
+    """An SSH server at a port of its own, whose sessions are on `sftp_tree`."""
+    with SshServer(sftp_tree) as ssh:
+        yield ssh

@@ -1,6 +1,7 @@
 """The packets of these tests, made and cut (docs/PROTOCOL.md, "Packets")."""
 
-INIT, OPEN, READ, SETSTAT, REMOVE, MKDIR, STAT, RENAME = 1, 3, 5, 9, 13, 14, 17, 18
+INIT, OPEN, CLOSE, READ, WRITE, SETSTAT = 1, 3, 4, 5, 6, 9
+REMOVE, MKDIR, STAT, RENAME = 13, 14, 17, 18
 STATUS, HANDLE, DATA, ATTRS = 101, 102, 103, 105
 OK, NO_SUCH_FILE = 0, 2
 VERSION = 71

@@ -5,11 +5,13 @@ from __future__ import annotations
 import asyncio
 from pathlib import Path
 
-from lucernetick import Kind, Server
+import asyncssh
+
+from lucernetick import Kind, Server, SshServer
 
 from packets import LOOKS, MAKES, VERSION
 
-LIMIT = 30
+LIMIT = 120
 
 
 def test_sessions_at_a_socket_of_asyncio(sftp_tree: Server, tmp_path: Path) -> None:
@@ -31,3 +33,18 @@ def test_sessions_at_a_socket_of_asyncio(sftp_tree: Server, tmp_path: Path) -> N
 
     asyncio.run(asyncio.wait_for(main(), LIMIT))
     assert [call.kind for call in sftp_tree.calls()] == [Kind.MKDIR] + [Kind.STAT] * 50
+
+
+def test_servers_by_async_with() -> None:
+    """Where they are left the loop goes on, which a client on it wants that is cut."""
+
+    async def main() -> None:
+        async with Server() as server, SshServer(server) as ssh:
+            words = {"known_hosts": ssh.known_hosts, "client_keys": [ssh.client_key]}
+            client = await asyncssh.connect(ssh.host, ssh.port, username=ssh.user, **words)
+            files = await client.start_sftp_client()
+            await files.mkdir("/d")
+            assert list(server.snapshot()) == ["/", "/d"]
+        await client.wait_closed()
+
+    asyncio.run(asyncio.wait_for(main(), LIMIT))

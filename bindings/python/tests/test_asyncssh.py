@@ -8,7 +8,7 @@ import asyncssh
 
 from lucernetick import Server
 
-LIMIT = 30
+LIMIT = 120
 
 
 class Subsystem(asyncssh.SSHServerSession):

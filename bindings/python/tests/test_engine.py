@@ -201,32 +201,51 @@ def test_numbers_that_the_protocol_does_not_have() -> None:
             session.sent(-1)
 
 
-def test_a_snapshot_does_not_wait_for_a_call_under_way() -> None:
+def test_a_snapshot_while_a_call_stands_half_way() -> None:
+    """It has what took effect so far."""
     with Engine.from_files({"/f": b"1"}) as engine:
         session = engine.open()
         session.feed(MAKES)
         did = [session.turn(100) for _ in range(3)]
         assert did == [Turn.WROTE, Turn.BEGUN, Turn.MOVED]
-        with pytest.raises(BlockedError):
-            engine.snapshot()
-        assert session.settle(100) == Turn.IDLE
+        assert list(engine.snapshot()) == ["/", "/f"]
+        assert session.turn(100) == Turn.DECIDED
         assert list(engine.snapshot()) == ["/", "/a", "/f"]
 
 
 def test_rounds_carry_out_a_request_that_was_blocked() -> None:
-    """A snapshot that finds `/a` held is left in the root, and holds it until the rounds."""
+    """A file whose directory is held is left in the root, and holds it until the rounds."""
     with Engine.from_files({"/a/f": b"1"}) as engine:
         held = engine.open()
         held.feed(packet(INIT, u32(3)) + packet(STAT, u32(8), string(b"/a/f")))
         did = [held.turn(100) for _ in range(4)]
         assert did == [Turn.WROTE, Turn.BEGUN, Turn.MOVED, Turn.MOVED]
         with pytest.raises(BlockedError):
-            engine.snapshot()
+            engine.write_files({"/a/g": b""})
         assert held.settle(100) == Turn.IDLE
         with pytest.raises(BlockedError):
-            engine.snapshot()
+            engine.write_files({"/b": b""})
         assert engine.run_all() > 0
-        assert list(engine.snapshot()) == ["/", "/a", "/a/f"]
+        assert list(engine.snapshot()) == ["/", "/a", "/a/f", "/b"]
+
+
+def test_who_wants_bytes() -> None:
+    with Engine() as engine:
+        session = engine.open()
+        assert session.wants_bytes()
+        session.feed(MAKES[:5])
+        assert session.wants_bytes()
+        session.feed(MAKES[5:])
+        while session.turn(100) != Turn.IDLE:
+            pass
+        assert session.wants_bytes()
+        session.feed(packet(STAT, u32(1), string(b"/a")))
+        wants = [(session.wants_bytes(), session.turn(100)) for _ in range(5)]
+        assert wants[-2:] == [(False, Turn.WROTE), (True, Turn.IDLE)]
+        assert not any(waits for waits, _ in wants[:-1])
+        session.close()
+        assert not session.wants_bytes()
+        assert not Session(engine, 2).wants_bytes()
 
 
 def test_threads_share_an_engine() -> None:

@@ -1,11 +1,10 @@
 """Files with several names."""
 
-import threading
 from typing import Optional
 
 import pytest
 
-from lucernetick import Contents, Engine, Link, Refusal, RefusedError, Session, StatusError
+from lucernetick import Contents, Engine, Link, Session, StatusError
 from packets import ATTRS, INIT, OK, REMOVE, SETSTAT, STAT, packet, replies, status, string, u32
 
 # Two files of two names each and one of one, which differ in their names alone.
@@ -87,37 +86,6 @@ def test_a_snapshot_leaves_all_attributes() -> None:
         found = engine.snapshot()
         assert look(session) == before
     assert {(found[path].atime, found[path].mtime) for path in ALIKE} == {(5, 9)}
-
-
-def test_a_snapshot_that_is_refused_leaves_all_attributes() -> None:
-    with alike() as engine:
-        session = client(engine)
-        before = look(session)
-        others = [engine.open() for _ in range(254)]
-        with pytest.raises(RefusedError) as refused:
-            engine.snapshot()
-        assert refused.value.refusal == Refusal.TOO_MANY_SESSIONS
-        assert look(session) == before
-        others[0].close()
-        assert numbers(engine) == ALIKE_NUMBERS
-
-
-def take_snapshots(engine: Engine, count: int) -> bool:
-    """Whether each of so many snapshots has the numbers that are due."""
-    return all(numbers(engine) == ALIKE_NUMBERS for _ in range(count))
-
-
-def test_no_other_session_is_told_of_marks() -> None:
-    with alike() as engine:
-        session = client(engine)
-        before = look(session)
-        made: list[bool] = []
-        snapshots = threading.Thread(target=lambda: made.append(take_snapshots(engine, 50)))
-        snapshots.start()
-        while snapshots.is_alive():
-            assert look(session) == before
-        snapshots.join()
-        assert made == [True]
 
 
 def test_all_names_are_one_file() -> None:

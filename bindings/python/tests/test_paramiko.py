@@ -13,6 +13,9 @@ import lucernetick
 from lucernetick import Engine, Server, Turn, VirtualTime
 from packets import DATA, HANDLE, INIT, LOOKS, MAKES, OPEN, READ, STAT, VERSION, packet, string, u32
 
+LIMIT = 120
+"""Seconds for what comes at once where the machine has nothing else to do."""
+
 
 @pytest.fixture
 def client(sftp_tree: Server) -> Iterator[paramiko.SFTPClient]:
@@ -136,7 +139,7 @@ def test_a_connection_waits_for_a_call_that_is_held(sftp_tree: Server) -> None:
     waits.join(0.3)
     assert waits.is_alive()
     held.settle(100)
-    waits.join(10)
+    waits.join(LIMIT)
     assert found == [100]
 
 
@@ -147,20 +150,20 @@ def test_rounds_carry_out_the_calls_of_connections(sftp_tree: Server) -> None:
     assert [held.turn(100) for _ in range(3)] == [Turn.WROTE, Turn.BEGUN, Turn.MOVED]
     line = sftp_tree.connect()
     line.sendall(LOOKS)
-    line.settimeout(10)
+    line.settimeout(LIMIT)
     line.recv(VERSION, socket.MSG_WAITALL)
     line.settimeout(0.3)
     with pytest.raises(socket.timeout):
         line.recv(1)
     assert sftp_tree.engine.run_all() > 0
-    line.settimeout(10)
+    line.settimeout(LIMIT)
     assert line.recv(41, socket.MSG_WAITALL)[-4:] == u32(100)
 
 
 def test_a_session_that_ends_closes_its_connection(sftp_tree: Server) -> None:
     line: socket.socket = sftp_tree.connect()
     line.sendall(bytes(4))
-    line.settimeout(10)
+    line.settimeout(LIMIT)
     assert line.recv(1) == b""
 
 
@@ -176,7 +179,7 @@ def test_a_client_that_reads_nothing_keeps_nobody_waiting(sftp_tree: Server, dep
         while True:
             lazy.sendall(packet(STAT, u32(1), string(path)) * 100)
     client = sftp_tree.connect()
-    client.settimeout(10)
+    client.settimeout(LIMIT)
     client.sendall(LOOKS)
     client.recv(VERSION, socket.MSG_WAITALL)
     assert len(client.recv(41, socket.MSG_WAITALL)) == 41
@@ -191,7 +194,7 @@ def test_a_client_may_send_much_before_it_reads(sftp_tree: Server) -> None:
     contents = bytes(range(256)) * 128
     sftp_tree.engine.write_files({"f": contents})
     line = sftp_tree.connect()
-    line.settimeout(20)
+    line.settimeout(LIMIT)
     with line.makefile("rb") as replies:
         line.sendall(packet(INIT, u32(3)) + packet(OPEN, u32(0), string(b"/f"), u32(1), u32(0)))
         reply(replies)

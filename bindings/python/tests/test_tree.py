@@ -5,8 +5,8 @@ from typing import Union
 
 import pytest
 
-from lucernetick import Engine, StatusError, TooLargeError
-from packets import INIT, SETSTAT, packet, string, u32
+from lucernetick import Engine, StatusError
+from packets import INIT, OPEN, SETSTAT, WRITE, packet, string, u32
 
 
 def test_files_with_the_directories_on_their_way() -> None:
@@ -83,12 +83,68 @@ def set_size(engine: Engine, path: bytes, size: int) -> None:
     session.close()
 
 
-def test_a_file_too_large_for_a_snapshot() -> None:
-    with Engine.from_files({"/a": b"1", "/d/f": b"2"}) as engine:
+def write_at(engine: Engine, path: bytes, pieces: dict[int, bytes]) -> None:
+    """Writes into a file that is there, at these offsets."""
+    session = engine.open()
+    session.feed(packet(INIT, u32(3)) + packet(OPEN, u32(1), string(path), u32(0x2), u32(0)))
+    session.settle(0)
+    handle = string(session.take()[-8:])
+    for offset, data in pieces.items():
+        session.feed(packet(WRITE, u32(2), handle, offset.to_bytes(8, "big"), string(data)))
+    session.settle(0)
+    session.close()
+
+
+def test_a_sparse_file() -> None:
+    """Its gaps are told and not read."""
+    with Engine.from_files({"/d/f": b"one"}) as engine:
         set_size(engine, b"/d/f", 2**40)
-        with pytest.raises(TooLargeError) as refused:
-            engine.snapshot()
-        assert (refused.value.path, refused.value.size) == ("/d/f", 2**40)
-        assert "1099511627776" in str(refused.value)
-        set_size(engine, b"/d/f", 2)
-        assert engine.snapshot()["/d/f"].contents == b"2\0"
+        write_at(engine, b"/d/f", {2**39 + 5: b"two", 2**40 - 4: b"four"})
+        found = engine.snapshot()["/d/f"]
+    assert found.size == 2**40
+    assert [offset for offset, _ in found.pieces] == [0, 2**39, 2**40 - 32768]
+    assert [len(piece) for _, piece in found.pieces] == [32768] * 3
+    assert [piece.replace(b"\0", b"") for _, piece in found.pieces] == [b"one", b"two", b"four"]
+    assert found.pieces[1][1][5:8] == b"two" and found.pieces[2][1].endswith(b"four")
+
+
+def test_a_gap_is_zeros() -> None:
+    with Engine.from_files({"/f": b"1"}) as engine:
+        set_size(engine, b"/f", 100_000)
+        found = engine.snapshot()["/f"]
+    assert found.contents == b"1" + bytes(99_999)
+
+
+def test_zeros_that_were_written_are_as_a_gap() -> None:
+    with Engine.from_files({"/f": b"1" + bytes(99_999), "/none": bytes(10)}) as engine:
+        written = engine.snapshot()
+    with Engine.from_files({"/f": b"1", "/none": b""}) as engine:
+        set_size(engine, b"/f", 100_000)
+        set_size(engine, b"/none", 10)
+        assert engine.snapshot() == written
+    assert (written["/none"].pieces, written["/none"].contents) == ((), bytes(10))
+
+
+def test_pieces_that_are_next_to_each_other_are_one() -> None:
+    contents = bytes(range(251)) * 400
+    with Engine.from_files({"/f": contents}) as engine:
+        assert engine.snapshot()["/f"].pieces == ((0, contents),)
+
+
+def test_a_snapshot_stays_as_it_was() -> None:
+    with Engine.from_files({"/f": b"1" * 40_000}) as engine:
+        found = engine.snapshot()
+        engine.write_files({"/f": b"2", "/g": b""})
+        assert list(found) == ["/", "/f"]
+    assert found["/f"].contents == b"1" * 40_000
+
+
+def test_a_snapshot_asks_for_nothing() -> None:
+    """No session opens, also where as many are open as may be, and no call is recorded."""
+    with Engine.from_files({"/f": b"1"}, keep=0) as engine:
+        before = engine.calls()
+        number = engine.open().number
+        assert list(engine.snapshot()) == ["/", "/f"]
+        assert engine.calls() == before
+        assert [engine.open().number for _ in range(255)] == list(range(number + 1, number + 256))
+        assert list(engine.snapshot()) == ["/", "/f"]

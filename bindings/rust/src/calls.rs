@@ -53,6 +53,7 @@ impl Kind {
 
 /// Attributes that a call asks for, or is answered, as far as they are given.
 #[derive(Clone, Copy, Debug, Default, PartialEq, Eq)]
+#[non_exhaustive]
 pub struct Attributes {
     pub size: Option<u64>,
     pub uid: Option<u32>,
@@ -181,13 +182,14 @@ pub(crate) unsafe fn bytes_of(bytes: &sys::Bytes) -> Vec<u8> {
 
 /// The records of calls that an engine keeps, in the order in which they took effect, the oldest
 /// first. It stops after a refusal.
+#[derive(Debug)]
 pub struct Calls<'a> {
     engine: &'a mut Engine,
     at: u64,
 }
 
 impl Engine {
-    /// The records of calls that are kept, those of `write_files` and of snapshots among them.
+    /// The records of calls that are kept, those of `write_files` among them.
     pub fn calls(&mut self) -> Calls<'_> {
         Calls { engine: self, at: 0 }
     }

@@ -67,7 +67,13 @@ impl From<Refusal> for io::Error {
     }
 }
 
-/// Why a tree wasn't written or read.
+impl From<Error> for io::Error {
+    fn from(fault: Error) -> Self {
+        io::Error::new(io::ErrorKind::Other, fault)
+    }
+}
+
+/// Why a tree wasn't written.
 #[derive(Clone, Debug, PartialEq, Eq)]
 #[non_exhaustive]
 pub enum Error {
@@ -79,8 +85,6 @@ pub enum Error {
     /// The request stays as it is, in a session that gets no further turn but by `run_all`: it may
     /// hold a directory until then.
     Blocked,
-    /// A file has more bytes than a snapshot takes of one: its path, and its size.
-    TooLarge(String, u64),
     /// A reply isn't what its request is answered.
     Reply,
 }
@@ -97,9 +101,6 @@ impl fmt::Display for Error {
             Error::Refused(refusal) => refusal.fmt(f),
             Error::Status(code, message) => write!(f, "status {}: {}", code, message),
             Error::Blocked => f.write_str("the call of another session is in the way"),
-            Error::TooLarge(path, size) => {
-                write!(f, "{}: a file of {} bytes is too large for a snapshot", path, size)
-            }
             Error::Reply => f.write_str("a reply isn't what its request is answered"),
         }
     }

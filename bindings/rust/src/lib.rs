@@ -12,29 +12,36 @@
 //! engine.feed(session, b"\0\0\0\x05\x01\0\0\0\x03")?;
 //! engine.settle(session, 100, 1000)?;
 //! assert_eq!(engine.take(session)?.len(), 71);
-//! assert_eq!(engine.snapshot()?["/a/b".as_bytes()].contents.as_deref(), Some(&b"contents"[..]));
+//! assert_eq!(engine.snapshot()?["/a/b"].contents().as_deref(), Some(&b"contents"[..]));
 //! # Ok::<(), lucernetick::Error>(())
 //! ```
 //!
-//! A [`Server`] has an engine behind connected sockets, for clients that want one.
+//! A [`Server`] has an engine behind connected sockets, for clients that want one. [`Races`] let
+//! clients race in an order that a seed draws, the same each time.
 
 mod calls;
 mod clock;
+mod draws;
 mod fault;
+mod folders;
 mod line;
+mod races;
 mod server;
 mod sys;
+mod taken;
 mod tree;
 mod turn;
 
 pub use calls::{Answer, Attributes, Call, Calls, Kind};
 pub use clock::{wall_clock, VirtualTime};
 pub use fault::{Error, Refusal};
+pub use races::{RaceStream, Races};
 pub use server::Server;
-pub use tree::{Entry, Snapshot};
+pub use tree::{Entry, Piece, Snapshot};
 pub use turn::{Ending, Turn};
 
 use std::ffi::CStr;
+use std::fmt;
 use std::os::raw::c_char;
 use std::ptr::NonNull;
 
@@ -47,9 +54,16 @@ pub struct Engine {
 // which `&mut self` sees to.
 unsafe impl Send for Engine {}
 
-/// The number of a session of an engine: 1 for its first one, then 2, 3 and so on.
+/// A session, which an engine has opened.
 #[derive(Clone, Copy, Debug, PartialEq, Eq, PartialOrd, Ord, Hash)]
-pub struct Session(pub u64);
+pub struct Session(u64);
+
+impl Session {
+    /// 1 for an engine's first session, then 2, 3 and so on, as `Call::session` tells it.
+    pub fn number(self) -> u64 {
+        self.0
+    }
+}
 
 impl Engine {
     /// An engine whose tree is the root alone. It keeps the records of its last 256 calls.
@@ -127,6 +141,14 @@ impl Engine {
         rounds.unsigned_abs()
     }
 
+    /// Whether the session waits for bytes of its client: none of its calls is under way, no whole
+    /// packet is unread, and it hasn't ended.
+    pub fn wants_bytes(&self, session: Session) -> bool {
+        // SAFETY: the pointer is an engine's, which `drop` alone frees. A null pointer alone is
+        // refused.
+        unsafe { sys::lt_wants_bytes(self.pointer.as_ptr(), session.0) == 1 }
+    }
+
     /// Ends the session's input. A call that is under way goes on to its reply by further turns.
     pub fn close(&mut self, session: Session) -> Result<(), Refusal> {
         // SAFETY: the pointer is an engine's, which `drop` alone frees.
@@ -135,7 +157,7 @@ impl Engine {
     }
 
     /// The bytes that wait to be sent to the session's client.
-    pub fn output(&mut self, session: Session) -> Result<Vec<u8>, Refusal> {
+    pub fn output(&self, session: Session) -> Result<Vec<u8>, Refusal> {
         let mut room = vec![0; self.look(session, &mut [])?];
         self.look(session, &mut room)?;
         Ok(room)
@@ -143,7 +165,7 @@ impl Engine {
 
     /// Copies the first bytes that wait to be sent, as many as there is room for. Answers how many
     /// wait.
-    pub fn look(&mut self, session: Session, room: &mut [u8]) -> Result<usize, Refusal> {
+    pub fn look(&self, session: Session, room: &mut [u8]) -> Result<usize, Refusal> {
         // SAFETY: as above, and a slice has as many bytes as its length says.
         let answer = unsafe {
             sys::lt_output(self.pointer.as_ptr(), session.0, room.as_mut_ptr(), room.len())
@@ -163,6 +185,12 @@ impl Engine {
         let waiting = self.output(session)?;
         self.sent(session, waiting.len())?;
         Ok(waiting)
+    }
+}
+
+impl fmt::Debug for Engine {
+    fn fmt(&self, f: &mut fmt::Formatter<'_>) -> fmt::Result {
+        f.debug_struct("Engine").finish_non_exhaustive()
     }
 }
 

@@ -1,8 +1,9 @@
 //! An engine behind connected sockets.
 
 use crate::line::Line;
-use crate::{Call, Engine, Error, Refusal, Session, Snapshot, Turn};
+use crate::{Call, Engine, Refusal, Session, Snapshot, Turn};
 use std::collections::BTreeMap;
+use std::fmt;
 use std::fs;
 use std::io::{self, ErrorKind};
 use std::net::Shutdown;
@@ -57,8 +58,8 @@ impl Server {
     }
 
     /// The whole tree now, as `Engine::snapshot`.
-    pub fn snapshot(&self) -> Result<Snapshot, Error> {
-        self.with_engine(Engine::snapshot)
+    pub fn snapshot(&self) -> Result<Snapshot, Refusal> {
+        self.with_engine(|engine| engine.snapshot())
     }
 
     /// What its clients did: the records of calls that are kept, as `Engine::calls`.
@@ -75,6 +76,13 @@ impl Server {
             let _ = line.shutdown(Shutdown::Both);
         }
         self.shared.moved.notify_all();
+    }
+}
+
+impl fmt::Debug for Server {
+    fn fmt(&self, f: &mut fmt::Formatter<'_>) -> fmt::Result {
+        let sessions = self.shared.lock().lines.len();
+        f.debug_struct("Server").field("sessions", &sessions).finish_non_exhaustive()
     }
 }
 
@@ -120,7 +128,7 @@ impl Shared {
 /// Opens a session, and serves it over this socket by a thread of its own.
 fn serve(shared: &Arc<Shared>, line: UnixStream) -> io::Result<()> {
     let connection = Connection::new(shared, line.try_clone()?)?;
-    let name = format!("lucernetick session {}", connection.session.0);
+    let name = format!("lucernetick session {}", connection.session.number());
     let work = move || {
         // Whatever ends it, the client is told by the end of its connection.
         let _ = connection.pump(Line::new(line));

@@ -1,4 +1,4 @@
-//! The library's functions, as include/lucernetick.h declares them, and two of the system's (Linux).
+//! The library's functions, as include/lucernetick.h declares them, and three of the system's (Linux).
 
 use std::os::raw::{c_char, c_int, c_short, c_ulong};
 
@@ -57,34 +57,31 @@ pub struct Call {
     pub answer_bytes: Bytes,
 }
 
-/// A walk's entries, of which the library alone knows what they are.
+/// A tree that was taken, of which the library alone knows what it is.
 #[repr(C)]
 pub struct Tree {
     _private: [u8; 0],
 }
 
-/// A name of a tree.
+/// What a tree has at a path.
 #[repr(C)]
 #[derive(Default)]
-pub struct Entry {
+pub struct Leaf {
     pub path: Bytes,
-    pub contents: Bytes,
     pub attributes: Attributes,
-    pub links: u64,
-    pub file: u64,
+    pub label: u64,
 }
 
-/// The request that a function for trees stopped at.
+/// The request at which a function that makes trees stopped.
 #[repr(C)]
 pub struct Place {
     pub length: u64,
     pub kind: u32,
 }
 
-pub const LT_IS_BLOCKED: i64 = -8;
-pub const LT_TOO_LARGE: i64 = -9;
-pub const LT_NO_REPLY: i64 = -11;
-pub const LT_STATUS_BASE: i64 = -100;
+pub const LT_REFUSAL_IS_BLOCKED: i64 = -8;
+pub const LT_REFUSAL_NO_REPLY: i64 = -11;
+pub const LT_REFUSAL_STATUS_BASE: i64 = -100;
 
 extern "C" {
     pub fn lt_version() -> *const c_char;
@@ -103,8 +100,9 @@ extern "C" {
         moved: *mut bool,
     ) -> i64;
     pub fn lt_run_all(engine: *mut Engine) -> i64;
+    pub fn lt_wants_bytes(engine: *const Engine, session: u64) -> i64;
     pub fn lt_close(engine: *mut Engine, session: u64) -> i64;
-    pub fn lt_output(engine: *mut Engine, session: u64, room: *mut u8, length: usize) -> i64;
+    pub fn lt_output(engine: *const Engine, session: u64, room: *mut u8, length: usize) -> i64;
     pub fn lt_sent(engine: *mut Engine, session: u64, count: usize) -> i64;
     pub fn lt_calls(engine: *mut Engine, at: u64, call: *mut Call) -> i64;
     pub fn lt_make_directory(
@@ -127,13 +125,16 @@ extern "C" {
         moment: u32,
         place: *mut Place,
     ) -> i64;
-    pub fn lt_walk(
-        engine: *mut Engine,
-        moment: u32,
-        tree: *mut *mut Tree,
-        place: *mut Place,
+    pub fn lt_tree_of(engine: *const Engine, tree: *mut *mut Tree) -> i64;
+    pub fn lt_tree_leaf(tree: *mut Tree, at: u64, leaf: *mut Leaf) -> i64;
+    pub fn lt_tree_read(
+        tree: *const Tree,
+        at: u64,
+        offset: u64,
+        room: *mut u8,
+        length: usize,
     ) -> i64;
-    pub fn lt_tree_entry(tree: *mut Tree, at: u64, entry: *mut Entry) -> i64;
+    pub fn lt_tree_gap(tree: *const Tree, at: u64, offset: u64) -> i64;
     pub fn lt_tree_free(tree: *mut Tree);
 }
 
@@ -150,7 +151,22 @@ pub const POLLOUT: c_short = 0x04;
 pub const MSG_DONTWAIT: c_int = 0x40;
 pub const MSG_NOSIGNAL: c_int = 0x4000;
 
+/// A moment, in seconds since 1970.
+#[repr(C)]
+pub struct Timespec {
+    pub seconds: i64,
+    pub nanoseconds: i64,
+}
+
+pub const AT_FDCWD: c_int = -100;
+
 extern "C" {
+    pub fn utimensat(
+        folder: c_int,
+        path: *const c_char,
+        times: *const Timespec,
+        flags: c_int,
+    ) -> c_int;
     pub fn poll(fds: *mut PollFd, count: c_ulong, timeout: c_int) -> c_int;
     pub fn send(socket: c_int, bytes: *const u8, length: usize, flags: c_int) -> isize;
 }

@@ -1,18 +1,101 @@
-//! Whole trees, written and read by the library, which does it by requests of sessions of its own.
+//! Whole trees: written by the library, which does it by requests of sessions of its own, and their
+//! snapshots.
 
-use crate::calls::bytes_of;
-use crate::{checked, message, sys, Engine, Error, Refusal};
-use std::collections::BTreeMap;
+use crate::taken::Taken;
+use crate::{message, sys, Engine, Error, Refusal};
+use std::borrow::Cow;
+use std::collections::{btree_map, BTreeMap};
+use std::iter;
+use std::ops::Index;
 use std::ptr;
-
-/// A tree's files and directories by their paths, the root `/` among them.
-pub type Snapshot = BTreeMap<Vec<u8>, Entry>;
 
 const KIND: u32 = 0o170000;
 const DIRECTORY: u32 = 0o040000;
 
+/// A tree's files and directories by their paths, the root `/` among them. A path is bytes, and is
+/// asked for as text or as bytes: `tree["/a"]`, `tree[b"/a"]`.
+#[derive(Clone, Debug, Default, PartialEq, Eq)]
+pub struct Snapshot {
+    entries: BTreeMap<Vec<u8>, Entry>,
+}
+
+impl Snapshot {
+    pub fn get(&self, path: impl AsRef<[u8]>) -> Option<&Entry> {
+        self.entries.get(path.as_ref())
+    }
+
+    pub fn contains(&self, path: impl AsRef<[u8]>) -> bool {
+        self.entries.contains_key(path.as_ref())
+    }
+
+    pub fn len(&self) -> usize {
+        self.entries.len()
+    }
+
+    /// Never: the root is always there, but in a `Snapshot::default()`.
+    pub fn is_empty(&self) -> bool {
+        self.entries.is_empty()
+    }
+
+    /// The paths with their entries, in the order of their bytes.
+    pub fn iter(&self) -> Iter<'_> {
+        self.entries.iter().map(|(path, entry)| (path.as_slice(), entry))
+    }
+
+    /// The paths as bytes.
+    pub fn keys(&self) -> impl Iterator<Item = &[u8]> {
+        self.entries.keys().map(Vec::as_slice)
+    }
+
+    /// The paths as text, in which bytes that aren't UTF-8 are replaced.
+    pub fn paths(&self) -> impl Iterator<Item = Cow<'_, str>> {
+        self.entries.keys().map(|path| String::from_utf8_lossy(path))
+    }
+
+    pub fn values(&self) -> impl Iterator<Item = &Entry> {
+        self.entries.values()
+    }
+}
+
+impl<P: AsRef<[u8]> + ?Sized> Index<&P> for Snapshot {
+    type Output = Entry;
+
+    /// Panics where nothing has this path, as maps do.
+    fn index(&self, path: &P) -> &Entry {
+        match self.entries.get(path.as_ref()) {
+            Some(entry) => entry,
+            None => panic!("nothing has the path {}", String::from_utf8_lossy(path.as_ref())),
+        }
+    }
+}
+
+impl IntoIterator for Snapshot {
+    type Item = (Vec<u8>, Entry);
+    type IntoIter = btree_map::IntoIter<Vec<u8>, Entry>;
+
+    fn into_iter(self) -> Self::IntoIter {
+        self.entries.into_iter()
+    }
+}
+
+/// Paths with their entries.
+type Iter<'a> = iter::Map<
+    btree_map::Iter<'a, Vec<u8>, Entry>,
+    fn((&'a Vec<u8>, &'a Entry)) -> (&'a [u8], &'a Entry),
+>;
+
+impl<'a> IntoIterator for &'a Snapshot {
+    type Item = (&'a [u8], &'a Entry);
+    type IntoIter = Iter<'a>;
+
+    fn into_iter(self) -> Self::IntoIter {
+        self.iter()
+    }
+}
+
 /// A file or directory of a snapshot.
 #[derive(Clone, Debug, PartialEq, Eq)]
+#[non_exhaustive]
 pub struct Entry {
     /// The bits of its kind and its permissions, as in stat(2).
     pub mode: u32,
@@ -21,35 +104,48 @@ pub struct Entry {
     /// Seconds since 1970, as `mtime`.
     pub atime: u32,
     pub mtime: u32,
-    /// A file's bytes; none for a directory.
-    pub contents: Option<Vec<u8>>,
+    /// How many bytes a file has; 0 for a directory.
+    pub size: u64,
+    /// A file's bytes without the gaps of a sparse one: all that is in no piece is zeros. A piece
+    /// begins at a multiple of 32768. None is 32768 zeros, so that files of the same bytes have the
+    /// same pieces.
+    pub pieces: Vec<Piece>,
     /// A file's number, which all of its names share and no other one has; none for a directory.
-    /// Numbers are given by each snapshot, from 1 in the order of the paths.
+    /// Numbers are given by each snapshot, from 1 in the order of the tree: a directory comes before
+    /// what is below it, and names in the order of their bytes.
     pub file: Option<u64>,
 }
 
+/// Bytes of a file from an offset on.
+#[derive(Clone, Debug, PartialEq, Eq)]
+pub struct Piece {
+    pub offset: u64,
+    pub bytes: Vec<u8>,
+}
+
 impl Entry {
+    /// All bytes of a file, a sparse one's gaps as zeros; none for a directory.
+    pub fn contents(&self) -> Option<Cow<'_, [u8]>> {
+        self.file?;
+        match self.pieces.as_slice() {
+            [piece] if piece.bytes.len() as u64 == self.size => Some(Cow::from(&piece.bytes)),
+            pieces => {
+                let mut contents = vec![0; self.size as usize];
+                for Piece { offset, bytes } in pieces {
+                    let offset = *offset as usize;
+                    contents[offset..offset + bytes.len()].copy_from_slice(bytes);
+                }
+                Some(Cow::from(contents))
+            }
+        }
+    }
+
     pub fn is_directory(&self) -> bool {
         self.mode & KIND == DIRECTORY
     }
 
     pub fn permissions(&self) -> u32 {
         self.mode & 0o7777
-    }
-
-    /// SAFETY: the bytes of what was told must still be there: no other call was made on its tree.
-    unsafe fn of(told: &sys::Entry) -> Self {
-        let found = &told.attributes;
-        let file = (told.file != 0).then_some(told.file);
-        Entry {
-            mode: found.permissions,
-            uid: found.uid,
-            gid: found.gid,
-            atime: found.atime,
-            mtime: found.mtime,
-            contents: file.map(|_| bytes_of(&told.contents)),
-            file,
-        }
     }
 }
 
@@ -106,61 +202,11 @@ impl Engine {
         done(unsafe { sys::lt_link(engine, old, new, moment, ptr::null_mut()) })
     }
 
-    /// The whole tree, read by requests of a session of its own. It is `Blocked` where a call of
-    /// another session is under way and holds a directory, and `TooLarge` at a file of more than 2^30
-    /// bytes.
-    ///
-    /// Where files have several names, their atimes are set for a moment, to tell which names are of
-    /// one file. They are set back, also where a request fails; only if that is refused, as for want
-    /// of memory, does one of them stay, and the refusal is answered.
-    pub fn snapshot(&mut self) -> Result<Snapshot, Error> {
-        let mut tree = Tree(ptr::null_mut());
-        // SAFETY: the pointer is an engine's, which `drop` alone frees, and the other one is of a
-        // variable here.
-        let answer =
-            unsafe { sys::lt_walk(self.pointer.as_ptr(), 0, &mut tree.0, ptr::null_mut()) };
-        if answer < 0 {
-            return Err(tree.stopped(answer));
-        }
-        let mut entries = Snapshot::new();
-        while let Some(found) = tree.entry(entries.len() as u64)? {
-            // SAFETY: no call was made on the tree since.
-            let (path, entry) = unsafe { (bytes_of(&found.path), Entry::of(&found)) };
-            entries.insert(path, entry);
-        }
-        Ok(entries)
-    }
-}
-
-/// The entries of a walk, which are freed where it is dropped.
-struct Tree(*mut sys::Tree);
-
-impl Tree {
-    /// The entry at a place, if there is one.
-    fn entry(&mut self, at: u64) -> Result<Option<sys::Entry>, Refusal> {
-        let mut told = sys::Entry::default();
-        // SAFETY: the pointer is a tree's, or null, and the other one is of a variable here.
-        let count = checked(unsafe { sys::lt_tree_entry(self.0, at, &mut told) })?;
-        Ok((at < count).then_some(told))
-    }
-
-    /// Why a walk was refused: its tree has the entry that it stopped at, or none.
-    fn stopped(&mut self, answer: i64) -> Error {
-        match self.entry(0) {
-            Ok(Some(found)) if answer == sys::LT_TOO_LARGE => {
-                // SAFETY: no call was made on the tree since.
-                let path = unsafe { bytes_of(&found.path) };
-                Error::TooLarge(String::from_utf8_lossy(&path).into_owned(), found.attributes.size)
-            }
-            _ => error_of(answer),
-        }
-    }
-}
-
-impl Drop for Tree {
-    fn drop(&mut self) {
-        // SAFETY: the pointer is a tree's, or null, and isn't used again.
-        unsafe { sys::lt_tree_free(self.0) }
+    /// The whole tree. It is exactly the tree after the calls that took effect so far, also while
+    /// others are under way: none is waited for. Nothing is asked of the engine as a client asks: no
+    /// session opens, no call is recorded, and no time changes. Want of memory alone refuses it.
+    pub fn snapshot(&self) -> Result<Snapshot, Refusal> {
+        Ok(Snapshot { entries: Taken::of(self)?.entries()? })
     }
 }
 
@@ -179,10 +225,10 @@ fn done(answer: i64) -> Result<(), Error> {
 
 fn error_of(answer: i64) -> Error {
     match answer {
-        sys::LT_IS_BLOCKED => Error::Blocked,
-        sys::LT_NO_REPLY => Error::Reply,
-        status if status <= sys::LT_STATUS_BASE => {
-            let code = (sys::LT_STATUS_BASE - status) as u32;
+        sys::LT_REFUSAL_IS_BLOCKED => Error::Blocked,
+        sys::LT_REFUSAL_NO_REPLY => Error::Reply,
+        status if status <= sys::LT_REFUSAL_STATUS_BASE => {
+            let code = (sys::LT_REFUSAL_STATUS_BASE - status) as u32;
             Error::Status(code, message(answer).to_string())
         }
         refusal => Error::Refused(Refusal::of_number(refusal)),

@@ -1,6 +1,6 @@
 //! OpenSSH's `sftp` on a server. `socat` joins it to the server's socket.
 
-use lucernetick::{Engine, Kind, Server, Session, Turn, VirtualTime};
+use lucernetick::{Engine, Kind, Refusal, Server, Session, Turn, VirtualTime};
 use std::collections::BTreeSet;
 use std::fs::{self, Permissions};
 use std::io::{BufRead, BufReader, ErrorKind, Read, Write};
@@ -20,6 +20,8 @@ const LOOKS: &[u8] = b"\0\0\0\x05\x01\0\0\0\x03\0\0\0\x0b\x11\0\0\0\x08\0\0\0\x0
 const LOOKS_BELOW: &[u8] = b"\0\0\0\x0d\x11\0\0\0\x08\0\0\0\x04/a/f";
 /// The length of VERSION's packet.
 const VERSION: usize = 71;
+/// For what comes at once where the machine has nothing else to do.
+const LIMIT: Duration = Duration::from_secs(120);
 
 /// A server that listens in a folder of its own.
 struct Listening {
@@ -61,12 +63,12 @@ impl Listening {
 
     /// The contents of a file of the tree.
     fn contents(&self, path: &str) -> Vec<u8> {
-        self.server.snapshot().unwrap()[path.as_bytes()].contents.clone().unwrap()
+        self.server.snapshot().unwrap()[path].contents().unwrap().into_owned()
     }
 
     fn paths(&self) -> Vec<String> {
         let found = self.server.snapshot().unwrap();
-        found.into_keys().map(|path| String::from_utf8(path).unwrap()).collect()
+        found.paths().map(Into::into).collect()
     }
 }
 
@@ -87,7 +89,7 @@ impl Client {
     fn new(server: &Listening) -> Self {
         let bridge = format!("socat - UNIX-CONNECT:{}", server.folder.join("socket").display());
         let mut child = Command::new("timeout")
-            .args(["60", "sftp", "-q", "-b", "-", "-D", &bridge])
+            .args(["300", "sftp", "-q", "-b", "-", "-D", &bridge])
             .current_dir(&server.folder)
             .envs([("TZ", "UTC"), ("LC_ALL", "C")])
             .stdin(Stdio::piped())
@@ -184,7 +186,7 @@ fn link() {
     assert_eq!(client.run("ls -l /d"), line);
     client.end();
     let found = server.server.snapshot().unwrap();
-    let file = |path: &str| found[path.as_bytes()].file;
+    let file = |path: &str| found[path].file;
     assert_eq!([file("/f"), file("/g"), file("/d/f")], [Some(1), Some(2), Some(1)]);
     assert_eq!(server.contents("/d/f"), b"1");
 }
@@ -228,7 +230,7 @@ fn times_are_virtual() {
     let found = fs::metadata(server.folder.join("got")).unwrap();
     let moment = UNIX_EPOCH + Duration::from_secs(1_700_000_000);
     assert_eq!((found.accessed().unwrap(), found.modified().unwrap()), (moment, moment));
-    assert_eq!(server.server.snapshot().unwrap()["/d".as_bytes()].mtime, 7);
+    assert_eq!(server.server.snapshot().unwrap()["/d"].mtime, 7);
 }
 
 #[test]
@@ -262,7 +264,7 @@ fn many_clients_at_once() {
     let found = server.server.snapshot().unwrap();
     assert_eq!(found.len(), 1 + 6 + 120);
     let files = found.values().filter(|entry| !entry.is_directory());
-    assert_eq!(files.filter(|file| file.contents.as_deref() == Some(b"contents")).count(), 120);
+    assert_eq!(files.filter(|file| file.contents().as_deref() == Some(b"contents")).count(), 120);
 }
 
 /// Fifty sessions at once, each of which makes `/dNN` and looks at it.
@@ -309,7 +311,7 @@ fn settle(server: &Server, session: Session, most: u64) -> Turn {
 
 /// Reads so many bytes, which come soon.
 fn take(line: &mut UnixStream, count: usize) -> Vec<u8> {
-    line.set_read_timeout(Some(Duration::from_secs(10))).unwrap();
+    line.set_read_timeout(Some(LIMIT)).unwrap();
     let mut bytes = vec![0; count];
     line.read_exact(&mut bytes).unwrap();
     bytes
@@ -400,7 +402,7 @@ fn a_call_is_carried_out_though_its_client_has_gone() {
     assert_eq!(settle(&server, held, 1000), Turn::Idle);
     let made = (0..1000).any(|_| {
         thread::sleep(Duration::from_millis(10));
-        server.snapshot().map_or(false, |found| found.contains_key("/a".as_bytes()))
+        server.snapshot().map_or(false, |found| found.contains("/a"))
     });
     assert!(made);
 }
@@ -430,7 +432,7 @@ fn a_client_may_send_much_before_it_reads() {
     let engine = Engine::from_files([("/f", contents.clone())], 0).unwrap();
     let server = Server::new(engine, || 0);
     let mut line = server.connect().unwrap();
-    line.set_write_timeout(Some(Duration::from_secs(20))).unwrap();
+    line.set_write_timeout(Some(LIMIT)).unwrap();
     line.write_all(INIT).unwrap();
     reply(&mut line);
     // OPEN of `/f`, to be read.
@@ -456,7 +458,7 @@ fn a_session_that_ends_closes_its_connection() {
     let server = Server::new(Engine::new().unwrap(), || 0);
     let mut line = server.connect().unwrap();
     line.write_all(&[0; 4]).unwrap();
-    line.set_read_timeout(Some(Duration::from_secs(10))).unwrap();
+    line.set_read_timeout(Some(LIMIT)).unwrap();
     assert_eq!(line.read(&mut [0]).unwrap(), 0);
 }
 
@@ -481,7 +483,7 @@ fn a_257th_client_is_refused() {
     let lines: Vec<UnixStream> = (0..256).map(|_| server.connect().unwrap()).collect();
     let refused = server.connect().unwrap_err();
     assert_eq!(refused.to_string(), "256 sessions are open");
-    assert_eq!(server.with_engine(|engine| engine.output(Session(256))), Ok(vec![]));
+    assert_eq!(server.with_engine(Engine::open), Err(Refusal::TooManySessions));
     assert_eq!(lines.len(), 256);
 }
 

@@ -1,6 +1,6 @@
 //! Sessions by their packets, and whole trees.
 
-use lucernetick::{Ending, Engine, Error, Refusal, Session, Turn};
+use lucernetick::{Ending, Engine, Entry, Error, Refusal, Server, Session, Turn};
 
 const STATUS: u8 = 101;
 const HANDLE: u8 = 102;
@@ -101,7 +101,7 @@ fn times_are_those_of_turns() {
     let stat = request(17, 1, &[&string(b"/f")]);
     let wanted = [vec![ATTRS, 0, 0, 0, 1], file(0, 4_000_000_000)].concat();
     assert_eq!(ask(&mut engine, session, 7, &stat), wanted);
-    assert_eq!(engine.snapshot().unwrap()[&b"/"[..]].mtime, 4_000_000_000);
+    assert_eq!(engine.snapshot().unwrap()["/"].mtime, 4_000_000_000);
 }
 
 /// What a schedule's turns did, and what its two sessions were sent. The second one looks at `/a`
@@ -111,8 +111,8 @@ fn replay() -> (Vec<Turn>, [Vec<u8>; 2]) {
     let (first, second) = (engine.open().unwrap(), engine.open().unwrap());
     engine.feed(first, MAKES).unwrap();
     engine.feed(second, LOOKS).unwrap();
-    let turns = [1, 2, 2, 1, 1, 2, 1, 2, 2, 2, 1];
-    let did = turns.iter().map(|number| engine.turn(Session(*number), 100).unwrap()).collect();
+    let turns = [first, second, second, first, first, second, first, second, second, second, first];
+    let did = turns.iter().map(|session| engine.turn(*session, 100).unwrap()).collect();
     (did, [engine.output(first).unwrap(), engine.output(second).unwrap()])
 }
 
@@ -159,7 +159,7 @@ fn crossing_renames_in_rounds() {
     }
     let found = engine.snapshot().unwrap();
     let paths = ["/", "/a", "/b", "/b/y", "/b/y/x"];
-    assert!(found.keys().map(Vec::as_slice).eq(paths.iter().map(|path| path.as_bytes())));
+    assert!(found.paths().eq(paths));
 }
 
 #[test]
@@ -192,17 +192,18 @@ fn how_sessions_end() {
 
 #[test]
 fn refusals() {
-    let mut engine = Engine::new().unwrap();
-    assert_eq!(engine.turn(Session(1), 0), Err(Refusal::NoSuchSession));
-    assert_eq!(engine.output(Session(0)), Err(Refusal::NoSuchSession));
+    let (mut engine, mut other) = (Engine::new().unwrap(), Engine::new().unwrap());
+    let unknown = other.open().unwrap();
+    assert_eq!(engine.turn(unknown, 0), Err(Refusal::NoSuchSession));
+    assert_eq!(engine.output(unknown), Err(Refusal::NoSuchSession));
     let session = client(&mut engine);
     assert_eq!(engine.sent(session, 1), Err(Refusal::NotSent));
     for number in 2..=256 {
-        assert_eq!(engine.open(), Ok(Session(number)));
+        assert_eq!(engine.open().map(Session::number), Ok(number));
     }
     assert_eq!(engine.open(), Err(Refusal::TooManySessions));
     engine.close(session).unwrap();
-    assert_eq!(engine.open(), Ok(Session(257)));
+    assert_eq!(engine.open().map(Session::number), Ok(257));
 }
 
 #[test]
@@ -213,23 +214,23 @@ fn files_at_the_start() {
     engine.make_directories("/e", 77).unwrap();
     let found = engine.snapshot().unwrap();
     let paths = ["/", "/a", "/a/b", "/a/deep", "/a/deep/er", "/c", "/e"];
-    assert!(found.keys().map(Vec::as_slice).eq(paths.iter().map(|path| path.as_bytes())));
+    assert!(found.paths().eq(paths));
     assert!(found.values().all(|entry| entry.mtime == 77));
-    assert_eq!(found[&b"/a/b"[..]].contents.as_deref(), Some(&b"one"[..]));
-    assert_eq!(found[&b"/a/deep/er"[..]].contents.as_ref(), Some(&long));
-    assert_eq!(found[&b"/c"[..]].contents, Some(vec![]));
-    assert!(found[&b"/e"[..]].is_directory() && found[&b"/e"[..]].contents.is_none());
-    assert_eq!((found[&b"/e"[..]].permissions(), found[&b"/c"[..]].mode), (0o755, 0o100644));
+    assert_eq!(found["/a/b"].contents().as_deref(), Some(&b"one"[..]));
+    assert_eq!(found["/a/deep/er"].contents().as_deref(), Some(&long[..]));
+    assert_eq!(found["/c"].contents().as_deref(), Some(&[][..]));
+    assert!(found["/e"].is_directory() && found["/e"].contents().is_none());
+    assert_eq!((found["/e"].permissions(), found["/c"].mode), (0o755, 0o100644));
 }
 
 #[test]
 fn more_names_than_one_listing_has() {
     let files: Vec<_> = (0..100).map(|k| (format!("/d/{}", k), k.to_string())).collect();
-    let mut engine = Engine::from_files(files.clone(), 0).unwrap();
+    let engine = Engine::from_files(files.clone(), 0).unwrap();
     let found = engine.snapshot().unwrap();
     assert_eq!(found.len(), 102);
     for (path, contents) in files {
-        assert_eq!(found[path.as_bytes()].contents, Some(contents.into_bytes()));
+        assert_eq!(found[&path].contents().as_deref(), Some(contents.as_bytes()));
     }
 }
 
@@ -239,20 +240,17 @@ fn what_trees_refuse() {
     assert_eq!(Engine::from_files([("a\0b", "")], 0).err(), Some(failure.clone()));
     let mut engine = Engine::from_files([("/f", "")], 0).unwrap();
     assert_eq!(engine.write_files([("/f/g", "")], 0), Err(failure));
-    for _ in 0..300 {
-        engine.snapshot().unwrap();
-    }
     let held = engine.open().unwrap();
     engine.feed(held, MAKES).unwrap();
     for wanted in [Turn::Wrote, Turn::Begun, Turn::Moved] {
         assert_eq!(engine.turn(held, 0), Ok(wanted));
     }
-    assert_eq!(engine.snapshot(), Err(Error::Blocked));
+    assert_eq!(engine.write_files([("/g", "")], 0), Err(Error::Blocked));
 }
 
 #[test]
 fn an_engine_goes_to_another_thread() {
-    let mut engine = Engine::from_files([("/f", "1")], 0).unwrap();
+    let engine = Engine::from_files([("/f", "1")], 0).unwrap();
     let found = std::thread::spawn(move || engine.snapshot().unwrap().len()).join().unwrap();
     assert_eq!(found, 2);
 }
@@ -265,13 +263,119 @@ fn set_size(engine: &mut Engine, path: &str, size: u64) {
     engine.close(session).unwrap();
 }
 
+/// Its gaps are told and not read.
 #[test]
-fn a_file_too_large_for_a_snapshot() {
-    let mut engine = Engine::from_files([("/a", "1"), ("/d/f", "2")], 0).unwrap();
+fn a_sparse_file() {
+    let mut engine = Engine::from_files([("/d/f", "one")], 0).unwrap();
     set_size(&mut engine, "/d/f", 1 << 40);
-    let refused = Error::TooLarge("/d/f".to_string(), 1 << 40);
-    assert_eq!(engine.snapshot(), Err(refused));
-    set_size(&mut engine, "/d/f", 2);
+    let session = client(&mut engine);
+    let open = request(3, 1, &[&string(b"/d/f"), &[0, 0, 0, 2, 0, 0, 0, 0]]);
+    let opened = ask(&mut engine, session, 0, &open);
+    let offset = ((1_u64 << 39) + 5).to_be_bytes();
+    let write = request(6, 1, &[&string(&opened[opened.len() - 8..]), &offset, &string(b"two")]);
+    assert_eq!(ask(&mut engine, session, 0, &write), done());
+    let found = &engine.snapshot().unwrap()["/d/f"];
+    assert_eq!(found.size, 1 << 40);
+    let places = found.pieces.iter().map(|piece| (piece.offset, piece.bytes.len()));
+    assert!(places.eq([(0, 32768), (1 << 39, 32768)]));
+    assert_eq!(found.pieces[0].bytes[..5], *b"one\0\0");
+    assert_eq!(found.pieces[1].bytes[4..9], *b"\0two\0");
+}
+
+/// Zeros that were written are as a gap.
+#[test]
+fn a_gap_is_zeros() {
+    let mut long = vec![0; 100_000];
+    long[0] = b'1';
+    let files = [("/f", long.clone()), ("/g", vec![b'1'])];
+    let mut engine = Engine::from_files(files, 0).unwrap();
+    set_size(&mut engine, "/g", 100_000);
     let found = engine.snapshot().unwrap();
-    assert_eq!(found["/d/f".as_bytes()].contents.as_deref(), Some(&b"2\0"[..]));
+    assert_eq!(found["/f"].contents().as_deref(), Some(&long[..]));
+    assert_eq!(found["/g"].pieces, found["/f"].pieces);
+}
+
+/// No session opens, also where as many are open as may be, and no call is recorded; and a snapshot
+/// stays.
+#[test]
+fn a_snapshot_asks_for_nothing() {
+    let long = vec![b'1'; 40_000];
+    let mut engine = Engine::from_files([("/f", long.clone())], 0).unwrap();
+    let before: Vec<_> = engine.calls().map(Result::unwrap).collect();
+    let first = engine.open().unwrap();
+    let found = engine.snapshot().unwrap();
+    assert_eq!(engine.calls().map(Result::unwrap).collect::<Vec<_>>(), before);
+    for count in 1..=255 {
+        assert_eq!(engine.open().map(Session::number), Ok(first.number() + count));
+    }
+    assert_eq!(engine.snapshot().as_ref(), Ok(&found));
+    drop(engine);
+    assert_eq!(found["/f"].contents().as_deref(), Some(&long[..]));
+}
+
+/// It has what took effect so far.
+#[test]
+fn a_snapshot_while_a_call_stands_half_way() {
+    let mut engine = Engine::new().unwrap();
+    let held = engine.open().unwrap();
+    engine.feed(held, MAKES).unwrap();
+    for wanted in [Turn::Wrote, Turn::Begun, Turn::Moved] {
+        assert_eq!(engine.turn(held, 0), Ok(wanted));
+        assert!(engine.snapshot().unwrap().paths().eq(["/"]));
+    }
+    assert_eq!(engine.turn(held, 0), Ok(Turn::Decided));
+    assert!(engine.snapshot().unwrap().paths().eq(["/", "/a"]));
+}
+
+#[test]
+fn who_wants_bytes() {
+    let (mut engine, mut other) = (Engine::new().unwrap(), Engine::new().unwrap());
+    let session = engine.open().unwrap();
+    let unknown = [other.open().unwrap(), other.open().unwrap()][1];
+    assert!(engine.wants_bytes(session));
+    engine.feed(session, &MAKES[..5]).unwrap();
+    assert!(engine.wants_bytes(session));
+    engine.feed(session, &MAKES[5..]).unwrap();
+    for wanted in [Turn::Wrote, Turn::Begun, Turn::Moved, Turn::Decided, Turn::Wrote] {
+        assert!(!engine.wants_bytes(session));
+        assert_eq!(engine.turn(session, 0), Ok(wanted));
+    }
+    assert!(engine.wants_bytes(session));
+    engine.close(session).unwrap();
+    assert!(!engine.wants_bytes(session) && !engine.wants_bytes(unknown));
+}
+
+#[test]
+fn a_path_is_asked_for_as_text_or_as_bytes() {
+    let engine = Engine::from_files([(&b"/a/\xff"[..], "1"), (b"/b", "2")], 0).unwrap();
+    let found = engine.snapshot().unwrap();
+    let name = String::from("/b");
+    assert_eq!(
+        (&found["/b"], &found[&name], &found[b"/b"]),
+        (&found[name.as_bytes()], &found[&b"/b".to_vec()], &found["/b"])
+    );
+    assert_eq!(found[b"/a/\xff"].contents().as_deref(), Some(&b"1"[..]));
+    assert_eq!(found.get("/a").map(Entry::is_directory), Some(true));
+    assert_eq!((found.get("/c"), found.contains(b"/a"), found.len()), (None, true, 4));
+    assert!(found.paths().eq(["/", "/a", "/a/\u{fffd}", "/b"]));
+    assert!(found.keys().eq([&b"/"[..], b"/a", b"/a/\xff", b"/b"]));
+    assert!(found.iter().map(|(path, _)| path).eq(found.keys()));
+    assert!((&found).into_iter().map(|(_, entry)| entry).eq(found.values()));
+}
+
+#[test]
+#[should_panic(expected = "nothing has the path /c")]
+fn a_path_that_is_not_there() {
+    let _ = &Engine::new().unwrap().snapshot().unwrap()["/c"];
+}
+
+/// What a test prints where it fails.
+#[test]
+fn engines_and_servers_are_printed() {
+    let mut engine = Engine::new().unwrap();
+    assert_eq!(format!("{:?}", engine), "Engine { .. }");
+    assert_eq!(format!("{:?}", engine.calls()), "Calls { engine: Engine { .. }, at: 0 }");
+    let server = Server::new(engine, || 0);
+    let _line = server.connect().unwrap();
+    assert_eq!(format!("{:?}", server), "Server { sessions: 1, .. }");
 }

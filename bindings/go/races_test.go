@@ -1,0 +1,370 @@
+package lucernetick
+
+import (
+	"errors"
+	"fmt"
+	"io"
+	"net"
+	"os"
+	"reflect"
+	"strings"
+	"sync"
+	"testing"
+	"time"
+
+	"github.com/pkg/sftp"
+)
+
+// What SplitMix64 draws for the seeds 0 and 1234567, as its other implementations have it.
+func TestDraws(t *testing.T) {
+	for seed, wanted := range map[uint64][5]uint64{
+		0: {
+			0xE220A8397B1DCDAF, 0x6E789E6AA1B965F4, 0x06C45D188009454F, 0xF88BB8A8724C81EC,
+			0x1B39896A51A8749B,
+		},
+		1234567: {
+			6457827717110365317, 3203168211198807973, 9817491932198370423, 4593380528125082431,
+			16408922859458223821,
+		},
+	} {
+		draws := splitMix{seed}
+		for _, next := range wanted {
+			same(t, draws.next(), next)
+		}
+	}
+}
+
+func TestPacketsAreCounted(t *testing.T) {
+	sent := makes + looks[9:]
+	for cut := 0; cut <= len(sent); cut++ {
+		var packets unanswered
+		packets.fed([]byte(sent[:cut]))
+		packets.fed([]byte(sent[cut:]))
+		same(t, packets.count, 3)
+	}
+	var packets unanswered
+	for at, part := range []byte(sent) {
+		packets.fed([]byte{part})
+		wanted := 0
+		for _, end := range []int{9, 28, len(sent)} {
+			if at+1 >= end {
+				wanted++
+			}
+		}
+		same(t, packets.count, wanted)
+	}
+}
+
+// A session ends at a length of 0, or one that is too long, before a packet of that length is
+// there.
+func TestLengthsThatEndASession(t *testing.T) {
+	for _, length := range []string{"\x00\x00\x00\x00", "\x00\x04\x00\x01", "\xff\xff\xff\xff"} {
+		var packets unanswered
+		packets.fed([]byte(makes + length + looks))
+		same(t, packets.count, 3)
+	}
+	var packets unanswered
+	packets.fed([]byte("\x00\x04\x00\x00"))
+	same(t, packets.count, 0)
+}
+
+// racing is races, and the connections of all of its clients.
+func racing(t *testing.T, races *Races) []net.Conn {
+	t.Helper()
+	t.Cleanup(func() { races.Close() })
+	conns := make([]net.Conn, races.clients)
+	for number := range conns {
+		conn, err := races.Connect()
+		must(t, err)
+		conns[number] = conn
+	}
+	return conns
+}
+
+// ask writes what a client asks, all at once.
+func ask(t *testing.T, conn net.Conn, data string) {
+	t.Helper()
+	_, err := conn.Write([]byte(data))
+	must(t, err)
+}
+
+// told reads so many bytes, which are there.
+func told(t *testing.T, conn net.Conn, count int) string {
+	t.Helper()
+	data := make([]byte, count)
+	_, err := io.ReadFull(conn, data)
+	must(t, err)
+	return string(data)
+}
+
+// The first five numbers of this seed are odd: so client 2 has five turns. By these it was sent
+// VERSION, and its MKDIR was read, took the root, was decided and was answered. Client 1 goes on
+// once it has gone.
+func TestTheTurnsOfASeed(t *testing.T) {
+	races := NewRaces(1234567, 2)
+	conns := racing(t, races)
+	ask(t, conns[0], looks)
+	same(t, races.Schedule(), []int(nil))
+	ask(t, conns[1], makes)
+	same(t, races.Schedule(), []int{2, 2, 2, 2, 2})
+	must(t, conns[1].Close())
+	same(t, races.Schedule(), []int{2, 2, 2, 2, 2, 1, 1, 1, 1, 1})
+	reply := told(t, conns[0], version+len(looked))[version:]
+	moment := string(number(1_000_000_000))
+	same(t, reply, looked[:33]+moment+moment)
+	must(t, conns[0].Close())
+	same(t, races.Reproducible(), true)
+}
+
+// Those of this one are odd, even, odd, even and odd.
+func TestTheTurnsOfAnotherSeed(t *testing.T) {
+	races := NewRaces(0, 2)
+	conns := racing(t, races)
+	ask(t, conns[0], looks)
+	ask(t, conns[1], makes)
+	same(t, races.Schedule()[:5], []int{2, 1, 2, 1, 2})
+}
+
+// uploader is a client that makes /out, writes a file there and renames the directory away, and
+// tells how that went.
+func uploader(conn net.Conn, name string) string {
+	client, err := sftp.NewClientPipe(conn, conn)
+	if err != nil {
+		return err.Error()
+	}
+	defer client.Close()
+	made, went := "made", "renamed"
+	if client.Mkdir("/out") != nil {
+		made = "found"
+	}
+	if writeAndRename(client, name) != nil {
+		went = "lost"
+	}
+	return made + ", " + went
+}
+
+func writeAndRename(client *sftp.Client, name string) error {
+	file, err := client.Create("/out/" + name)
+	if err != nil {
+		return err
+	}
+	if _, err := file.Write([]byte(name)); err != nil {
+		return err
+	}
+	if err := file.Close(); err != nil {
+		return err
+	}
+	return client.Rename("/out", "/done-"+name)
+}
+
+// A run is what came of races.
+type run struct {
+	told     [2]string
+	schedule []int
+	tree     Snapshot
+}
+
+// race lets two uploaders race.
+func race(t *testing.T, races *Races) run {
+	t.Helper()
+	defer races.Close()
+	var outcome run
+	done := make(chan bool)
+	for at, name := range []string{"a", "b"} {
+		conn, err := races.Connect()
+		must(t, err)
+		at, name := at, name
+		go func() {
+			outcome.told[at] = uploader(conn, name)
+			done <- true
+		}()
+	}
+	<-done
+	<-done
+	same(t, races.Reproducible(), true)
+	outcome.schedule = races.Schedule()
+	outcome.tree = snapshot(t, races.Engine())
+	return outcome
+}
+
+func TestTheSameEachTime(t *testing.T) {
+	const seeds = 1000
+	outcomes, schedules := map[string]bool{}, map[string]bool{}
+	runs := make([]run, seeds)
+	for seed := range runs {
+		runs[seed] = race(t, NewRaces(uint64(seed), 2))
+		schedules[fmt.Sprint(runs[seed].schedule)] = true
+	}
+	for seed, before := range runs {
+		after := race(t, NewRaces(uint64(seed), 2))
+		same(t, after, before)
+	}
+	for seed, found := range runs[:200] {
+		if outcome := strings.Join(found.told[:], " "); !outcomes[outcome] {
+			outcomes[outcome] = true
+			t.Log(seed, outcome, found.tree)
+		}
+	}
+	same(t, outcomes, map[string]bool{
+		"made, renamed found, lost": true, "made, lost found, renamed": true,
+		"found, renamed made, lost": true, "found, lost made, renamed": true,
+	})
+	if len(schedules) < seeds/2 {
+		t.Errorf("%d schedules of %d seeds", len(schedules), seeds)
+	}
+}
+
+func TestAScheduleIsGivenBack(t *testing.T) {
+	for seed := uint64(0); seed < 50; seed++ {
+		before := race(t, NewRaces(seed, 2))
+		after := race(t, ReplayRaces(before.schedule, 2))
+		same(t, after, before)
+	}
+}
+
+// A schedule of something else: what it lacks, and a turn of a client that doesn't wait, are told.
+func TestSchedulesThatDoNotFit(t *testing.T) {
+	for _, schedule := range [][]int{{}, {2, 2, 2, 2}, {2, 2, 2, 2, 2, 1, 2, 1, 1, 1}, {3, 2}} {
+		races := ReplayRaces(schedule, 2)
+		conns := racing(t, races)
+		ask(t, conns[0], looks)
+		ask(t, conns[1], makes)
+		var both sync.WaitGroup
+		both.Add(2)
+		for _, conn := range conns {
+			go func(conn net.Conn) {
+				defer both.Done()
+				defer conn.Close()
+				io.ReadFull(conn, make([]byte, version+28))
+			}(conn)
+		}
+		both.Wait()
+		same(t, len(races.Schedule()), 10)
+		same(t, races.Reproducible(), false)
+	}
+}
+
+// Client 1 waits for something else than the server, until client 2 has its reply.
+func TestAClientThatWaitsForAnother(t *testing.T) {
+	races := NewRaces(0, 2)
+	races.Patience = 50 * time.Millisecond
+	conns := racing(t, races)
+	asked, done := make(chan bool), make(chan error, 1)
+	go func() {
+		<-asked
+		conns[0].Write([]byte(looks))
+		_, err := io.ReadFull(conns[0], make([]byte, version+len(looked)))
+		conns[0].Close()
+		done <- err
+	}()
+	same(t, races.Reproducible(), true)
+	ask(t, conns[1], makes)
+	told(t, conns[1], version+28)
+	same(t, races.Reproducible(), false)
+	close(asked)
+	must(t, conns[1].Close())
+	must(t, <-done)
+	_, err := conns[0].Read(make([]byte, 1))
+	same(t, err, net.ErrClosed)
+	same(t, races.Schedule(), []int{2, 2, 2, 2, 2, 1, 1, 1, 1, 1})
+}
+
+func TestAClientThatDoesNotCome(t *testing.T) {
+	races := NewRaces(0, 2)
+	races.Patience = 50 * time.Millisecond
+	t.Cleanup(func() { races.Close() })
+	conn, err := races.Connect()
+	must(t, err)
+	ask(t, conn, looks)
+	told(t, conn, version)
+	same(t, races.Reproducible(), false)
+	_, err = races.Connect()
+	must(t, err)
+	_, err = races.Connect()
+	same(t, err, ErrMoreClients)
+}
+
+// What a client has asked is carried out, though it reads no reply.
+func TestAClientThatGoesEarly(t *testing.T) {
+	races := NewRaces(0, 2)
+	conns := racing(t, races)
+	ask(t, conns[0], makes+looks[9:])
+	must(t, conns[0].Close())
+	same(t, conns[0].Close(), net.ErrClosed)
+	_, err := conns[0].Write([]byte("x"))
+	same(t, err, net.ErrClosed)
+	_, err = conns[0].Read(make([]byte, 1))
+	same(t, err, net.ErrClosed)
+	same(t, len(races.Schedule()), 0)
+	must(t, conns[1].Close())
+	same(t, len(races.Schedule()), 9)
+	_, there := snapshot(t, races.Engine())["/a"]
+	same(t, there, true)
+	same(t, races.Reproducible(), true)
+}
+
+func TestASessionThatEndsItself(t *testing.T) {
+	races := NewRaces(0, 2)
+	conns := racing(t, races)
+	ask(t, conns[0], "\x00\x00\x00\x00")
+	ask(t, conns[1], looks[9:])
+	for _, conn := range conns {
+		left, err := io.ReadAll(conn)
+		must(t, err)
+		same(t, len(left), 0)
+		_, err = conn.Write([]byte(looks))
+		same(t, err, io.ErrClosedPipe)
+		must(t, conn.Close())
+	}
+	same(t, len(races.Schedule()), 2)
+}
+
+func TestDeadlines(t *testing.T) {
+	races := NewRaces(0, 2)
+	conns := racing(t, races)
+	must(t, conns[0].SetDeadline(time.Now().Add(20*time.Millisecond)))
+	_, err := conns[0].Read(make([]byte, 1))
+	same(t, errors.Is(err, os.ErrDeadlineExceeded), true)
+	_, err = conns[0].Write([]byte(looks))
+	var fault net.Error
+	same(t, errors.As(err, &fault) && fault.Timeout(), true)
+	must(t, conns[0].SetDeadline(time.Time{}))
+	ask(t, conns[0], looks)
+	ask(t, conns[1], makes)
+	told(t, conns[0], version)
+	same(t, conns[0].LocalAddr().String(), "client 1")
+	same(t, conns[1].RemoteAddr().Network(), "lucernetick")
+}
+
+// A client that waits is told that the races were closed.
+func TestRacesThatAreClosed(t *testing.T) {
+	races := NewRaces(0, 2)
+	conns := racing(t, races)
+	told := make(chan error, 1)
+	go func() {
+		_, err := conns[0].Read(make([]byte, 1))
+		told <- err
+	}()
+	time.Sleep(20 * time.Millisecond)
+	must(t, races.Close())
+	same(t, <-told, ErrBadPointer)
+	_, err := conns[1].Write([]byte(looks))
+	same(t, err, ErrBadPointer)
+	must(t, races.Close())
+}
+
+// Times are of the races, and a tree may be there before.
+func TestATreeThatIsThereBefore(t *testing.T) {
+	races := NewRaces(7, 1)
+	must(t, races.Engine().WriteFiles(map[string][]byte{"/out/x": []byte("1")}, 5))
+	races.Time.Set(1_700_000_000)
+	conn := racing(t, races)[0]
+	same(t, uploader(conn, "a"), "found, renamed")
+	found := snapshot(t, races.Engine())
+	same(t, found["/done-a/x"].Mtime, uint32(5))
+	same(t, found["/done-a/a"].Mtime, uint32(1_700_000_000))
+	for _, client := range races.Schedule() {
+		same(t, client, 1)
+	}
+	same(t, reflect.DeepEqual(races.Schedule(), []int{}), false)
+}

@@ -1,0 +1,114 @@
+package lucernetick
+
+import (
+	"errors"
+	"io"
+	"io/fs"
+	"path"
+	"sort"
+	"time"
+)
+
+// A Snapshot is a whole tree by its paths, from "/" on. It is an fs.FS too, in which a path has no
+// first "/", and the root is ".": as there, a name that isn't UTF-8 can't be opened.
+type Snapshot map[string]Entry
+
+var _ fs.FS = Snapshot(nil)
+
+// FileMode is its kind and its permissions as Go has them.
+func (entry Entry) FileMode() fs.FileMode {
+	mode := fs.FileMode(entry.Mode & 0o777)
+	for bit, flag := range map[uint32]fs.FileMode{
+		0o4000: fs.ModeSetuid,
+		0o2000: fs.ModeSetgid,
+		0o1000: fs.ModeSticky,
+	} {
+		if entry.Mode&bit != 0 {
+			mode |= flag
+		}
+	}
+	if entry.IsDir() {
+		mode |= fs.ModeDir
+	}
+	return mode
+}
+
+// Open opens a file or a directory to be read.
+func (tree Snapshot) Open(name string) (fs.File, error) {
+	if !fs.ValidPath(name) {
+		return nil, &fs.PathError{Op: "open", Path: name, Err: fs.ErrInvalid}
+	}
+	at := path.Join("/", name)
+	entry, there := tree[at]
+	if !there {
+		return nil, &fs.PathError{Op: "open", Path: name, Err: fs.ErrNotExist}
+	}
+	info := entryInfo{path.Base(name), entry}
+	if !entry.IsDir() {
+		return &openFile{info, io.NewSectionReader(entry, 0, int64(entry.Size))}, nil
+	}
+	return &openDirectory{info, name, tree.below(at)}, nil
+}
+
+// below are the entries of a directory, by their names.
+func (tree Snapshot) below(directory string) []fs.DirEntry {
+	entries := []fs.DirEntry{}
+	for at, entry := range tree {
+		if at != "/" && path.Dir(at) == directory {
+			entries = append(entries, fs.FileInfoToDirEntry(entryInfo{path.Base(at), entry}))
+		}
+	}
+	sort.Slice(entries, func(one, other int) bool {
+		return entries[one].Name() < entries[other].Name()
+	})
+	return entries
+}
+
+// An entryInfo is an entry with its name. Sys is the Entry.
+type entryInfo struct {
+	name  string
+	entry Entry
+}
+
+func (info entryInfo) Name() string       { return info.name }
+func (info entryInfo) Size() int64        { return int64(info.entry.Size) }
+func (info entryInfo) Mode() fs.FileMode  { return info.entry.FileMode() }
+func (info entryInfo) ModTime() time.Time { return time.Unix(int64(info.entry.Mtime), 0) }
+func (info entryInfo) IsDir() bool        { return info.entry.IsDir() }
+func (info entryInfo) Sys() interface{}   { return info.entry }
+
+type openFile struct {
+	info entryInfo
+	*io.SectionReader
+}
+
+func (file *openFile) Stat() (fs.FileInfo, error) { return file.info, nil }
+func (file *openFile) Close() error               { return nil }
+
+type openDirectory struct {
+	info entryInfo
+	name string
+	rest []fs.DirEntry
+}
+
+var _ fs.ReadDirFile = (*openDirectory)(nil)
+
+func (directory *openDirectory) Stat() (fs.FileInfo, error) { return directory.info, nil }
+func (directory *openDirectory) Close() error               { return nil }
+
+func (directory *openDirectory) Read([]byte) (int, error) {
+	return 0, &fs.PathError{Op: "read", Path: directory.name, Err: errors.New("is a directory")}
+}
+
+func (directory *openDirectory) ReadDir(most int) ([]fs.DirEntry, error) {
+	count := len(directory.rest)
+	if most > 0 && count == 0 {
+		return nil, io.EOF
+	}
+	if most > 0 && most < count {
+		count = most
+	}
+	entries := directory.rest[:count]
+	directory.rest = directory.rest[count:]
+	return entries, nil
+}

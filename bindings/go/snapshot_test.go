@@ -1,0 +1,148 @@
+package lucernetick
+
+import (
+	"bytes"
+	"errors"
+	"io/fs"
+	"os"
+	"path/filepath"
+	"testing"
+	"testing/fstest"
+	"time"
+)
+
+// grown is a snapshot of files and directories of many kinds, all of the moment 77 but for /s.
+func grown(t *testing.T) Snapshot {
+	t.Helper()
+	engine, err := FromFiles(map[string][]byte{
+		"/a/b/c": []byte("one"), "/a/b-c": []byte("two"), "/a/none": {}, "/a/empty": nil,
+		"/a name": []byte("3"), "/caf\u00e9": []byte("4"), "/s": []byte("#!/bin/sh\n"),
+		"/l": bytes.Repeat([]byte("long "), 100_000),
+	}, 77)
+	must(t, err)
+	t.Cleanup(func() { engine.Close() })
+	must(t, engine.Link("/a/b/c", "/x/c", 77))
+	// The permissions of /s are 0o6750, its times 5 and 1700000000.
+	set(t, engine, "/s", append(number(4), number(0o6750)...))
+	set(t, engine, "/s", append(number(8), append(number(5), number(1_700_000_000)...)...))
+	return snapshot(t, engine)
+}
+
+func TestASnapshotIsAnFS(t *testing.T) {
+	tree := grown(t)
+	must(t, fstest.TestFS(tree, "a/b/c", "a/b-c", "a/none", "a/empty", "a name", "caf\u00e9", "l", "s",
+		"x/c"))
+	empty := snapshot(t, newEngine(t))
+	must(t, fstest.TestFS(empty))
+	below, err := fs.Sub(tree, "a")
+	must(t, err)
+	must(t, fstest.TestFS(below, "b/c", "empty"))
+}
+
+func TestWhatAnFSTells(t *testing.T) {
+	tree := grown(t)
+	info, err := fs.Stat(tree, "s")
+	must(t, err)
+	same(t, info.Mode(), fs.ModeSetuid|fs.ModeSetgid|0o750)
+	same(t, info.ModTime().Equal(time.Unix(1_700_000_000, 0)), true)
+	same(t, info.Name(), "s")
+	same(t, info.Size(), int64(10))
+	same(t, info.Sys(), tree["/s"])
+	info, err = fs.Stat(tree, ".")
+	must(t, err)
+	same(t, []interface{}{info.Name(), info.Mode()}, []interface{}{".", fs.ModeDir | 0o755})
+	contents, err := fs.ReadFile(tree, "a/b/c")
+	must(t, err)
+	same(t, string(contents), "one")
+	found, err := fs.Glob(tree, "a/*c")
+	must(t, err)
+	same(t, found, []string{"a/b-c"})
+	for name, wanted := range map[string]error{
+		"none": fs.ErrNotExist, "s/x": fs.ErrNotExist,
+		"/s": fs.ErrInvalid, "a/../s": fs.ErrInvalid, "": fs.ErrInvalid,
+	} {
+		_, err := tree.Open(name)
+		same(t, errors.Is(err, wanted), true)
+	}
+	_, err = fs.ReadFile(tree, "a")
+	same(t, err != nil, true)
+}
+
+func TestASnapshotIsSavedAndTakenBack(t *testing.T) {
+	tree := grown(t)
+	folder := filepath.Join(t.TempDir(), "new", "folder")
+	must(t, tree.Save(folder))
+	info, err := os.Stat(filepath.Join(folder, "s"))
+	must(t, err)
+	same(t, info.Mode(), fs.FileMode(0o750))
+	same(t, info.ModTime().Unix(), int64(1_700_000_000))
+	info, err = os.Stat(filepath.Join(folder, "a/b"))
+	must(t, err)
+	same(t, info.Mode(), fs.ModeDir|0o755)
+	same(t, info.ModTime().Unix(), int64(77))
+	one, err := os.Stat(filepath.Join(folder, "x/c"))
+	must(t, err)
+	other, err := os.Stat(filepath.Join(folder, "a/b/c"))
+	must(t, err)
+	same(t, os.SameFile(one, other), true)
+
+	engine, err := FromFS(os.DirFS(folder), 9)
+	must(t, err)
+	t.Cleanup(func() { engine.Close() })
+	again := snapshot(t, engine)
+	copied, err := FromFS(tree, 9)
+	must(t, err)
+	t.Cleanup(func() { copied.Close() })
+	same(t, snapshot(t, copied), again)
+	same(t, numbersOf(again), numbersOf(tree))
+	for path, entry := range again {
+		same(t, entry.Contents(), tree[path].Contents())
+		same(t, entry.Mtime, uint32(9))
+	}
+	// Nothing is replaced.
+	same(t, errors.Is(tree.Save(folder), fs.ErrExist), true)
+}
+
+// Directories that nobody may enter are saved with what is in them.
+func TestASnapshotOfWhatMayNotBeRead(t *testing.T) {
+	engine, err := FromFiles(map[string][]byte{"/d/f": []byte("1")}, 7)
+	must(t, err)
+	t.Cleanup(func() { engine.Close() })
+	set(t, engine, "/d", append(number(4), number(0)...))
+	folder := t.TempDir()
+	must(t, snapshot(t, engine).Save(folder))
+	info, err := os.Stat(filepath.Join(folder, "d"))
+	must(t, err)
+	same(t, info.Mode(), fs.ModeDir)
+	must(t, os.Chmod(filepath.Join(folder, "d"), 0o700))
+	contents, err := os.ReadFile(filepath.Join(folder, "d/f"))
+	must(t, err)
+	same(t, string(contents), "1")
+}
+
+func TestATreeOfAnotherFS(t *testing.T) {
+	engine, err := FromFS(fstest.MapFS{
+		"d/f":   {Data: []byte("1"), Mode: 0o600},
+		"none":  {},
+		"empty": {Mode: fs.ModeDir},
+	}, 3)
+	must(t, err)
+	t.Cleanup(func() { engine.Close() })
+	found := snapshot(t, engine)
+	same(t, len(found), 5)
+	same(t, string(found["/d/f"].Contents()), "1")
+	same(t, found["/none"].Contents(), []byte{})
+	same(t, found["/empty"].IsDir(), true)
+	same(t, []uint32{found["/d/f"].Mode, found["/d/f"].Mtime}, []uint32{0o100644, 3})
+}
+
+// The tree has no symbolic links, so none are taken.
+func TestFoldersThatAreRefused(t *testing.T) {
+	folder := t.TempDir()
+	must(t, os.WriteFile(filepath.Join(folder, "f"), []byte("1"), 0o600))
+	must(t, os.Symlink("f", filepath.Join(folder, "g")))
+	_, err := FromFS(os.DirFS(folder), 0)
+	same(t, err.Error(), "lucernetick: g is neither a file nor a directory")
+	_, err = FromFS(os.DirFS(filepath.Join(folder, "none")), 0)
+	same(t, errors.Is(err, fs.ErrNotExist), true)
+}

@@ -1,0 +1,16 @@
+module lucernetick/sshtest
+
+go 1.19
+
+require (
+	github.com/pkg/sftp v1.13.5
+	golang.org/x/crypto v0.4.0
+	lucernetick v0.0.0
+)
+
+require (
+	github.com/kr/fs v0.1.0 // indirect
+	golang.org/x/sys v0.3.0 // indirect
+)
+
+replace lucernetick => ../

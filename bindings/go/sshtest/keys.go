@@ -1,0 +1,48 @@
+package sshtest
+
+import (
+	"crypto/ed25519"
+	"crypto/rand"
+	"encoding/pem"
+	"fmt"
+
+	"golang.org/x/crypto/ssh"
+)
+
+func newKey() ed25519.PrivateKey {
+	_, key, err := ed25519.GenerateKey(rand.Reader)
+	if err != nil {
+		panic(fmt.Sprintf("sshtest: no key can be drawn: %v", err))
+	}
+	return key
+}
+
+func signerOf(key ed25519.PrivateKey) ssh.Signer {
+	signer, err := ssh.NewSignerFromKey(key)
+	if err != nil {
+		panic(fmt.Sprintf("sshtest: %v", err))
+	}
+	return signer
+}
+
+// fileOf is a private key as OpenSSH keeps it in a file, without a passphrase (PROTOCOL.key of its
+// sources).
+func fileOf(key ed25519.PrivateKey) []byte {
+	public := signerOf(key).PublicKey()
+	secret := ssh.Marshal(struct {
+		Check, Again    uint32
+		Type            string
+		Public, Private []byte
+		Comment         string
+	}{0, 0, public.Type(), key.Public().(ed25519.PublicKey), key, ""})
+	for padding := byte(1); len(secret)%8 != 0; padding++ {
+		secret = append(secret, padding)
+	}
+	file := ssh.Marshal(struct {
+		Cipher, KDF, Options string
+		Keys                 uint32
+		Public, Secret       []byte
+	}{"none", "none", "", 1, public.Marshal(), secret})
+	file = append([]byte("openssh-key-v1\x00"), file...)
+	return pem.EncodeToMemory(&pem.Block{Type: "OPENSSH PRIVATE KEY", Bytes: file})
+}

@@ -1,0 +1,228 @@
+// Package sshtest puts SSH in front of an engine, on a port of this machine, as net/http/httptest
+// puts HTTP in front of a handler: so what is tested makes its own connection, to an address, by a
+// key or a password.
+//
+// Of SSH only the subsystem sftp is served: no shell, no commands, nothing forwarded. There may be
+// many connections, and many channels on each; all of them are sessions on the engine's tree.
+package sshtest
+
+import (
+	"crypto/ed25519"
+	"crypto/rand"
+	"crypto/subtle"
+	"encoding/hex"
+	"errors"
+	"fmt"
+	"net"
+	"sync"
+	"time"
+
+	"golang.org/x/crypto/ssh"
+	"golang.org/x/crypto/ssh/knownhosts"
+	"lucernetick"
+)
+
+const (
+	// patience is how long a client may take to log in.
+	patience = 30 * time.Second
+	// pause is how long to wait after a connection couldn't be taken.
+	pause = 10 * time.Millisecond
+)
+
+// A Server is an SSH server on a port of this machine, whose sessions are an engine's.
+type Server struct {
+	// Addr is the host and the port, as ssh.Dial takes them, once the server has started.
+	Addr string
+	// Listener takes the connections. It is on the loopback interface, at a port that was free.
+	Listener net.Listener
+
+	// User is who may log in, by a key or by a password. Both were drawn for this server.
+	User     string
+	Password string
+
+	// Config says who may log in, and has the host's key. A test may change it before the server
+	// starts.
+	Config *ssh.ServerConfig
+	// Clock tells the moment at which each call begins.
+	Clock lucernetick.Clock
+
+	engine       *lucernetick.Engine
+	host, client ed25519.PrivateKey
+
+	lock    sync.Mutex
+	lines   map[net.Conn]bool // those that are served
+	closed  bool
+	serving sync.WaitGroup
+}
+
+// NewServer starts a server of the engine's tree, whose calls begin by the system's clock. Close
+// ends it. As that of net/http/httptest it panics where no port can be had.
+func NewServer(engine *lucernetick.Engine) *Server {
+	server := NewUnstartedServer(engine)
+	server.Start()
+	return server
+}
+
+// NewUnstartedServer makes a server that has yet to be started, so that a test can change its
+// clock, or who may log in.
+func NewUnstartedServer(engine *lucernetick.Engine) *Server {
+	listener, err := net.Listen("tcp", "127.0.0.1:0")
+	if err != nil {
+		panic(fmt.Sprintf("sshtest: no port can be had: %v", err))
+	}
+	server := &Server{
+		Listener: listener,
+		User:     "user",
+		Password: newPassword(),
+		Clock:    lucernetick.WallClock,
+		engine:   engine,
+		host:     newKey(),
+		client:   newKey(),
+		lines:    map[net.Conn]bool{},
+	}
+	server.Config = &ssh.ServerConfig{
+		PasswordCallback:  server.checkPassword,
+		PublicKeyCallback: server.checkKey,
+	}
+	server.Config.AddHostKey(signerOf(server.host))
+	return server
+}
+
+// Start starts the server.
+func (server *Server) Start() {
+	if server.Addr != "" {
+		panic("sshtest: the server was started before")
+	}
+	server.Addr = server.Listener.Addr().String()
+	server.serving.Add(1)
+	go server.accept()
+}
+
+// ClientConfig is what ssh.Dial takes to log in by the user's key. It knows the host's key, and
+// refuses any other one.
+func (server *Server) ClientConfig() *ssh.ClientConfig {
+	return &ssh.ClientConfig{
+		User:            server.User,
+		Auth:            []ssh.AuthMethod{ssh.PublicKeys(signerOf(server.client))},
+		HostKeyCallback: ssh.FixedHostKey(server.HostKey()),
+	}
+}
+
+// HostKey is the key by which the server is known.
+func (server *Server) HostKey() ssh.PublicKey { return signerOf(server.host).PublicKey() }
+
+// KnownHosts is the line of a file known_hosts that tells the host's key.
+func (server *Server) KnownHosts() string {
+	return knownhosts.Line([]string{server.Addr}, server.HostKey()) + "\n"
+}
+
+// ClientKey is the user's private key as OpenSSH keeps it in a file, which nobody else may read
+// there. ssh.ParsePrivateKey takes it.
+func (server *Server) ClientKey() []byte { return fileOf(server.client) }
+
+// Close ends all connections, and waits until none is served. The engine stays as it is.
+func (server *Server) Close() {
+	server.lock.Lock()
+	server.closed = true
+	// Either may have been closed before.
+	server.Listener.Close()
+	for line := range server.lines {
+		line.Close()
+	}
+	server.lock.Unlock()
+	server.serving.Wait()
+}
+
+var errRefused = errors.New("sshtest: who this is may not log in")
+
+func (server *Server) checkPassword(client ssh.ConnMetadata, shown []byte) (*ssh.Permissions, error) {
+	return nil, server.check(client, shown, []byte(server.Password))
+}
+
+func (server *Server) checkKey(client ssh.ConnMetadata, shown ssh.PublicKey) (*ssh.Permissions, error) {
+	wanted := signerOf(server.client).PublicKey()
+	return nil, server.check(client, shown.Marshal(), wanted.Marshal())
+}
+
+func (server *Server) check(client ssh.ConnMetadata, shown, wanted []byte) error {
+	if client.User() != server.User || subtle.ConstantTimeCompare(shown, wanted) != 1 {
+		return errRefused
+	}
+	return nil
+}
+
+// accept takes connections until the server is closed.
+func (server *Server) accept() {
+	defer server.serving.Done()
+	for {
+		line, err := server.Listener.Accept()
+		switch {
+		case errors.Is(err, net.ErrClosed):
+			return
+		case err != nil:
+			time.Sleep(pause)
+		case server.begin(line):
+			go server.serve(line)
+		default:
+			line.Close()
+		}
+	}
+}
+
+// begin counts a connection among those that are served, unless the server was closed.
+func (server *Server) begin(line net.Conn) bool {
+	server.lock.Lock()
+	defer server.lock.Unlock()
+	if server.closed {
+		return false
+	}
+	server.lines[line] = true
+	server.serving.Add(1)
+	return true
+}
+
+func (server *Server) end(line net.Conn) {
+	line.Close()
+	server.lock.Lock()
+	delete(server.lines, line)
+	server.lock.Unlock()
+	server.serving.Done()
+}
+
+// serve serves a connection to its end.
+func (server *Server) serve(line net.Conn) {
+	defer server.end(line)
+	line.SetDeadline(time.Now().Add(patience))
+	_, channels, requests, err := ssh.NewServerConn(line, server.Config)
+	if err != nil {
+		return
+	}
+	line.SetDeadline(time.Time{})
+	// So nothing is forwarded.
+	go ssh.DiscardRequests(requests)
+	var sessions sync.WaitGroup
+	for asked := range channels {
+		if asked.ChannelType() != "session" {
+			asked.Reject(ssh.UnknownChannelType, "there are sessions alone")
+			continue
+		}
+		channel, requests, err := asked.Accept()
+		if err != nil {
+			break
+		}
+		sessions.Add(1)
+		go func() {
+			defer sessions.Done()
+			server.session(channel, requests)
+		}()
+	}
+	sessions.Wait()
+}
+
+func newPassword() string {
+	drawn := make([]byte, 16)
+	if _, err := rand.Read(drawn); err != nil {
+		panic(fmt.Sprintf("sshtest: nothing can be drawn: %v", err))
+	}
+	return hex.EncodeToString(drawn)
+}

@@ -1,0 +1,387 @@
+"""An SSH server, with clients of OpenSSH, paramiko and asyncssh. interop/python_front has more of
+them, with files of 100 MB."""
+
+from __future__ import annotations
+
+import asyncio
+import os
+import random
+import signal
+import socket
+import subprocess
+import sys
+import threading
+import time
+from pathlib import Path
+from typing import Callable, Iterator
+
+import asyncssh
+import paramiko
+import pytest
+
+from lucernetick import Engine, Kind, Server, SshServer, VirtualTime
+
+from packets import MAKES
+
+LARGE = random.Random(1).randbytes(10_000_000)
+LIMIT = 300
+ENDLESS = 2**30
+"""More than any client sends before it is killed."""
+
+
+@pytest.fixture
+def client(sftp_ssh: SshServer) -> Iterator[paramiko.SSHClient]:
+    with connected(sftp_ssh, key_filename=sftp_ssh.client_key) as found:
+        yield found
+
+
+def connected(ssh: SshServer, **words: object) -> paramiko.SSHClient:
+    """A client of paramiko that knows the host's key."""
+    client = paramiko.SSHClient()
+    client.load_host_keys(ssh.known_hosts)
+    words = {
+        "username": ssh.user,
+        "look_for_keys": False,
+        "allow_agent": False,
+        "timeout": LIMIT,
+        "banner_timeout": LIMIT,
+        "auth_timeout": LIMIT,
+        **words,
+    }
+    client.connect(ssh.host, ssh.port, **words)
+    return client
+
+
+def sftp(ssh: SshServer, commands: str) -> str:
+    """Runs OpenSSH's client."""
+    words = ssh.sftp_command("-q", "-b", "-")
+    return subprocess.run(
+        words, input=commands, text=True, check=True, timeout=LIMIT, stdout=subprocess.PIPE
+    ).stdout
+
+
+def wait_for(is_so: Callable[[], bool]) -> None:
+    """For what comes about by itself."""
+    end = time.monotonic() + LIMIT
+    while not is_so():
+        assert time.monotonic() < end
+        time.sleep(0.01)
+
+
+def sessions() -> list[threading.Thread]:
+    """The threads of sessions that go on."""
+    return [
+        thread for thread in threading.enumerate() if thread.name.startswith("<lucernetick session")
+    ]
+
+
+def test_openssh_puts_and_gets(
+    sftp_ssh: SshServer, sftp_tree: Server, tmp_path: Path
+) -> None:
+    (tmp_path / "large").write_bytes(LARGE)
+    sftp(sftp_ssh, f"put {tmp_path}/large /there\n")
+    assert sftp_tree.snapshot()["/there"].contents == LARGE
+    sftp(sftp_ssh, f"get /there {tmp_path}/back\n")
+    assert (tmp_path / "back").read_bytes() == LARGE
+
+
+def test_paramiko_puts_and_gets(
+    client: paramiko.SSHClient, sftp_tree: Server, tmp_path: Path
+) -> None:
+    (tmp_path / "large").write_bytes(LARGE)
+    files = client.open_sftp()
+    files.get_channel().settimeout(LIMIT)
+    files.put(str(tmp_path / "large"), "/there")
+    assert sftp_tree.snapshot()["/there"].contents == LARGE
+    files.get("/there", str(tmp_path / "back"))
+    assert (tmp_path / "back").read_bytes() == LARGE
+
+
+def test_a_client_of_asyncssh(sftp_ssh: SshServer, sftp_tree: Server) -> None:
+    async def main() -> None:
+        words = {"known_hosts": sftp_ssh.known_hosts, "client_keys": [sftp_ssh.client_key]}
+        async with asyncssh.connect(
+            sftp_ssh.host, sftp_ssh.port, username=sftp_ssh.user, **words
+        ) as connection:
+            async with connection.start_sftp_client() as files:
+                await files.mkdir("/d")
+                async with files.open("/d/f", "wb") as file:
+                    await file.write(LARGE[:1_000_000])
+                async with files.open("/d/f", "rb") as file:
+                    assert await file.read() == LARGE[:1_000_000]
+
+    asyncio.run(asyncio.wait_for(main(), LIMIT))
+    assert sftp_tree.snapshot()["/d/f"].contents == LARGE[:1_000_000]
+
+
+def test_openssh_lists_at_the_test_s_time(sftp_ssh: SshServer, virtual_time: VirtualTime) -> None:
+    virtual_time.set(1_700_000_000)
+    listed = sftp(sftp_ssh, "mkdir /d\nls -l /\n").splitlines()[-1]
+    assert listed == "drwxrwxrwx   1 0        0               0   1700000000 d"
+
+
+def test_50_connections_at_once(sftp_ssh: SshServer, sftp_tree: Server) -> None:
+    async def work(name: str) -> None:
+        words = {
+            "known_hosts": sftp_ssh.known_hosts,
+            "username": sftp_ssh.user,
+            "password": sftp_ssh.password,
+        }
+        async with asyncssh.connect(
+            sftp_ssh.host, sftp_ssh.port, client_keys=None, **words
+        ) as connection:
+            async with connection.start_sftp_client() as files:
+                together.append(name)
+                while len(together) < 50:
+                    await asyncio.sleep(0.01)
+                await files.mkdir(name)
+                async with files.open(f"{name}/f", "wb") as file:
+                    await file.write(name.encode() * 10_000)
+
+    async def main() -> None:
+        await asyncio.gather(*map(work, names))
+
+    together: list[str] = []
+    names = [f"/d{number:02}" for number in range(50)]
+    asyncio.run(asyncio.wait_for(main(), LIMIT))
+    tree = sftp_tree.snapshot()
+    assert [path for path, entry in tree.items() if entry.is_directory] == ["/", *names]
+    assert all(tree[f"{name}/f"].contents == name.encode() * 10_000 for name in names)
+
+
+def test_channels_of_one_connection_share_the_tree(client: paramiko.SSHClient) -> None:
+    first, second = client.open_sftp(), client.open_sftp()
+    first.mkdir("/d")
+    assert second.listdir("/") == ["d"]
+    first.close()
+    second.rmdir("/d")
+    assert second.listdir("/") == []
+
+
+def test_sessions_that_have_ended_make_room(client: paramiko.SSHClient) -> None:
+    """There is room for 256 at a time."""
+    for _ in range(300):
+        client.open_sftp().close()
+
+
+def test_a_wrong_password_is_refused(sftp_ssh: SshServer, sftp_tree: Server) -> None:
+    with pytest.raises(paramiko.AuthenticationException):
+        connected(sftp_ssh, password=sftp_ssh.password + "x")
+    with pytest.raises(paramiko.AuthenticationException):
+        connected(sftp_ssh, password="")
+    with pytest.raises(paramiko.AuthenticationException):
+        connected(sftp_ssh, username="root", password=sftp_ssh.password)
+    connected(sftp_ssh, password=sftp_ssh.password).close()
+    assert sftp_tree.engine.open().number == 1
+
+
+def test_a_wrong_key_is_refused(sftp_ssh: SshServer, sftp_tree: Server, tmp_path: Path) -> None:
+    asyncssh.generate_private_key("ssh-ed25519").write_private_key(str(tmp_path / "key"))
+    with pytest.raises(paramiko.AuthenticationException):
+        connected(sftp_ssh, key_filename=str(tmp_path / "key"))
+    with pytest.raises(paramiko.AuthenticationException):
+        connected(sftp_ssh, username="root", key_filename=sftp_ssh.client_key)
+    assert sftp_tree.engine.open().number == 1
+
+
+def test_a_key_of_the_caller_s(sftp_tree: Server, tmp_path: Path) -> None:
+    key = asyncssh.generate_private_key("ssh-ed25519")
+    key.write_private_key(str(tmp_path / "key"))
+    key.write_public_key(str(tmp_path / "key.pub"))
+    with SshServer(
+        sftp_tree, user="ann", password="secret", public_keys=[tmp_path / "key.pub"]
+    ) as ssh:
+        for words in ({"key_filename": str(tmp_path / "key")}, {"password": "secret"}):
+            with connected(ssh, **words) as client:
+                assert client.open_sftp().listdir("/") == []
+
+
+def test_another_host_s_key_is_noticed(sftp_ssh: SshServer, sftp_tree: Server) -> None:
+    """The keys of two servers differ."""
+    with SshServer(sftp_tree, password=sftp_ssh.password) as other:
+        named = Path(other.known_hosts).read_text().replace(str(other.port), str(sftp_ssh.port))
+        Path(other.known_hosts).write_text(named)
+        client = paramiko.SSHClient()
+        client.load_host_keys(other.known_hosts)
+        with pytest.raises(paramiko.BadHostKeyException):
+            client.connect(
+                sftp_ssh.host, sftp_ssh.port, "user", sftp_ssh.password, allow_agent=False
+            )
+
+
+def test_there_is_nothing_but_sftp(client: paramiko.SSHClient, sftp_tree: Server) -> None:
+    transport = client.get_transport()
+    assert transport is not None
+    with pytest.raises(paramiko.SSHException):
+        client.exec_command("true", timeout=LIMIT)
+    with pytest.raises(paramiko.SSHException):
+        transport.open_session().invoke_shell()
+    with pytest.raises(paramiko.SSHException):
+        transport.open_session().invoke_subsystem("netconf")
+    with pytest.raises(paramiko.SSHException):
+        transport.open_session().get_pty()
+    with pytest.raises(paramiko.SSHException):
+        transport.open_session().request_x11()
+    with pytest.raises(paramiko.ChannelException):
+        transport.open_channel("direct-tcpip", ("127.0.0.1", 22), ("127.0.0.1", 1))
+    with pytest.raises(paramiko.SSHException):
+        transport.request_port_forward("127.0.0.1", 0)
+    assert client.open_sftp().listdir("/") == []
+    assert sftp_tree.engine.open().number == 2
+
+
+def test_openssh_is_refused_a_shell_and_forwarding(sftp_ssh: SshServer, tmp_path: Path) -> None:
+    reaches = sftp_ssh.sftp_command()[3:]
+    for words in ([], ["true"]):
+        ran = subprocess.run(
+            ["ssh", "-p", str(sftp_ssh.port), *reaches, *words],
+            stdin=subprocess.DEVNULL,
+            capture_output=True,
+            text=True,
+            timeout=LIMIT,
+        )
+        assert ran.returncode == 255 and "request failed on channel 0" in ran.stderr
+    forwards = ("-R", f"{tmp_path}/socket:127.0.0.1:22"), ("-R", "0:127.0.0.1:22")
+    for option in forwards:
+        ran = subprocess.run(
+            [
+                "ssh",
+                "-p",
+                str(sftp_ssh.port),
+                "-N",
+                "-o",
+                "ExitOnForwardFailure=yes",
+                *option,
+                *reaches,
+            ],
+            capture_output=True,
+            text=True,
+            timeout=LIMIT,
+        )
+        assert ran.returncode == 255 and "remote port forwarding failed" in ran.stderr
+
+
+def test_a_connection_that_is_cut_in_the_middle(sftp_ssh: SshServer, sftp_tree: Server) -> None:
+    """What came before is carried out, the session ends, and others go on."""
+    with connected(sftp_ssh, password=sftp_ssh.password) as client:
+        transport = client.get_transport()
+        assert transport is not None
+        file = client.open_sftp().open("/f", "w")
+        file.set_pipelined(True)
+        file.write(LARGE[:1_000_000])
+        file.stat()
+        transport.sock.shutdown(socket.SHUT_RDWR)
+    assert sftp_tree.snapshot()["/f"].contents == LARGE[:1_000_000]
+    wait_for(lambda: not sessions())
+    with connected(sftp_ssh, password=sftp_ssh.password) as client:
+        assert client.open_sftp().stat("/f").st_size == 1_000_000
+
+
+def test_openssh_is_killed_in_the_middle(
+    sftp_ssh: SshServer, sftp_tree: Server, tmp_path: Path
+) -> None:
+    (tmp_path / "large").touch()
+    os.truncate(tmp_path / "large", ENDLESS)
+    words = sftp_ssh.sftp_command("-q", "-b", "-")
+    with subprocess.Popen(words, stdin=subprocess.PIPE, start_new_session=True) as running:
+        assert running.stdin is not None
+        running.stdin.write(f"put {tmp_path}/large /there\n".encode())
+        running.stdin.flush()
+        wait_for(lambda: Kind.WRITE in {call.kind for call in sftp_tree.calls()})
+        os.killpg(running.pid, signal.SIGKILL)
+        running.wait()
+    wait_for(lambda: not sessions())
+    part = sftp_tree.snapshot()["/there"].contents
+    assert part is not None and len(part) < ENDLESS
+    (tmp_path / "small").write_bytes(LARGE[:1_000_000])
+    sftp(sftp_ssh, f"put {tmp_path}/small /there\n")
+    assert sftp_tree.snapshot()["/there"].contents == LARGE[:1_000_000]
+
+
+def test_a_cut_connection_leaves_no_session(sftp_ssh: SshServer) -> None:
+    """Of 200 and 200 channels all find room, of which there is for 256."""
+    for _ in range(2):
+        with connected(sftp_ssh, password=sftp_ssh.password) as client:
+            files = [client.open_sftp() for _ in range(200)]
+            transport = client.get_transport()
+            assert transport is not None and files[-1].listdir("/") == []
+            transport.sock.shutdown(socket.SHUT_RDWR)
+        wait_for(lambda: not sessions())
+
+
+def test_the_257th_session_is_refused(client: paramiko.SSHClient, sftp_tree: Server) -> None:
+    opened = [sftp_tree.engine.open() for _ in range(256)]
+    with pytest.raises(paramiko.SSHException):
+        client.open_sftp()
+    opened[0].close()
+    assert client.open_sftp().listdir("/") == []
+
+
+def test_a_client_that_is_slow_to_read_keeps_nobody_waiting(
+    client: paramiko.SSHClient, sftp_tree: Server
+) -> None:
+    """It asks for far more than a channel's window, which waits until it reads on."""
+    sftp_tree.engine.write_files({"/f": LARGE[:1_000_000]})
+    with client.open_sftp().open("/f") as file:
+        parts = file.readv([(offset, 20_000) for offset in range(0, 1_000_000, 20_000)] * 10)
+        first = next(parts)
+        assert client.open_sftp().listdir("/") == ["f"]
+        assert first + b"".join(parts) == LARGE[:1_000_000] * 10
+
+
+def test_a_session_that_ends_closes_its_channel(client: paramiko.SSHClient) -> None:
+    """By a packet of length 0: its client is told by the exit status."""
+    transport = client.get_transport()
+    assert transport is not None
+    channel = transport.open_session(timeout=LIMIT)
+    channel.invoke_subsystem("sftp")
+    channel.sendall(MAKES[:9] + bytes(4))
+    assert channel.recv_exit_status() == 1
+    channel = transport.open_session(timeout=LIMIT)
+    channel.invoke_subsystem("sftp")
+    channel.sendall(MAKES)
+    channel.shutdown_write()
+    with channel.makefile("rb") as replies:
+        assert len(replies.read()) == 71 + 28
+    assert channel.recv_exit_status() == 0
+
+
+def test_where_it_is_left_its_connections_are_cut(sftp_tree: Server) -> None:
+    with SshServer(sftp_tree) as ssh:
+        assert os.stat(ssh.client_key).st_mode & 0o777 == 0o600
+        client = connected(ssh, password=ssh.password)
+        client.open_sftp().mkdir("/d")
+    assert not os.path.exists(ssh.client_key) and not os.path.exists(ssh.known_hosts)
+    transport = client.get_transport()
+    assert transport is not None
+    wait_for(lambda: not transport.is_active())
+    with pytest.raises(OSError):
+        socket.create_connection((ssh.host, ssh.port))
+    ssh.close()
+    assert list(sftp_tree.snapshot()) == ["/", "/d"]
+
+
+def test_a_port_that_is_taken(sftp_ssh: SshServer, sftp_tree: Server) -> None:
+    before = set(threading.enumerate())
+    with pytest.raises(OSError):
+        SshServer(sftp_tree, port=sftp_ssh.port)
+    assert set(threading.enumerate()) <= before
+
+
+def test_without_asyncssh_it_says_what_it_wants(
+    sftp_tree: Server, monkeypatch: pytest.MonkeyPatch
+) -> None:
+    monkeypatch.delitem(sys.modules, "lucernetick._asyncssh", raising=False)
+    monkeypatch.setitem(sys.modules, "asyncssh", None)
+    with pytest.raises(ImportError, match=r"lucernetick\[ssh\]"):
+        SshServer(sftp_tree)
+
+
+def test_several_at_one_tree() -> None:
+    with Engine.from_files({"/f": b"1"}) as engine, Server(engine) as server:
+        with SshServer(server, user="ann") as one, SshServer(server, user="bob") as other:
+            with connected(one, password=one.password) as ann, connected(
+                other, password=other.password
+            ) as bob:
+                ann.open_sftp().remove("/f")
+                assert bob.open_sftp().listdir("/") == []

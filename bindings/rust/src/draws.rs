@@ -1,0 +1,141 @@
+//! Numbers that a seed draws, and packets that are counted.
+
+/// SplitMix64: it draws the same numbers for a seed, in every language.
+#[derive(Debug)]
+pub(crate) struct SplitMix64 {
+    state: u64,
+}
+
+impl SplitMix64 {
+    pub(crate) fn new(seed: u64) -> Self {
+        Self { state: seed }
+    }
+
+    pub(crate) fn draw(&mut self) -> u64 {
+        self.state = self.state.wrapping_add(0x9E37_79B9_7F4A_7C15);
+        let mixed = self.state;
+        let mixed = (mixed ^ mixed >> 30).wrapping_mul(0xBF58_476D_1CE4_E5B9);
+        let mixed = (mixed ^ mixed >> 27).wrapping_mul(0x94D0_49BB_1331_11EB);
+        mixed ^ mixed >> 31
+    }
+}
+
+/// How many bytes a packet's length has, which it begins with.
+const LENGTH: usize = 4;
+/// A session ends at a length above this one.
+const MOST: usize = 262144;
+
+/// The packets that a client has sent and that its session hasn't answered yet.
+#[derive(Debug, Default)]
+pub(crate) struct Unanswered {
+    count: u64,
+    /// The first bytes of the next packet's length, fewer than all four.
+    length: Vec<u8>,
+    /// How many bytes the packet still wants, whose length is known.
+    left: usize,
+    /// The session ends at a length that came, and reads no further.
+    has_ended: bool,
+}
+
+impl Unanswered {
+    pub(crate) fn is_empty(&self) -> bool {
+        self.count == 0
+    }
+
+    /// One of them was answered.
+    pub(crate) fn answered(&mut self) {
+        self.count = self.count.saturating_sub(1);
+    }
+
+    /// Counts the packets that are whole with these bytes. A length at which the session ends
+    /// counts as one.
+    pub(crate) fn feed(&mut self, bytes: &[u8]) {
+        let mut rest = bytes;
+        while !rest.is_empty() && !self.has_ended {
+            let taken = if self.left == 0 { self.begin(rest[0]) } else { self.go_on(rest.len()) };
+            rest = &rest[taken..];
+        }
+    }
+
+    /// The next byte of a length. Answers how many bytes were taken.
+    fn begin(&mut self, byte: u8) -> usize {
+        self.length.push(byte);
+        if self.length.len() == LENGTH {
+            let length =
+                self.length.drain(..).fold(0, |length, part| length << 8 | usize::from(part));
+            self.left = length;
+            self.has_ended = length == 0 || length > MOST;
+            self.count += u64::from(self.has_ended);
+        }
+        1
+    }
+
+    /// So many bytes more. Answers how many of them are the packet's.
+    fn go_on(&mut self, count: usize) -> usize {
+        let taken = count.min(self.left);
+        self.left -= taken;
+        self.count += u64::from(self.left == 0);
+        taken
+    }
+}
+
+#[cfg(test)]
+mod tests {
+    use super::*;
+
+    /// As other implementations of SplitMix64 have it.
+    #[test]
+    fn draws() {
+        let zero = [
+            0xE220_A839_7B1D_CDAF,
+            0x6E78_9E6A_A1B9_65F4,
+            0x06C4_5D18_8009_454F,
+            0xF88B_B8A8_724C_81EC,
+            0x1B39_896A_51A8_749B,
+        ];
+        let other = [
+            6457827717110365317,
+            3203168211198807973,
+            9817491932198370423,
+            4593380528125082431,
+            16408922859458223821,
+        ];
+        for (seed, wanted) in [(0, zero), (1234567, other)] {
+            let mut drawn = SplitMix64::new(seed);
+            assert!(wanted.iter().all(|next| drawn.draw() == *next));
+        }
+    }
+
+    /// INIT, and MKDIR of `/a`.
+    const SENT: &[u8] = b"\0\0\0\x05\x01\0\0\0\x03\0\0\0\x0f\x0e\0\0\0\x07\0\0\0\x02/a\0\0\0\0";
+
+    #[test]
+    fn packets_are_counted() {
+        for cut in 0..=SENT.len() {
+            let mut packets = Unanswered::default();
+            packets.feed(&SENT[..cut]);
+            assert_eq!(packets.count, u64::from(cut >= 9) + u64::from(cut == SENT.len()));
+            packets.feed(&SENT[cut..]);
+            assert_eq!(packets.count, 2);
+        }
+        let mut packets = Unanswered::default();
+        SENT.iter().for_each(|byte| packets.feed(&[*byte]));
+        packets.answered();
+        assert!(!packets.is_empty());
+        packets.answered();
+        assert!(packets.is_empty());
+    }
+
+    /// A session ends there before a packet of this length is there.
+    #[test]
+    fn lengths_that_end_a_session() {
+        for length in [b"\0\0\0\0", b"\0\x04\0\x01", b"\xff\xff\xff\xff"] {
+            let mut packets = Unanswered::default();
+            packets.feed(&[SENT, length, SENT].concat());
+            assert_eq!(packets.count, 3);
+        }
+        let mut packets = Unanswered::default();
+        packets.feed(b"\0\x04\0\0");
+        assert!(packets.is_empty());
+    }
+}

@@ -1,0 +1,105 @@
+//! A tree that the library took of an engine, and what it has.
+
+use crate::calls::bytes_of;
+use crate::tree::{Entry, Piece};
+use crate::{checked, sys, Engine, Refusal};
+use std::collections::{BTreeMap, HashMap};
+use std::ptr;
+
+/// A sparse file's gaps begin and end at multiples of it, or at the file's end.
+const UNIT: usize = 32768;
+
+/// A tree, which stays as it is. It is freed where it is dropped.
+pub(crate) struct Taken {
+    pointer: *mut sys::Tree,
+    /// Of files, by their labels.
+    numbers: HashMap<u64, u64>,
+}
+
+impl Drop for Taken {
+    fn drop(&mut self) {
+        // SAFETY: the pointer is a tree's, or null, and isn't used again.
+        unsafe { sys::lt_tree_free(self.pointer) }
+    }
+}
+
+impl Taken {
+    pub(crate) fn of(engine: &Engine) -> Result<Self, Refusal> {
+        let mut tree = Taken { pointer: ptr::null_mut(), numbers: HashMap::new() };
+        // SAFETY: the pointer is an engine's, which `drop` alone frees, and the other one is of a
+        // variable here. No other thread has this engine.
+        checked(unsafe { sys::lt_tree_of(engine.pointer.as_ptr(), &mut tree.pointer) })?;
+        Ok(tree)
+    }
+
+    /// What is at each path.
+    pub(crate) fn entries(&mut self) -> Result<BTreeMap<Vec<u8>, Entry>, Refusal> {
+        let mut entries = BTreeMap::new();
+        let mut at = 0;
+        while let Some((path, entry)) = self.entry(at)? {
+            entries.insert(path, entry);
+            at += 1;
+        }
+        Ok(entries)
+    }
+
+    /// The one at a place, if there is one, with its path.
+    fn entry(&mut self, at: u64) -> Result<Option<(Vec<u8>, Entry)>, Refusal> {
+        let mut told = sys::Leaf::default();
+        // SAFETY: the pointer is a tree's, and the other one is of a variable here.
+        if at >= checked(unsafe { sys::lt_tree_leaf(self.pointer, at, &mut told) })? {
+            return Ok(None);
+        }
+        // SAFETY: no leaf was asked for since.
+        let path = unsafe { bytes_of(&told.path) };
+        let found = &told.attributes;
+        let mut entry = Entry {
+            mode: found.permissions,
+            uid: found.uid,
+            gid: found.gid,
+            atime: found.atime,
+            mtime: found.mtime,
+            size: found.size,
+            pieces: self.pieces(at, found.size)?,
+            file: None,
+        };
+        if !entry.is_directory() {
+            let next = self.numbers.len() as u64 + 1;
+            entry.file = Some(*self.numbers.entry(told.label).or_insert(next));
+        }
+        Ok(Some((path, entry)))
+    }
+
+    /// The bytes of a file of this size, as an `Entry` has them.
+    fn pieces(&self, at: u64, size: u64) -> Result<Vec<Piece>, Refusal> {
+        let mut pieces = Vec::new();
+        let mut offset = 0;
+        let mut room = vec![0; size.min(UNIT as u64) as usize];
+        while offset < size {
+            // SAFETY: the pointer is a tree's.
+            let gap = checked(unsafe { sys::lt_tree_gap(self.pointer, at, offset) })?;
+            if gap > 0 {
+                offset += gap;
+                continue;
+            }
+            // SAFETY: as above, and a slice has as many bytes as its length says.
+            let count = checked(unsafe {
+                sys::lt_tree_read(self.pointer, at, offset, room.as_mut_ptr(), room.len())
+            })?;
+            add(&mut pieces, offset, &room[..count as usize]);
+            offset += UNIT as u64;
+        }
+        Ok(pieces)
+    }
+}
+
+/// Adds so many bytes more, unless these are zeros.
+fn add(pieces: &mut Vec<Piece>, offset: u64, more: &[u8]) {
+    if more.iter().all(|byte| *byte == 0) {
+        return;
+    }
+    match pieces.last_mut() {
+        Some(last) if last.offset + last.bytes.len() as u64 == offset => last.bytes.extend(more),
+        _ => pieces.push(Piece { offset, bytes: more.to_vec() }),
+    }
+}
