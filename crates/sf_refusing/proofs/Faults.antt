@@ -1,0 +1,54 @@
+-- Why an event for a session that waits for bytes is refused: for want of memory.
+use Rattle.std.proofs.Common.{◌≡◌, ℕ, ◌+◌, ◌<◌, ◌≤◌, ◌++◌, ◌∙◌, List, Bool, Result, Ok, Err, length, refl, ap, subst, arith, inl, inr, length-append}
+use Rattle.std.specs.Global.{Vec}
+use Rattle.std.specs.Prelude.{IfErr}
+use Rattle.sf_refusing.specs.Journal.{Act, log_of, sent_in, went_in}
+use Rattle.sf_refusing.specs.Refusing.{IsServed, Serves, MayRefuseFeed, MayRefuseSent}
+use Rattle.sf_engine.specs.declared.event.Event.TheVariants as event
+use Rattle.sf_engine.specs.declared.event.EngineFault.{EngineFault}
+use Rattle.sf_engine.specs.declared.event.EngineFault.TheVariants as fault
+use Rattle.sf_engine.specs.Promise.{LogEntry, WasClosed, IsKnown, IsUnsent, WaitsForBytes, MayBeRefused}
+
+pub feed_fault : (log : List LogEntry) (s : ℕ) (fed : Vec ℕ) (f : EngineFault) → WaitsForBytes log s → MayBeRefused log (event.Feed s fed) f → f ≡ fault.OutOfMemory
+feed_fault log s fed fault.OutOfMemory waits may = refl
+feed_fault log s fed fault.NoSuchSession waits may = absurd (may waits.here.0)
+feed_fault log s fed fault.Ended waits may =
+    absurd (elim may [ inl closed ↦ waits.here.1 (waits.answered.closed closed waits.none_due) | inr left ↦ waits.here.1 left ])
+feed_fault log s fed fault.Sessions waits may = absurd may
+feed_fault log s fed fault.NumbersSpent waits may = absurd may
+feed_fault log s fed fault.NotSent waits may = absurd may
+
+-- all that a session has to be sent may be told as sent
+pub sent_fault : (log : List LogEntry) (s : ℕ) (u : List ℕ) (n : ℕ) (f : EngineFault) → IsKnown log s → IsUnsent log s u → n ≡ length u → MayBeRefused log (event.Sent s n) f → f ≡ fault.OutOfMemory
+sent_fault log s u n fault.OutOfMemory known U all may = refl
+sent_fault log s u n fault.NoSuchSession known U all may = absurd (may known)
+sent_fault log s u n fault.Ended known U all may = absurd may
+sent_fault log s u n fault.Sessions known U all may = absurd may
+sent_fault log s u n fault.NumbersSpent known U all may = absurd may
+sent_fault log s u n fault.NotSent known U all may =
+    absurd (omega (arith, may, all, ap (λ (b : List ℕ). length b) U.packets, length-append U.sent u, U.count))
+
+pub feed_refused : (log : List LogEntry) (s : ℕ) (fed : Vec ℕ) (f : EngineFault) → IsKnown log s → MayBeRefused log (event.Feed s fed) f → MayRefuseFeed log s f
+feed_refused log s fed fault.OutOfMemory known may = known
+feed_refused log s fed fault.NoSuchSession known may = may
+feed_refused log s fed fault.Ended known may = may
+feed_refused log s fed fault.Sessions known may = absurd may
+feed_refused log s fed fault.NumbersSpent known may = absurd may
+feed_refused log s fed fault.NotSent known may = absurd may
+
+-- more than waits, of which some waits here
+pub sent_refused : (journal : List Act) (s n k : ℕ) (held output : List ℕ) (begun : Bool) (f : EngineFault) → n ≡ length output + k → Serves journal s held output begun → MayBeRefused (log_of journal) (event.Sent s k) f → MayRefuseSent journal s n f
+sent_refused journal s n k held output begun fault.NoSuchSession all S may = may
+sent_refused journal s n k held output begun fault.NotSent all S may = λ own.
+    let T : IsServed journal s held output = S.served own in
+    let waits : length (sent_in s journal) ≡ went_in s journal + (length output + length T.unsent) =
+    ap (λ (b : List ℕ). length b) T.waits ∙ omega (arith, length-append (T.gone ++ output) T.unsent, length-append T.gone output, T.count) in
+    omega (arith, waits, all, may, ap (λ (b : List ℕ). length b) T.in_engine.packets, length-append T.in_engine.sent T.unsent, T.in_engine.count)
+sent_refused journal s n k held output begun fault.OutOfMemory all S may = absurd may
+sent_refused journal s n k held output begun fault.Ended all S may = absurd may
+sent_refused journal s n k held output begun fault.Sessions all S may = absurd may
+sent_refused journal s n k held output begun fault.NumbersSpent all S may = absurd may
+
+pub on_err_from : {A B : Type 0} (r : Result A B) (P : B → Type 0) → ((f : B) → r ≡ Err f → P f) → IfErr r P
+on_err_from (Ok x) P f = tt
+on_err_from (Err e) P f = f e refl

@@ -1,0 +1,307 @@
+-- What the calls of refusals leave, and tell.
+use Rattle.std.proofs.Common.{◌≡◌, ◌≢◌, ℕ, zero, suc, ◌+◌, ◌-◌, ◌<◌, ◌≤◌, ◌⊎◌, List, [], ◌∷◌, ◌++◌, Bool, true, false, Some, Result, Ok, Err, length, take, drop, map, slice_get, refl, ap, sym, ◌∙◌, subst, arith, inl, inr, append-nil, append_assoc, length-append}
+use Rattle.std.specs.Prelude.{OnErr, OnOk, slice_set, nat_eq, if◌then◌else◌}
+use Rattle.std.specs.Global.{Vec}
+use Rattle.std.specs.List.{AllByRecursion}
+use Rattle.std.proofs.lemmas.Bool.{cases_eq, eq-eqb, ne_eqb}
+use Rattle.std.proofs.lemmas.List.{append_cancel_left, length-take-le}
+use Rattle.std.proofs.lemmas.Option.{slice_get_within}
+use Rattle.sf_wire.specs.declared.cutting.Cut.TheVariants as cut
+use Rattle.sf_wire.specs.Packets.{IsCut}
+use Rattle.sf_engine.specs.declared.event.Event.{Event}
+use Rattle.sf_engine.specs.declared.event.Event.TheVariants as event
+use Rattle.sf_engine.specs.declared.event.Happened.{Happened}
+use Rattle.sf_engine.specs.declared.event.Happened.TheVariants as happened
+use Rattle.sf_engine.specs.declared.event.EngineFault.{EngineFault}
+use Rattle.sf_engine.specs.Responses.{Response, transcript}
+use Rattle.sf_engine.specs.Promise.{LogEntry, log_entry, fed_by, written_by, written_in, sent_at, sent_of, IsUnsent, IsKnown, WaitsForBytes, MayComeTo, AreTurns}
+use Rattle.sf_refusing.specs.declared.given.GivenRule.{GivenRule}
+use Rattle.sf_refusing.specs.declared.passage.Passage.{Passage}
+use Rattle.sf_refusing.specs.declared.refusals.Refusals.{Refusals}
+use Rattle.sf_refusing.specs.Journal.{Act, Came, Went, Did, logged, log_of, came_in, taken_in, sent_in, went_in}
+use Rattle.sf_refusing.specs.Refusing.{IsFed, IsOwn, IsServed, Serves, AreGiven, AllMayHappen, HasJournal, Have, NoneIsHeld, PassesOn, MovesOn, IsRefusal, IsTurn, IsNextOutput}
+use Rattle.sf_refusing.specs.Fronts.{IsAt, Stands, Changes, Leaves}
+use Rattle.sf_refusing.proofs.Growing.{more, own_so, other_so, own_front, happened_more, begun_stays, came_served, other_served, IsMoved, moved_served, went_served, same_unsent, entry_served}
+use Rattle.sf_refusing.proofs.Counts.{rules_stay}
+use Rattle.sf_refusing.proofs.Steps.{IsPlain, plain_turn, plain_probe, plain_turns, plain_has, plain_all, log_done, other_serves, changed_has}
+
+pub on_err : {A B : Type 0} (r : Result A B) (P : Type 0) → P → OnErr r P
+on_err (Ok x) P h = tt
+on_err (Err e) P h = h
+
+pub on_ok : {A B : Type 0} (r : Result A B) (P : Type 0) → P → OnOk r P
+on_ok (Ok x) P h = h
+on_ok (Err e) P h = tt
+
+-- the same passages and rules
+pub same_has : (r r' : Refusals) (journal : List Act) → r'.passages.items ≡ r.passages.items → r'.rules.items ≡ r.rules.items → HasJournal r journal → HasJournal r' journal
+same_has r r' journal passages rules H = record {
+  happened = H.happened;
+  each = λ i p at. H.each i p (ap (λ (ps : List Passage). slice_get ps i) (sym passages) ∙ at);
+  others = λ s none. H.others s (subst (λ (ps : List Passage). (s ≡ 0) ⊎ (length ps < s)) passages none);
+  rules = subst (λ (rs : List GivenRule). AreGiven journal rs) (sym rules) H.rules;
+}
+
+pub set_same : {A : Type 0} → (xs : List A) (i : ℕ) (x : A) → slice_get xs i ≡ Some x → slice_set xs i x ≡ xs
+set_same [] i x h = refl
+set_same (y ∷ xs) zero x h = cc
+set_same (y ∷ xs) (suc i) x h = ap (λ ys. y ∷ ys) (set_same xs i x h)
+
+-- a passage more, of a session without one
+pub pushed_has : (r r' : Refusals) (journal : List Act) (p : Passage) → r'.passages.items ≡ r.passages.items ++ p ∷ [] → r'.rules.items ≡ r.rules.items → p.held.items ≡ [] → p.output.items ≡ [] → p.begun ≡ false → HasJournal r journal → HasJournal r' journal
+pushed_has r r' journal p passages rules held output begun H =
+    let new : IsAt journal (length r.passages.items + 1) p =
+    subst (λ (b : Bool). Serves journal (length r.passages.items + 1) p.held.items p.output.items b) (sym begun)
+    (subst (λ (o : List ℕ). Serves journal (length r.passages.items + 1) p.held.items o false) (sym output)
+    (subst (λ (h : List ℕ). Serves journal (length r.passages.items + 1) h [] false) (sym held)
+    (H.others (length r.passages.items + 1) (inr (omega arith))))) in
+    let long : length r'.passages.items ≡ length r.passages.items + 1 = ap (λ (ps : List Passage). length ps) passages ∙ length-append r.passages.items (p ∷ []) in
+    record {
+      happened = H.happened;
+      each = λ i q at. elim (last_got r.passages.items i p q (ap (λ (ps : List Passage). slice_get ps i) (sym passages) ∙ at)) [
+        | inl old ↦ H.each i q old
+        | inr last ↦ subst (λ (n : ℕ). IsAt journal (n + 1) q) (sym last.0) (subst (λ (x : Passage). IsAt journal (length r.passages.items + 1) x) last.1 new)
+      ];
+      others = λ s none. H.others s (elim none [ inl z ↦ inl z | inr lt ↦ inr (omega (arith, lt, long)) ]);
+      rules = subst (λ (rs : List GivenRule). AreGiven journal rs) (sym rules) H.rules;
+    }
+  where
+    last_got : {A : Type 0} (xs : List A) (i : ℕ) (v t : A) → slice_get (xs ++ v ∷ []) i ≡ Some t → (slice_get xs i ≡ Some t) ⊎ ((i ≡ length xs) × (v ≡ t))
+    last_got [] zero v t h = inr (refl, cc)
+    last_got [] (suc i) v t h = absurd cc
+    last_got (x ∷ xs) zero v t h = inl h
+    last_got (x ∷ xs) (suc i) v t h = elim (last_got xs i v t h) [ inl e ↦ inl e | inr e ↦ inr (ap (λ (n : ℕ). suc n) e.0, e.1) ]
+
+-- ---- bytes come
+
+pub came_has : (r r' : Refusals) (journal : List Act) (s at : ℕ) (p p' : Passage) (bytes : List ℕ) → HasJournal r journal → slice_get r.passages.items at ≡ Some p → at + 1 ≡ s → r'.passages.items ≡ slice_set r.passages.items at p' → r'.rules.items ≡ r.rules.items → p'.held.items ≡ p.held.items ++ bytes → p'.output.items ≡ p.output.items → p'.begun ≡ p.begun → HasJournal r' (journal ++ Came s bytes ∷ [])
+came_has r r' journal s at p p' bytes H here number set rules held output begun =
+    let act : Act = Came s bytes in
+    let S : IsAt journal s p = subst (λ (n : ℕ). IsAt journal n p) number (H.each at p here) in
+    let now : Serves (journal ++ act ∷ []) s (p.held.items ++ bytes) p.output.items p.begun = record {
+      begun_is = begun_stays journal s act p.begun refl S.begun_is;
+      served = λ own. came_served journal s bytes p.held.items p.output.items (S.served (own_front s journal act own));
+    } in
+    changed_has r r' journal (journal ++ act ∷ []) s at p p' H here number set (record {
+      happened = happened_more [] journal act H.happened tt;
+      at = subst (λ (b : Bool). Serves (journal ++ act ∷ []) s p'.held.items p'.output.items b) (sym begun)
+          (subst (λ (o : List ℕ). Serves (journal ++ act ∷ []) s p'.held.items o p.begun) (sym output)
+          (subst (λ (h : List ℕ). Serves (journal ++ act ∷ []) s h p.output.items p.begun) (sym held) now));
+      rules = subst (λ (rs : List GivenRule). AreGiven (journal ++ act ∷ []) rs) (sym rules)
+          (rules_stay journal r.rules.items act H.rules refl (λ number rule. refl) (λ number. refl));
+      others = λ other held output begun ne serves.
+          other_serves journal other act held output begun refl (other_so s other bytes (λ same. ne (sym same))) refl refl refl serves;
+    })
+
+-- ---- a turn
+
+-- the turns that the engine made after what stood at the front went on
+pub turned : {E : Type 0} (has_log : E → List LogEntry → Type 0) (engine : E) (r : Refusals) (journal passed : List Act) (s m : ℕ) (result : Result Happened EngineFault) (AreMade : List LogEntry → Type 0) (entries : List LogEntry) → PassesOn journal s passed → HasJournal r (journal ++ passed) → AreMade entries → AreTurns (event.Turn s m) result entries → has_log engine (log_of (journal ++ passed) ++ entries) → (acts : List Act) × IsTurn journal s AreMade result acts × Have has_log engine r (journal ++ acts)
+turned {E} has_log engine r journal passed s m result AreMade entries on H made turns has =
+    let all : (journal ++ passed) ++ map Did entries ≡ journal ++ (passed ++ map Did entries) = append_assoc journal passed (map Did entries) in (
+      passed ++ map Did entries,
+      inr (inl (passed, entries, on, made, refl)),
+      subst (λ (j : List Act). Have has_log engine r j) all (
+        plain_all r entries (journal ++ passed) (plain_turns s m result entries turns) H,
+        subst (λ (l : List LogEntry). has_log engine l) (log_done (journal ++ passed) entries) has,
+      ),
+    )
+
+-- ---- what is sent
+
+pub next_all : (journal : List Act) (s : ℕ) (held output out : List ℕ) → output ≡ [] → IsServed journal s held output → IsUnsent (log_of journal) s out → IsNextOutput journal s out
+next_all journal s held output out none S U =
+    let same : S.unsent ≡ out = same_unsent (log_of journal) s S.unsent out S.in_engine U in
+    record {
+      gone = S.gone;
+      later = [];
+      count = S.count;
+      waits = S.waits ∙ ap (λ (b : List ℕ). S.gone ++ b ++ S.unsent) none ∙ ap (λ (b : List ℕ). b ++ S.unsent) (append-nil S.gone) ∙ ap (λ (b : List ℕ). S.gone ++ b) same ∙ sym (append-nil (S.gone ++ out));
+      last = λ empty. refl;
+    }
+
+pub next_first : (journal : List Act) (s : ℕ) (held output : List ℕ) → (output ≡ [] → ⊥) → IsServed journal s held output → IsNextOutput journal s output
+next_first journal s held output some S = record {
+  gone = S.gone;
+  later = S.unsent;
+  count = S.count;
+  waits = S.waits;
+  last = λ empty. absurd (some empty);
+}
+
+-- what waits here goes first
+pub went_has : (r r' : Refusals) (journal : List Act) (s at n : ℕ) (p p' : Passage) (front : List ℕ) → HasJournal r journal → slice_get r.passages.items at ≡ Some p → at + 1 ≡ s → r'.passages.items ≡ slice_set r.passages.items at p' → r'.rules.items ≡ r.rules.items → length front ≡ n → p.output.items ≡ front ++ p'.output.items → p'.held.items ≡ p.held.items → p'.begun ≡ p.begun → HasJournal r' (journal ++ Went s n ∷ [])
+went_has r r' journal s at n p p' front H here number set rules count output held begun =
+    let act : Act = Went s n in
+    let S : IsAt journal s p = subst (λ (n : ℕ). IsAt journal n p) number (H.each at p here) in
+    let now : Serves (journal ++ act ∷ []) s p.held.items p'.output.items p.begun = record {
+      begun_is = begun_stays journal s act p.begun refl S.begun_is;
+      served = λ own. went_served journal s n front p.held.items p'.output.items count
+          (subst (λ (o : List ℕ). IsServed journal s p.held.items o) output (S.served (own_front s journal act own)));
+    } in
+    changed_has r r' journal (journal ++ act ∷ []) s at p p' H here number set (record {
+      happened = happened_more [] journal act H.happened tt;
+      at = subst (λ (b : Bool). Serves (journal ++ act ∷ []) s p'.held.items p'.output.items b) (sym begun)
+          (subst (λ (h : List ℕ). Serves (journal ++ act ∷ []) s h p'.output.items p.begun) (sym held) now);
+      rules = subst (λ (rs : List GivenRule). AreGiven (journal ++ act ∷ []) rs) (sym rules)
+          (rules_stay journal r.rules.items act H.rules refl (λ number rule. refl) (λ number. refl));
+      others = λ other held output begun ne serves.
+          other_serves journal other act held output begun refl refl refl (ap (λ (b : Bool). if b then n else 0) (ne_eqb s other (λ same. ne (sym same)))) refl serves;
+    })
+
+-- ---- the engine is told that bytes were sent
+
+-- a session's event by which bytes are gone
+pub record IsGone (s k : ℕ) (e : LogEntry) : Type 0 where
+  pub event : e.event ≡ event.Sent s k
+  pub happened : Happened
+  pub result : e.result ≡ Ok happened
+
+-- no more are gone than there were
+sent_may : (log : List LogEntry) (s k : ℕ) (h : Happened) → MayComeTo log (event.Sent s k) (Ok h) → sent_of s log + k ≤ length (transcript (written_in s log))
+sent_may log s k happened.Sent may = may.1
+sent_may log s k (happened.Opened n) may = absurd may
+sent_may log s k happened.Fed may = absurd may
+sent_may log s k happened.Moved may = absurd may
+sent_may log s k (happened.Blocked n) may = absurd may
+sent_may log s k happened.Decided may = absurd may
+sent_may log s k happened.Wrote may = absurd may
+sent_may log s k happened.Begun may = absurd may
+sent_may log s k happened.Idle may = absurd may
+sent_may log s k (happened.Ended cause) may = absurd may
+sent_may log s k happened.Closed may = absurd may
+
+pub were_there : (log : List LogEntry) (s k : ℕ) (e : LogEntry) → IsGone s k e → MayComeTo log e.event e.result → (u : List ℕ) → IsUnsent log s u → k ≤ length u
+were_there log s k e G may u U =
+    let at : MayComeTo log (event.Sent s k) (Ok G.happened) =
+    subst (λ (r : Result Happened EngineFault). MayComeTo log (event.Sent s k) r) G.result (subst (λ (ev : Event). MayComeTo log ev e.result) G.event may) in
+    omega (arith, sent_may log s k G.happened at, ap (λ (b : List ℕ). length b) U.packets, length-append U.sent u, U.count)
+
+sent_is : (s k : ℕ) (e : LogEntry) → IsGone s k e → (other : ℕ) → sent_at other e.event e.result ≡ (if nat_eq s other then k else 0)
+sent_is s k e G other =
+    ap (λ (ev : Event). sent_at other ev e.result) G.event ∙ ap (λ (r : Result Happened EngineFault). sent_at other (event.Sent s k) r) G.result
+
+sent_serves : (journal : List Act) (s n k : ℕ) (e : LogEntry) (held output : List ℕ) (begun : Bool) → IsGone s k e → n ≡ length output + k → ((u : List ℕ) → IsUnsent (log_of journal) s u → k ≤ length u) → Serves journal s held output begun → Serves ((journal ++ Did e ∷ []) ++ Went s n ∷ []) s held [] begun
+sent_serves journal s n k e held output begun G count there S =
+    let fed : fed_by s e.event e.result ≡ [] = ap (λ (ev : Event). fed_by s ev e.result) G.event in
+    let written : written_by s e.event e.wrote ≡ [] = ap (λ (ev : Event). written_by s ev e.wrote) G.event in
+    let sent : sent_at s e.event e.result ≡ k = sent_is s k e G s ∙ ap (λ (b : Bool). if b then k else 0) (eq-eqb s s refl) in
+    let mid : List Act = journal ++ Did e ∷ [] in
+    record {
+      begun_is = begun_stays mid s (Went s n) begun refl (begun_stays journal s (Did e) begun fed S.begun_is);
+      served = λ own.
+          let own_mid : IsOwn s mid = own_front s mid (Went s n) own in
+          let T : IsServed journal s held output = S.served (own_front s journal (Did e) own_mid) in
+          let u : List ℕ = T.unsent in
+          let le : k ≤ length u = there u T.in_engine in
+          let M : IsMoved mid s held (output ++ take k u) (drop k u) = moved_served journal s e held output u k fed written sent le T.in_engine T in
+          let gone : length (output ++ take k u) ≡ n = omega (arith, length-append output (take k u), length-take-le k u le, count) in
+          went_served mid s n (output ++ take k u) held [] gone (subst (λ (o : List ℕ). IsServed mid s held o) (sym (append-nil (output ++ take k u))) M.served);
+    }
+
+others_sent : (journal : List Act) (s n k : ℕ) (e : LogEntry) → IsGone s k e → (other : ℕ) (held output : List ℕ) (begun : Bool) → other ≢ s → Serves journal other held output begun → Serves ((journal ++ Did e ∷ []) ++ Went s n ∷ []) other held output begun
+others_sent journal s n k e G other held output begun ne serves =
+    let apart : s ≡ other → ⊥ = λ same. ne (sym same) in
+    let fed : fed_by other e.event e.result ≡ [] = ap (λ (ev : Event). fed_by other ev e.result) G.event in
+    let sent : sent_at other e.event e.result ≡ 0 = sent_is s k e G other ∙ ap (λ (b : Bool). if b then k else 0) (ne_eqb s other apart) in
+    other_serves (journal ++ Did e ∷ []) other (Went s n) held output begun refl refl refl (ap (λ (b : Bool). if b then n else 0) (ne_eqb s other apart)) refl
+    (record {
+      begun_is = begun_stays journal other (Did e) begun fed serves.begun_is;
+      served = λ own. entry_served journal other (Did e) e held output refl refl fed refl refl sent (serves.served (own_front other journal (Did e) own));
+    })
+
+sent_happened : (journal : List Act) (s n k : ℕ) (e : LogEntry) → IsGone s k e → AllMayHappen [] journal → AllMayHappen [] ((journal ++ Did e ∷ []) ++ Went s n ∷ [])
+sent_happened journal s n k e G H =
+    happened_more [] (journal ++ Did e ∷ []) (Went s n)
+    (happened_more [] journal (Did e) H (λ other. inl (ap (λ (ev : Event). fed_by other ev e.result) G.event))) tt
+
+sent_rules : (journal : List Act) (s n : ℕ) (e : LogEntry) (rules : List GivenRule) → AreGiven journal rules → AreGiven ((journal ++ Did e ∷ []) ++ Went s n ∷ []) rules
+sent_rules journal s n e rules A =
+    rules_stay (journal ++ Did e ∷ []) rules (Went s n) (rules_stay journal rules (Did e) A refl (λ number rule. refl) (λ number. refl)) refl (λ number rule. refl) (λ number. refl)
+
+-- of a session with a passage, and without one
+pub sent_has : (r r' : Refusals) (journal : List Act) (s at n k : ℕ) (e : LogEntry) (p p' : Passage) → HasJournal r journal → slice_get r.passages.items at ≡ Some p → at + 1 ≡ s → r'.passages.items ≡ slice_set r.passages.items at p' → r'.rules.items ≡ r.rules.items → IsGone s k e → n ≡ length p.output.items + k → ((u : List ℕ) → IsUnsent (log_of journal) s u → k ≤ length u) → p'.output.items ≡ [] → p'.held.items ≡ p.held.items → p'.begun ≡ p.begun → HasJournal r' ((journal ++ Did e ∷ []) ++ Went s n ∷ [])
+sent_has r r' journal s at n k e p p' H here number set rules G count there output held begun =
+    let after : List Act = (journal ++ Did e ∷ []) ++ Went s n ∷ [] in
+    let S : IsAt journal s p = subst (λ (n : ℕ). IsAt journal n p) number (H.each at p here) in
+    let now : Serves after s p.held.items [] p.begun = sent_serves journal s n k e p.held.items p.output.items p.begun G count there S in
+    changed_has r r' journal after s at p p' H here number set (record {
+      happened = sent_happened journal s n k e G H.happened;
+      at = subst (λ (b : Bool). Serves after s p'.held.items p'.output.items b) (sym begun)
+          (subst (λ (h : List ℕ). Serves after s h p'.output.items p.begun) (sym held)
+          (subst (λ (o : List ℕ). Serves after s p.held.items o p.begun) (sym output) now));
+      rules = subst (λ (rs : List GivenRule). AreGiven after rs) (sym rules) (sent_rules journal s n e r.rules.items H.rules);
+      others = others_sent journal s n k e G;
+    })
+
+pub sent_none : (r : Refusals) (journal : List Act) (s n : ℕ) (e : LogEntry) → HasJournal r journal → (s ≡ 0) ⊎ (length r.passages.items < s) → IsGone s n e → ((u : List ℕ) → IsUnsent (log_of journal) s u → n ≤ length u) → HasJournal r ((journal ++ Did e ∷ []) ++ Went s n ∷ [])
+sent_none r journal s n e H none G there = record {
+  happened = sent_happened journal s n n e G H.happened;
+  each = λ i p at. others_sent journal s n n e G (i + 1) p.held.items p.output.items p.begun
+      (λ same. elim none [ inl z ↦ omega (arith, z, same) | inr lt ↦ omega (arith, lt, same, slice_get_within r.passages.items i p at) ]) (H.each i p at);
+  others = λ t apart. elim (cases_eq t s) [
+    | inl same ↦ subst (λ (x : ℕ). Serves ((journal ++ Did e ∷ []) ++ Went s n ∷ []) x [] [] false) (sym same) (sent_serves journal s n n e [] [] false G (omega arith) there (H.others s none))
+    | inr ne ↦ others_sent journal s n n e G t [] [] false ne (H.others t apart)
+  ];
+  rules = sent_rules journal s n e r.rules.items H.rules;
+}
+
+-- ---- what is next goes on
+
+-- a session without a passage holds nothing
+pub nothing_held : (journal : List Act) (s : ℕ) → Serves journal s [] [] false → NoneIsHeld journal s
+nothing_held journal s S = λ waits own held came.
+    let is : [] ≡ held = append_cancel_left (taken_in s journal) [] held (sym (S.served own).came ∙ came) in
+    subst (λ (b : List ℕ). IsCut b cut.More) is (inl (omega arith))
+
+pub have_still : {E : Type 0} (has_log : E → List LogEntry → Type 0) (engine : E) (r : Refusals) (journal : List Act) → Have has_log engine r journal → Have has_log engine r (journal ++ [])
+have_still {E} has_log engine r journal H = subst (λ (j : List Act). Have has_log engine r j) (sym (append-nil journal)) H
+
+pub stands : {E : Type 0} (has_log : E → List LogEntry → Type 0) (engine : E) (r : Refusals) (journal : List Act) (s at : ℕ) (p : Passage) → Have has_log engine r journal → WaitsForBytes (log_of journal) s → slice_get r.passages.items at ≡ Some p → at + 1 ≡ s → Stands has_log engine journal s p r.rules.items
+stands {E} has_log engine r journal s at p H waits here number = record {
+  has = H.1;
+  happened = H.0.happened;
+  at = subst (λ (n : ℕ). IsAt journal n p) number (H.0.each at p here);
+  rules = H.0.rules;
+  waits = waits;
+}
+
+pub moved_on : {E : Type 0} (has_log : E → List LogEntry → Type 0) (engine engine' : E) (r r' : Refusals) (journal : List Act) (s at : ℕ) (p p' : Passage) (result : Result Bool EngineFault) → Have has_log engine r journal → slice_get r.passages.items at ≡ Some p → at + 1 ≡ s → r'.passages.items ≡ slice_set r.passages.items at p' → (acts : List Act) × MovesOn journal s result acts × Leaves has_log engine' journal s p' r'.rules.items (journal ++ acts) → (acts : List Act) × MovesOn journal s result acts × Have has_log engine' r' (journal ++ acts)
+moved_on {E} has_log engine engine' r r' journal s at p p' result H here number set D =
+    (D.0, D.1, (changed_has r r' journal (journal ++ D.0) s at p p' H.0 here number set D.2.1, D.2.0))
+
+pub on_ok_from : {A B : Type 0} (r : Result A B) (P : Type 0) → ((x : A) → r ≡ Ok x → P) → OnOk r P
+on_ok_from (Ok x) P f = f x refl
+on_ok_from (Err e) P f = tt
+
+pub one_turn : (s m : ℕ) (r : Result Happened EngineFault) (e : LogEntry) → e.event ≡ event.Turn s m → e.result ≡ r → AreTurns (event.Turn s m) r (e ∷ [])
+unfolding AreTurns
+one_turn s m r e is came = (is, came)
+
+pub log_went : (journal : List Act) (e : LogEntry) (s n : ℕ) → log_of journal ++ e ∷ [] ≡ log_of ((journal ++ Did e ∷ []) ++ Went s n ∷ [])
+log_went journal e s n =
+    sym (more logged (journal ++ Did e ∷ []) (Went s n) ∙ append-nil (log_of (journal ++ Did e ∷ [])) ∙ more logged journal (Did e))
+
+pub log_came : (journal : List Act) (e : LogEntry) (s : ℕ) (bytes : List ℕ) → log_of journal ++ e ∷ [] ≡ log_of ((journal ++ Did e ∷ []) ++ Came s bytes ∷ [])
+log_came journal e s bytes =
+    sym (more logged (journal ++ Did e ∷ []) (Came s bytes) ∙ append-nil (log_of (journal ++ Did e ∷ [])) ∙ more logged journal (Did e))
+
+pub log_went_alone : (journal : List Act) (s n : ℕ) → log_of journal ≡ log_of (journal ++ Went s n ∷ [])
+log_went_alone journal s n = sym (more logged journal (Went s n) ∙ append-nil (log_of journal))
+
+-- a passage of the same bytes
+pub kept_has : (r r' : Refusals) (journal : List Act) (s at : ℕ) (p p' : Passage) → HasJournal r journal → slice_get r.passages.items at ≡ Some p → at + 1 ≡ s → r'.passages.items ≡ slice_set r.passages.items at p' → r'.rules.items ≡ r.rules.items → p'.held.items ≡ p.held.items → p'.output.items ≡ p.output.items → p'.begun ≡ p.begun → HasJournal r' journal
+kept_has r r' journal s at p p' H here number set rules held output begun =
+    changed_has r r' journal journal s at p p' H here number set (record {
+      happened = H.happened;
+      at = subst (λ (b : Bool). Serves journal s p'.held.items p'.output.items b) (sym begun)
+          (subst (λ (o : List ℕ). Serves journal s p'.held.items o p.begun) (sym output)
+          (subst (λ (h : List ℕ). Serves journal s h p.output.items p.begun) (sym held) (subst (λ (n : ℕ). IsAt journal n p) number (H.each at p here))));
+      rules = subst (λ (rs : List GivenRule). AreGiven journal rs) (sym rules) H.rules;
+      others = λ other held output begun ne serves. serves;
+    })
+
+-- what is held is told by what came
+pub held_more : (journal : List Act) (s : ℕ) (held output : List ℕ) → IsServed journal s held output → IsCut held cut.More → (other : List ℕ) → came_in s journal ≡ taken_in s journal ++ other → IsCut other cut.More
+held_more journal s held output S more other came =
+    subst (λ (b : List ℕ). IsCut b cut.More) (append_cancel_left (taken_in s journal) held other (sym S.came ∙ came)) more

@@ -1,0 +1,142 @@
+-- What has happened, in the order of time, and what it tells.
+use Rattle.std.specs.Prelude.{◌+◌, ℕ, zero, suc, nat_eq, nat_lt, List, [], ◌∷◌, Bool, true, false, not, ◌&&◌, if◌then◌else◌, Option, Some, None}
+use Rattle.std.specs.List.{flat_map, sum_by}
+use Rattle.sf_field.specs.Fields.{packet}
+use Rattle.sf_request.specs.declared.request.Asked.{Asked}
+use Rattle.sf_request.specs.declared.request.Asked.TheVariants.{Request}
+use Rattle.sf_reply.specs.declared.reply.StatusCode.{StatusCode}
+use Rattle.sf_reply.specs.declared.reply.Reply.TheVariants.{Status}
+use Rattle.sf_reply.specs.Replies.{reply_body}
+use Rattle.sf_engine.specs.Responses.{transcript, if_so}
+use Rattle.sf_engine.specs.Promise.{LogEntry, fed_by, written_by}
+use Rattle.sf_refusing.specs.declared.rule.Rule.{Rule}
+use Rattle.sf_refusing.specs.Rules.{is_for}
+
+-- a packet of a session, and what its body asks
+pub record Packet : Type 0 where
+  pub session : ℕ
+  pub body : List ℕ
+  pub asked : Asked
+
+-- What happens. A rule is given; bytes come for a session; so many bytes of what it is sent are gone.
+-- The engine makes an event; or it made one apart from all this. A packet is passed on, by an event
+-- of the engine. Or it is refused: the rule with this number refuses the request under this id, and
+-- by an event the engine is told that all that it had for the session was sent, since it waits here
+-- now, before the status.
+pub data Act : Type 0 where
+  Ruled : (rule : Rule) → Act
+  Came : (session : ℕ) → (bytes : List ℕ) → Act
+  Went : (session count : ℕ) → Act
+  Did : (entry : LogEntry) → Act
+  Apart : (entry : LogEntry) → Act
+  Passed : (packet : Packet) → (entry : LogEntry) → Act
+  Refused : (packet : Packet) → (id number : ℕ) → (code : StatusCode) → (entry : LogEntry) → Act
+
+-- ---- the engine
+
+abbrev pub logged : Act → List LogEntry
+logged (Did e) = e ∷ []
+logged (Apart e) = e ∷ []
+logged (Passed p e) = e ∷ []
+logged (Refused p id number code e) = e ∷ []
+logged act = []
+
+-- its log
+abbrev pub log_of : List Act → List LogEntry
+log_of journal = flat_map logged journal
+
+-- ---- one session
+
+-- the bytes that came for it
+abbrev pub came_by : ℕ → Act → List ℕ
+came_by session (Came s bytes) = if_so (nat_eq s session) bytes
+came_by session act = []
+
+abbrev pub came_in : ℕ → List Act → List ℕ
+came_in session journal = flat_map (came_by session) journal
+
+-- those of them that the engine was fed, and the packets that were refused
+abbrev pub taken_by : ℕ → Act → List ℕ
+taken_by session (Did e) = fed_by session e.event e.result
+taken_by session (Passed p e) = fed_by session e.event e.result
+taken_by session (Refused p id number code e) = if_so (nat_eq p.session session) (packet p.body)
+taken_by session act = []
+
+abbrev pub taken_in : ℕ → List Act → List ℕ
+taken_in session journal = flat_map (taken_by session) journal
+
+-- what it is sent: the engine's replies, and the statuses of the refusals
+abbrev pub sent_by : ℕ → Act → List ℕ
+sent_by session (Did e) = transcript (written_by session e.event e.wrote)
+sent_by session (Apart e) = transcript (written_by session e.event e.wrote)
+sent_by session (Passed p e) = transcript (written_by session e.event e.wrote)
+sent_by session (Refused p id number code e) =
+    if_so (nat_eq p.session session) (packet (reply_body id (Status code)))
+sent_by session act = []
+
+abbrev pub sent_in : ℕ → List Act → List ℕ
+sent_in session journal = flat_map (sent_by session) journal
+
+-- how many bytes of it are gone
+abbrev pub went_by : ℕ → Act → ℕ
+went_by session (Went s count) = if nat_eq s session then count else 0
+went_by session act = 0
+
+abbrev pub went_in : ℕ → List Act → ℕ
+went_in session journal = sum_by (went_by session) journal
+
+-- ---- one rule
+
+-- the rules that were given, in order
+abbrev pub ruled : Act → List Rule
+ruled (Ruled rule) = rule ∷ []
+ruled act = []
+
+abbrev pub rules_in : List Act → List Rule
+rules_in journal = flat_map ruled journal
+
+-- The rule with this number, and what has happened since it was given. They are 0, 1, 2 and so on.
+abbrev pub since_given : List Act → ℕ → Option (Rule × List Act)
+since_given [] number = None
+since_given (Ruled rule ∷ journal) zero = Some (rule, journal)
+since_given (Ruled rule ∷ journal) (suc number) = since_given journal number
+since_given (act ∷ journal) number = since_given journal number
+
+-- whether a rule is for what a packet asks
+abbrev pub fits_asked : Rule → ℕ → Asked → Bool
+fits_asked rule session (Request id request) = is_for rule session request
+fits_asked rule session asked = false
+
+abbrev pub fits_packet : Rule → Packet → Bool
+fits_packet rule p = fits_asked rule p.session p.asked
+
+-- It counts a packet that it is for, unless one before it refuses that.
+abbrev pub counts : ℕ → Rule → Act → ℕ
+counts number rule (Passed p e) = if fits_packet rule p then 1 else 0
+counts number rule (Refused p id by code e) =
+    if not (nat_lt by number) && fits_packet rule p then 1 else 0
+counts number rule act = 0
+
+abbrev pub counted : ℕ → Rule → List Act → ℕ
+counted number rule since = sum_by (counts number rule) since
+
+-- how many it refused
+abbrev pub refused_by : ℕ → Act → ℕ
+refused_by number (Refused p id by code e) = if nat_eq by number then 1 else 0
+refused_by number act = 0
+
+abbrev pub refused_in : ℕ → List Act → ℕ
+refused_in number since = sum_by (refused_by number) since
+
+-- whether a rule that has counted so many refuses the next that it counts
+abbrev pub is_refusing : Rule → ℕ → Bool
+is_refusing rule count = not (nat_lt count rule.pass) && nat_lt count (rule.pass + rule.refuse)
+
+abbrev pub refuses_since : ℕ → Packet → Option (Rule × List Act) → Bool
+refuses_since number p None = false
+refuses_since number p (Some given) =
+    fits_packet given.0 p && is_refusing given.0 (counted number given.0 given.1)
+
+-- whether the rule with this number refuses a packet next
+abbrev pub refuses : List Act → ℕ → Packet → Bool
+refuses journal number p = refuses_since number p (since_given journal number)

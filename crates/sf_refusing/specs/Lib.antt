@@ -1,0 +1,5 @@
+pub mod Rules
+pub mod Journal
+pub mod Counting
+pub mod Refusing
+pub mod Fronts

@@ -1,0 +1,203 @@
+-- What is promised of requests that are refused: a journal has it.
+use Rattle.std.specs.Prelude.{◌≡◌, ◌<◌, ◌≤◌, ◌+◌, ◌-◌, ◌⊎◌, ℕ, nat_eq, nat_lt, min, List, [], ◌∷◌, ◌++◌, length, map, Bool, true, false, Some, None, slice_get, Result, Ok, Err}
+use Rattle.std.specs.Global.{Vec}
+use Rattle.std.specs.List.{AllByRecursion}
+use Rattle.sf_field.specs.Fields.{packet}
+use Rattle.sf_request.specs.declared.request.WireRequest.{WireRequest}
+use Rattle.sf_request.specs.declared.request.Asked.TheVariants.{Request}
+use Rattle.sf_request.specs.Requests.{Asks}
+use Rattle.sf_reply.specs.declared.reply.StatusCode.{StatusCode}
+use Rattle.sf_wire.specs.declared.cutting.Cut.TheVariants as cut
+use Rattle.sf_wire.specs.declared.cutting.BadCut.{BadCut}
+use Rattle.sf_wire.specs.Packets.{IsBody, IsCut}
+use Rattle.sf_engine.specs.declared.event.Event.{Event}
+use Rattle.sf_engine.specs.declared.event.Event.TheVariants as event
+use Rattle.sf_engine.specs.declared.event.Happened.{Happened}
+use Rattle.sf_engine.specs.declared.event.Happened.TheVariants as happened
+use Rattle.sf_engine.specs.declared.event.EngineFault.{EngineFault}
+use Rattle.sf_engine.specs.declared.event.EngineFault.TheVariants as fault
+use Rattle.sf_engine.specs.Promise.{LogEntry, fed_by, IsKnown, WasClosed, HasLeft, IsUnsent, WaitsForBytes}
+use Rattle.sf_refusing.specs.declared.rule.Rule.{Rule}
+use Rattle.sf_refusing.specs.declared.given.GivenRule.{GivenRule}
+use Rattle.sf_refusing.specs.declared.passage.Passage.{Passage}
+use Rattle.sf_refusing.specs.declared.refusals.Refusals.{Refusals}
+use Rattle.sf_refusing.specs.Journal.{Packet, Act, Ruled, Came, Went, Did, Apart, Passed, Refused, log_of, came_in, taken_in, sent_in, went_in, rules_in, since_given, counted, refused_in, refuses}
+
+-- ---- what may happen
+
+-- the engine took these bytes for a session
+pub record IsFed (session : ℕ) (bytes : List ℕ) (e : LogEntry) : Type 0 where
+  pub fed : Vec ℕ
+  pub items : fed.items ≡ bytes
+  pub event : e.event ≡ event.Feed session fed
+  pub happened : Happened
+  pub result : e.result ≡ Ok happened
+
+-- Bytes that no rule is asked about: none; a wrong length, with what follows it; or the packet that
+-- a session begins with.
+abbrev pub IsUnruled : List Act → ℕ → List ℕ → Type 0
+IsUnruled front session bytes = (bytes ≡ []) ⊎ (((cause : BadCut) × IsCut bytes (cut.Bad cause))
+    ⊎ ((taken_in session front ≡ []) × ((body : List ℕ) × IsBody body × (bytes ≡ packet body))))
+
+-- A packet is passed on: no rule refuses it.
+pub record MayPass (front : List Act) (p : Packet) (e : LogEntry) : Type 0 where
+  pub is_body : IsBody p.body
+  pub asks : Asks p.body p.asked
+  pub fed : IsFed p.session (packet p.body) e
+  pub passes : (number : ℕ) → refuses front number p ≡ false
+
+-- A request is refused: it isn't what its session begins with, all that came before it was answered,
+-- and this rule is the first one that refuses it.
+pub record MayRefuse (front : List Act) (p : Packet) (id number : ℕ) (code : StatusCode) (e : LogEntry) : Type 0 where
+  pub request : WireRequest
+  pub asked : p.asked ≡ Request id request
+  pub is_body : IsBody p.body
+  pub asks : Asks p.body p.asked
+  pub begun : 0 < length (taken_in p.session front)
+  pub waits : WaitsForBytes (log_of front) p.session
+  pub rule : Rule
+  pub since : List Act
+  pub given : since_given front number ≡ Some (rule, since)
+  pub code_is : code ≡ rule.code
+  pub refused : refuses front number p ≡ true
+  pub first : (other : ℕ) → other < number → refuses front other p ≡ false
+  pub sent : ℕ
+  pub event : e.event ≡ event.Sent p.session sent
+
+abbrev pub MayHappen : List Act → Act → Type 0
+MayHappen front (Did e) = (session : ℕ) → IsUnruled front session (fed_by session e.event e.result)
+MayHappen front (Passed p e) = MayPass front p e
+MayHappen front (Refused p id number code e) = MayRefuse front p id number code e
+MayHappen front act = Unit {0}
+
+-- each of these might happen, after those before it
+unfoldable pub AllMayHappen : List Act → List Act → Type 0
+AllMayHappen front [] = Unit {0}
+AllMayHappen front (act ∷ journal) = MayHappen front act × AllMayHappen (front ++ act ∷ []) journal
+
+-- ---- one session
+
+-- whether by an event bytes are fed to a session, or are told as sent
+abbrev pub moves_bytes : ℕ → Event → Bool
+moves_bytes session (event.Feed s bytes) = nat_eq s session
+moves_bytes session (event.Sent s n) = nat_eq s session
+moves_bytes session ev = false
+
+-- no event that was made apart was such a one of this session
+abbrev pub IsNotApart : ℕ → Act → Type 0
+IsNotApart session (Apart e) = moves_bytes session e.event ≡ false
+IsNotApart session act = Unit {0}
+
+abbrev pub IsOwn : ℕ → List Act → Type 0
+IsOwn session journal = AllByRecursion (IsNotApart session) journal
+
+-- What came for it was fed to the engine, or refused, in order, but for what is held. What it is
+-- sent has gone, or waits here, or in the engine.
+pub record IsServed (journal : List Act) (session : ℕ) (held output : List ℕ) : Type 0 where
+  pub came : came_in session journal ≡ taken_in session journal ++ held
+  pub unsent : List ℕ
+  pub in_engine : IsUnsent (log_of journal) session unsent
+  pub gone : List ℕ
+  pub count : length gone ≡ went_in session journal
+  pub waits : sent_in session journal ≡ gone ++ output ++ unsent
+
+-- So it is, if its bytes come and go here alone.
+pub record Serves (journal : List Act) (session : ℕ) (held output : List ℕ) (begun : Bool) : Type 0 where
+  pub begun_is : begun ≡ nat_lt 0 (length (taken_in session journal))
+  pub served : IsOwn session journal → IsServed journal session held output
+
+-- ---- one rule
+
+-- A rule that was given has this number. It passed as many as it may, and refused as many, of those
+-- that it counted since.
+pub record IsGiven (journal : List Act) (number : ℕ) (given : GivenRule) : Type 0 where
+  pub since : List Act
+  pub is : since_given journal number ≡ Some (given.rule, since)
+  pub passed : given.passed ≡ min given.rule.pass (counted number given.rule since)
+  pub refused : given.refused ≡ min given.rule.refuse (counted number given.rule since - given.rule.pass)
+  pub told : given.refused ≡ refused_in number since
+
+-- so it is with each rule
+pub record AreGiven (journal : List Act) (rules : List GivenRule) : Type 0 where
+  pub count : length rules ≡ length (rules_in journal)
+  pub each : (number : ℕ) (given : GivenRule) → slice_get rules number ≡ Some given
+      → IsGiven journal number given
+
+-- ---- all
+
+-- The refusals have this journal.
+pub record HasJournal (refusals : Refusals) (journal : List Act) : Type 0 where
+  pub happened : AllMayHappen [] journal
+  pub each : (i : ℕ) (p : Passage) → slice_get refusals.passages.items i ≡ Some p
+      → Serves journal (i + 1) p.held.items p.output.items p.begun
+  pub others : (session : ℕ) → (session ≡ 0) ⊎ (length refusals.passages.items < session)
+      → Serves journal session [] [] false
+  pub rules : AreGiven journal refusals.rules.items
+
+-- the refusals have this journal, and the engine its log
+abbrev pub Have : {E : Type 0} → (E → List LogEntry → Type 0) → E → Refusals → List Act → Type 0
+Have has_log engine refusals journal =
+    HasJournal refusals journal × has_log engine (log_of journal)
+
+-- ---- what calls tell
+
+-- Where the session waits for bytes, less than a packet is held of what came for it.
+abbrev pub NoneIsHeld : List Act → ℕ → Type 0
+NoneIsHeld journal session = WaitsForBytes (log_of journal) session → IsOwn session journal
+    → (held : List ℕ) → came_in session journal ≡ taken_in session journal ++ held
+    → IsCut held cut.More
+
+-- what stood at the front was passed on
+abbrev pub IsPassedOn : ℕ → Act → Type 0
+IsPassedOn session (Did e) = 0 < length (fed_by session e.event e.result)
+IsPassedOn session (Passed p e) = p.session ≡ session
+IsPassedOn session act = ⊥
+
+-- One packet was passed on, or there was none.
+abbrev pub PassesOn : List Act → ℕ → List Act → Type 0
+PassesOn journal session [] = NoneIsHeld journal session
+PassesOn journal session (act ∷ []) = IsPassedOn session act
+PassesOn journal session (act ∷ other ∷ acts) = ⊥
+
+-- one request was refused
+abbrev pub IsRefusal : ℕ → List Act → Type 0
+IsRefusal session acts = (p : Packet) × (id number : ℕ) × (code : StatusCode) × (e : LogEntry)
+    × (p.session ≡ session) × (acts ≡ Refused p id number code e ∷ [])
+
+-- Whether what a session has next was refused, or passed on; or there was no memory to take it.
+abbrev pub MovesOn : List Act → ℕ → Result Bool EngineFault → List Act → Type 0
+MovesOn journal session (Ok true) acts = IsRefusal session acts
+MovesOn journal session (Ok false) acts = PassesOn journal session acts
+MovesOn journal session (Err f) acts =
+    (f ≡ fault.OutOfMemory) × (acts ≡ []) × WaitsForBytes (log_of journal) session
+
+-- What a turn of a session was: a refusal; or the engine's turns, after a packet was passed on; or
+-- nothing, since there was no memory to take a packet.
+abbrev pub IsTurn : List Act → ℕ → (List LogEntry → Type 0) → Result Happened EngineFault → List Act → Type 0
+IsTurn journal session AreMade r acts = ((r ≡ Ok happened.Wrote) × IsRefusal session acts)
+    ⊎ (((passed : List Act) × (entries : List LogEntry) × PassesOn journal session passed
+    × AreMade entries × (acts ≡ passed ++ map Did entries))
+    ⊎ ((r ≡ Err fault.OutOfMemory) × (acts ≡ []) × WaitsForBytes (log_of journal) session))
+
+-- what waits to be sent next
+pub record IsNextOutput (journal : List Act) (session : ℕ) (output : List ℕ) : Type 0 where
+  pub gone : List ℕ
+  pub later : List ℕ
+  pub count : length gone ≡ went_in session journal
+  pub waits : sent_in session journal ≡ gone ++ output ++ later
+  pub last : output ≡ [] → later ≡ []
+
+-- Why bytes for a session are refused: as the engine refuses to be fed; but memory may be wanting for
+-- any session that there is.
+abbrev pub MayRefuseFeed : List LogEntry → ℕ → EngineFault → Type 0
+MayRefuseFeed log session fault.OutOfMemory = IsKnown log session
+MayRefuseFeed log session fault.NoSuchSession = ¬ IsKnown log session
+MayRefuseFeed log session fault.Ended = WasClosed log session ⊎ HasLeft log session
+MayRefuseFeed log session f = ⊥
+
+-- Why so many bytes can't be gone: there is no such session, or not so much waits.
+abbrev pub MayRefuseSent : List Act → ℕ → ℕ → EngineFault → Type 0
+MayRefuseSent journal session count fault.NoSuchSession = ¬ IsKnown (log_of journal) session
+MayRefuseSent journal session count fault.NotSent = IsOwn session journal
+    → length (sent_in session journal) < went_in session journal + count
+MayRefuseSent journal session count f = ⊥

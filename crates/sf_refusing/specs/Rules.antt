@@ -1,0 +1,74 @@
+-- Which requests a rule is for.
+use Rattle.std.specs.Prelude.{ℕ, nat_eq, List, [], ◌∷◌, ◌++◌, Bool, true, false, ◌&&◌, Option, Some, None}
+use Rattle.std.specs.List.{list_any}
+use Rattle.sf_path.specs.Names.{Path}
+use Rattle.sf_path.specs.Order.{same_path}
+use Rattle.sf_request.specs.declared.request.WireRequest.{WireRequest}
+use Rattle.sf_request.specs.declared.request.WireRequest.TheVariants as request
+use Rattle.sf_session.specs.Asking.{path_at}
+use Rattle.sf_refusing.specs.declared.rule.RequestKind.{RequestKind}
+use Rattle.sf_refusing.specs.declared.rule.RequestKind.TheVariants as kind
+use Rattle.sf_refusing.specs.declared.rule.Rule.{Rule}
+use Rattle.sf_refusing.specs.contracts.rule.RequestKindPartialEq.TheImpl as kinds
+
+abbrev pub kind_of : WireRequest → RequestKind
+kind_of (request.Open filename flags attrs) = kind.Open
+kind_of (request.Close handle) = kind.Close
+kind_of (request.Read handle offset len) = kind.Read
+kind_of (request.Write handle offset bytes) = kind.Write
+kind_of (request.LStat path) = kind.LStat
+kind_of (request.FStat handle) = kind.FStat
+kind_of (request.SetStat path attrs) = kind.SetStat
+kind_of (request.FSetStat handle attrs) = kind.FSetStat
+kind_of (request.OpenDir path) = kind.OpenDir
+kind_of (request.ReadDir handle) = kind.ReadDir
+kind_of (request.Remove path) = kind.Remove
+kind_of (request.Mkdir path attrs) = kind.Mkdir
+kind_of (request.Rmdir path) = kind.Rmdir
+kind_of (request.RealPath path) = kind.RealPath
+kind_of (request.Stat path) = kind.Stat
+kind_of (request.Rename old new) = kind.Rename
+kind_of (request.PosixRename old new) = kind.PosixRename
+kind_of (request.Link old new) = kind.Link
+
+-- the path that a text stands for, if it has no fault
+abbrev pub listed : Option Path → List Path
+listed None = []
+listed (Some path) = path ∷ []
+
+abbrev pub path_in : List ℕ → List Path
+path_in text = listed (path_at text)
+
+-- the paths that a request names
+abbrev pub paths_of : WireRequest → List Path
+paths_of (request.Open filename flags attrs) = path_in filename
+paths_of (request.LStat path) = path_in path
+paths_of (request.SetStat path attrs) = path_in path
+paths_of (request.OpenDir path) = path_in path
+paths_of (request.Remove path) = path_in path
+paths_of (request.Mkdir path attrs) = path_in path
+paths_of (request.Rmdir path) = path_in path
+paths_of (request.RealPath path) = path_in path
+paths_of (request.Stat path) = path_in path
+paths_of (request.Rename old new) = path_in old ++ path_in new
+paths_of (request.PosixRename old new) = path_in old ++ path_in new
+paths_of (request.Link old new) = path_in old ++ path_in new
+paths_of request = []
+
+-- what a rule leaves out fits anything
+abbrev pub is_any_or : {A : Type 0} → Option A → (A → Bool) → Bool
+is_any_or None test = true
+is_any_or (Some wanted) test = test wanted
+
+abbrev pub names_path : List Path → Path → Bool
+names_path paths path = list_any (λ named. same_path named path) paths
+
+-- whether a rule is for a request of this kind that names these paths
+abbrev pub fits : Rule → (session : ℕ) → RequestKind → List Path → Bool
+fits rule session asked paths = is_any_or rule.session (λ wanted. nat_eq wanted session)
+    && is_any_or rule.kind (λ wanted. kinds.ghosts.eq wanted asked)
+    && is_any_or rule.path (names_path paths)
+
+-- whether it is for a session's request
+abbrev pub is_for : Rule → (session : ℕ) → WireRequest → Bool
+is_for rule session request = fits rule session (kind_of request) (paths_of request)

@@ -1,0 +1,100 @@
+//! What stands at the front of the bytes that are held for a session.
+
+ghost use Rattle.std.specs.Prelude.{◌≡◌, ◌++◌, ℕ, List, [], true, IfOk, IfSome, IfNone};
+ghost use Rattle.sf_request.specs.declared.request.Asked.{Asked};
+ghost use Rattle.sf_request.specs.declared.request.Asked.TheVariants.{Request};
+ghost use Rattle.sf_request.specs.declared.request.WireRequest.{WireRequest};
+ghost use Rattle.sf_request.specs.Requests.{Asks};
+ghost use Rattle.sf_wire.specs.Streams.{HasBody};
+ghost use Rattle.sf_refusing.specs.Rules.{kind_of, paths_of};
+ghost use Rattle.sf_refusing.specs.Journal.{Act};
+ghost use Rattle.sf_refusing.specs.Refusing.{MovesOn};
+ghost use Rattle.sf_refusing.specs.Fronts.{Stands, Leaves};
+
+use crate::given::{GivenRule, count_with, first_refusing};
+use crate::passage::Passage;
+use crate::rule::Subject;
+use sf_engine::{EngineFault, Sftp};
+use sf_wire::{Asked, Cut, cut, read_request};
+use std::alloc::{AllocError, Global};
+
+/// What a packet's body asks, as rules see it, under its id. Of other packets than requests nothing.
+fn subject_of(
+    alloc: Global,
+    session: u64,
+    body: &[u8],
+) -> Result<Option<(u32, Subject)>, AllocError>
+    ensures some { IfOk result (λ found. IfSome found (λ x. (request : WireRequest)
+        × Asks body.now (Request x.0 request) × (x.1.session ≡ session)
+        × (x.1.kind ≡ kind_of request) × (x.1.paths.items ≡ paths_of request))) }
+    ensures none { IfOk result (λ found. IfNone found ((asked : Asked) × Asks body.now asked
+        × ((id : ℕ) (request : WireRequest) → asked ≡ Request id request → ⊥))) }
+{
+    match read_request(body) {
+        Asked::Request(id, request) => Ok(Some((id, Subject::of(alloc, session, &request)?))),
+        _ => Ok(None),
+    }
+}
+
+/// Passes on the first packet that is held for a session, of so many bytes, or refuses it.
+fn decide<E: Sftp>(
+    alloc: Global,
+    rules: &mut Vec<GivenRule>,
+    passage: &mut Passage,
+    engine: &mut E,
+    session: u64,
+    len: usize,
+) -> Result<bool, EngineFault>
+    requires whole { HasBody passage.old.held.items len }
+    requires begun { passage.old.begun ≡ true }
+    ensures { (journal : List Act)
+        → Stands E.has_log engine.old journal session passage.old rules.old.items
+        → (acts : List Act) × MovesOn journal session result acts
+        × Leaves E.has_log engine.new journal session passage.new rules.new.items (journal ++ acts) }
+{
+    let Ok(found) = subject_of(alloc, session, &passage.held.as_slice()[4..len]) else {
+        return Err(EngineFault::OutOfMemory);
+    };
+    let Some((id, subject)) = found else {
+        passage.pass(engine, session, len)?;
+        return Ok(false);
+    };
+    let Some(number) = first_refusing(rules, &subject) else {
+        passage.pass(engine, session, len)?;
+        let count = rules.len();
+        count_with(rules, count, &subject);
+        return Ok(false);
+    };
+    let code = rules[number].rule.code;
+    passage.refuse(engine, session, len, id, code)?;
+    count_with(rules, number + 1, &subject);
+    Ok(true)
+}
+
+/// The first packet of a session, or a wrong length with what follows it, is passed on; another
+/// packet is decided on. The session waits for bytes.
+pub(crate) fn take_front<E: Sftp>(
+    alloc: Global,
+    rules: &mut Vec<GivenRule>,
+    passage: &mut Passage,
+    engine: &mut E,
+    session: u64,
+) -> Result<bool, EngineFault>
+    ensures { (journal : List Act)
+        → Stands E.has_log engine.old journal session passage.old rules.old.items
+        → (acts : List Act) × MovesOn journal session result acts
+        × Leaves E.has_log engine.new journal session passage.new rules.new.items (journal ++ acts) }
+{
+    let len = match cut(passage.held.as_slice()) {
+        Cut::More => return Ok(false),
+        Cut::Bad(_) => passage.held.len(),
+        Cut::Whole(len) => {
+            if passage.begun {
+                return decide(alloc, rules, passage, engine, session, len);
+            }
+            len
+        }
+    };
+    passage.pass(engine, session, len)?;
+    Ok(false)
+}

@@ -1,0 +1,136 @@
+//! What is between a client and the engine's session.
+
+ghost use Rattle.std.specs.Prelude.{◌≡◌, ◌<◌, ◌≤◌, ◌^◌, ◌++◌, ◌∷◌, ℕ, List, [], length, take, drop, true, false, Ok, IfErr, OnOk, OnErr};
+ghost use Rattle.std.specs.Global.{Vec};
+ghost use Rattle.sf_field.specs.Fields.{packet};
+ghost use Rattle.sf_reply.specs.declared.reply.Reply.TheVariants.{Status};
+ghost use Rattle.sf_reply.specs.Replies.{reply_body};
+ghost use Rattle.sf_call.specs.declared.record.Record.{Record};
+ghost use Rattle.sf_engine.specs.declared.event.Event.TheVariants as event;
+ghost use Rattle.sf_engine.specs.declared.event.Happened.{Happened};
+ghost use Rattle.sf_engine.specs.Promise.{LogEntry, log_entry, IsKnown, IsUnsent, MayBeRefused};
+ghost use Rattle.sf_engine.specs.Responses.{Response};
+
+use bytes::BytesMut;
+use sf_engine::{EngineFault, Event, Sftp};
+use sf_reply::{MAX_PLAIN_REPLY, Reply, StatusCode, write_reply};
+use std::alloc::Global;
+
+/// Bytes that came for a session and were not passed on, and bytes that it is sent before those of
+/// the engine.
+#[derive(Debug, Drop)]
+pub(crate) struct Passage {
+    pub held: BytesMut,
+    pub output: BytesMut,
+    /// The engine was fed some of its bytes.
+    pub begun: bool,
+}
+
+impl Passage {
+    /// Nothing came, and nothing is sent.
+    pub(crate) fn new(alloc: Global) -> Passage
+        ensures held { result.held.items ≡ [] }
+        ensures output { result.output.items ≡ [] }
+        ensures begun { result.begun ≡ false }
+    {
+        Passage {
+            held: BytesMut::new(alloc),
+            output: BytesMut::new(alloc),
+            begun: false,
+        }
+    }
+
+    /// Feeds the engine the first bytes that are held.
+    pub(crate) fn pass<E: Sftp>(
+        &mut self,
+        engine: &mut E,
+        session: u64,
+        len: usize,
+    ) -> Result<(), EngineFault>
+        requires { len ≤ length self.old.held.items }
+        ensures ok { OnOk result ((self.new.held.items ≡ drop len self.old.held.items)
+            × (self.new.output.items ≡ self.old.output.items) × (self.new.begun ≡ true)) }
+        ensures short { length (take len self.old.held.items) < 2 ^ 63 }
+        ensures fed { OnOk result ((fed : Vec ℕ) → fed.items ≡ take len self.old.held.items
+            → (log : List LogEntry) → E.has_log engine.old log
+            → (happened : Happened) × (added : List Record) × (wrote : List Response)
+            × E.has_log engine.new (log ++ log_entry (event.Feed session fed) (Ok happened) added wrote ∷ [])) }
+        ensures err { OnErr result ((self.new ≡ self.old) × (engine.new ≡ engine.old)) }
+        ensures fault { IfErr result (λ fault. (fed : Vec ℕ)
+            → fed.items ≡ take len self.old.held.items
+            → (log : List LogEntry) → E.has_log engine.old log
+            → MayBeRefused log (event.Feed session fed) fault) }
+    {
+        if let Err(fault) = engine.feed(session, &self.held.as_slice()[..len]) {
+            return Err(fault);
+        }
+        self.held.advance(len);
+        self.begun = true;
+        Ok(())
+    }
+
+    /// Takes what the engine has to send, so that a status can come after it.
+    fn take_output<E: Sftp>(&mut self, engine: &mut E, session: u64) -> Result<(), EngineFault>
+        ensures held { self.new.held.items ≡ self.old.held.items }
+        ensures begun { self.new.begun ≡ self.old.begun }
+        ensures ok { OnOk result (MAX_PLAIN_REPLY ≤ self.new.output.spare) }
+        ensures taken { OnOk result ((log : List LogEntry) → E.has_log engine.old log
+            → (unsent : List ℕ) × IsUnsent log session unsent
+            × (self.new.output.items ≡ self.old.output.items ++ unsent)
+            × ((happened : Happened) × (added : List Record) × (wrote : List Response)
+            × E.has_log engine.new (log ++ log_entry (event.Sent session (length unsent)) (Ok happened) added wrote ∷ []))) }
+        ensures err { OnErr result ((self.new.output.items ≡ self.old.output.items)
+            × (engine.new ≡ engine.old)) }
+        ensures fault { IfErr result (λ fault. (log : List LogEntry) → E.has_log engine.old log
+            → IsKnown log session → fault ≡ EngineFault.OutOfMemory) }
+    {
+        let Some(output) = engine.output(session) else {
+            return Err(EngineFault::NoSuchSession);
+        };
+        let count = output.len();
+        if self.output.reserve(count + MAX_PLAIN_REPLY).is_err() {
+            return Err(EngineFault::OutOfMemory);
+        }
+        let waiting = self.output.len();
+        self.output.extend_reserved(output);
+        if let Err(fault) = engine.apply(&Event::Sent(session, count)) {
+            self.output.truncate(waiting);
+            return Err(fault);
+        }
+        Ok(())
+    }
+
+    /// Drops the first packet that is held, of so many bytes, and writes a status for it, behind
+    /// what the engine had to send.
+    pub(crate) fn refuse<E: Sftp>(
+        &mut self,
+        engine: &mut E,
+        session: u64,
+        len: usize,
+        id: u32,
+        code: StatusCode,
+    ) -> Result<(), EngineFault>
+        requires { len ≤ length self.old.held.items }
+        ensures held { OnOk result (self.new.held.items ≡ drop len self.old.held.items) }
+        ensures begun { self.new.begun ≡ self.old.begun }
+        ensures ok { OnOk result ((log : List LogEntry) → E.has_log engine.old log
+            → (unsent : List ℕ) × IsUnsent log session unsent
+            × (self.new.output.items
+            ≡ self.old.output.items ++ unsent ++ packet (reply_body id (Status code)))
+            × ((happened : Happened) × (added : List Record) × (wrote : List Response)
+            × E.has_log engine.new (log ++ log_entry (event.Sent session (length unsent)) (Ok happened) added wrote ∷ []))) }
+        ensures err { OnErr result ((self.new.held.items ≡ self.old.held.items)
+            × (self.new.output.items ≡ self.old.output.items) × (engine.new ≡ engine.old)) }
+        ensures fault { IfErr result (λ fault. (log : List LogEntry) → E.has_log engine.old log
+            → IsKnown log session → fault ≡ EngineFault.OutOfMemory) }
+    {
+        if let Err(fault) = self.take_output(engine, session) {
+            return Err(fault);
+        }
+        if write_reply(id, &Reply::Status(code), &mut self.output).is_err() {
+            unreachable!();
+        }
+        self.held.advance(len);
+        Ok(())
+    }
+}

@@ -1,0 +1,174 @@
+//! Which requests are refused.
+
+ghost use Rattle.std.specs.Prelude.{◌≡◌, ◌++◌, IfOk, OnOk};
+ghost use Rattle.sf_refusing.specs.Rules.{kind_of, paths_of, path_in, names_path, fits};
+
+use sf_path::{Path, PathFault};
+use sf_reply::StatusCode;
+use sf_request::WireRequest;
+use std::alloc::{AllocError, Global};
+
+/// What a request asks for, whatever its fields.
+#[derive(Clone, Copy, Debug, PartialEq, Eq)]
+pub enum RequestKind {
+    Open,
+    Close,
+    Read,
+    Write,
+    LStat,
+    FStat,
+    SetStat,
+    FSetStat,
+    OpenDir,
+    ReadDir,
+    Remove,
+    Mkdir,
+    Rmdir,
+    RealPath,
+    Stat,
+    Rename,
+    PosixRename,
+    Link,
+}
+
+/// Which requests are refused, how many of them, and with which status. Where a session, a kind or
+/// a path is left out, any will do.
+#[derive(Debug, Drop)]
+pub struct Rule {
+    pub session: Option<u64>,
+    pub kind: Option<RequestKind>,
+    /// A request has to name it, and may write it in any way. One by a handle names none.
+    pub path: Option<Path>,
+    /// So many pass first,
+    pub pass: u64,
+    /// then so many are refused, and all that come later pass.
+    pub refuse: u64,
+    /// What is answered, with the code's own message.
+    pub code: StatusCode,
+}
+
+/// What rules look at of a request.
+#[derive(Debug, Drop)]
+pub(crate) struct Subject {
+    pub session: u64,
+    pub kind: RequestKind,
+    pub paths: Vec<Path>,
+}
+
+/// The kind of a request.
+fn kind_of(request: &WireRequest) -> RequestKind
+    ensures { result ≡ kind_of request.now }
+{
+    match request {
+        WireRequest::Open { .. } => RequestKind::Open,
+        WireRequest::Close { .. } => RequestKind::Close,
+        WireRequest::Read { .. } => RequestKind::Read,
+        WireRequest::Write { .. } => RequestKind::Write,
+        WireRequest::LStat { .. } => RequestKind::LStat,
+        WireRequest::FStat { .. } => RequestKind::FStat,
+        WireRequest::SetStat { .. } => RequestKind::SetStat,
+        WireRequest::FSetStat { .. } => RequestKind::FSetStat,
+        WireRequest::OpenDir { .. } => RequestKind::OpenDir,
+        WireRequest::ReadDir { .. } => RequestKind::ReadDir,
+        WireRequest::Remove { .. } => RequestKind::Remove,
+        WireRequest::Mkdir { .. } => RequestKind::Mkdir,
+        WireRequest::Rmdir { .. } => RequestKind::Rmdir,
+        WireRequest::RealPath { .. } => RequestKind::RealPath,
+        WireRequest::Stat { .. } => RequestKind::Stat,
+        WireRequest::Rename { .. } => RequestKind::Rename,
+        WireRequest::PosixRename { .. } => RequestKind::PosixRename,
+        WireRequest::Link { .. } => RequestKind::Link,
+    }
+}
+
+/// Adds the path that a text stands for, if it has no fault.
+fn push_path(alloc: Global, text: &[u8], paths: &mut Vec<Path>) -> Result<(), AllocError>
+    ensures { OnOk result (paths.new.items ≡ paths.old.items ++ path_in text.now) }
+{
+    match Path::parse(alloc, text) {
+        Ok(path) => Ok(paths.push(path)?),
+        Err(PathFault::OutOfMemory) => Err(AllocError),
+        Err(PathFault::TooLong | PathFault::NameTooLong | PathFault::NulByte) => Ok(()),
+    }
+}
+
+/// The paths that a request names.
+fn paths_of(alloc: Global, request: &WireRequest) -> Result<Vec<Path>, AllocError>
+    ensures { IfOk result (λ paths. paths.items ≡ paths_of request.now) }
+{
+    let mut paths = Vec::new(alloc);
+    match request {
+        WireRequest::Open { filename, .. } => push_path(alloc, filename.as_slice(), &mut paths)?,
+        WireRequest::LStat { path }
+        | WireRequest::SetStat { path, .. }
+        | WireRequest::OpenDir { path }
+        | WireRequest::Remove { path }
+        | WireRequest::Mkdir { path, .. }
+        | WireRequest::Rmdir { path }
+        | WireRequest::RealPath { path }
+        | WireRequest::Stat { path } => push_path(alloc, path.as_slice(), &mut paths)?,
+        WireRequest::Rename { old, new }
+        | WireRequest::PosixRename { old, new }
+        | WireRequest::Link { old, new } => {
+            push_path(alloc, old.as_slice(), &mut paths)?;
+            push_path(alloc, new.as_slice(), &mut paths)?;
+        }
+        WireRequest::Close { .. }
+        | WireRequest::Read { .. }
+        | WireRequest::Write { .. }
+        | WireRequest::FStat { .. }
+        | WireRequest::FSetStat { .. }
+        | WireRequest::ReadDir { .. } => {}
+    }
+    Ok(paths)
+}
+
+impl Subject {
+    /// What rules look at of a session's request.
+    pub(crate) fn of(
+        alloc: Global,
+        session: u64,
+        request: &WireRequest,
+    ) -> Result<Subject, AllocError>
+        ensures session { IfOk result (λ subject. subject.session ≡ session) }
+        ensures kind { IfOk result (λ subject. subject.kind ≡ kind_of request.now) }
+        ensures paths { IfOk result (λ subject. subject.paths.items ≡ paths_of request.now) }
+    {
+        let paths = paths_of(alloc, request)?;
+        Ok(Subject {
+            session,
+            kind: kind_of(request),
+            paths,
+        })
+    }
+
+    /// Whether a path is among those that it names.
+    fn names(&self, path: &Path) -> bool
+        ensures { result ≡ names_path self.now.paths.items path.now }
+    {
+        self.paths.iter().any(|named| named == path)
+    }
+}
+
+impl Rule {
+    /// Whether it is a rule for this request.
+    pub(crate) fn fits(&self, subject: &Subject) -> bool
+        ensures { result ≡ fits self.now subject.now.session subject.now.kind
+            subject.now.paths.items }
+    {
+        if let Some(session) = self.session
+            && session != subject.session
+        {
+            return false;
+        }
+        if let Some(kind) = self.kind
+            && kind != subject.kind
+        {
+            return false;
+        }
+        match &self.path {
+            Some(path) => subject.names(path),
+            None => true,
+        }
+    }
+}
