@@ -24,7 +24,7 @@ static void ask(const uint8_t *packet, size_t length, int64_t reply)
 {
     if (lt_feed(engine, session, packet, length) != 0)
         stop("refused");
-    if (lt_settle(engine, session, MOMENT, REPLIES, NULL) != LT_IDLE)
+    if (lt_settle(engine, session, MOMENT, REPLIES, NULL) != LT_TURN_IDLE)
         stop("not idle");
     if (lt_output(engine, session, room, sizeof room) != reply)
         stop("another reply");

@@ -50,7 +50,7 @@ static void drop(int64_t length)
 static void ask(const uint8_t *bytes, size_t length, int64_t reply)
 {
     feed(bytes, length);
-    if (lt_settle(engine, session, MOMENT, 2, NULL) != LT_IDLE)
+    if (lt_settle(engine, session, MOMENT, 2, NULL) != LT_TURN_IDLE)
         stop("not idle");
     drop(reply);
 }
@@ -94,15 +94,15 @@ static void measure(uint8_t *packet, uint32_t length)
         int64_t did;
         feed(packet, HEAD + length);
         reading[i] = turn(&did);
-        if (did != LT_BEGUN)
+        if (did != LT_TURN_BEGUN)
             stop("no call began");
         first[i] = turn(&did);
         later[i] = 0;
-        for (turns = 1; did == LT_MOVED; turns++) {
+        for (turns = 1; did == LT_TURN_MOVED; turns++) {
             double took = turn(&did);
             later[i] = took > later[i] ? took : later[i];
         }
-        if (did != LT_DECIDED || turn(&did) < 0 || did != LT_WROTE)
+        if (did != LT_TURN_DECIDED || turn(&did) < 0 || did != LT_TURN_WROTE)
             stop("not answered");
         drop(28);
     }

@@ -5,6 +5,14 @@ import sys
 import traceback
 
 
+# How many seconds what is left of a check has, once its time is over, before it is cut off again.
+AGAIN = 10
+
+
+class OutOfTime(Exception):
+    """A check took too long. It is no OSError, which checks may pass over."""
+
+
 class Checks:
     """Counts checks. `script` stands before each check's name in what is printed."""
 
@@ -15,15 +23,16 @@ class Checks:
         signal.signal(signal.SIGALRM, out_of_time)
 
     def run(self, name, check, *words, seconds=120):
-        """Runs a check, which raises where it fails."""
-        signal.alarm(seconds)
+        """Runs a check, which raises where it fails. Where its time is over it is cut off, and so
+        is, again and again, whatever it waits for as it ends."""
+        signal.setitimer(signal.ITIMER_REAL, seconds, AGAIN)
         try:
             check(*words)
         except Exception:
-            signal.alarm(0)
+            signal.setitimer(signal.ITIMER_REAL, 0)
             self.fail(name, traceback.format_exc())
         else:
-            signal.alarm(0)
+            signal.setitimer(signal.ITIMER_REAL, 0)
             self.passed += 1
             self.tell(name + ": ok")
 
@@ -42,7 +51,7 @@ class Checks:
 
 
 def out_of_time(_signal, _frame):
-    raise TimeoutError("the check took too long")
+    raise OutOfTime("the check took too long")
 
 
 def same(got, wanted):

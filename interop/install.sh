@@ -17,6 +17,7 @@ for word in "$@"; do
   fi
 done
 if [ ${#missing[@]} -gt 0 ]; then
-  timeout 300 apt-get update
-  timeout 600 apt-get install -y --no-install-recommends "${missing[@]}"
+  # Others may be installing too.
+  timeout 300 apt-get -o DPkg::Lock::Timeout=300 update
+  timeout 600 apt-get -o DPkg::Lock::Timeout=300 install -y --no-install-recommends "${missing[@]}"
 fi

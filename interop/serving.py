@@ -41,14 +41,14 @@ def find_paramiko():
 
 
 class Server:
-    """`sftpd serve` with `WORKERS` workers, which ends after so many sessions, where they are counted."""
+    """`sftpd serve` with so many workers, which ends after so many sessions, where they are counted."""
 
-    def __init__(self, room, sessions=None, words=("--keep", "1000000"), surroundings=None):
+    def __init__(self, room, sessions=None, words=("--keep", "1000000"), surroundings=None, workers=WORKERS):
         self.path = os.path.join(room, "socket")
         self.sessions = sessions
         count = [] if sessions is None else ["--sessions", str(sessions)]
         self.process = subprocess.Popen(
-            [PROGRAM, "serve", "--socket", self.path, "--workers", str(WORKERS), *count, *words],
+            [PROGRAM, "serve", "--socket", self.path, "--workers", str(workers), *count, *words],
             stdout=subprocess.PIPE,
             stderr=subprocess.PIPE,
             text=True,

@@ -192,11 +192,20 @@ class Sources:
         return {name: meaning for name, meaning in scope.items() if meaning}
 
 
+def moved_out(lines):
+    """The lines of a spec file, those of a module over parameters moved out of it."""
+    inside = False
+    for line in lines:
+        if line and not line.startswith(" "):
+            inside = line.startswith("module ")
+        yield line[2:] if inside and line.startswith("  ") else line
+
+
 def read_spec(source):
     """A spec file's definitions."""
     source.imports = list(joined_uses(source.lines))
     name, kind, held = None, None, []
-    for line in [*source.lines, "pub record"]:
+    for line in [*moved_out(source.lines), "pub record"]:
         start = START.match(line)
         if start or line == "pub record" or line.startswith("infix"):
             if name:

@@ -35,20 +35,20 @@ enum { VERSION = 71, OK = 28 };
 static void texts(void)
 {
     const struct { int64_t answer; const char *text; } rows[] = {
-        {LT_IDLE, "no whole packet is unread"},
-        {LT_SPENT, "as many replies as may be were written"},
-        {LT_ENDED + LT_NOT_INIT, "ended: the first packet isn't INIT"},
-        {LT_ENDED + LT_CLOSED, "ended: the session was closed"},
-        {LT_OUT_OF_MEMORY, "out of memory"},
-        {LT_TOO_MANY_SESSIONS, "256 sessions are open"},
-        {LT_BAD_POINTER, "the engine was closed, or a pointer is NULL, or a length too large"},
-        {LT_IS_BLOCKED, "the call of another session is in the way"},
-        {LT_STATUS_BASE - 2, "No such file"},
-        {LT_STATUS_BASE - 4, "Failure"},
-        {LT_NO_REPLY - 1, "an unknown refusal"},
-        {LT_STATUS_BASE - 99, "an unknown refusal"},
+        {LT_TURN_IDLE, "no whole packet is unread"},
+        {LT_TURN_SPENT, "as many replies as may be were written"},
+        {LT_TURN_ENDED + LT_CAUSE_NOT_INIT, "ended: the first packet isn't INIT"},
+        {LT_TURN_ENDED + LT_CAUSE_CLOSED, "ended: the session was closed"},
+        {LT_REFUSAL_OUT_OF_MEMORY, "out of memory"},
+        {LT_REFUSAL_TOO_MANY_SESSIONS, "256 sessions are open"},
+        {LT_REFUSAL_BAD_POINTER, "the engine was closed, or a pointer is NULL, or a length too large"},
+        {LT_REFUSAL_IS_BLOCKED, "the call of another session is in the way"},
+        {LT_REFUSAL_STATUS_BASE - 2, "No such file"},
+        {LT_REFUSAL_STATUS_BASE - 4, "Failure"},
+        {LT_REFUSAL_NO_REPLY - 1, "an unknown refusal"},
+        {LT_REFUSAL_STATUS_BASE - 99, "an unknown refusal"},
         {INT64_MIN, "an unknown refusal"},
-        {LT_ENDED, "an unknown answer"},
+        {LT_TURN_ENDED, "an unknown answer"},
         {INT64_MAX, "an unknown answer"},
     };
     for (size_t i = 0; i < sizeof rows / sizeof *rows; i++)
@@ -63,20 +63,21 @@ static void null_pointers(void)
     uint8_t byte = 0;
     int64_t session = lt_open(engine);
     lt_free(NULL);
-    same("open without an engine", lt_open(NULL), LT_BAD_POINTER);
-    same("feed without an engine", lt_feed(NULL, 1, &byte, 1), LT_BAD_POINTER);
-    same("turn without an engine", lt_turn(NULL, 1, MOMENT), LT_BAD_POINTER);
-    same("settle without an engine", lt_settle(NULL, 1, MOMENT, 1, &moved), LT_BAD_POINTER);
+    same("open without an engine", lt_open(NULL), LT_REFUSAL_BAD_POINTER);
+    same("feed without an engine", lt_feed(NULL, 1, &byte, 1), LT_REFUSAL_BAD_POINTER);
+    same("turn without an engine", lt_turn(NULL, 1, MOMENT), LT_REFUSAL_BAD_POINTER);
+    same("settle without an engine", lt_settle(NULL, 1, MOMENT, 1, &moved), LT_REFUSAL_BAD_POINTER);
     same("which moves nothing", moved, false);
-    same("rounds without an engine", lt_run_all(NULL), LT_BAD_POINTER);
-    same("close without an engine", lt_close(NULL, 1), LT_BAD_POINTER);
-    same("output without an engine", lt_output(NULL, 1, &byte, 1), LT_BAD_POINTER);
-    same("sent without an engine", lt_sent(NULL, 1, 0), LT_BAD_POINTER);
-    same("feed without bytes", lt_feed(engine, (uint64_t)session, NULL, 1), LT_BAD_POINTER);
-    same("feed of too many", lt_feed(engine, (uint64_t)session, &byte, SIZE_MAX), LT_BAD_POINTER);
-    same("feed of one too many", lt_feed(engine, (uint64_t)session, &byte, TOO_MANY), LT_BAD_POINTER);
-    same("output without room", lt_output(engine, (uint64_t)session, NULL, 1), LT_BAD_POINTER);
-    same("output of too many", lt_output(engine, (uint64_t)session, &byte, TOO_MANY), LT_BAD_POINTER);
+    same("rounds without an engine", lt_run_all(NULL), LT_REFUSAL_BAD_POINTER);
+    same("bytes wanted without an engine", lt_wants_bytes(NULL, 1), LT_REFUSAL_BAD_POINTER);
+    same("close without an engine", lt_close(NULL, 1), LT_REFUSAL_BAD_POINTER);
+    same("output without an engine", lt_output(NULL, 1, &byte, 1), LT_REFUSAL_BAD_POINTER);
+    same("sent without an engine", lt_sent(NULL, 1, 0), LT_REFUSAL_BAD_POINTER);
+    same("feed without bytes", lt_feed(engine, (uint64_t)session, NULL, 1), LT_REFUSAL_BAD_POINTER);
+    same("feed of too many", lt_feed(engine, (uint64_t)session, &byte, SIZE_MAX), LT_REFUSAL_BAD_POINTER);
+    same("feed of one too many", lt_feed(engine, (uint64_t)session, &byte, TOO_MANY), LT_REFUSAL_BAD_POINTER);
+    same("output without room", lt_output(engine, (uint64_t)session, NULL, 1), LT_REFUSAL_BAD_POINTER);
+    same("output of too many", lt_output(engine, (uint64_t)session, &byte, TOO_MANY), LT_REFUSAL_BAD_POINTER);
     lt_free(engine);
 }
 
@@ -87,12 +88,13 @@ static void unknown_sessions(void)
     uint8_t byte = 0;
     same("the first session", lt_open(engine), 1);
     for (size_t i = 0; i < 3; i++) {
-        same("feed nobody", lt_feed(engine, numbers[i], &byte, 1), LT_NO_SUCH_SESSION);
-        same("turn of nobody", lt_turn(engine, numbers[i], MOMENT), LT_NO_SUCH_SESSION);
-        same("settle nobody", lt_settle(engine, numbers[i], MOMENT, 1, NULL), LT_NO_SUCH_SESSION);
-        same("close nobody", lt_close(engine, numbers[i]), LT_NO_SUCH_SESSION);
-        same("output of nobody", lt_output(engine, numbers[i], &byte, 1), LT_NO_SUCH_SESSION);
-        same("sent of nobody", lt_sent(engine, numbers[i], 0), LT_NO_SUCH_SESSION);
+        same("feed nobody", lt_feed(engine, numbers[i], &byte, 1), LT_REFUSAL_NO_SUCH_SESSION);
+        same("turn of nobody", lt_turn(engine, numbers[i], MOMENT), LT_REFUSAL_NO_SUCH_SESSION);
+        same("settle nobody", lt_settle(engine, numbers[i], MOMENT, 1, NULL), LT_REFUSAL_NO_SUCH_SESSION);
+        same("nobody wants bytes", lt_wants_bytes(engine, numbers[i]), 0);
+        same("close nobody", lt_close(engine, numbers[i]), LT_REFUSAL_NO_SUCH_SESSION);
+        same("output of nobody", lt_output(engine, numbers[i], &byte, 1), LT_REFUSAL_NO_SUCH_SESSION);
+        same("sent of nobody", lt_sent(engine, numbers[i], 0), LT_REFUSAL_NO_SUCH_SESSION);
     }
     lt_free(engine);
 }
@@ -104,14 +106,38 @@ static void lengths_of_zero(void)
     lt_open(engine);
     same("feed nothing", lt_feed(engine, 1, NULL, 0), 0);
     same("feed no byte", lt_feed(engine, 1, &byte, 0), 0);
-    same("a turn with nothing to do", lt_turn(engine, 1, MOMENT), LT_IDLE);
-    same("no turns", lt_settle(engine, 1, MOMENT, 0, NULL), LT_SPENT);
-    same("no turns of nobody", lt_settle(engine, 2, MOMENT, 0, NULL), LT_SPENT);
+    same("a turn with nothing to do", lt_turn(engine, 1, MOMENT), LT_TURN_IDLE);
+    same("no turns", lt_settle(engine, 1, MOMENT, 0, NULL), LT_TURN_SPENT);
+    same("no turns of nobody", lt_settle(engine, 2, MOMENT, 0, NULL), LT_TURN_SPENT);
     same("nothing waits", lt_output(engine, 1, NULL, 0), 0);
     same("nothing waits for no room", lt_output(engine, 1, &byte, 0), 0);
     same("no byte was written", byte, 9);
     same("nothing was sent", lt_sent(engine, 1, 0), 0);
-    same("more was sent than waits", lt_sent(engine, 1, 1), LT_NOT_SENT);
+    same("more was sent than waits", lt_sent(engine, 1, 1), LT_REFUSAL_NOT_SENT);
+    lt_free(engine);
+}
+
+/* A session waits for bytes where no whole packet is unread and no call is under way. */
+static void wants_bytes(void)
+{
+    lt_engine *engine = lt_new();
+    lt_open(engine);
+    same("a new session wants bytes", lt_wants_bytes(engine, 1), 1);
+    lt_feed(engine, 1, INIT, sizeof INIT - 1);
+    same("so it does before its packet is whole", lt_wants_bytes(engine, 1), 1);
+    lt_feed(engine, 1, INIT + sizeof INIT - 1, 1);
+    same("it wants none where a packet is whole", lt_wants_bytes(engine, 1), 0);
+    lt_turn(engine, 1, MOMENT);
+    same("and wants some where that was answered", lt_wants_bytes(engine, 1), 1);
+    lt_feed(engine, 1, MKDIR, sizeof MKDIR);
+    for (int i = 0; i < 3; i++) {
+        lt_turn(engine, 1, MOMENT);
+        same("none while a call is under way", lt_wants_bytes(engine, 1), 0);
+    }
+    same("its reply", lt_turn(engine, 1, MOMENT), LT_TURN_WROTE);
+    same("then it wants some", lt_wants_bytes(engine, 1), 1);
+    lt_close(engine, 1);
+    same("none once it has ended", lt_wants_bytes(engine, 1), 0);
     lt_free(engine);
 }
 
@@ -122,15 +148,15 @@ static void one_session(void)
     lt_open(engine);
     lt_feed(engine, 1, INIT, sizeof INIT);
     lt_feed(engine, 1, MKDIR, sizeof MKDIR);
-    same("VERSION", lt_turn(engine, 1, MOMENT), LT_WROTE);
+    same("VERSION", lt_turn(engine, 1, MOMENT), LT_TURN_WROTE);
     same("its length", lt_output(engine, 1, NULL, 0), VERSION);
     same("VERSION was sent", lt_sent(engine, 1, VERSION), 0);
-    same("MKDIR begins", lt_turn(engine, 1, MOMENT), LT_BEGUN);
-    same("it takes the root", lt_turn(engine, 1, MOMENT), LT_MOVED);
-    same("it is decided", lt_turn(engine, 1, MOMENT), LT_DECIDED);
-    same("its turns run out", lt_settle(engine, 1, MOMENT, 1, NULL), LT_SPENT);
+    same("MKDIR begins", lt_turn(engine, 1, MOMENT), LT_TURN_BEGUN);
+    same("it takes the root", lt_turn(engine, 1, MOMENT), LT_TURN_MOVED);
+    same("it is decided", lt_turn(engine, 1, MOMENT), LT_TURN_DECIDED);
+    same("its turns run out", lt_settle(engine, 1, MOMENT, 1, NULL), LT_TURN_SPENT);
     lt_feed(engine, 1, STAT, sizeof STAT);
-    same("STAT", lt_settle(engine, 1, MOMENT, 100, NULL), LT_IDLE);
+    same("STAT", lt_settle(engine, 1, MOMENT, 100, NULL), LT_TURN_IDLE);
     same("both replies", lt_output(engine, 1, room, sizeof room), OK + 41);
     same("OK's id", room[8], 7);
     same("ATTRS' moment", room[OK + 40], MOMENT);
@@ -147,18 +173,18 @@ static void after_the_end(void)
     uint8_t room[8];
     lt_open(engine);
     lt_feed(engine, 1, MKDIR, sizeof MKDIR);
-    same("not INIT", lt_turn(engine, 1, MOMENT), LT_ENDED + LT_NOT_INIT);
-    same("a feed after the end", lt_feed(engine, 1, INIT, sizeof INIT), LT_HAS_ENDED);
-    same("a turn after the end", lt_turn(engine, 1, MOMENT), LT_ENDED + LT_NOT_INIT);
-    same("settle after the end", lt_settle(engine, 1, MOMENT, 9, NULL), LT_ENDED + LT_NOT_INIT);
+    same("not INIT", lt_turn(engine, 1, MOMENT), LT_TURN_ENDED + LT_CAUSE_NOT_INIT);
+    same("a feed after the end", lt_feed(engine, 1, INIT, sizeof INIT), LT_REFUSAL_HAS_ENDED);
+    same("a turn after the end", lt_turn(engine, 1, MOMENT), LT_TURN_ENDED + LT_CAUSE_NOT_INIT);
+    same("settle after the end", lt_settle(engine, 1, MOMENT, 9, NULL), LT_TURN_ENDED + LT_CAUSE_NOT_INIT);
     same("output after the end", lt_output(engine, 1, room, sizeof room), 0);
-    same("sent after the end", lt_sent(engine, 1, 1), LT_NOT_SENT);
+    same("sent after the end", lt_sent(engine, 1, 1), LT_REFUSAL_NOT_SENT);
     same("close after the end", lt_close(engine, 1), 0);
-    same("which it had before", lt_turn(engine, 1, MOMENT), LT_ENDED + LT_NOT_INIT);
+    same("which it had before", lt_turn(engine, 1, MOMENT), LT_TURN_ENDED + LT_CAUSE_NOT_INIT);
     same("the second session", lt_open(engine), 2);
     same("close", lt_close(engine, 2), 0);
-    same("a feed after close", lt_feed(engine, 2, INIT, sizeof INIT), LT_HAS_ENDED);
-    same("a turn after close", lt_turn(engine, 2, MOMENT), LT_ENDED + LT_CLOSED);
+    same("a feed after close", lt_feed(engine, 2, INIT, sizeof INIT), LT_REFUSAL_HAS_ENDED);
+    same("a turn after close", lt_turn(engine, 2, MOMENT), LT_TURN_ENDED + LT_CAUSE_CLOSED);
     same("close again", lt_close(engine, 2), 0);
     lt_free(engine);
 }
@@ -176,26 +202,26 @@ static void moved(void)
     lt_engine *engine = lt_new();
     lt_open(engine);
     lt_open(engine);
-    moves("nothing to do", engine, 1, 9, false, LT_IDLE);
-    moves("nobody", engine, 3, 9, false, LT_NO_SUCH_SESSION);
+    moves("nothing to do", engine, 1, 9, false, LT_TURN_IDLE);
+    moves("nobody", engine, 3, 9, false, LT_REFUSAL_NO_SUCH_SESSION);
     lt_feed(engine, 1, INIT, sizeof INIT);
-    moves("no reply is asked for", engine, 1, 0, false, LT_SPENT);
-    moves("VERSION alone", engine, 1, 1, true, LT_SPENT);
-    moves("and no more", engine, 1, 1, false, LT_IDLE);
+    moves("no reply is asked for", engine, 1, 0, false, LT_TURN_SPENT);
+    moves("VERSION alone", engine, 1, 1, true, LT_TURN_SPENT);
+    moves("and no more", engine, 1, 1, false, LT_TURN_IDLE);
     lt_feed(engine, 1, MKDIR, sizeof MKDIR);
     lt_feed(engine, 2, INIT, sizeof INIT);
     lt_feed(engine, 2, STAT, sizeof STAT);
     lt_feed(engine, 2, STAT, sizeof STAT);
-    same("MKDIR begins", lt_turn(engine, 1, MOMENT), LT_BEGUN);
-    same("it takes the root", lt_turn(engine, 1, MOMENT), LT_MOVED);
-    moves("VERSION, and a call that is blocked", engine, 2, 9, true, LT_BLOCKED);
-    moves("it is blocked still", engine, 2, 9, false, LT_BLOCKED);
-    moves("MKDIR goes on, up to its reply", engine, 1, 9, true, LT_IDLE);
-    moves("the call goes by, up to its reply", engine, 2, 1, true, LT_SPENT);
-    moves("and the next one", engine, 2, 2, true, LT_IDLE);
+    same("MKDIR begins", lt_turn(engine, 1, MOMENT), LT_TURN_BEGUN);
+    same("it takes the root", lt_turn(engine, 1, MOMENT), LT_TURN_MOVED);
+    moves("VERSION, and a call that is blocked", engine, 2, 9, true, LT_TURN_BLOCKED);
+    moves("it is blocked still", engine, 2, 9, false, LT_TURN_BLOCKED);
+    moves("MKDIR goes on, up to its reply", engine, 1, 9, true, LT_TURN_IDLE);
+    moves("the call goes by, up to its reply", engine, 2, 1, true, LT_TURN_SPENT);
+    moves("and the next one", engine, 2, 2, true, LT_TURN_IDLE);
     same("VERSION and two replies", lt_output(engine, 2, NULL, 0), VERSION + 2 * 41);
     lt_feed(engine, 1, INIT, sizeof INIT);
-    moves("a second INIT", engine, 1, 9, false, LT_ENDED + LT_SECOND_INIT);
+    moves("a second INIT", engine, 1, 9, false, LT_TURN_ENDED + LT_CAUSE_SECOND_INIT);
     lt_free(engine);
 }
 
@@ -210,9 +236,9 @@ static void blocked(void)
     lt_feed(engine, 2, STAT, sizeof STAT);
     for (int i = 0; i < 3; i++)
         lt_turn(engine, 1, MOMENT);
-    same("the other one holds the root", lt_settle(engine, 2, MOMENT, 100, NULL), LT_BLOCKED);
-    same("which goes on", lt_settle(engine, 1, MOMENT, 100, NULL), LT_IDLE);
-    same("and lets it by", lt_settle(engine, 2, MOMENT, 100, NULL), LT_IDLE);
+    same("the other one holds the root", lt_settle(engine, 2, MOMENT, 100, NULL), LT_TURN_BLOCKED);
+    same("which goes on", lt_settle(engine, 1, MOMENT, 100, NULL), LT_TURN_IDLE);
+    same("and lets it by", lt_settle(engine, 2, MOMENT, 100, NULL), LT_TURN_IDLE);
     lt_free(engine);
 }
 
@@ -245,8 +271,8 @@ static lt_engine *crossing(void)
     same("VERSION", lt_sent(engine, 2, VERSION), 0);
     lt_feed(engine, 1, TO_B, sizeof TO_B);
     lt_feed(engine, 2, TO_A, sizeof TO_A);
-    same("the first rename begins", lt_turn(engine, 1, MOMENT), LT_BEGUN);
-    same("the second rename begins", lt_turn(engine, 2, MOMENT), LT_BEGUN);
+    same("the first rename begins", lt_turn(engine, 1, MOMENT), LT_TURN_BEGUN);
+    same("the second rename begins", lt_turn(engine, 2, MOMENT), LT_TURN_BEGUN);
     return engine;
 }
 
@@ -260,8 +286,8 @@ static void rounds(void)
     same("no round more", lt_run_all(engine), 0);
     same("no reply of the first rename", lt_output(engine, 1, NULL, 0), 0);
     same("no reply of the second rename", lt_output(engine, 2, NULL, 0), 0);
-    same("a turn writes the second one's", lt_turn(engine, 2, MOMENT), LT_WROTE);
-    same("a turn writes the first one's", lt_turn(engine, 1, MOMENT), LT_WROTE);
+    same("a turn writes the second one's", lt_turn(engine, 2, MOMENT), LT_TURN_WROTE);
+    same("a turn writes the first one's", lt_turn(engine, 1, MOMENT), LT_TURN_WROTE);
     same("the first one's length", lt_output(engine, 1, room, sizeof room), OK);
     same("its id", room[8], 8);
     same("it is OK", room[12], 0);
@@ -284,8 +310,8 @@ static const uint8_t LOOKED[] = {0, 0, 0, 37, 105, 0, 0, 0, 8, 0, 0, 0, 15, 0, 0
 static void schedule(uint8_t first[128], uint8_t second[128])
 {
     const uint64_t sessions[] = {1, 2, 2, 1, 1, 2, 1, 2, 2, 2, 1};
-    const int64_t did[] = {LT_WROTE, LT_WROTE, LT_BEGUN, LT_BEGUN, LT_MOVED, LT_BLOCKED,
-                           LT_DECIDED, LT_MOVED, LT_DECIDED, LT_WROTE, LT_WROTE};
+    const int64_t did[] = {LT_TURN_WROTE, LT_TURN_WROTE, LT_TURN_BEGUN, LT_TURN_BEGUN, LT_TURN_MOVED, LT_TURN_BLOCKED,
+                           LT_TURN_DECIDED, LT_TURN_MOVED, LT_TURN_DECIDED, LT_TURN_WROTE, LT_TURN_WROTE};
     lt_engine *engine = lt_new();
     lt_open(engine);
     lt_open(engine);
@@ -342,42 +368,42 @@ static lt_call record(lt_engine *engine, uint64_t at, uint64_t number, uint32_t 
 
 static void records_of_data(lt_engine *engine)
 {
-    lt_call call = record(engine, 2, 3, LT_OPEN);
+    lt_call call = record(engine, 2, 3, LT_KIND_OPEN);
     same("what OPEN opens", are(call.path, "/f", 2), 1);
     same("OPEN's flags", call.flags, 0x1b);
     same("OPEN's attributes", call.attributes.given, 0);
-    same("OPEN's answer", call.answer, LT_HANDLE);
+    same("OPEN's answer", call.answer, LT_ANSWER_HANDLE);
     same("OPEN's handle", (int64_t)call.answer_handle, 3);
-    call = record(engine, 3, 4, LT_WRITE);
+    call = record(engine, 3, 4, LT_KIND_WRITE);
     same("WRITE's handle", (int64_t)call.handle, 3);
     same("WRITE's offset", (int64_t)call.offset, 5);
     same("WRITE's length", (int64_t)call.length, 3);
     same("WRITE's bytes", are(call.written, "xyz", 3), 1);
     same("WRITE's path", are(call.path, "", 0), 1);
-    call = record(engine, 4, 5, LT_READ);
+    call = record(engine, 4, 5, LT_KIND_READ);
     same("READ's offset", (int64_t)call.offset, 4);
     same("READ's length", (int64_t)call.length, 256);
-    same("READ's answer", call.answer, LT_DATA);
+    same("READ's answer", call.answer, LT_ANSWER_DATA);
     same("READ's bytes", are(call.answer_bytes, "\0xyz", 4), 1);
 }
 
 static void records_of_paths(lt_engine *engine)
 {
-    lt_call call = record(engine, 0, 1, LT_MKDIR);
+    lt_call call = record(engine, 0, 1, LT_KIND_MKDIR);
     same("its moment", call.moment, MOMENT);
     same("what MKDIR makes", are(call.path, "/a", 2), 1);
     same("MKDIR's new path", are(call.new_path, "", 0), 1);
-    same("MKDIR's answer", call.answer, LT_STATUS);
+    same("MKDIR's answer", call.answer, LT_ANSWER_STATUS);
     same("MKDIR's status", call.status, 0);
-    call = record(engine, 1, 2, LT_STAT);
-    same("STAT's answer", call.answer, LT_ATTRS);
+    call = record(engine, 1, 2, LT_KIND_STAT);
+    same("STAT's answer", call.answer, LT_ANSWER_ATTRS);
     same("STAT's parts", call.answer_attributes.given, 15);
     same("STAT's permissions", call.answer_attributes.permissions, 040755);
     same("STAT's mtime", call.answer_attributes.mtime, MOMENT);
-    call = record(engine, 8, 9, LT_SETSTAT);
+    call = record(engine, 8, 9, LT_KIND_SETSTAT);
     same("SETSTAT's parts", call.attributes.given, 4);
     same("SETSTAT's permissions", call.attributes.permissions, 0700);
-    call = record(engine, 9, 10, LT_RENAME);
+    call = record(engine, 9, 10, LT_KIND_RENAME);
     same("RENAME's old path", are(call.path, "/f", 2), 1);
     same("RENAME's new path", are(call.new_path, "/a", 2), 1);
     same("RENAME's status", call.status, 4);
@@ -400,21 +426,21 @@ static void records(void)
     lt_feed(engine, 1, READDIR, sizeof READDIR);
     lt_feed(engine, 1, SETSTAT, sizeof SETSTAT);
     lt_feed(engine, 1, RENAME, sizeof RENAME);
-    same("ten calls", lt_settle(engine, 1, MOMENT, 100, NULL), LT_IDLE);
+    same("ten calls", lt_settle(engine, 1, MOMENT, 100, NULL), LT_TURN_IDLE);
     same("past the last one", lt_calls(engine, 10, &call), 10);
     same("far past it", lt_calls(engine, UINT64_MAX, &call), 10);
     same("which sets nothing", (int64_t)call.number, 9);
     records_of_paths(engine);
     records_of_data(engine);
-    call = record(engine, 7, 8, LT_READDIR);
+    call = record(engine, 7, 8, LT_KIND_READDIR);
     same("READDIR's names", call.names, 2);
     same("they are", are(call.answer_bytes, "a\0f", 4), 1);
     lt_close(engine, 1);
-    call = record(engine, 9, 0, LT_LEFT);
+    call = record(engine, 9, 0, LT_KIND_LEFT);
     same("the oldest one went", lt_calls(engine, 0, &call), 10);
     same("and the second one is the oldest", (int64_t)call.number, 2);
-    same("calls without an engine", lt_calls(NULL, 0, &call), LT_BAD_POINTER);
-    same("calls without a record", lt_calls(engine, 0, NULL), LT_BAD_POINTER);
+    same("calls without an engine", lt_calls(NULL, 0, &call), LT_REFUSAL_BAD_POINTER);
+    same("calls without a record", lt_calls(engine, 0, NULL), LT_REFUSAL_BAD_POINTER);
     lt_free(engine);
 }
 
@@ -423,7 +449,7 @@ static lt_bytes text(const char *bytes)
     return (lt_bytes){(const uint8_t *)bytes, strlen(bytes)};
 }
 
-/* What a function for trees answered, at which request, and at how many bytes of the path. */
+/* What a function that makes trees answered, at which request, and at how many bytes of the path. */
 static void stops(const char *name, int64_t answer, lt_place place, int64_t wanted, uint32_t kind, size_t length)
 {
     same(name, answer, wanted);
@@ -441,51 +467,80 @@ static void made(lt_engine *engine)
     same("an empty one", lt_write_file(engine, text("g"), (lt_bytes){NULL, 0}, MOMENT, NULL), 0);
     same("one more name", lt_link(engine, text("/d/f"), text("/e/h"), MOMENT, NULL), 0);
     answer = lt_make_directory(engine, text("/d/f/x"), MOMENT, &place);
-    stops("a directory in a file", answer, place, LT_STATUS_BASE - 4, LT_MKDIR, 4);
+    stops("a directory in a file", answer, place, LT_REFUSAL_STATUS_BASE - 4, LT_KIND_MKDIR, 4);
     answer = lt_write_file(engine, text("/"), text("x"), MOMENT, &place);
-    stops("the root", answer, place, LT_STATUS_BASE - 4, LT_OPEN, 1);
+    stops("the root", answer, place, LT_REFUSAL_STATUS_BASE - 4, LT_KIND_OPEN, 1);
     answer = lt_link(engine, text("/none"), text("/x"), MOMENT, &place);
-    stops("no file", answer, place, LT_STATUS_BASE - 2, LT_HARDLINK, 2);
-    same("a path without bytes", lt_make_directory(engine, (lt_bytes){NULL, 1}, MOMENT, NULL), LT_BAD_POINTER);
-    same("too large a length", lt_make_directory(engine, (lt_bytes){INIT, TOO_MANY}, MOMENT, NULL), LT_BAD_POINTER);
+    stops("no file", answer, place, LT_REFUSAL_STATUS_BASE - 2, LT_KIND_HARDLINK, 2);
+    same("a path without bytes", lt_make_directory(engine, (lt_bytes){NULL, 1}, MOMENT, NULL), LT_REFUSAL_BAD_POINTER);
+    same("too large a length", lt_make_directory(engine, (lt_bytes){INIT, TOO_MANY}, MOMENT, NULL), LT_REFUSAL_BAD_POINTER);
     same("contents without bytes", lt_write_file(engine, text("/x"), (lt_bytes){NULL, 1}, MOMENT, NULL),
-         LT_BAD_POINTER);
-    same("no engine", lt_link(NULL, text("/g"), text("/x"), MOMENT, NULL), LT_BAD_POINTER);
+         LT_REFUSAL_BAD_POINTER);
+    same("no engine", lt_link(NULL, text("/g"), text("/x"), MOMENT, NULL), LT_REFUSAL_BAD_POINTER);
 }
 
-/* An entry of a tree at a place, of seven. */
-static void entry_is(lt_tree *tree, uint64_t at, const char *path, const char *contents, uint64_t links, uint64_t file)
+/* The bytes of a leaf from an offset on are these, and no others follow. */
+static void reads(const lt_tree *tree, uint64_t at, uint64_t offset, const char *contents)
 {
-    lt_entry entry;
-    same(path, lt_tree_entry(tree, at, &entry), 7);
-    same("its path", are(entry.path, path, strlen(path)), 1);
-    same("its contents", are(entry.contents, contents, strlen(contents)), 1);
-    same("its names", (int64_t)entry.links, (int64_t)links);
-    same("its number", (int64_t)entry.file, (int64_t)file);
-    same("its time", entry.attributes.mtime, MOMENT);
-    same("its attributes", entry.attributes.given, 15);
+    uint8_t room[16];
+    size_t length = strlen(contents);
+    same("how many bytes", lt_tree_read(tree, at, offset, room, sizeof room), (int64_t)length);
+    same("its bytes", memcmp(room, contents, length), 0);
 }
 
-static void walked(lt_engine *engine)
+/* A leaf of a tree at a place, of seven. Its label is the number of the call that made it. */
+static void leaf_is(lt_tree *tree, uint64_t at, const char *path, uint64_t label, uint32_t mode, const char *contents)
 {
-    lt_tree *tree;
-    lt_entry entry;
-    same("a walk", lt_walk(engine, MOMENT, &tree, NULL), 0);
-    entry_is(tree, 0, "/", "", 1, 0);
-    entry_is(tree, 1, "/d", "", 1, 0);
-    entry_is(tree, 2, "/d/e", "", 1, 0);
-    entry_is(tree, 3, "/d/f", "contents", 2, 1);
-    entry_is(tree, 4, "/e", "", 1, 0);
-    entry_is(tree, 5, "/e/h", "contents", 2, 1);
-    entry_is(tree, 6, "/g", "", 1, 2);
-    same("no further one", lt_tree_entry(tree, 7, &entry), 7);
-    same("an entry without room", lt_tree_entry(tree, 0, NULL), LT_BAD_POINTER);
-    lt_tree_free(tree);
+    lt_leaf leaf;
+    same(path, lt_tree_leaf(tree, at, &leaf), 7);
+    same("its path", are(leaf.path, path, strlen(path)), 1);
+    same("its label", (int64_t)leaf.label, (int64_t)label);
+    same("its permissions", leaf.attributes.permissions, mode);
+    same("its size", (int64_t)leaf.attributes.size, (int64_t)strlen(contents));
+    same("its time", leaf.attributes.mtime, MOMENT);
+    same("its attributes", leaf.attributes.given, 15);
+    reads(tree, at, 0, contents);
+}
+
+/* The tree that `made` makes: of its calls the 2nd, 4th and 12th make directories, the 6th and 9th files. */
+static void is_as_made(lt_tree *tree)
+{
+    leaf_is(tree, 0, "/", 0, 040755, "");
+    leaf_is(tree, 1, "/d", 2, 040755, "");
+    leaf_is(tree, 2, "/d/e", 4, 040755, "");
+    leaf_is(tree, 3, "/d/f", 6, 0100644, "contents");
+    leaf_is(tree, 4, "/e", 12, 040755, "");
+    leaf_is(tree, 5, "/e/h", 6, 0100644, "contents");
+    leaf_is(tree, 6, "/g", 9, 0100644, "");
+}
+
+/* What may be asked of a tree beside its leaves, and what may not. */
+static void asked(lt_engine *engine, lt_tree *tree)
+{
+    lt_tree *none = tree;
+    lt_leaf leaf;
+    uint8_t room[4] = {9, 9, 9, 9};
+    same("no further leaf", lt_tree_leaf(tree, 7, &leaf), 7);
+    reads(tree, 3, 3, "tents");
+    reads(tree, 3, 8, "");
+    reads(tree, 3, UINT64_MAX, "");
+    reads(tree, 7, 0, "");
+    same("as many bytes as there is room", lt_tree_read(tree, 3, 1, room, 3), 3);
+    same("are these", memcmp(room, "ont\11", 4), 0);
+    same("no room", lt_tree_read(tree, 3, 0, NULL, 0), 0);
+    same("no gap in bytes", lt_tree_gap(tree, 3, 0), 0);
+    same("none in a directory", lt_tree_gap(tree, 1, 0), 0);
+    same("none where no leaf is", lt_tree_gap(tree, UINT64_MAX, 0), 0);
+    same("a leaf that isn't told", lt_tree_leaf(tree, 0, NULL), LT_REFUSAL_BAD_POINTER);
+    same("a leaf of no tree", lt_tree_leaf(NULL, 0, &leaf), LT_REFUSAL_BAD_POINTER);
+    same("bytes of no tree", lt_tree_read(NULL, 0, 0, room, 3), LT_REFUSAL_BAD_POINTER);
+    same("bytes to no room", lt_tree_read(tree, 3, 0, NULL, 1), LT_REFUSAL_BAD_POINTER);
+    same("too many bytes", lt_tree_read(tree, 3, 0, room, TOO_MANY), LT_REFUSAL_BAD_POINTER);
+    same("a gap of no tree", lt_tree_gap(NULL, 0, 0), LT_REFUSAL_BAD_POINTER);
+    same("a tree of no engine", lt_tree_of(NULL, &none), LT_REFUSAL_BAD_POINTER);
+    same("which is none", none == NULL, 1);
+    same("a tree for nobody", lt_tree_of(engine, NULL), LT_REFUSAL_BAD_POINTER);
     lt_tree_free(NULL);
-    same("an entry of no tree", lt_tree_entry(NULL, 0, &entry), 0);
-    same("a walk without an engine", lt_walk(NULL, MOMENT, &tree, NULL), LT_BAD_POINTER);
-    same("it has no tree", tree == NULL, 1);
-    same("a walk without room", lt_walk(engine, MOMENT, NULL, NULL), LT_BAD_POINTER);
 }
 
 /* Paths that a packet has room for, which the server refuses, and longer ones. */
@@ -496,16 +551,45 @@ static void long_paths(void)
     lt_place place;
     memset(bytes, 'x', sizeof bytes);
     int64_t answer = lt_make_directory(engine, (lt_bytes){bytes, LONGEST}, MOMENT, &place);
-    stops("a long path", answer, place, LT_STATUS_BASE - 4, LT_STAT, LONGEST);
+    stops("a long path", answer, place, LT_REFUSAL_STATUS_BASE - 4, LT_KIND_STAT, LONGEST);
     answer = lt_make_directory(engine, (lt_bytes){bytes, LONGEST + 1}, MOMENT, &place);
-    stops("a longer one", answer, place, LT_LONG_PATH, LT_STAT, LONGEST + 1);
+    stops("a longer one", answer, place, LT_REFUSAL_LONG_PATH, LT_KIND_STAT, LONGEST + 1);
     answer = lt_write_file(engine, (lt_bytes){bytes, LONGEST + 1}, text("x"), MOMENT, &place);
-    stops("a longer one of a file", answer, place, LT_LONG_PATH, LT_OPEN, LONGEST + 1);
+    stops("a longer one of a file", answer, place, LT_REFUSAL_LONG_PATH, LT_KIND_OPEN, LONGEST + 1);
     answer = lt_link(engine, (lt_bytes){bytes, LONGEST - 1}, text("x"), MOMENT, &place);
-    stops("two long ones", answer, place, LT_STATUS_BASE - 4, LT_HARDLINK, 1);
+    stops("two long ones", answer, place, LT_REFUSAL_STATUS_BASE - 4, LT_KIND_HARDLINK, 1);
     answer = lt_link(engine, (lt_bytes){bytes, LONGEST}, text("x"), MOMENT, &place);
-    stops("two longer ones", answer, place, LT_LONG_PATH, LT_HARDLINK, 1);
+    stops("two longer ones", answer, place, LT_REFUSAL_LONG_PATH, LT_KIND_HARDLINK, 1);
     lt_free(engine);
+}
+
+/* SETSTAT of /d/f under the id 9: its size is 2^40. */
+static const uint8_t GROW[] = {0,   0,   0,   25, 9, 0, 0, 0, 9, 0, 0, 0, 4, '/', 'd',
+                               '/', 'f', 0,   0,  0, 1, 0, 0, 1, 0, 0, 0, 0, 0};
+
+/* A file of 2^40 bytes, of which the first five were written. */
+static void sparse(lt_engine *engine)
+{
+    const uint64_t size = (uint64_t)1 << 40;
+    lt_tree *tree;
+    lt_leaf leaf;
+    uint8_t room[9];
+    uint64_t session = (uint64_t)lt_open(engine);
+    lt_feed(engine, session, INIT, sizeof INIT);
+    lt_feed(engine, session, GROW, sizeof GROW);
+    same("a file grows", lt_settle(engine, session, MOMENT, 2, NULL), LT_TURN_SPENT);
+    same("a tree", lt_tree_of(engine, &tree), 0);
+    lt_tree_leaf(tree, 3, &leaf);
+    same("its size", (int64_t)leaf.attributes.size, (int64_t)size);
+    same("no gap at the front", lt_tree_gap(tree, 3, 0), 0);
+    same("a gap behind it", lt_tree_gap(tree, 3, 32768), (int64_t)size - 32768);
+    same("and from within it", lt_tree_gap(tree, 3, size - 5), 5);
+    same("none at the end", lt_tree_gap(tree, 3, size), 0);
+    same("the front", lt_tree_read(tree, 3, 1, room, sizeof room), 9);
+    same("ends in zeros", memcmp(room, "ther\0\0\0\0\0", sizeof room), 0);
+    same("the end", lt_tree_read(tree, 3, size - 2, room, sizeof room), 2);
+    same("is zeros", memcmp(room, "\0\0er\0\0\0\0\0", sizeof room), 0);
+    lt_tree_free(tree);
 }
 
 /* The path of one of many files, and its contents. */
@@ -516,50 +600,60 @@ static lt_bytes one_of_many(int number)
     return text(path);
 }
 
-/* More files than a listing's piece has names, and more bytes than many packets have. */
+/* Many files, and more bytes than many packets have. */
 static void large_trees(void)
 {
-    static uint8_t contents[LARGE];
+    static uint8_t contents[LARGE], room[LARGE + 1];
     lt_engine *engine = lt_new();
     lt_tree *tree;
-    lt_entry entry;
-    memset(contents, 'c', sizeof contents);
+    lt_leaf leaf;
+    for (size_t i = 0; i < sizeof contents; i++)
+        contents[i] = (uint8_t)(i % 251);
     for (int i = 0; i < MANY_FILES; i++)
         same("a file", lt_write_file(engine, one_of_many(i), one_of_many(i), MOMENT, NULL), 0);
     same("a large file", lt_write_file(engine, text("/large"), (lt_bytes){contents, LARGE}, MOMENT, NULL), 0);
-    same("a walk", lt_walk(engine, MOMENT, &tree, NULL), 0);
+    same("a tree", lt_tree_of(engine, &tree), 0);
+    lt_free(engine);
     for (int i = 0; i < MANY_FILES; i++) {
         lt_bytes path = one_of_many(i);
-        same("all entries", lt_tree_entry(tree, (uint64_t)i + 2, &entry), MANY_FILES + 3);
-        same("a path", are(entry.path, (const char *)path.at, path.length), 1);
-        same("contents", are(entry.contents, (const char *)path.at, path.length), 1);
+        same("all leaves", lt_tree_leaf(tree, (uint64_t)i + 2, &leaf), MANY_FILES + 3);
+        same("a path", are(leaf.path, (const char *)path.at, path.length), 1);
+        reads(tree, (uint64_t)i + 2, 0, (const char *)path.at);
     }
-    lt_tree_entry(tree, MANY_FILES + 2, &entry);
-    same("large contents", are(entry.contents, (const char *)contents, LARGE), 1);
+    same("a large file", lt_tree_read(tree, MANY_FILES + 2, 0, room, sizeof room), LARGE);
+    same("its bytes", memcmp(room, contents, LARGE), 0);
+    same("from an offset on", lt_tree_read(tree, MANY_FILES + 2, 40000, room, 200000), 200000);
+    same("its bytes from there on", memcmp(room, contents + 40000, 200000), 0);
     lt_tree_free(tree);
-    lt_free(engine);
 }
 
-/* Trees; and a session whose call holds the root, so that a walk, which lists the root, gets no further. */
+/* A tree, which the engine's further calls change as little as it changes the engine: no session opens, and no call is
+ * recorded. It is the tree of the calls that were decided, also where one is half way and holds the root. */
 static void trees(void)
 {
-    lt_engine *engine = lt_new();
+    lt_engine *engine = lt_new_keeping(0);
     lt_tree *tree;
-    lt_entry entry;
-    lt_place place;
+    lt_call call;
     made(engine);
-    walked(engine);
+    int64_t calls = lt_calls(engine, UINT64_MAX, &call);
     uint64_t session = (uint64_t)lt_open(engine);
     lt_feed(engine, session, INIT, sizeof INIT);
     lt_feed(engine, session, MAKE_X, sizeof MAKE_X);
     for (int i = 0; i < 3; i++)
         lt_turn(engine, session, MOMENT);
-    int64_t answer = lt_walk(engine, MOMENT, &tree, &place);
-    stops("a walk that is blocked", answer, place, LT_IS_BLOCKED, LT_OPENDIR, 2);
-    same("where it stopped", lt_tree_entry(tree, 0, &entry), 1);
-    same("is a directory", are(entry.path, "/d", 2), 1);
-    lt_tree_free(tree);
+    same("a tree", lt_tree_of(engine, &tree), 0);
+    same("no further session", lt_open(engine), (int64_t)session + 1);
+    same("no further call", lt_calls(engine, UINT64_MAX, &call), calls);
+    is_as_made(tree);
+    same("a file is replaced", lt_write_file(engine, text("/g"), text("other"), MOMENT, NULL), LT_REFUSAL_IS_BLOCKED);
+    lt_run_all(engine);
+    same("and again", lt_write_file(engine, text("/d/f"), text("other"), MOMENT, NULL), 0);
+    sparse(engine);
+    is_as_made(tree);
+    asked(engine, tree);
     lt_free(engine);
+    is_as_made(tree);
+    lt_tree_free(tree);
 }
 
 static void many_sessions(void)
@@ -568,9 +662,9 @@ static void many_sessions(void)
     lt_place place;
     for (int64_t i = 1; i <= 256; i++)
         same("one of 256", lt_open(engine), i);
-    same("one more than 256", lt_open(engine), LT_TOO_MANY_SESSIONS);
+    same("one more than 256", lt_open(engine), LT_REFUSAL_TOO_MANY_SESSIONS);
     int64_t answer = lt_make_directory(engine, text("/a"), MOMENT, &place);
-    stops("and one for a tree", answer, place, LT_TOO_MANY_SESSIONS, LT_INIT, 0);
+    stops("and one for a tree", answer, place, LT_REFUSAL_TOO_MANY_SESSIONS, LT_KIND_INIT, 0);
     lt_free(engine);
 }
 
@@ -580,6 +674,7 @@ int main(void)
     null_pointers();
     unknown_sessions();
     lengths_of_zero();
+    wants_bytes();
     after_the_end();
     moved();
     blocked();

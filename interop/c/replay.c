@@ -63,7 +63,7 @@ static int64_t call(lt_engine *engine, const char **word)
         exit(2);
     }
     answer = lt_turn(engine, session, (uint32_t)number);
-    *word = answer < 0 ? NULL : answer <= LT_DECIDED ? turns[answer] : "Ended";
+    *word = answer < 0 ? NULL : answer <= LT_TURN_DECIDED ? turns[answer] : "Ended";
     return answer;
 }
 
@@ -73,7 +73,7 @@ static int64_t try_event(lt_engine *engine)
     int64_t answer = call(engine, &word);
     if (answer >= 0)
         printf("%s\n", word);
-    else if (answer == LT_OUT_OF_MEMORY)
+    else if (answer == LT_REFUSAL_OUT_OF_MEMORY)
         printf("refused OutOfMemory\n");
     else
         printf("refused %" PRId64 "\n", answer);
@@ -100,7 +100,7 @@ int main(void)
     while (fgets(line, sizeof line, stdin) != NULL) {
         if (strncmp(line, "state", 5) == 0) {
             print_state(engine);
-        } else if (try_event(engine) == LT_OUT_OF_MEMORY) {
+        } else if (try_event(engine) == LT_REFUSAL_OUT_OF_MEMORY) {
             print_state(engine);
             try_event(engine);
         }

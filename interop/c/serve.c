@@ -112,8 +112,8 @@ static int settle(struct server *server, nfds_t at)
         if (waiting != 0 || client->has_ended)
             return waiting > 0;
         int64_t turn = lt_settle(server->engine, client->session, server->moment, REPLIES, NULL);
-        client->has_ended = turn != LT_SPENT && turn != LT_IDLE;
-        if (turn != LT_IDLE || lt_output(server->engine, client->session, NULL, 0) > 0)
+        client->has_ended = turn != LT_TURN_SPENT && turn != LT_TURN_IDLE;
+        if (turn != LT_TURN_IDLE || lt_output(server->engine, client->session, NULL, 0) > 0)
             continue;
         if (client->ahead == 0)
             return !client->is_closed;
@@ -159,7 +159,7 @@ static void take_client(struct server *server)
     int line = accept(server->lines[LISTENER].fd, NULL, NULL);
     if (line < 0)
         return;
-    int64_t session = server->count < FIRST + CLIENTS ? lt_open(server->engine) : LT_TOO_MANY_SESSIONS;
+    int64_t session = server->count < FIRST + CLIENTS ? lt_open(server->engine) : LT_REFUSAL_TOO_MANY_SESSIONS;
     if (session < 0) {
         close(line);
         return;

@@ -1,15 +1,14 @@
-/* Makes a tree by the functions for trees of lucernetick.h, walks it twice, and prints what came of
- * each call and what was found. What is refused for want of memory is told, and called again: for
- * interop/growths. */
+/* Makes a tree by the functions of lucernetick.h, takes it twice, and prints what came of each call and
+ * what the tree has. What is refused for want of memory is told, and called again: for interop/growths. */
 #include "lucernetick.h"
 
 #include <inttypes.h>
 #include <stdio.h>
 #include <string.h>
 
-enum { MOMENT = 100, LARGE = 200000, SESSIONS = 256 };
+enum { MOMENT = 100, LARGE = 200000, SESSIONS = 256, LEAVES = 10, DIRECTORY = 040000 };
 
-static uint8_t large[LARGE];
+static uint8_t large[LARGE], room[LARGE + 1];
 
 static lt_bytes text(const char *bytes)
 {
@@ -19,9 +18,9 @@ static lt_bytes text(const char *bytes)
 /* Whether a call was refused for want of memory. */
 static bool is_refused(const char *name, int64_t answer)
 {
-    if (answer == LT_OUT_OF_MEMORY)
+    if (answer == LT_REFUSAL_OUT_OF_MEMORY)
         printf("refused %s\n", name);
-    return answer == LT_OUT_OF_MEMORY;
+    return answer == LT_REFUSAL_OUT_OF_MEMORY;
 }
 
 static void tell(const char *name, int64_t answer)
@@ -64,50 +63,64 @@ static void make_link(lt_engine *engine, const char *path, const char *new_path)
     tell("link", answer);
 }
 
-/* A file's contents, or that they are the large ones. */
-static void print_contents(lt_bytes contents)
+/* Reads what a leaf has, and answers how many bytes that is. */
+static size_t read_leaf(const lt_tree *tree, uint64_t at)
 {
-    if (contents.length == LARGE && memcmp(contents.at, large, LARGE) == 0)
-        printf("large\n");
-    else
-        printf("%.*s\n", (int)contents.length, (const char *)contents.at);
+    int64_t length;
+    do
+        length = lt_tree_read(tree, at, 0, room, sizeof room);
+    while (is_refused("read", length));
+    return (size_t)length;
 }
 
-static void print_entry(const lt_entry *entry)
+/* A file's contents, or that they are the large ones. */
+static void print_contents(size_t length)
 {
-    const lt_attributes *told = &entry->attributes;
-    printf("%.*s ", (int)entry->path.length, (const char *)entry->path.at);
-    if (entry->file == 0) {
+    if (length == LARGE && memcmp(room, large, LARGE) == 0)
+        printf("large\n");
+    else
+        printf("%.*s\n", (int)length, (const char *)room);
+}
+
+/* A leaf, of a file with the first place that has its label: labels differ where a call was made again. */
+static void print_leaf(const lt_tree *tree, uint64_t at, const lt_leaf *leaf)
+{
+    static uint64_t labels[LEAVES];
+    const lt_attributes *told = &leaf->attributes;
+    size_t length = read_leaf(tree, at);
+    uint64_t first = 0;
+    labels[at] = leaf->label;
+    while (labels[first] != leaf->label)
+        first++;
+    printf("%.*s ", (int)leaf->path.length, (const char *)leaf->path.at);
+    if ((told->permissions & DIRECTORY) != 0) {
         printf("directory\n");
         return;
     }
-    printf("%" PRIu32 " %" PRIu32 " ", told->atime, told->mtime);
-    printf("%" PRIu64 " %" PRIu64 " ", entry->links, entry->file);
-    print_contents(entry->contents);
+    printf("%" PRIu32 " %" PRIu32 " %" PRIu64 " ", told->atime, told->mtime, first);
+    print_contents(length);
 }
 
 static void print_tree(lt_tree *tree)
 {
-    lt_entry entry;
+    lt_leaf leaf;
     int64_t count = 1;
-    for (int64_t at = 0; at < count; at++) {
+    for (int64_t at = 0; at < count && at < LEAVES; at++) {
         do
-            count = lt_tree_entry(tree, (uint64_t)at, &entry);
-        while (is_refused("entry", count));
-        if (at < count)
-            print_entry(&entry);
+            count = lt_tree_leaf(tree, (uint64_t)at, &leaf);
+        while (is_refused("leaf", count));
+        print_leaf(tree, (uint64_t)at, &leaf);
     }
+    tell("leaves", count);
 }
 
-static void walk(lt_engine *engine)
+static void take(const lt_engine *engine)
 {
     lt_tree *tree;
-    int64_t answer = lt_walk(engine, MOMENT, &tree, NULL);
-    if (is_refused("walk", answer)) {
-        lt_tree_free(tree);
-        answer = lt_walk(engine, MOMENT, &tree, NULL);
-    }
-    tell("walk", answer);
+    int64_t answer;
+    do
+        answer = lt_tree_of(engine, &tree);
+    while (is_refused("tree", answer));
     print_tree(tree);
     lt_tree_free(tree);
 }
@@ -137,8 +150,8 @@ int main(void)
     make_link(engine, "/d/f", "/e/g");
     make_link(engine, "/large", "/m");
     make_link(engine, "/like", "/e/h");
-    walk(engine);
-    walk(engine);
+    take(engine);
+    take(engine);
     open_sessions(engine);
     lt_free(engine);
     return 0;

@@ -69,7 +69,7 @@ static void drop(int64_t length)
 static void ask(const uint8_t *bytes, size_t length, int64_t reply)
 {
     same("fed", lt_feed(engine, session, bytes, length), 0);
-    same("settled", lt_settle(engine, session, MOMENT, 2, NULL), LT_IDLE);
+    same("settled", lt_settle(engine, session, MOMENT, 2, NULL), LT_TURN_IDLE);
     drop(reply);
 }
 
@@ -89,17 +89,17 @@ static size_t write_one(uint8_t *packet, uint32_t offset, uint32_t length)
     put_u32(packet + HEAD - 8, offset);
     put_u32(packet + HEAD - 4, length);
     same("fed", lt_feed(engine, session, packet, HEAD + length), 0);
-    same("begun", lt_turn(engine, session, MOMENT), LT_BEGUN);
+    same("begun", lt_turn(engine, session, MOMENT), LT_TURN_BEGUN);
     int64_t did = lt_turn(engine, session, MOMENT);
     size_t steps = 0;
-    while (did == LT_MOVED) {
+    while (did == LT_TURN_MOVED) {
         size_t before = taken;
         did = lt_turn(engine, session, MOMENT);
         same("taken in a later step", (int64_t)(taken - before), 0);
         steps++;
     }
-    same("decided", did, LT_DECIDED);
-    same("wrote", lt_turn(engine, session, MOMENT), LT_WROTE);
+    same("decided", did, LT_TURN_DECIDED);
+    same("wrote", lt_turn(engine, session, MOMENT), LT_TURN_WROTE);
     drop(OK);
     return steps;
 }
