@@ -1,33 +1,33 @@
 -- How a desk is left.
-use Rattle.std.proofs.Common.{◌≡◌, ◌≢◌, ℕ, Some, None, length, refl, subst, inl, inr, arith}
+use Rattle.std.proofs.Common.{◌≡◌, ◌≢◌, ℕ, Some, None, length, refl, sym, ◌∙◌, inl, inr, arith}
 use Rattle.sf_call.specs.declared.fault.CoreFault.{CoreFault}
 use Rattle.sf_call.specs.declared.fault.CoreFault.TheVariants as refused
 use Rattle.sf_session.specs.declared.cause.Cause.{Cause}
 use Rattle.sf_session.specs.declared.fault.ServeFault.{ServeFault}
 use Rattle.sf_session.specs.declared.fault.ServeFault.TheVariants as fault
 use Rattle.sf_session.specs.Sessions.{SessionView}
-use Rattle.sf_engine.specs.Worlds.{Phase, Gone as Left, SessionState}
+use Rattle.sf_engine.specs.Worlds.{Phase, UnderWay as InCall, Gone as Left, SessionState}
 use Rattle.sf_serving.specs.Ends.{IsWhole}
 use Rattle.sf_serving.specs.Hosts.{IsLeftFor}
 use Rattle.sf_serving.specs.Serving.{LineView, Progress, Serves, IsServed, HasWrittenFor, IsStopped, IsStop}
 use Rattle.sf_pool.specs.declared.at_desk.Standing.{Standing}
 use Rattle.sf_pool.specs.declared.at_desk.Standing.TheVariants as standing
 use Rattle.sf_noted.specs.Pages.Presence.{Departed}
-use Rattle.sf_pool.specs.Desks.{Joined, share_of, DeskView}
-use Rattle.sf_pool.specs.Scenes.{DeskScene, state_calls, NotesCalls, IsShared, join_refusal, HasLeft, LeavesFor, IsDeskFault}
-use Rattle.sf_pool.specs.AtDesks.{IsToldAt, IsOver, IsInCall, IsCounted, IsAdded}
+use Rattle.sf_pool.specs.Desks.{DeskState, Joined, share_of, DeskView}
+use Rattle.sf_pool.specs.Scenes.{DeskScene, state_calls, NotesCalls, IsShared, join_refusal, IsInCall, HasLeft, LeavesFor, IsDeskFault}
+use Rattle.sf_pool.specs.AtDesks.{IsToldAt, IsOver, IsCounted, IsAdded}
 
 shared_by : (share n old new : ℕ) → share ≡ share_of n → IsShared share old new → IsShared n old new
 shared_by share n old new e h = omega (arith, e, h)
 
-not_in_call : (f : Phase) (cause : Cause) → f ≡ Left cause → IsInCall f → ⊥
-not_in_call f cause e h = let no : IsInCall (Left cause) = subst (λ (x : Phase). IsInCall x) e h in no
+not_in_call : (place : DeskState) (f : Phase) (cause : Cause) → f ≡ Left cause → IsInCall place f → ⊥
+not_in_call place f cause e h = let no : Left cause ≡ InCall h.id h.number h.moment h.request h.moves = sym e ∙ h.waits in cc
 
 -- a session that was served to its end has left
-leaves_gone : (at : Standing) (d : DeskView) {t : SessionState} {cause : Cause} (old new : ℕ) → IsOver at d None → IsCounted at t → IsWhole t cause → IsAdded at old new → (d.place ≡ Joined Departed) × IsShared (length (state_calls t)) old new
+leaves_gone : (at : Standing) (d : DeskView) {t : SessionState} {cause : Cause} (old new : ℕ) → IsOver at d None → IsCounted at d t → IsWhole t cause → IsAdded at old new → (d.place ≡ Joined Departed) × IsShared (length (state_calls t)) old new
 leaves_gone standing.Joined d old new over counts whole added = absurd over
 leaves_gone standing.Unanswered d old new over counts whole added = absurd over
-leaves_gone standing.UnderWay d {t = t} {cause = cause} old new over counts whole added = absurd (not_in_call t.phase cause whole.left counts)
+leaves_gone standing.UnderWay d {t = t} {cause = cause} old new over counts whole added = absurd (not_in_call d.place t.phase cause whole.left counts)
 leaves_gone (standing.Left share) d {t = t} old new over counts whole added = (over.1, shared_by share (length (state_calls t)) old new counts added)
 
 pub leaves_served : {held : ℕ} {start now : DeskScene} {from line : LineView} {at : Standing} {v : SessionView} {cause : Cause} (old new : ℕ) → IsOver at now.desk None → IsAdded at old new → Serves held (IsToldAt start at v now) from line (IsServed line.incoming cause)
@@ -37,10 +37,10 @@ leaves_served {now = now} {at = at} {cause = cause} old new over added serves =
     (serves.0, serves.1.notes, serves.2, ((cause, serves.3), left.0, left.1))
 
 -- after a fault it has left, too, or its call is under way
-has_left : (at : Standing) (d : DeskView) (t : SessionState) (old new : ℕ) → IsOver at d None → IsCounted at t → IsAdded at old new → HasLeft d t old new
+has_left : (at : Standing) (d : DeskView) (t : SessionState) (old new : ℕ) → IsOver at d None → IsCounted at d t → IsAdded at old new → HasLeft d t old new
 has_left standing.Joined d t old new over counts added = absurd over
 has_left standing.Unanswered d t old new over counts added = absurd over
-has_left standing.UnderWay d t old new over counts added = inr (over.1, over.2, added)
+has_left standing.UnderWay d t old new over counts added = inr (counts, over.2, added)
 has_left (standing.Left share) d t old new over counts added = inl (over.1, shared_by share (length (state_calls t)) old new counts added)
 
 -- ending it told no fault

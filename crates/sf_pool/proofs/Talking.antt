@@ -33,8 +33,8 @@ use Rattle.sf_pool.specs.declared.at_desk.Standing.{Standing}
 use Rattle.sf_pool.specs.declared.at_desk.Standing.TheVariants as standing
 use Rattle.sf_noted.specs.Pages.Presence.{Resting}
 use Rattle.sf_pool.specs.Desks.{DeskState, Joined, IsResting, DeskView, Notes, share_of}
-use Rattle.sf_pool.specs.Scenes.{DeskScene, desk_scene, desk_held, response_calls, phase_calls, state_calls, Attempt, attempt_of, answer_attempts, phase_attempts, attempts_told, BeginsCalls}
-use Rattle.sf_pool.specs.AtDesks.{standing_fault, MakesCall, talk, FailsCall, IsCounted, IsToldAt, IsInCall, standing_after, stop_fault}
+use Rattle.sf_pool.specs.Scenes.{DeskScene, desk_scene, desk_held, response_calls, phase_calls, state_calls, Attempt, attempt_of, answer_attempts, phase_attempts, attempts_told, BeginsCalls, IsInCall}
+use Rattle.sf_pool.specs.AtDesks.{standing_fault, MakesCall, talk, FailsCall, IsCounted, IsToldAt, standing_after, stop_fault}
 
 -- ---- lists
 
@@ -87,14 +87,14 @@ told_new {start = start} {d = d} {b = b} {v = v} session none joins new at = sub
 -- ---- it is fed, and told what was sent
 
 -- what is counted of a session is the same where the same calls were told
-counts_same : (at : Standing) (t t' : SessionState) → state_calls t' ≡ state_calls t → (IsInCall t.phase → IsInCall t'.phase) → IsCounted at t → IsCounted at t'
-counts_same standing.Joined t t' same to h = tt
-counts_same standing.Unanswered t t' same to h = tt
-counts_same standing.UnderWay t t' same to h = to h
-counts_same (standing.Left share) t t' same to h = h ∙ ap (λ (l : List CallRecord). share_of (length l)) (sym same)
+counts_same : (at : Standing) (d : DeskView) (t t' : SessionState) → state_calls t' ≡ state_calls t → (IsInCall d.place t.phase → IsInCall d.place t'.phase) → IsCounted at d t → IsCounted at d t'
+counts_same standing.Joined d t t' same to h = tt
+counts_same standing.Unanswered d t t' same to h = tt
+counts_same standing.UnderWay d t t' same to h = to h
+counts_same (standing.Left share) d t t' same to h = h ∙ ap (λ (l : List CallRecord). share_of (length l)) (sym same)
 
 pub told_fed : {start now : DeskScene} {at : Standing} {v w : SessionView} {t : SessionState} (bytes : List ℕ) → IsToldAt start at v now t → IsOpen t → w ≡ record v { unread = v.unread ++ bytes } → IsToldAt start at w now (fed t bytes)
-told_fed {at = at} {t = t} bytes h is_open is =
+told_fed {now = now} {at = at} {t = t} bytes h is_open is =
     let s = h.stands is_open.rests in
     record {
       notes = record { noted = h.notes.noted; keeps = h.notes.keeps; asked = h.notes.asked };
@@ -104,7 +104,7 @@ told_fed {at = at} {t = t} bytes h is_open is =
         ended = ap (λ (x : SessionView). x.ended) is ∙ s.ended;
       };
       waits = h.waits ∙ ap (λ (x : SessionView). t.sent ++ x.output) (sym is);
-      counts = counts_same at t (fed t bytes) refl (λ i. i) h.counts;
+      counts = counts_same at now.desk t (fed t bytes) refl (λ i. i) h.counts;
     }
 
 drop_whole : (xs : List ℕ) → drop (length xs) xs ≡ []
@@ -112,7 +112,7 @@ drop_whole [] = refl
 drop_whole (x ∷ xs) = drop_whole xs
 
 pub told_sent : {start now : DeskScene} {at : Standing} {v w : SessionView} {t : SessionState} {n : ℕ} → IsToldAt start at v now t → n ≡ length v.output → w ≡ record v { output = drop n v.output } → IsToldAt start at w now (with_sent t)
-told_sent {at = at} {v = v} {w = w} {t = t} h count is =
+told_sent {now = now} {at = at} {v = v} {w = w} {t = t} h count is =
     let none : w.output ≡ [] = ap (λ (x : SessionView). x.output) is ∙ ap (λ (k : ℕ). drop k v.output) count ∙ drop_whole v.output in
     record {
       notes = record { noted = h.notes.noted; keeps = h.notes.keeps; asked = h.notes.asked };
@@ -120,7 +120,7 @@ told_sent {at = at} {v = v} {w = w} {t = t} h count is =
           let s = h.stands rests in
           record { unread = ap (λ (x : SessionView). x.unread) is ∙ s.unread; begun = ap (λ (x : SessionView). x.begun) is ∙ s.begun; ended = ap (λ (x : SessionView). x.ended) is ∙ s.ended };
       waits = sym (append-nil (transcript t.answers)) ∙ ap (λ (b : List ℕ). transcript t.answers ++ b) (sym none);
-      counts = counts_same at t (with_sent t) refl (λ i. i) h.counts;
+      counts = counts_same at now.desk t (with_sent t) refl (λ i. i) h.counts;
     }
 
 -- a desk that rests is where it was
@@ -138,9 +138,9 @@ closed_attempts : (t : SessionState) (f : Phase) → t.phase ≡ f → attempts_
 closed_attempts t AtRest at = ap (λ (f : Phase). flat_map answer_attempts t.answers ++ phase_attempts f) (sym at)
 closed_attempts t f at = refl
 
-closed_in_call : (t : SessionState) (f : Phase) → t.phase ≡ f → IsInCall t.phase → IsInCall (closed_now t f).phase
-closed_in_call t AtRest at h = absurd (let no : IsInCall AtRest = subst (λ (f : Phase). IsInCall f) at h in no)
-closed_in_call t f at h = h
+closed_in_call : (place : DeskState) (t : SessionState) (f : Phase) → t.phase ≡ f → IsInCall place t.phase → IsInCall place (closed_now t f).phase
+closed_in_call place t AtRest at h = absurd (let no : AtRest ≡ InCall h.id h.number h.moment h.request h.moves = sym at ∙ h.waits in cc)
+closed_in_call place t f at h = h
 
 never_rests : (t : SessionState) (f : Phase) → t.phase ≡ f → (closed_now t f).phase ≡ AtRest → ⊥
 never_rests t AtRest at e = cc
@@ -148,8 +148,8 @@ never_rests t f at e = let no : f ≡ AtRest = sym at ∙ e in cc
 
 -- it stands otherwise, or as it did
 pub told_ended : {start : DeskScene} {at at' : Standing} {v : SessionView} {d d' : DeskView} {b b' : Option (List Begin)} {tl : Option (List ℕ)} {t : SessionState} → IsToldAt start at v (desk_scene d b tl) t → d'.calls ≡ d.calls → d'.keeps ≡ d.keeps → b' ≡ b
-    → (d.calls ≡ state_calls t → IsCounted at t → IsCounted at' t) → IsToldAt start at' v (desk_scene d' b' tl) (ended t)
-told_ended {start = start} {at' = at'} {v = v} {b' = b'} {tl = tl} {t = t} h calls keeps begins count =
+    → (d.calls ≡ state_calls t → IsCounted at d t → IsCounted at' d' t) → IsToldAt start at' v (desk_scene d' b' tl) (ended t)
+told_ended {start = start} {at' = at'} {v = v} {d' = d'} {b' = b'} {tl = tl} {t = t} h calls keeps begins count =
     let same = ended_same t in
     let asked : BeginsCalls start.told tl start.begins b' (attempts_told t) = subst (λ (x : Option (List Begin)). BeginsCalls start.told tl start.begins x (attempts_told t)) (sym begins) h.notes.asked in
     record {
@@ -160,7 +160,7 @@ told_ended {start = start} {at' = at'} {v = v} {b' = b'} {tl = tl} {t = t} h cal
       };
       stands = λ rests. absurd (never_rests t t.phase refl rests);
       waits = ap transcript same.answers ∙ h.waits ∙ ap (λ (b : List ℕ). b ++ v.output) (sym same.sent);
-      counts = counts_same at' t (ended t) (closed_deeds t t.phase refl) (closed_in_call t t.phase refl) (count h.notes.noted h.counts);
+      counts = counts_same at' d' t (ended t) (closed_deeds t t.phase refl) (closed_in_call d'.place t t.phase refl) (count h.notes.noted h.counts);
     }
 
 -- ---- it goes on
@@ -280,7 +280,7 @@ after_body t body rest more f = record t { unread = rest; bodies = t.bodies ++ b
 
 -- a body more was read
 goes_body : {start now now' : DeskScene} {at : Standing} {v w : SessionView} {t : SessionState} {asked : Ask} {more : List Response} {f : Phase} (r : Result Went ServeFault) → MayGo start now v t → (b : Body t asked) → Noted now now' asked more f
-    → w ≡ record w { unread = b.rest; output = v.output ++ transcript more; begun = true; ended = None } → IsBatch desk_held more → IsCounted at (after_body t b.body b.rest more f) → WentTo r t (after_body t b.body b.rest more f) → Goes start at w now' r t
+    → w ≡ record w { unread = b.rest; output = v.output ++ transcript more; begun = true; ended = None } → IsBatch desk_held more → IsCounted at now'.desk (after_body t b.body b.rest more f) → WentTo r t (after_body t b.body b.rest more f) → Goes start at w now' r t
 goes_body {start = start} {now = now} {now' = now'} {v = v} {t = t} {asked = asked} {more = more} {f = f} r go b n shows batch counts to =
     let h = go.told in
     let rests = go.is_open.rests in
@@ -384,9 +384,9 @@ called_ready Asked d d' v m w request rests gives made =
 
 -- ---- a packet's call has no reply
 
--- what its phase tells of its moment and its moves is of no account
+-- how many moves its phase tells is of no account
 goes_pended : {start now now' : DeskScene} {at : Standing} {v m w : SessionView} {request : Request} {t : SessionState} {f : Phase} (g : ServeFault) → MayGo start now v t → (gives : NextGives v (next.Call request) m) → w ≡ m → Noted now now' (ask.Call gives.1.id request) [] f
-    → ((t' : SessionState) → t'.phase ≡ f → IsCounted at t') → Goes start at w now' (Err g) t
+    → ((t' : SessionState) → t'.phase ≡ f → IsCounted at now'.desk t') → Goes start at w now' (Err g) t
 goes_pended {v = v} {w = w} {t = t} {f = f} g go gives same n counts =
     let x = gives.1 in
     let b = body_at go x.begins x.asks in
@@ -401,11 +401,13 @@ goes_stopped {request = request} stop.OutOfMemory go gives same fails =
     let is = fails.1.1 in
     goes_pended {f = Decided gives.1.id fails.0 request fails.1.0} (stop_fault stop.OutOfMemory) go gives same
     (record { asks = refl; left = λ begun bytes. refl; noted = ap (λ (x : DeskView). x.calls) is; keeps = ap (λ (x : DeskView). x.keeps) is; begins = fails.2 }) (λ t' phase. tt)
-goes_stopped {now = now} {request = request} stop.UnderWay go gives same fails =
+goes_stopped {now = now} {now' = now'} {request = request} stop.UnderWay go gives same fails =
     let is = fails.1.1 in
-    goes_pended {f = InCall gives.1.id fails.0 0 request 0} (stop_fault stop.UnderWay) go gives same
+    let in_call : IsInCall now'.desk.place (InCall gives.1.id fails.0 fails.1.0 request 0) =
+    record { id = gives.1.id; number = fails.0; moment = fails.1.0; request = request; moves = 0; placed = ap (λ (x : DeskView). x.place) is; waits = refl } in
+    goes_pended {f = InCall gives.1.id fails.0 fails.1.0 request 0} (stop_fault stop.UnderWay) go gives same
     (record { asks = refl; left = λ begun bytes. refl; noted = ap (λ (x : DeskView). x.calls) is ∙ sym (append-nil now.desk.calls); keeps = ap (λ (x : DeskView). x.keeps) is; begins = fails.2 })
-    (λ t' phase. subst (λ (f : Phase). IsInCall f) (sym phase) tt)
+    (λ t' phase. subst (λ (f : Phase). IsInCall now'.desk.place f) (sym phase) in_call)
 
 -- ---- a host goes on only where it has joined
 

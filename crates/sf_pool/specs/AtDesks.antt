@@ -7,7 +7,7 @@ use Rattle.sf_session.specs.declared.asking.Ask.TheVariants as ask
 use Rattle.sf_session.specs.declared.fault.ServeFault.{ServeFault}
 use Rattle.sf_session.specs.declared.fault.ServeFault.TheVariants as fault
 use Rattle.sf_session.specs.Sessions.{SessionView}
-use Rattle.sf_engine.specs.Worlds.{Response, ask_behind, packet_for, transcript, Phase, Resting as AtRest, UnderWay as InCall, Decided, Gone as Left, SessionState}
+use Rattle.sf_engine.specs.Worlds.{Response, ask_behind, packet_for, transcript, Resting as AtRest, SessionState}
 use Rattle.sf_engine.specs.Traces.{has_begun}
 use Rattle.sf_engine.specs.Laws.{HasShortPacket}
 use Rattle.sf_serving.specs.Hosts.{most_counted}
@@ -18,7 +18,7 @@ use Rattle.sf_pool.specs.declared.calling.Stop.TheVariants as stop
 use Rattle.sf_pool.specs.declared.at_desk.Standing.{Standing}
 use Rattle.sf_pool.specs.declared.at_desk.Standing.TheVariants as standing
 use Rattle.sf_pool.specs.Desks.{Joined, IsResting, HasCallUnderWay, share_of, DeskView, answered}
-use Rattle.sf_pool.specs.Scenes.{DeskScene, NotesCalls, IsShared, state_calls, response_calls, Attempt, attempt, answer_attempts}
+use Rattle.sf_pool.specs.Scenes.{DeskScene, NotesCalls, IsShared, IsInCall, state_calls, response_calls, Attempt, attempt, answer_attempts}
 
 -- A desk, and the session that asks it.
 pub record Talk : Type 0 where
@@ -85,18 +85,12 @@ IsOver standing.UnderWay d f =
     (f ≡ None) × HasCallUnderWay d.place × (most_counted ≤ d.steps)
 IsOver (standing.Left share) d f = (f ≡ None) × (d.place ≡ Joined Departed)
 
-abbrev pub IsInCall : Phase → Type 0
-IsInCall AtRest = ⊥
-IsInCall (InCall id number moment request moves) = Unit {0}
-IsInCall (Decided id number request reply) = ⊥
-IsInCall (Left cause) = ⊥
-
 -- the share is of all calls that the session was told, and one that was left under way has no reply
-abbrev pub IsCounted : Standing → SessionState → Type 0
-IsCounted standing.Joined t = Unit {0}
-IsCounted standing.Unanswered t = Unit {0}
-IsCounted standing.UnderWay t = IsInCall t.phase
-IsCounted (standing.Left share) t = share ≡ share_of (length (state_calls t))
+abbrev pub IsCounted : Standing → DeskView → SessionState → Type 0
+IsCounted standing.Joined d t = Unit {0}
+IsCounted standing.Unanswered d t = Unit {0}
+IsCounted standing.UnderWay d t = IsInCall d.place t.phase
+IsCounted (standing.Left share) d t = share ≡ share_of (length (state_calls t))
 
 -- since the start the session was told this, by its host
 pub record IsToldAt (start : DeskScene) (at : Standing) (v : SessionView) (now : DeskScene)
@@ -104,7 +98,7 @@ pub record IsToldAt (start : DeskScene) (at : Standing) (v : SessionView) (now :
   pub notes : NotesCalls start now t
   pub stands : t.phase ≡ AtRest → GoesOnAs v t
   pub waits : transcript t.answers ≡ t.sent ++ v.output
-  pub counts : IsCounted at t
+  pub counts : IsCounted at now.desk t
 
 -- why it goes on no more
 abbrev pub standing_fault : Standing → Option ServeFault

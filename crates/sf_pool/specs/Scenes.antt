@@ -14,8 +14,8 @@ use Rattle.sf_serving.specs.Hosts.{most_counted}
 use Rattle.sf_serving.specs.Serving.{LineView, Progress, Serves, IsServed, HasWrittenFor}
 use Rattle.sf_audit.specs.Audits.{CallRecord}
 use Rattle.sf_pool.specs.declared.desk.Begin.{Begin}
-use Rattle.sf_noted.specs.Pages.Presence.{Departed}
-use Rattle.sf_pool.specs.Desks.{Refused, Joined, HasCallUnderWay, DeskView, Notes, share_of}
+use Rattle.sf_noted.specs.Pages.Presence.{UnderWay, Departed}
+use Rattle.sf_pool.specs.Desks.{DeskState, Refused, Joined, DeskView, Notes, share_of}
 
 -- A desk, the calls that it was asked to begin, where it tells them, and the moments that a clock
 -- told.
@@ -120,12 +120,22 @@ NeverJoins start now f = ((f ≡ fault.OutOfMemory) × (now ≡ start))
     ⊎ ((refusal : CoreFault) × (f ≡ join_refusal refusal)
     × (now ≡ record start { place = Refused refusal }))
 
+-- A call is under way: the one at the desk is the one that its session waits for.
+pub record IsInCall (place : DeskState) (phase : Phase) : Type 0 where
+  pub id : ℕ
+  pub number : ℕ
+  pub moment : ℕ
+  pub request : Request
+  pub moves : ℕ
+  pub placed : place ≡ Joined (UnderWay number moment request)
+  pub waits : phase ≡ InCall id number moment request moves
+
 -- How a desk is left whose session joined: it has left, and the calls that it was answered were
 -- added to a share; or its call has no answer after 2^64 - 1 steps.
 abbrev pub HasLeft : DeskView → SessionState → (old new : ℕ) → Type 0
 HasLeft desk t old new =
     ((desk.place ≡ Joined Departed) × IsShared (length (state_calls t)) old new)
-    ⊎ (HasCallUnderWay desk.place × (most_counted ≤ desk.steps) × (new ≡ old))
+    ⊎ (IsInCall desk.place t.phase × (most_counted ≤ desk.steps) × (new ≡ old))
 
 -- no session that joined is a stranger; numbers are spent only by so many bytes or steps
 abbrev pub LeavesFor : ServeFault → DeskView → Progress → (old new : ℕ) → Type 0

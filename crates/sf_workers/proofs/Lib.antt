@@ -1,2 +1,5 @@
+mod Coming
+mod Conversing
 mod Kept
 mod Lists
+mod OnePromise

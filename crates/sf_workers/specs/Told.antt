@@ -8,10 +8,10 @@ use Rattle.sf_audit.specs.declared.transcript.Transcript.{Transcript}
 use Rattle.sf_audit.specs.Audits.{CallRecord, call_record}
 use Rattle.sf_noted.specs.Pages.{Page}
 use Rattle.sf_noted.specs.Pages.Presence.{Departed}
-use Rattle.sf_noted.specs.PageChanges.{IsUnderWay}
 use Rattle.sf_noted.specs.Visits.{IsVisitIn}
 use Rattle.sf_serving.specs.Serving.{LineView, Progress, ServedSoFar}
-use Rattle.sf_pool.specs.Scenes.{state_calls, desk_held}
+use Rattle.sf_pool.specs.Desks.{Joined}
+use Rattle.sf_pool.specs.Scenes.{state_calls, desk_held, IsInCall}
 use Rattle.sf_pool.specs.OnCores.{calls_begun}
 
 -- a session's number, and the calls that it was told: as they are noted, and in a transcript
@@ -27,12 +27,12 @@ kept_of keeps visits = if keeps then map told_on visits else []
 
 -- A session was served over a line, from where that stood to where it stands: the calls among its
 -- answers are those that it was told, and what was written is its answers' transcript, or a
--- beginning. It has left, or its call is under way still.
+-- beginning. It has left, or its call is under way still, and it waits for the reply.
 pub record WasServed (x : ℕ × Page) (from line : LineView) : Type 0 where
   pub progress : Progress
   pub served : ServedSoFar desk_held from line progress
   pub told : x.1.told ≡ state_calls progress.told
-  pub stands : (x.1.presence ≡ Departed) ⊎ IsUnderWay x.1.presence
+  pub stands : (x.1.presence ≡ Departed) ⊎ IsInCall (Joined x.1.presence) progress.told.phase
 
 -- nothing was read or written for one that never joined
 abbrev pub CameOf : Option (ℕ × Page) → (from line : LineView) → Type 0

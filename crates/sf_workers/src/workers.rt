@@ -1,8 +1,11 @@
 //! Threads that take lines from a channel, and serve each to its end.
 
-ghost use Rattle.std.specs.Prelude.{◌≡◌, ◌*◌, true, vec_len, All, IfOk, IfSome};
+ghost use Rattle.std.specs.Prelude.{◌≡◌, ◌*◌, List, true, vec_len, All, IfOk, IfSome};
+ghost use Rattle.sf_call.specs.declared.record.Record.{Record};
+ghost use Rattle.sf_noted.specs.Visits.{IsVisitIn};
 ghost use Rattle.sf_serving.specs.Serving.{line_view};
 ghost use Rattle.sf_pool.specs.OnCores.{calls_begun_by};
+ghost use Rattle.sf_workers.specs.Conversations.{ConversesIn};
 ghost use Rattle.sf_workers.specs.Told.{told_on, told_in, calls_of, CameOf};
 
 use crate::told::Told;
@@ -95,6 +98,10 @@ pub fn serve_line<B: RollName + Ledger, R: Wait, L: Line, C: Clock, G: StepObser
     ensures line { CameOf result.visit
         (line_view (L.incoming line.old) (L.outgoing line.old) (L.calls line.old))
         (line_view (L.incoming line.new) (L.outgoing line.new) (L.calls line.new)) }
+    ensures talk { (history : List Record) → IfSome result.visit (λ visit. IsVisitIn history visit
+        → ConversesIn history visit.0
+        (line_view (L.incoming line.old) (L.outgoing line.old) (L.calls line.old))
+        (line_view (L.incoming line.new) (L.outgoing line.new) (L.calls line.new))) }
 {
     let mut desk = LockDesk::new(place.rt, place.alloc, place.core, place.hall, keeps, lent);
     let mut share = Share::zero();

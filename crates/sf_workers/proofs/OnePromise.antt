@@ -1,0 +1,36 @@
+-- The promises of an engine and of a session alone, as conversations in a history.
+use Rattle.std.proofs.Common.{ℕ, List, [], append-nil, sym}
+use Rattle.sf_engine.specs.Promise.{LogEntry, linearization, fed_in, written_in, IsKnown, IsUnsent, IsKept}
+use Rattle.sf_engine.specs.Conversation.{IsConversation}
+use Rattle.sf_workers.specs.Conversations.{IsConversationIn}
+
+pub of_engine : (log : List LogEntry) → IsKept log → (session : ℕ) → IsKnown log session
+    → (output : List ℕ) → (unsent : IsUnsent log session output) → IsConversationIn (linearization log) session (fed_in session log) unsent.sent
+of_engine log kept session known output unsent =
+    let a = kept.answered log [] (sym (append-nil log)) session known in
+    record {
+      bodies = a.bodies;
+      rest = a.rest;
+      answers = written_in session log;
+      due = a.due;
+      unsent = output;
+      are_bodies = a.are_bodies;
+      read = a.fed;
+      asked = a.asked;
+      written = unsent.packets;
+      calls = a.calls;
+    }
+
+pub of_one_alone : (input moments output : List ℕ) → (talk : IsConversation input moments output) → IsConversationIn talk.history talk.session input output
+of_one_alone input moments output talk = record {
+  bodies = talk.bodies;
+  rest = talk.rest;
+  answers = talk.answers;
+  due = talk.due;
+  unsent = talk.unsent;
+  are_bodies = talk.are_bodies;
+  read = talk.read;
+  asked = talk.asked;
+  written = talk.written;
+  calls = talk.calls;
+}
