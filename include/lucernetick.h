@@ -62,7 +62,12 @@ enum {
     LT_REFUSAL_IS_BLOCKED = -8,    /* the call of another session, which has yet to take its turns, is in the way */
     LT_REFUSAL_LONG_PATH = -10,    /* a path, or both of a link, have more bytes than a packet has room for: 262080 */
     LT_REFUSAL_NO_REPLY = -11,     /* not the reply that was due */
-    LT_REFUSAL_STATUS_BASE = -100  /* a request was answered by a status: LT_REFUSAL_STATUS_BASE - its code */
+    LT_REFUSAL_STATUS_BASE = -100, /* a request was answered by a status: LT_REFUSAL_STATUS_BASE - its code */
+    /* By lt_refuse and lt_refused alone: */
+    LT_REFUSAL_BAD_KIND = -12,     /* a rule's kind is neither LT_KIND_ANY nor a request's */
+    LT_REFUSAL_BAD_STATUS = -13,   /* a rule's status is no code that is sent: 0, 1, 2, 3, 4, 5 and 8 are */
+    LT_REFUSAL_BAD_PATH = -14,     /* a rule's path has more than 4096 bytes, a name of more than 255, or a byte 0 */
+    LT_REFUSAL_NO_SUCH_RULE = -15  /* no rule of this number was given */
 };
 
 /* What a turn did. */
@@ -142,7 +147,9 @@ int64_t lt_close(lt_engine *engine, uint64_t session);
 
 /* Copies the first bytes that wait to be sent to the session's client into `room`, as many as wait but `length`
  * at most. Answers how many wait, which may be more. They go on waiting until lt_sent. Where `length` is 0,
- * `room` may be NULL. It serves sessions that have ended too. */
+ * `room` may be NULL. It serves sessions that have ended too. Where a rule (lt_refuse) refused requests, those up to
+ * the last of their statuses wait first, and what was written behind that waits once they were sent: 0 says that nothing
+ * waits. */
 int64_t lt_output(const lt_engine *engine, uint64_t session, uint8_t *room, size_t length);
 
 /* The first `count` bytes that waited were sent: they are dropped; answers 0. */
@@ -223,6 +230,34 @@ typedef struct lt_call {
  * many there are. Where `at` is less, `*call` is set to the record there; its bytes are the engine's, until the next call
  * of any function on it. */
 int64_t lt_calls(lt_engine *engine, uint64_t at, lt_call *call);
+
+/* Which requests are refused: each is answered by a status in its place, never reaches the tree and isn't recorded. Of
+ * those that a rule is for it lets the first ones through, so many, then refuses so many, and lets all later ones
+ * through. */
+typedef struct lt_rule {
+    uint64_t session; /* 0: all, also those that open later */
+    uint64_t pass;
+    uint64_t refuse;
+    lt_bytes path;   /* `at` is NULL: any. A request has to name it, in any spelling; one by a handle names none */
+    uint32_t kind;   /* as an lt_call's, where STAT isn't LSTAT; or one of those below */
+    uint32_t status; /* the code that is sent, with its own message; 0, for success, to requests that are lost */
+} lt_rule;
+
+/* An lt_rule's `kind`, where it isn't an lt_call's. */
+enum {
+    LT_KIND_ANY = 0,
+    LT_KIND_LSTAT = 7,
+    LT_KIND_REALPATH = 16
+};
+
+/* Gives a rule, which is copied; answers its number: 0, 1, 2 and so on. It is for each request that no turn of its
+ * session has taken yet, and never for INIT. Of more rules for one request the first that refuses it answers, and those
+ * behind that one don't count it. To refuse a request is a turn of its session, which answers LT_TURN_WROTE, once all that
+ * came before was answered. */
+int64_t lt_refuse(lt_engine *engine, const lt_rule *rule);
+
+/* How many requests the rule with this number has refused so far. */
+int64_t lt_refused(const lt_engine *engine, uint64_t number);
 
 /* The request at which a function that makes trees stopped. */
 typedef struct lt_place {

@@ -7,10 +7,16 @@
 /* How many records lt_new keeps. */
 enum { KEEP = 256 };
 
-/* What the crate has of an engine, its box or NULL, and room for the bytes of a record, of which the crate doesn't
- * know. */
+/* What the crate has of an engine's refusals, their box or NULL. */
+struct refusals {
+    void *at;
+};
+
+/* What the crate has of an engine, its box or NULL; its refusals; and room for the bytes of a record, of which the crate
+ * doesn't know. */
 struct lt_engine {
     void *at;
+    struct refusals refusals;
     uint8_t *room;
     size_t capacity;
 };
@@ -59,18 +65,33 @@ struct told {
     uint32_t moment;
 };
 
-/* Where one takes a `const` engine or tree, the crate takes the box out for the call and puts it back. */
-int64_t lucernetick_new(lt_engine *engine, uint64_t keep);
-void lucernetick_free(lt_engine *engine);
+/* A rule as the crate is given it, in `src/rules.rt`. */
+struct rule {
+    uint64_t session;
+    uint64_t pass;
+    uint64_t refuse;
+    uint32_t kind;
+    uint32_t status;
+    bool has_path;
+};
+
+/* Where one takes a `const` engine, refusals or tree, the crate takes the box out for the call and puts it back. */
+int64_t lucernetick_new(lt_engine *engine, struct refusals *refusals, uint64_t keep);
+void lucernetick_free(lt_engine *engine, struct refusals *refusals);
 int64_t lucernetick_open(lt_engine *engine);
-int64_t lucernetick_feed(lt_engine *engine, uint64_t session, const uint8_t *bytes, size_t length);
-int64_t lucernetick_turn(lt_engine *engine, uint64_t session, uint32_t moment);
-int64_t lucernetick_settle(lt_engine *engine, uint64_t session, uint32_t moment, uint64_t most, bool *moved);
+int64_t lucernetick_feed(lt_engine *engine, struct refusals *refusals, uint64_t session, const uint8_t *bytes,
+                         size_t length);
+int64_t lucernetick_turn(lt_engine *engine, struct refusals *refusals, uint64_t session, uint32_t moment);
+int64_t lucernetick_settle(lt_engine *engine, struct refusals *refusals, uint64_t session, uint32_t moment,
+                           uint64_t most, bool *moved);
 uint64_t lucernetick_run_all(lt_engine *engine);
 int64_t lucernetick_close(lt_engine *engine, uint64_t session);
-bool lucernetick_wants_bytes(const lt_engine *engine, uint64_t session);
-int64_t lucernetick_output(const lt_engine *engine, uint64_t session, uint8_t *room, size_t length);
-int64_t lucernetick_sent(lt_engine *engine, uint64_t session, size_t count);
+bool lucernetick_wants_bytes(const lt_engine *engine, const struct refusals *refusals, uint64_t session);
+int64_t lucernetick_output(const lt_engine *engine, const struct refusals *refusals, uint64_t session, uint8_t *room,
+                           size_t length);
+int64_t lucernetick_sent(lt_engine *engine, struct refusals *refusals, uint64_t session, size_t count);
+int64_t lucernetick_refuse(struct refusals *refusals, const struct rule *rule, const uint8_t *path, size_t length);
+int64_t lucernetick_refused(const struct refusals *refusals, uint64_t number);
 int64_t lucernetick_call(lt_engine *engine, uint64_t at, struct told *told, uint8_t *room, size_t length);
 int64_t lucernetick_make_directory(lt_engine *engine, const uint8_t *path, size_t length, uint32_t moment,
                                    lt_place *at);
@@ -143,6 +164,14 @@ static const char *refusal_text(int64_t answer)
         return "a path is too long for a packet";
     case LT_REFUSAL_NO_REPLY:
         return "not the reply that was due";
+    case LT_REFUSAL_BAD_KIND:
+        return "a rule's kind is not that of a request";
+    case LT_REFUSAL_BAD_STATUS:
+        return "a rule's status is not a code that is sent";
+    case LT_REFUSAL_BAD_PATH:
+        return "a rule's path is too long, has too long a name, or a byte 0";
+    case LT_REFUSAL_NO_SUCH_RULE:
+        return "no rule of this number was given";
     default:
         return "an unknown refusal";
     }
@@ -208,7 +237,7 @@ lt_engine *lt_new_keeping(uint64_t keep)
     if (engine == NULL)
         return NULL;
     *engine = (lt_engine){.at = NULL};
-    if (lucernetick_new(engine, keep) < 0) {
+    if (lucernetick_new(engine, &engine->refusals, keep) < 0) {
         free(engine);
         return NULL;
     }
@@ -219,7 +248,7 @@ void lt_free(lt_engine *engine)
 {
     if (engine == NULL)
         return;
-    lucernetick_free(engine);
+    lucernetick_free(engine, &engine->refusals);
     free(engine->room);
     free(engine);
 }
@@ -234,12 +263,12 @@ int64_t lt_feed(lt_engine *engine, uint64_t session, const uint8_t *bytes, size_
     static const uint8_t none[1];
     if (engine == NULL || !are_bytes(bytes, length))
         return LT_REFUSAL_BAD_POINTER;
-    return lucernetick_feed(engine, session, length == 0 ? none : bytes, length);
+    return lucernetick_feed(engine, &engine->refusals, session, length == 0 ? none : bytes, length);
 }
 
 int64_t lt_turn(lt_engine *engine, uint64_t session, uint32_t moment)
 {
-    return engine == NULL ? LT_REFUSAL_BAD_POINTER : lucernetick_turn(engine, session, moment);
+    return engine == NULL ? LT_REFUSAL_BAD_POINTER : lucernetick_turn(engine, &engine->refusals, session, moment);
 }
 
 int64_t lt_settle(lt_engine *engine, uint64_t session, uint32_t moment, uint64_t most, bool *moved)
@@ -247,7 +276,7 @@ int64_t lt_settle(lt_engine *engine, uint64_t session, uint32_t moment, uint64_t
     bool told = false;
     int64_t answer = LT_REFUSAL_BAD_POINTER;
     if (engine != NULL)
-        answer = lucernetick_settle(engine, session, moment, most, &told);
+        answer = lucernetick_settle(engine, &engine->refusals, session, moment, most, &told);
     if (moved != NULL)
         *moved = told;
     return answer;
@@ -260,7 +289,7 @@ int64_t lt_run_all(lt_engine *engine)
 
 int64_t lt_wants_bytes(const lt_engine *engine, uint64_t session)
 {
-    return engine == NULL ? LT_REFUSAL_BAD_POINTER : lucernetick_wants_bytes(engine, session);
+    return engine == NULL ? LT_REFUSAL_BAD_POINTER : lucernetick_wants_bytes(engine, &engine->refusals, session);
 }
 
 int64_t lt_close(lt_engine *engine, uint64_t session)
@@ -273,12 +302,12 @@ int64_t lt_output(const lt_engine *engine, uint64_t session, uint8_t *room, size
     uint8_t none[1];
     if (engine == NULL || !are_bytes(room, length))
         return LT_REFUSAL_BAD_POINTER;
-    return lucernetick_output(engine, session, length == 0 ? none : room, length);
+    return lucernetick_output(engine, &engine->refusals, session, length == 0 ? none : room, length);
 }
 
 int64_t lt_sent(lt_engine *engine, uint64_t session, size_t count)
 {
-    return engine == NULL ? LT_REFUSAL_BAD_POINTER : lucernetick_sent(engine, session, count);
+    return engine == NULL ? LT_REFUSAL_BAD_POINTER : lucernetick_sent(engine, &engine->refusals, session, count);
 }
 
 /* The next so many bytes at a place, which moves behind them. */
@@ -360,6 +389,27 @@ static const uint8_t *place_of(lt_bytes bytes)
 {
     static const uint8_t none[1];
     return bytes.length == 0 ? none : bytes.at;
+}
+
+int64_t lt_refuse(lt_engine *engine, const lt_rule *rule)
+{
+    if (engine == NULL || rule == NULL || (rule->path.at != NULL && rule->path.length > PTRDIFF_MAX))
+        return LT_REFUSAL_BAD_POINTER;
+    lt_bytes path = rule->path.at == NULL ? (lt_bytes){NULL, 0} : rule->path;
+    struct rule given = {
+        .session = rule->session,
+        .pass = rule->pass,
+        .refuse = rule->refuse,
+        .kind = rule->kind,
+        .status = rule->status,
+        .has_path = rule->path.at != NULL,
+    };
+    return lucernetick_refuse(&engine->refusals, &given, place_of(path), path.length);
+}
+
+int64_t lt_refused(const lt_engine *engine, uint64_t number)
+{
+    return engine == NULL ? LT_REFUSAL_BAD_POINTER : lucernetick_refused(&engine->refusals, number);
 }
 
 /* Tells where a function stopped, and answers its number. */

@@ -10,7 +10,7 @@ import (
 	"unsafe"
 )
 
-// A Kind is what a call asked. LSTAT is KindStat here.
+// A Kind is what a call asked, where LSTAT is KindStat; or which requests a Rule is for.
 type Kind uint32
 
 // The kinds of calls.
@@ -19,6 +19,7 @@ const (
 	KindClose       Kind = C.LT_KIND_CLOSE
 	KindRead        Kind = C.LT_KIND_READ
 	KindWrite       Kind = C.LT_KIND_WRITE
+	KindLstat       Kind = C.LT_KIND_LSTAT // of a Rule alone
 	KindFstat       Kind = C.LT_KIND_FSTAT
 	KindSetstat     Kind = C.LT_KIND_SETSTAT
 	KindFsetstat    Kind = C.LT_KIND_FSETSTAT
@@ -27,6 +28,7 @@ const (
 	KindRemove      Kind = C.LT_KIND_REMOVE
 	KindMkdir       Kind = C.LT_KIND_MKDIR
 	KindRmdir       Kind = C.LT_KIND_RMDIR
+	KindRealpath    Kind = C.LT_KIND_REALPATH // of a Rule alone
 	KindStat        Kind = C.LT_KIND_STAT
 	KindRename      Kind = C.LT_KIND_RENAME
 	KindPosixRename Kind = C.LT_KIND_POSIX_RENAME

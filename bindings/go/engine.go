@@ -33,6 +33,9 @@ const (
 	ErrBadPointer      Refusal = C.LT_REFUSAL_BAD_POINTER // the engine was closed
 	ErrLongPath        Refusal = C.LT_REFUSAL_LONG_PATH   // a path has more bytes than a packet has room for: 262080
 	ErrNoReply         Refusal = C.LT_REFUSAL_NO_REPLY    // not the reply that was due
+	ErrBadKind         Refusal = C.LT_REFUSAL_BAD_KIND    // a rule's kind is not that of a request
+	ErrBadStatus       Refusal = C.LT_REFUSAL_BAD_STATUS  // a rule's status is none
+	ErrBadPath         Refusal = C.LT_REFUSAL_BAD_PATH    // a rule's path is too long, has too long a name, or a byte 0
 )
 
 // Error is the library's text.
@@ -169,7 +172,8 @@ func (session *Session) WantsBytes() (bool, error) {
 	return wants == 1, err
 }
 
-// Output copies the bytes that wait to be sent to the client.
+// Output copies the bytes that wait to be sent to the client. Where a request was refused, these are those up
+// to the last such reply: what is behind it waits once they were sent.
 func (session *Session) Output() ([]byte, error) {
 	session.engine.lock.Lock()
 	defer session.engine.lock.Unlock()

@@ -45,7 +45,9 @@ static void texts(void)
         {LT_REFUSAL_IS_BLOCKED, "the call of another session is in the way"},
         {LT_REFUSAL_STATUS_BASE - 2, "No such file"},
         {LT_REFUSAL_STATUS_BASE - 4, "Failure"},
-        {LT_REFUSAL_NO_REPLY - 1, "an unknown refusal"},
+        {LT_REFUSAL_BAD_KIND, "a rule's kind is not that of a request"},
+        {LT_REFUSAL_NO_SUCH_RULE, "no rule of this number was given"},
+        {LT_REFUSAL_NO_SUCH_RULE - 1, "an unknown refusal"},
         {LT_REFUSAL_STATUS_BASE - 99, "an unknown refusal"},
         {INT64_MIN, "an unknown refusal"},
         {LT_TURN_ENDED, "an unknown answer"},
@@ -656,6 +658,92 @@ static void trees(void)
     lt_tree_free(tree);
 }
 
+static const lt_bytes NO_PATH;
+
+/* A rule of these words: all that they leave out is any. */
+static lt_rule rule_of(uint32_t kind, lt_bytes path, uint64_t pass, uint64_t refuse)
+{
+    return (lt_rule){.kind = kind, .path = path, .pass = pass, .refuse = refuse, .status = 3};
+}
+
+static lt_bytes bytes_of(const char *text)
+{
+    return (lt_bytes){(const uint8_t *)text, strlen(text)};
+}
+
+static void bad_rules(lt_engine *engine)
+{
+    static char long_name[258] = "/";
+    lt_rule rule = rule_of(LT_KIND_ANY, NO_PATH, 0, 1);
+    same("no engine for a rule", lt_refuse(NULL, &rule), LT_REFUSAL_BAD_POINTER);
+    same("no rule", lt_refuse(engine, NULL), LT_REFUSAL_BAD_POINTER);
+    same("no engine with a rule", lt_refused(NULL, 0), LT_REFUSAL_BAD_POINTER);
+    rule.path = (lt_bytes){(const uint8_t *)"/a", TOO_MANY};
+    same("too long a path of a rule", lt_refuse(engine, &rule), LT_REFUSAL_BAD_POINTER);
+    rule.path = (lt_bytes){(const uint8_t *)"/a", 3};
+    same("a path with a byte 0", lt_refuse(engine, &rule), LT_REFUSAL_BAD_PATH);
+    memset(long_name + 1, 'a', 256);
+    rule.path = bytes_of(long_name);
+    same("a path with a long name", lt_refuse(engine, &rule), LT_REFUSAL_BAD_PATH);
+    for (uint32_t status = 0; status < 12; status++) {
+        rule = rule_of(LT_KIND_ANY, NO_PATH, 0, 0);
+        rule.status = status;
+        bool is = status < 6 || status == 8;
+        same("which numbers are codes", lt_refuse(engine, &rule) >= 0, is);
+        if (!is)
+            same("a number that is no code", lt_refuse(engine, &rule), LT_REFUSAL_BAD_STATUS);
+    }
+    for (uint32_t kind = 0; kind < 256; kind++) {
+        rule = rule_of(kind, NO_PATH, 0, 0);
+        bool is = kind == LT_KIND_ANY || (kind >= LT_KIND_OPEN && kind <= LT_KIND_RENAME) || kind == LT_KIND_POSIX_RENAME
+                  || kind == LT_KIND_HARDLINK;
+        same("which numbers are kinds", lt_refuse(engine, &rule) >= 0, is);
+        if (!is)
+            same("a number that is no kind", lt_refuse(engine, &rule), LT_REFUSAL_BAD_KIND);
+    }
+}
+
+/* A rule for MKDIR of /a, given after INIT was answered: the first MKDIR passes, the second and third are refused. */
+static void rules(void)
+{
+    uint8_t room[256];
+    lt_engine *engine = lt_new();
+    int64_t session = lt_open(engine);
+    lt_feed(engine, (uint64_t)session, INIT, sizeof INIT);
+    lt_settle(engine, (uint64_t)session, MOMENT, 10, NULL);
+    lt_sent(engine, (uint64_t)session, VERSION);
+    lt_rule rule = rule_of(LT_KIND_MKDIR, bytes_of("/x/../a"), 1, 2);
+    same("no rule yet", lt_refused(engine, 0), LT_REFUSAL_NO_SUCH_RULE);
+    same("the first rule's number", lt_refuse(engine, &rule), 0);
+    rule.session = (uint64_t)session + 1;
+    same("the second rule's number", lt_refuse(engine, &rule), 1);
+    for (int i = 0; i < 4; i++)
+        lt_feed(engine, (uint64_t)session, MKDIR, sizeof MKDIR);
+    lt_feed(engine, (uint64_t)session, STAT, sizeof STAT);
+    same("it goes on to its end", lt_settle(engine, (uint64_t)session, MOMENT, 10, NULL), LT_TURN_IDLE);
+    same("it waits for bytes then", lt_wants_bytes(engine, (uint64_t)session), 1);
+    same("how many were refused", lt_refused(engine, 0), 2);
+    same("how many the other one refused", lt_refused(engine, 1), 0);
+    same("no third rule", lt_refused(engine, 2), LT_REFUSAL_NO_SUCH_RULE);
+    /* A STATUS has its text's length more than 21 bytes: "Success" has 7, and "Permission denied" 17. */
+    same("what waits up to the last of them", lt_output(engine, (uint64_t)session, room, sizeof room), OK + 2 * 38);
+    same("the code of the first", room[12], 0);
+    same("the code of the second", room[OK + 12], 3);
+    same("its id", room[OK + 8], 7);
+    same("more than waits there", lt_sent(engine, (uint64_t)session, OK + 2 * 38 + OK + 41 + 1), LT_REFUSAL_NOT_SENT);
+    same("that was sent", lt_sent(engine, (uint64_t)session, OK + 2 * 38), 0);
+    /* "Failure" for the fourth MKDIR, since /a is there, and the attributes of /a: 5 numbers of 4 bytes, one of 8,
+     * and 13 bytes before them. */
+    same("what waits behind them", lt_output(engine, (uint64_t)session, room, sizeof room), OK + 41);
+    same("the code of the fourth", room[12], 4);
+    same("all was sent", lt_sent(engine, (uint64_t)session, OK + 41), 0);
+    same("nothing waits", lt_output(engine, (uint64_t)session, room, sizeof room), 0);
+    lt_call call;
+    same("calls that are recorded", lt_calls(engine, 0, &call), 3);
+    bad_rules(engine);
+    lt_free(engine);
+}
+
 static void many_sessions(void)
 {
     lt_engine *engine = lt_new();
@@ -684,6 +772,7 @@ int main(void)
     trees();
     long_paths();
     large_trees();
+    rules();
     many_sessions();
     for (int i = 0; i < MANY_ENGINES; i++)
         one_session();

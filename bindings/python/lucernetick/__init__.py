@@ -14,6 +14,7 @@ from ._folders import Snapshot
 from ._library import library
 from ._log import Log
 from ._races import Races, StrayWarning, seeds
+from ._rules import Rule, Status
 from ._server import Connection, Server
 from ._ssh import SshServer
 from ._tree import Contents, Entry, Files, Link
@@ -40,10 +41,12 @@ __all__ = [
     "Refusal",
     "RefusedError",
     "Reply",
+    "Rule",
     "Server",
     "Session",
     "Snapshot",
     "SshServer",
+    "Status",
     "StatusError",
     "StrayWarning",
     "Turn",

@@ -11,12 +11,14 @@ from ._library import library
 
 
 class Kind(enum.IntEnum):
-    """What a call asked. LSTAT is STAT here."""
+    """What a call asked, where LSTAT is STAT; or which requests a rule of `refuse` is for."""
 
     OPEN = 3
     CLOSE = 4
     READ = 5
     WRITE = 6
+    LSTAT = 7
+    """Of a rule alone, where STAT isn't LSTAT."""
     FSTAT = 8
     SETSTAT = 9
     FSETSTAT = 10
@@ -25,6 +27,8 @@ class Kind(enum.IntEnum):
     REMOVE = 13
     MKDIR = 14
     RMDIR = 15
+    REALPATH = 16
+    """Of a rule alone: it asks nothing of the tree."""
     STAT = 17
     RENAME = 18
     POSIX_RENAME = 201

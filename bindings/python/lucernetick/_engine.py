@@ -13,6 +13,8 @@ from ._faults import Refusal, RefusedError
 from ._folders import Snapshot, read_folder
 from ._library import library
 from ._log import Log
+from ._numbers import seconds, unsigned
+from ._rules import LtRule, Refuses, Rule
 from ._tree import Files, read_tree, write_tree
 
 ROOM = 65536
@@ -64,7 +66,7 @@ def checked(answer: int) -> int:
     return answer
 
 
-class Engine:
+class Engine(Refuses):
     """One tree of files, and any sessions on it. It asks no clock and starts no thread.
 
     The same calls give the same bytes each time. Threads may share an engine: one call is made at a time.
@@ -204,6 +206,14 @@ class Engine:
         with self._lock:
             return bool(checked(library.lt_wants_bytes(self._engine, session)))
 
+    def _give(self, rule: LtRule) -> Rule:
+        with self._lock:
+            return Rule(self, checked(library.lt_refuse(self._engine, rule)))
+
+    def _refused(self, rule: int) -> int:
+        with self._lock:
+            return checked(library.lt_refused(self._engine, rule))
+
     def _close(self, session: int) -> None:
         with self._moved:
             checked(library.lt_close(self._engine, session))
@@ -251,7 +261,8 @@ class Session:
         return self.engine._wants_bytes(self.number)
 
     def output(self) -> bytes:
-        """The bytes that wait to be sent to its client."""
+        """The bytes that wait to be sent to its client. Where a request was refused, those up to
+        the last such reply: what is behind it waits once they were sent."""
         return self.engine._output(self.number)
 
     def sent(self, count: int) -> None:
@@ -259,25 +270,14 @@ class Session:
         self.engine._sent(self.number, unsigned(count))
 
     def take(self) -> bytes:
-        """The bytes that wait to be sent, which are dropped at once."""
+        """All bytes that wait to be sent, which are dropped at once."""
+        taken = b""
         with self.engine._lock:
-            waiting = self.output()
-            self.sent(len(waiting))
-            return waiting
+            while waiting := self.output():
+                self.sent(len(waiting))
+                taken += waiting
+        return taken
 
     def close(self) -> None:
         """Its input ends. A call that is under way goes on to its reply by further turns."""
         self.engine._close(self.number)
-
-
-def seconds(moment: int) -> int:
-    """A time as the protocol has it. ctypes would cut another one to its lowest bits."""
-    if not 0 <= moment < 2**32:
-        raise ValueError(f"{moment} is no time of this protocol: 0 to {2**32 - 1}")
-    return moment
-
-
-def unsigned(count: int) -> int:
-    if not 0 <= count < 2**63:
-        raise ValueError(f"{count} is no count")
-    return count

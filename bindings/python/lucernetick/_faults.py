@@ -25,6 +25,11 @@ class Refusal(enum.IntEnum):
     """A path, or both of a link, have more bytes than a packet has room for: 262080."""
     NO_REPLY = -11
     """It is raised as `EndedError`."""
+    BAD_KIND = -12
+    """Of `refuse`, as those below."""
+    BAD_STATUS = -13
+    BAD_PATH = -14
+    """A path has more than 4096 bytes, a name of more than 255, or a byte 0."""
 
 
 class RefusedError(Error):

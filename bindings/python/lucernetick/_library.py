@@ -53,6 +53,7 @@ def load(path: pathlib.Path) -> ctypes.CDLL:
         ("lt_close", count, [engine, number]),
         ("lt_output", count, [engine, number, data, size]),
         ("lt_sent", count, [engine, number, size]),
+        ("lt_refused", count, [engine, number]),
     ):
         function = getattr(library, name)
         function.restype = answer

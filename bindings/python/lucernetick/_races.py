@@ -17,6 +17,7 @@ from ._closing import Closes
 from ._engine import Engine, Session, Turn
 from ._faults import Error, Refusal, RefusedError
 from ._lines import PIECE
+from ._rules import LtRule, Refuses, Rule
 from ._server import Connection
 from ._folders import Snapshot
 
@@ -123,6 +124,7 @@ class Client:
         self.session = session
         ours, self.line = socket.socketpair()
         self.connection = Connection(fileno=ours.detach())
+        self.connection.session = session
         self.packets = Packets()
         self.due = 0
         """How many of its requests aren't answered."""
@@ -154,15 +156,16 @@ class Client:
 
     def send(self) -> None:
         """Sends what it takes now."""
-        waiting = self.session.output()
-        try:
-            sent = self.line.send(waiting, socket.MSG_DONTWAIT)
-        except BlockingIOError:
-            sent = 0
-        except OSError:
-            sent = len(waiting)
-        self.session.sent(sent)
-        self.unsent = len(waiting) - sent
+        self.unsent = 0
+        while not self.unsent and (waiting := self.session.output()):
+            try:
+                sent = self.line.send(waiting, socket.MSG_DONTWAIT)
+            except BlockingIOError:
+                sent = 0
+            except OSError:
+                sent = len(waiting)
+            self.session.sent(sent)
+            self.unsent = len(waiting) - sent
         self.end_line()
 
     def leave(self) -> None:
@@ -176,7 +179,7 @@ class Client:
             self.line.close()
 
 
-class Races(Closes):
+class Races(Closes, Refuses):
     """One race of clients on one tree, each with a connection of its own, most often in a thread of
     its own. It is the same each time, however fast they are: a session has a turn only while each
     client waits for a reply or has gone, and whose turn it is, is drawn from a seed.
@@ -269,6 +272,11 @@ class Races(Closes):
         """What the clients did, as `Engine.calls`, once all that they sent is answered."""
         with self._quiet():
             return self.engine.calls()
+
+    def _give(self, rule: LtRule) -> Rule:
+        """Once all that the clients sent is answered, as what is told of the tree."""
+        with self._quiet():
+            return self.engine._give(rule)
 
     def close(self) -> None:
         """Ends all connections. Where the race has strayed, a `StrayWarning` says so."""

@@ -17,6 +17,7 @@ from ._faults import RefusedError, Refusal
 from ._folders import Snapshot
 from ._lines import PIECE, REPLIES, BadLine, Line
 from ._log import Log
+from ._rules import LtRule, Refuses, Rule
 
 if TYPE_CHECKING:
     from _typeshed import WriteableBuffer
@@ -28,6 +29,8 @@ PATIENCE = 5.0
 class Connection(socket.socket):
     """The client's end of a connection. It has what `paramiko.SFTPClient` wants of a channel."""
 
+    session: Session
+    """Its session, which a rule may be for (`refuse`)."""
     piece: Optional[int] = None
     """How many bytes it is given at most at a time."""
 
@@ -99,7 +102,7 @@ async def _pass_on(reader: StreamReader, writer: StreamWriter) -> None:
         writer.write_eof()
 
 
-class Server(Closes):
+class Server(Closes, Refuses):
     """Serves sessions on one tree, each over a connected socket whose other end a thread has.
 
         with lucernetick.Server() as server:
@@ -140,6 +143,7 @@ class Server(Closes):
         is_bad = cut_after is not None or delay
         line = BadLine(theirs, cut_after, delay) if is_bad else Line(theirs)
         connection = Connection(fileno=ours.detach())
+        connection.session = session
         connection.piece = piece
         thread = threading.Thread(
             target=self._serve, args=(session, line), name=repr(session), daemon=True
@@ -169,6 +173,9 @@ class Server(Closes):
     def calls(self) -> list[Call]:
         """What its clients did, as `Engine.calls`."""
         return self.engine.calls()
+
+    def _give(self, rule: LtRule) -> Rule:
+        return self.engine._give(rule)
 
     def close(self) -> None:
         """Ends all connections at both ends, and waits until their threads are done."""

@@ -19,7 +19,7 @@ import asyncssh
 import paramiko
 import pytest
 
-from lucernetick import Engine, Kind, Server, SshServer, VirtualTime
+from lucernetick import Engine, Kind, Server, SshServer, Status, VirtualTime
 
 from packets import MAKES
 
@@ -385,3 +385,41 @@ def test_several_at_one_tree() -> None:
             ) as bob:
                 ann.open_sftp().remove("/f")
                 assert bob.open_sftp().listdir("/") == []
+
+
+def test_openssh_s_open_and_write_are_refused(
+    sftp_ssh: SshServer, sftp_tree: Server, tmp_path: Path
+) -> None:
+    """The OPEN once, and then the WRITE twice, each of another `put`; the fourth one is served."""
+    opens = sftp_tree.refuse(kind=Kind.OPEN, path="/f", status=Status.PERMISSION_DENIED)
+    writes = sftp_tree.refuse(kind=Kind.WRITE, times=2)
+    (tmp_path / "f").write_bytes(b"1,2,3\n")
+    put = f"put {tmp_path}/f /f\n"
+    with pytest.raises(subprocess.CalledProcessError):
+        sftp(sftp_ssh, put)
+    assert (opens.refused, writes.refused) == (1, 0)
+    assert list(sftp_tree.snapshot()) == ["/"]
+    for count in (1, 2):
+        with pytest.raises(subprocess.CalledProcessError):
+            sftp(sftp_ssh, put)
+        assert (opens.refused, writes.refused) == (1, count)
+        assert sftp_tree.snapshot()["/f"].contents == b""
+    sftp(sftp_ssh, put)
+    assert sftp_tree.snapshot()["/f"].contents == b"1,2,3\n"
+
+
+def test_paramiko_s_open_and_write_are_refused(
+    client: paramiko.SSHClient, sftp_tree: Server
+) -> None:
+    opens = sftp_tree.refuse(kind=Kind.OPEN, status=Status.PERMISSION_DENIED)
+    writes = sftp_tree.refuse(kind=Kind.WRITE, times=2)
+    files = client.open_sftp()
+    with pytest.raises(PermissionError):
+        files.open("/f", "w")
+    with files.open("/f", "w") as file:
+        for _ in range(2):
+            with pytest.raises(OSError, match="Failure"):
+                file.write(b"1")
+        file.write(b"1")
+    assert (opens.refused, writes.refused) == (1, 2)
+    assert sftp_tree.snapshot()["/f"].contents == b"1"

@@ -3,7 +3,7 @@
 use crate::{checked, sys, Engine, Refusal};
 use std::slice;
 
-/// What a call asked. LSTAT is `Stat` here.
+/// What a call asked, where LSTAT is `Stat`; or which requests a `Rule` is for.
 #[derive(Clone, Copy, Debug, PartialEq, Eq)]
 #[non_exhaustive]
 pub enum Kind {
@@ -11,6 +11,8 @@ pub enum Kind {
     Close,
     Read,
     Write,
+    /// Of a `Rule` alone.
+    Lstat,
     Fstat,
     Setstat,
     Fsetstat,
@@ -19,6 +21,8 @@ pub enum Kind {
     Remove,
     Mkdir,
     Rmdir,
+    /// Of a `Rule` alone.
+    Realpath,
     Stat,
     Rename,
     PosixRename,
@@ -47,6 +51,30 @@ impl Kind {
             201 => Kind::PosixRename,
             202 => Kind::Hardlink,
             other => Kind::Other(other),
+        }
+    }
+
+    pub(crate) fn number(self) -> u32 {
+        match self {
+            Kind::Open => 3,
+            Kind::Close => 4,
+            Kind::Read => 5,
+            Kind::Write => 6,
+            Kind::Lstat => 7,
+            Kind::Fstat => 8,
+            Kind::Setstat => 9,
+            Kind::Fsetstat => 10,
+            Kind::Opendir => 11,
+            Kind::Readdir => 12,
+            Kind::Remove => 13,
+            Kind::Mkdir => 14,
+            Kind::Rmdir => 15,
+            Kind::Realpath => 16,
+            Kind::Stat => 17,
+            Kind::Rename => 18,
+            Kind::PosixRename => 201,
+            Kind::Hardlink => 202,
+            Kind::Other(other) => other,
         }
     }
 }

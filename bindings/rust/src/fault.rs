@@ -21,6 +21,12 @@ pub enum Refusal {
     NotSent,
     /// A path, or both of a link, have more bytes than a packet has room for: 262080.
     LongPath,
+    /// A rule's kind is not that of a request.
+    BadKind,
+    /// A rule's path has more than 4096 bytes, a name of more than 255, or a byte 0.
+    BadPath,
+    /// A rule was given to another engine.
+    NoSuchRule,
     /// By a number of the library that this crate doesn't know.
     Other(i64),
 }
@@ -35,6 +41,9 @@ impl Refusal {
             -5 => Refusal::NumbersSpent,
             -6 => Refusal::NotSent,
             -10 => Refusal::LongPath,
+            -12 => Refusal::BadKind,
+            -14 => Refusal::BadPath,
+            -15 => Refusal::NoSuchRule,
             other => Refusal::Other(other),
         }
     }
@@ -48,6 +57,9 @@ impl Refusal {
             Refusal::NumbersSpent => -5,
             Refusal::NotSent => -6,
             Refusal::LongPath => -10,
+            Refusal::BadKind => -12,
+            Refusal::BadPath => -14,
+            Refusal::NoSuchRule => -15,
             Refusal::Other(other) => other,
         }
     }

@@ -26,6 +26,7 @@ mod fault;
 mod folders;
 mod line;
 mod races;
+mod rules;
 mod server;
 mod sys;
 mod taken;
@@ -36,6 +37,7 @@ pub use calls::{Answer, Attributes, Call, Calls, Kind};
 pub use clock::{wall_clock, VirtualTime};
 pub use fault::{Error, Refusal};
 pub use races::{RaceStream, Races};
+pub use rules::{GivenRule, Rule, Status};
 pub use server::Server;
 pub use tree::{Entry, Piece, Snapshot};
 pub use turn::{Ending, Turn};
@@ -156,15 +158,16 @@ impl Engine {
         checked(answer).map(drop)
     }
 
-    /// The bytes that wait to be sent to the session's client.
+    /// The bytes that wait to be sent to the session's client. Where a request was refused, these
+    /// are those up to the last such reply: what is behind it waits once they were sent.
     pub fn output(&self, session: Session) -> Result<Vec<u8>, Refusal> {
         let mut room = vec![0; self.look(session, &mut [])?];
         self.look(session, &mut room)?;
         Ok(room)
     }
 
-    /// Copies the first bytes that wait to be sent, as many as there is room for. Answers how many
-    /// wait.
+    /// Copies the first bytes that wait to be sent, as `output` tells them, as many as there is room
+    /// for. Answers how many wait.
     pub fn look(&self, session: Session, room: &mut [u8]) -> Result<usize, Refusal> {
         // SAFETY: as above, and a slice has as many bytes as its length says.
         let answer = unsafe {
@@ -180,11 +183,17 @@ impl Engine {
         checked(answer).map(drop)
     }
 
-    /// The bytes that wait to be sent, which are dropped at once.
+    /// All bytes that wait to be sent, which are dropped at once.
     pub fn take(&mut self, session: Session) -> Result<Vec<u8>, Refusal> {
-        let waiting = self.output(session)?;
-        self.sent(session, waiting.len())?;
-        Ok(waiting)
+        let mut taken = Vec::new();
+        loop {
+            let waiting = self.output(session)?;
+            if waiting.is_empty() {
+                return Ok(taken);
+            }
+            self.sent(session, waiting.len())?;
+            taken.extend(waiting);
+        }
     }
 }
 

@@ -72,6 +72,17 @@ pub struct Leaf {
     pub label: u64,
 }
 
+/// Which requests are refused.
+#[repr(C)]
+pub struct Rule {
+    pub session: u64,
+    pub pass: u64,
+    pub refuse: u64,
+    pub path: Bytes,
+    pub kind: u32,
+    pub status: u32,
+}
+
 /// The request at which a function that makes trees stopped.
 #[repr(C)]
 pub struct Place {
@@ -104,6 +115,8 @@ extern "C" {
     pub fn lt_close(engine: *mut Engine, session: u64) -> i64;
     pub fn lt_output(engine: *const Engine, session: u64, room: *mut u8, length: usize) -> i64;
     pub fn lt_sent(engine: *mut Engine, session: u64, count: usize) -> i64;
+    pub fn lt_refuse(engine: *mut Engine, rule: *const Rule) -> i64;
+    pub fn lt_refused(engine: *const Engine, number: u64) -> i64;
     pub fn lt_calls(engine: *mut Engine, at: u64, call: *mut Call) -> i64;
     pub fn lt_make_directory(
         engine: *mut Engine,

@@ -1,4 +1,5 @@
 mod Values
 mod Settling
 mod TreeValues
+mod RefusalValues
 mod Reading

@@ -15,8 +15,9 @@ use Rattle.sf_engine.specs.Fits.{Fits}
 use Rattle.sf_engine.specs.Rounds.{AreUnderWay, HasRounds, IsWithinBounds}
 use Rattle.sf_engine.specs.Views.{EngineView}
 use Rattle.sf_engine.specs.contracts.promise.EngineSftp.TheImpl.{ghosts}
-use Rattle.sf_asking.specs.Logs.{EventLeads, HasUnsent, HasNoSession}
-use Rattle.sf_c.specs.declared.turns.Settled.{Settled}
+use Rattle.sf_refusing.specs.declared.refusals.Refusals.{Refusals}
+use Rattle.sf_refusing.specs.Refusing.{HasJournal}
+use Rattle.sf_asking.specs.Logs.{EventLeads}
 
 abbrev pub cause_number : Cause → ℕ
 cause_number cause.NotInit = 1
@@ -94,54 +95,6 @@ replies_of (Ok happened.Closed) = 0
 replies_of (Ok happened.Sent) = 0
 replies_of (Err fault) = 0
 
--- So many turns of a session were made, each of which leads to another one, and they wrote so many
--- replies.
-abbrev pub HasTurned : ℕ → ℕ → EngineView → Event → EngineView → Type 0
-HasTurned zero replies old turn new = (new ≡ old) × (replies ≡ 0)
-HasTurned (suc made) replies old turn new = (mid : EngineView) × (r : Result Happened EngineFault)
-    × EventLeads old turn r mid × (leads_on r ≡ true)
-    × ((others : ℕ) × (replies ≡ replies_of r + others) × HasTurned made others mid turn new)
-
--- so many turns of a session, and one more that leads to no other; no call has steps for 2^64
-abbrev pub HasEnded : ℕ → ℕ → EngineView → Event → Result Happened EngineFault → EngineView → Type 0
-HasEnded made replies old turn r new = (last : EngineView) × HasTurned made replies old turn last
-    × EventLeads last turn r new × (leads_on r ≡ true → 2 ^ 64 - 2 ≤ made)
-
--- Such turns were made, and ended before as many replies were written as may be; or as many were.
-abbrev pub TurnsTo : ℕ → Event → ℕ → EngineView → Option (Result Happened EngineFault) → EngineView
-    → Type 0
-TurnsTo made turn most old None new = HasTurned made most old turn new
-TurnsTo made turn most old (Some r) new =
-    (replies : ℕ) × (replies < most) × HasEnded made replies old turn r new
-
-abbrev pub TurnsFollow : Event → ℕ → EngineView → Option (Result Happened EngineFault) → EngineView
-    → Type 0
-TurnsFollow turn most old end new = (made : ℕ) × TurnsTo made turn most old end new
-
--- so, and whether there was a turn before the one that ended them
-abbrev pub MovesAll : Event → ℕ → EngineView → Option (Result Happened EngineFault) → Bool → EngineView
-    → Type 0
-MovesAll turn most old end moved new = (made : ℕ) × TurnsTo made turn most old end new
-    × (moved ≡ true → 0 < made) × (moved ≡ false → made ≡ 0)
-
-abbrev pub Settles : Event → ℕ → EngineView → Settled → EngineView → Type 0
-Settles turn most old settled new = MovesAll turn most old settled.last settled.moved new
-
--- the number of the turn that ended them, or 6
-abbrev pub IsLastNumber : Option (Result Happened EngineFault) → ℤ → Type 0
-IsLastNumber None n = n ≡ pos 6
-IsLastNumber (Some result) n = IsNumber result n
-
-abbrev pub SettlesAt : Event → ℕ → EngineView → ℤ → Bool → EngineView → Type 0
-SettlesAt turn most old n moved new = (end : Option (Result Happened EngineFault))
-    × MovesAll turn most old end moved new × IsLastNumber end n
-
--- so of the engines that C has
-abbrev pub AnswersSettled : Option EngineView → Event → ℕ → ℤ → Bool → Option EngineView → Type 0
-AnswersSettled before turn most n moved after =
-    (old : EngineView) × (new : EngineView) × (before ≡ Some old) × (after ≡ Some new)
-    × SettlesAt turn most old n moved new
-
 -- turns of some sessions, up to where no call is under way
 abbrev pub RunsToEnd : EngineView → EngineView → Type 0
 RunsToEnd old new = (log : List LogEntry) → ghosts.has_log old log → (entries : List LogEntry)
@@ -159,24 +112,8 @@ abbrev pub IsFresh : ℕ → EngineView → Type 0
 IsFresh keep engine = ghosts.has_log engine [] × Fits engine [] × (keep ≡ 0 → engine.core.keep ≡ None)
     × (0 < keep → engine.core.keep ≡ Some keep)
 
--- a new engine was made, or there is none
-abbrev pub IsNewEngine : ℕ → ℤ → Option EngineView → Type 0
-IsNewEngine keep n made = ((n ≡ negsuc 0) × (made ≡ None))
-    ⊎ ((engine : EngineView) × (n ≡ pos 0) × (made ≡ Some engine) × IsFresh keep engine)
-
--- Bytes came, as by the event of any vector of them.
-abbrev pub FeedsBytes : Option EngineView → ℕ → List ℕ → ℤ → Option EngineView → Type 0
-FeedsBytes before session bytes n after =
-    (old : EngineView) × (new : EngineView) × (before ≡ Some old) × (after ≡ Some new)
-    × ((fed : Vec ℕ Global) → fed.items ≡ bytes → LeadsToNumber old (event.Feed session fed) n new)
-
--- the output as far as there is room, and how long it is
-abbrev pub CopiesOutput : EngineView → ℕ → List ℕ → ℤ → List ℕ → Type 0
-CopiesOutput engine session old n new =
-    (output : List ℕ) × HasUnsent engine session output × (n ≡ pos (length output))
-    × (new ≡ take (length old) output ++ drop (length output) old)
-
--- a session's output was copied, or there is no such session
-abbrev pub Outputs : EngineView → ℕ → List ℕ → ℤ → List ℕ → Type 0
-Outputs engine session old n new = CopiesOutput engine session old n new
-    ⊎ (HasNoSession engine session × (n ≡ negsuc 1) × (new ≡ old))
+-- a new engine was made, with refusals that have no journal yet; or there is none
+abbrev pub IsNewEngine : ℕ → ℤ → Option EngineView → Option Refusals → Type 0
+IsNewEngine keep n made rules = ((n ≡ negsuc 0) × (made ≡ None) × (rules ≡ None))
+    ⊎ ((engine : EngineView) × (r : Refusals) × (n ≡ pos 0) × (made ≡ Some engine)
+    × (rules ≡ Some r) × IsFresh keep engine × HasJournal r [])

@@ -1,5 +1,5 @@
 -- No public clause cites this module.
--- What C has of an engine, and of a tree.
+-- What C has of an engine, of its refusals, and of a tree.
 use Rattle.std.specs.Prelude.{List, Option, Some, None}
 use Rattle.std.specs.Global.{Global}
 use Rattle.std.specs.Box.Ownership.{box_owns}
@@ -7,6 +7,8 @@ use Rattle.std.specs.contracts.impls.GlobalAllocator.TheImpl.{ghosts}
 use Rattle.sf_engine.specs.contracts.engine.Engine.{the_row}
 use Rattle.sf_engine.specs.Views.{EngineView}
 use Rattle.sf_call.specs.Leaves.{Leaf}
+use Rattle.sf_refusing.specs.declared.refusals.Refusals.{Refusals}
+use Rattle.sf_refusing.specs.contracts.refusals.Refusals as refusals
 use Rattle.sf_c.specs.contracts.leaves.Leaves as tree
 use denote.RawPtr.{Ptr}
 use base.Fml.{Fml, ftrue}
@@ -15,6 +17,11 @@ use base.Fml.{Fml, ftrue}
 abbrev pub engine_owned : Global → Ptr → Option EngineView → Fml
 engine_owned alloc at None = ftrue
 engine_owned alloc at (Some engine) = box_owns (ghosts.dealloc_token alloc) the_row at engine
+
+-- the box of refusals, if there is one
+abbrev pub refusals_owned : Global → Ptr → Option Refusals → Fml
+refusals_owned alloc at None = ftrue
+refusals_owned alloc at (Some x) = box_owns (ghosts.dealloc_token alloc) refusals.the_row at x
 
 -- the box of a tree, if there is one
 abbrev pub tree_owned : Global → Ptr → Option (List Leaf) → Fml

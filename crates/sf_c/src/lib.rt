@@ -2,8 +2,12 @@
 //!
 //! Start with `lucernetick_turn`. Each function takes an engine as a `Held` (`held.rt`), makes one
 //! event of what it is given, and answers the engine again and a number: `specs/Numbers.antt` says
-//! which, for what the engine answered. Those that make trees make many (`specs/Making.antt`). A
-//! whole tree is a `Kept` (`kept.rt`), of which `specs/Trees.antt` says what is told.
+//! which, for what the engine answered. Bytes come and go, and turns are made, through the engine's
+//! refusals, a `HeldRefusals` beside it: `specs/Journals.antt` says what that is in the journal of
+//! both, and `specs/Rules.antt` what a rule is. Sessions open and close on the engine itself, which
+//! leaves all that refusals promise (`sf_refusing::events_apart`); so do those that make trees
+//! (`specs/Making.antt`). A whole tree is a `Kept` (`kept.rt`), of which `specs/Trees.antt` says
+//! what is told.
 //! `bindings/c/lucernetick.c` has the functions of `include/lucernetick.h`, which call these.
 #![tactic(auto)]
 
@@ -11,27 +15,33 @@ ghost use Rattle.std.specs.Prelude.{◌≡◌, ◌++◌, length, take, drop, Non
 ghost use Rattle.sf_engine.specs.declared.event.Event.TheVariants as event;
 ghost use Rattle.sf_trees.specs.Makings.{MakesDirectory, WritesFile, Links};
 ghost use Rattle.sf_c.specs.Records.{TellsRecord, KeepsLastRecords};
-ghost use Rattle.sf_asking.specs.Logs.{WaitsForBytesBy};
+ghost use Rattle.sf_c.specs.Journals.{InBoth, OfBoth, FeedsBytes, SendsBytes, TurnsOnce, Settles, WantsBytes, Outputs};
+ghost use Rattle.sf_c.specs.Rules.{TakesRule, TellsRefused};
 ghost use Rattle.sf_c.specs.Making.{AnswersMade};
 ghost use Rattle.sf_c.specs.Trees.{TakesTree, TellsLeaf, ReadsLeaf, TellsGap};
-ghost use Rattle.sf_c.specs.Numbers.{AnswersNumber, AnswersSettled, RunsAll, IsFresh, IsNewEngine, FeedsBytes, Outputs};
+ghost use Rattle.sf_c.specs.Numbers.{AnswersNumber, RunsAll, IsFresh, IsNewEngine};
 
 mod held;
+mod held_refusals;
 mod kept;
 mod leaves;
 mod making;
 mod number;
+mod rules;
 mod told;
 mod turns;
 
 use held::Held;
+use held_refusals::HeldRefusals;
 use kept::Kept;
 use leaves::{LeafParts, copy_leaf, gap_at, read_leaf, tree_of};
 use making::{At, link_in, make_directory_in, tell_made, write_file_in};
-use sf_engine::{Engine, Event, Sftp};
+use rules::{RuleParts, give_rule, tell_refused};
+use sf_engine::{Engine, Event};
+use sf_refusing::Refusals;
 use std::alloc::{AllocError, Global};
 use told::{RecordParts, recount};
-use turns::{apply, feed, settle_at};
+use turns::{apply, feed, sent, settle_at, turn};
 
 /// Makes an engine that keeps the last `keep` records, or all of them.
 fn new_engine(alloc: Global, keep: u64) -> Result<Engine, AllocError>
@@ -43,11 +53,18 @@ fn new_engine(alloc: Global, keep: u64) -> Result<Engine, AllocError>
     Engine::with_keep(alloc, keep as usize)
 }
 
-/// Makes an engine in place of nothing. Answers 0, or -1 for want of memory, which leaves nothing.
+/// Makes an engine, and refusals before it, in place of nothing. Answers 0, or -1 for want of
+/// memory, which leaves nothing.
 #[unsafe(no_mangle)]
-pub extern "C" fn lucernetick_new(alloc: Global, held: &mut Held, keep: u64) -> i64
-    requires { held.old.engine ≡ None }
-    ensures { IsNewEngine keep result held.new.engine }
+pub extern "C" fn lucernetick_new(
+    alloc: Global,
+    held: &mut Held,
+    refusing: &mut HeldRefusals,
+    keep: u64,
+) -> i64
+    requires engine { held.old.engine ≡ None }
+    requires refusals { refusing.old.refusals ≡ None }
+    ensures { IsNewEngine keep result held.new.engine refusing.new.refusals }
 {
     let Ok(engine) = new_engine(alloc, keep) else {
         return -1;
@@ -55,17 +72,24 @@ pub extern "C" fn lucernetick_new(alloc: Global, held: &mut Held, keep: u64) -> 
     let Ok(engine) = Box::new(alloc, engine) else {
         return -1;
     };
+    let Ok(refusals) = Box::new(alloc, Refusals::new(alloc)) else {
+        return -1;
+    };
     held.put(engine);
+    refusing.put(refusals);
     0
 }
 
-/// Drops an engine.
+/// Drops an engine, and its refusals.
 #[unsafe(no_mangle)]
-pub extern "C" fn lucernetick_free(alloc: Global, held: &mut Held)
-    requires { IsSome held.old.engine }
-    ensures { held.new.engine ≡ None }
+pub extern "C" fn lucernetick_free(alloc: Global, held: &mut Held, refusing: &mut HeldRefusals)
+    requires engine { IsSome held.old.engine }
+    requires refusals { IsSome refusing.old.refusals }
+    ensures engine { held.new.engine ≡ None }
+    ensures refusals { refusing.new.refusals ≡ None }
 {
     let _engine = held.take(alloc);
+    let _refusals = refusing.take(alloc);
 }
 
 /// Applies an event, and answers its number.
@@ -93,25 +117,43 @@ pub extern "C" fn lucernetick_open(alloc: Global, held: &mut Held) -> i64
 pub extern "C" fn lucernetick_feed(
     alloc: Global,
     held: &mut Held,
+    refusing: &mut HeldRefusals,
     session: u64,
     bytes: &[u8],
 ) -> i64
-    requires { IsSome held.old.engine }
-    ensures { FeedsBytes held.old.engine session bytes.now result held.new.engine }
+    requires engine { IsSome held.old.engine }
+    requires refusals { IsSome refusing.old.refusals }
+    ensures { InBoth held.old.engine refusing.old.refusals (FeedsBytes session bytes.now result)
+        held.new.engine refusing.new.refusals }
 {
     let mut engine = held.take(alloc);
-    let number = feed(&mut engine, session, bytes);
+    let mut refusals = refusing.take(alloc);
+    let number = feed(&mut engine, &mut refusals, session, bytes);
     held.put(engine);
+    refusing.put(refusals);
     number
 }
 
 /// A session goes on, at a moment in seconds since 1970.
 #[unsafe(no_mangle)]
-pub extern "C" fn lucernetick_turn(alloc: Global, held: &mut Held, session: u64, moment: u32) -> i64
-    requires { IsSome held.old.engine }
-    ensures { AnswersNumber held.old.engine (event.Turn session moment) result held.new.engine }
+pub extern "C" fn lucernetick_turn(
+    alloc: Global,
+    held: &mut Held,
+    refusing: &mut HeldRefusals,
+    session: u64,
+    moment: u32,
+) -> i64
+    requires engine { IsSome held.old.engine }
+    requires refusals { IsSome refusing.old.refusals }
+    ensures { InBoth held.old.engine refusing.old.refusals (TurnsOnce session moment result)
+        held.new.engine refusing.new.refusals }
 {
-    answer(alloc, held, &Event::Turn(session, moment))
+    let mut engine = held.take(alloc);
+    let mut refusals = refusing.take(alloc);
+    let number = turn(&mut engine, &mut refusals, session, moment);
+    held.put(engine);
+    refusing.put(refusals);
+    number
 }
 
 /// Turns of a session, until one leads to no other, or `most` replies were written. Tells whether
@@ -120,18 +162,22 @@ pub extern "C" fn lucernetick_turn(alloc: Global, held: &mut Held, session: u64,
 pub extern "C" fn lucernetick_settle(
     alloc: Global,
     held: &mut Held,
+    refusing: &mut HeldRefusals,
     session: u64,
     moment: u32,
     most: u64,
     moved: &mut bool,
 ) -> i64
-    requires { IsSome held.old.engine }
-    ensures { AnswersSettled held.old.engine (Event.Turn session moment) most result moved.new
-        held.new.engine }
+    requires engine { IsSome held.old.engine }
+    requires refusals { IsSome refusing.old.refusals }
+    ensures { InBoth held.old.engine refusing.old.refusals
+        (Settles most session moment result moved.new) held.new.engine refusing.new.refusals }
 {
     let mut engine = held.take(alloc);
-    let number = settle_at(&mut engine, session, moment, most, moved);
+    let mut refusals = refusing.take(alloc);
+    let number = settle_at(&mut engine, &mut refusals, session, moment, most, moved);
     held.put(engine);
+    refusing.put(refusals);
     number
 }
 
@@ -161,33 +207,51 @@ pub extern "C" fn lucernetick_close(alloc: Global, held: &mut Held, session: u64
 pub extern "C" fn lucernetick_sent(
     alloc: Global,
     held: &mut Held,
+    refusing: &mut HeldRefusals,
     session: u64,
     count: usize,
 ) -> i64
-    requires { IsSome held.old.engine }
-    ensures { AnswersNumber held.old.engine (event.Sent session count) result held.new.engine }
+    requires engine { IsSome held.old.engine }
+    requires refusals { IsSome refusing.old.refusals }
+    ensures { InBoth held.old.engine refusing.old.refusals (SendsBytes session count result)
+        held.new.engine refusing.new.refusals }
 {
-    answer(alloc, held, &Event::Sent(session, count))
+    let mut engine = held.take(alloc);
+    let mut refusals = refusing.take(alloc);
+    let number = sent(&mut engine, &mut refusals, session, count);
+    held.put(engine);
+    refusing.put(refusals);
+    number
 }
 
 /// Whether a session rests with no whole packet unread. A number without a session wants no bytes.
 #[unsafe(no_mangle)]
-pub extern "C" fn lucernetick_wants_bytes(alloc: Global, held: &mut Held, session: u64) -> bool
-    requires { IsSome held.old.engine }
+pub extern "C" fn lucernetick_wants_bytes(
+    alloc: Global,
+    held: &mut Held,
+    refusing: &mut HeldRefusals,
+    session: u64,
+) -> bool
+    requires engine { IsSome held.old.engine }
+    requires refusals { IsSome refusing.old.refusals }
     ensures same { held.new.engine ≡ held.old.engine }
-    ensures wants { IfSome held.old.engine (λ e. WaitsForBytesBy e session result) }
+    ensures unchanged { refusing.new.refusals ≡ refusing.old.refusals }
+    ensures wants { OfBoth held.old.engine refusing.old.refusals
+        (λ e r. WantsBytes e r session result) }
 {
     let engine = held.take(alloc);
-    let wants = wants_bytes(&engine, session);
+    let refusals = refusing.take(alloc);
+    let wants = wants_bytes(&engine, &refusals, session);
     held.put(engine);
+    refusing.put(refusals);
     wants
 }
 
-/// Whether a session waits for bytes, as the engine's log tells.
-fn wants_bytes(engine: &Engine, session: u64) -> bool
-    ensures { WaitsForBytesBy engine.now session result }
+/// Whether a session waits for bytes, as the journal tells.
+fn wants_bytes(engine: &Engine, refusals: &Refusals, session: u64) -> bool
+    ensures { WantsBytes engine.now refusals.now session result }
 {
-    <Engine as Sftp>::wants_bytes(engine, session)
+    refusals.wants_bytes(engine, session)
 }
 
 /// Copies bytes into a room, as far as there is room.
@@ -198,33 +262,73 @@ fn copy_front(room: &mut [u8], bytes: &[u8])
     room[..count].copy_from_slice(&bytes[..count]);
 }
 
-/// Copies the front of what a session is to be sent, and answers how much that is.
-fn copy_output(engine: &Engine, session: u64, room: &mut [u8]) -> i64
-    ensures { Outputs engine.now session room.old result room.new }
+/// Copies the front of what a session is to be sent next, and answers how much that is.
+fn copy_output(engine: &Engine, refusals: &Refusals, session: u64, room: &mut [u8]) -> i64
+    ensures { Outputs engine.now refusals.now session room.old result room.new }
 {
-    let Some(output) = engine.output(session) else {
+    let Some(output) = refusals.output(engine, session) else {
         return -2;
     };
     copy_front(room, output);
     output.len() as i64
 }
 
-/// Copies the front of what a session is to be sent into the room.
+/// Copies the front of what a session is to be sent next into the room.
 #[unsafe(no_mangle)]
 pub extern "C" fn lucernetick_output(
     alloc: Global,
     held: &mut Held,
+    refusing: &mut HeldRefusals,
     session: u64,
     room: &mut [u8],
 ) -> i64
-    requires { IsSome held.old.engine }
+    requires engine { IsSome held.old.engine }
+    requires refusals { IsSome refusing.old.refusals }
     ensures same { held.new.engine ≡ held.old.engine }
-    ensures copied { IfSome held.old.engine (λ e. Outputs e session room.old result room.new) }
+    ensures unchanged { refusing.new.refusals ≡ refusing.old.refusals }
+    ensures copied { OfBoth held.old.engine refusing.old.refusals
+        (λ e r. Outputs e r session room.old result room.new) }
 {
     let engine = held.take(alloc);
-    let number = copy_output(&engine, session, room);
+    let refusals = refusing.take(alloc);
+    let number = copy_output(&engine, &refusals, session, room);
     held.put(engine);
+    refusing.put(refusals);
     number
+}
+
+/// Gives a rule, whose path has this text, if it has one, and answers its number.
+#[unsafe(no_mangle)]
+pub extern "C" fn lucernetick_refuse(
+    alloc: Global,
+    refusing: &mut HeldRefusals,
+    parts: &RuleParts,
+    text: &[u8],
+) -> i64
+    requires { IsSome refusing.old.refusals }
+    ensures { TakesRule refusing.old.refusals parts.now text.now result refusing.new.refusals }
+{
+    let mut refusals = refusing.take(alloc);
+    let number = give_rule(alloc, &mut refusals, parts, text);
+    refusing.put(refusals);
+    number
+}
+
+/// Tells how many requests a rule has refused.
+#[unsafe(no_mangle)]
+pub extern "C" fn lucernetick_refused(
+    alloc: Global,
+    refusing: &mut HeldRefusals,
+    number: u64,
+) -> i64
+    requires { IsSome refusing.old.refusals }
+    ensures same { refusing.new.refusals ≡ refusing.old.refusals }
+    ensures told { IfSome refusing.old.refusals (λ r. TellsRefused r number result) }
+{
+    let refusals = refusing.take(alloc);
+    let count = tell_refused(&refusals, number);
+    refusing.put(refusals);
+    count
 }
 
 /// Tells the record at a place, and copies its bytes into the room, as far as there is room.

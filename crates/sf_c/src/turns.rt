@@ -1,11 +1,13 @@
-//! One event of an engine, bytes for a session, and a session's turns up to where it rests.
+//! One event of an engine; and, through its refusals, bytes for a session, and a session's turns up
+//! to where it rests.
 
 ghost use Rattle.std.specs.Prelude.{◌≡◌, ◌≤◌, ◌<◌, ◌^◌, ℕ, length};
-ghost use Rattle.std.specs.Global.{Vec};
-ghost use Rattle.sf_c.specs.Numbers.{leads_on, replies_of, LeadsToNumber, TurnsFollow, Settles, SettlesAt};
+ghost use Rattle.sf_c.specs.Numbers.{leads_on, replies_of, LeadsToNumber};
+ghost use Rattle.sf_c.specs.Journals.{GoesOn, FeedsBytes, SendsBytes, TurnsOnce, AreTurnsOf, TurnsTo, AreSettled, Settles};
 
 use crate::number::number_of;
 use sf_engine::{Engine, EngineFault, Event, Happened};
+use sf_refusing::Refusals;
 
 /// Applies an event, and answers its number.
 pub fn apply(engine: &mut Engine, event: &Event) -> i64
@@ -14,13 +16,41 @@ pub fn apply(engine: &mut Engine, event: &Event) -> i64
     number_of(engine.apply(event))
 }
 
-/// Appends bytes to those that a session hasn't read, and answers the number of that event.
-pub fn feed(engine: &mut Engine, session: u64, bytes: &[u8]) -> i64
-    requires { length bytes.now < 2 ^ 63 }
-    ensures { (fed : Vec ℕ) → fed.items ≡ bytes.now
-        → LeadsToNumber engine.old (Event.Feed session fed) result engine.new }
+/// Bytes come for a session.
+pub fn feed(engine: &mut Engine, refusals: &mut Refusals, session: u64, bytes: &[u8]) -> i64
+    ensures { FeedsBytes session bytes.now result engine.old refusals.old engine.new refusals.new }
 {
-    number_of(engine.feed(session, bytes))
+    number_of(refusals.feed(engine, session, bytes))
+}
+
+/// So many bytes of what a session is sent are gone.
+pub fn sent(engine: &mut Engine, refusals: &mut Refusals, session: u64, count: usize) -> i64
+    ensures { SendsBytes session count result engine.old refusals.old engine.new refusals.new }
+{
+    number_of(refusals.sent(engine, session, count))
+}
+
+/// One turn of a session.
+pub fn turn(engine: &mut Engine, refusals: &mut Refusals, session: u64, moment: u32) -> i64
+    ensures { TurnsOnce session moment result engine.old refusals.old engine.new refusals.new }
+{
+    number_of(refusals.turn(engine, session, moment))
+}
+
+/// As `turn`, but the engine makes turns as long as the session's call is on its way to its reply.
+fn turns(
+    engine: &mut Engine,
+    refusals: &mut Refusals,
+    session: u64,
+    moment: u32,
+) -> Result<Happened, EngineFault>
+    ensures { GoesOn (AreTurnsOf session moment result) engine.old refusals.old engine.new
+        refusals.new }
+{
+    if refusals.move_on(engine, session)? {
+        return Ok(Happened::Wrote);
+    }
+    engine.turns(session, moment)
 }
 
 /// Whether a turn leads to another one.
@@ -48,14 +78,16 @@ fn replies_of(outcome: Result<Happened, EngineFault>) -> u64
 /// one, if there was one.
 fn follow(
     engine: &mut Engine,
+    refusals: &mut Refusals,
     session: u64,
     moment: u32,
     most: u64,
 ) -> Option<Result<Happened, EngineFault>>
-    ensures { TurnsFollow (Event.Turn session moment) most engine.old result engine.new }
+    ensures { GoesOn (TurnsTo most session moment result) engine.old refusals.old engine.new
+        refusals.new }
 {
     for _ in 0..most {
-        let outcome = engine.turns(session, moment);
+        let outcome = turns(engine, refusals, session, moment);
         if replies_of(outcome) == 0 {
             return Some(outcome);
         }
@@ -73,8 +105,15 @@ pub struct Settled {
 }
 
 /// As `follow`, with the first turn apart, by which it is known whether anything moved.
-fn settle(engine: &mut Engine, session: u64, moment: u32, most: u64) -> Settled
-    ensures { Settles (Event.Turn session moment) most engine.old result engine.new }
+fn settle(
+    engine: &mut Engine,
+    refusals: &mut Refusals,
+    session: u64,
+    moment: u32,
+    most: u64,
+) -> Settled
+    ensures { GoesOn (AreSettled most session moment result) engine.old refusals.old engine.new
+        refusals.new }
 {
     if most == 0 {
         return Settled {
@@ -82,7 +121,7 @@ fn settle(engine: &mut Engine, session: u64, moment: u32, most: u64) -> Settled
             moved: false,
         };
     }
-    let first = engine.apply(&Event::Turn(session, moment));
+    let first = refusals.turn(engine, session, moment);
     if !leads_on(first) {
         return Settled {
             last: Some(first),
@@ -90,16 +129,24 @@ fn settle(engine: &mut Engine, session: u64, moment: u32, most: u64) -> Settled
         };
     }
     Settled {
-        last: follow(engine, session, moment, most - replies_of(first)),
+        last: follow(engine, refusals, session, moment, most - replies_of(first)),
         moved: true,
     }
 }
 
 /// As `settle`, and answers the number of the turn that leads to no other, or 6.
-pub fn settle_at(engine: &mut Engine, session: u64, moment: u32, most: u64, moved: &mut bool) -> i64
-    ensures { SettlesAt (Event.Turn session moment) most engine.old result moved.new engine.new }
+pub fn settle_at(
+    engine: &mut Engine,
+    refusals: &mut Refusals,
+    session: u64,
+    moment: u32,
+    most: u64,
+    moved: &mut bool,
+) -> i64
+    ensures { Settles most session moment result moved.new engine.old refusals.old engine.new
+        refusals.new }
 {
-    let settled = settle(engine, session, moment, most);
+    let settled = settle(engine, refusals, session, moment, most);
     *moved = settled.moved;
     match settled.last {
         Some(outcome) => number_of(outcome),

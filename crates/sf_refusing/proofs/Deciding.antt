@@ -196,10 +196,13 @@ bad_goes journal s held len cause all bad =
       inr (inl (cause, subst (λ (b : List ℕ). IsCut b (cut.Bad cause)) is bad)),
     )
 
--- the first packet of a session was passed on
-pub first_goes : (journal : List Act) (s : ℕ) (p : Passage) (len : ℕ) → IsAt journal s p → p.begun ≡ false → HasBody p.held.items len → (0 < length (take len p.held.items)) × IsUnruled journal s (take len p.held.items)
-first_goes journal s p len S fresh B =
-    let none : taken_in s journal ≡ [] = nil_from_length (taken_in s journal) (omega (arith, ltb-false 0 (length (taken_in s journal)) (sym S.begun_is ∙ fresh))) in (
+-- the first packet of a session was passed on, or one for which there is no rule
+pub unruled_goes : (journal : List Act) (s : ℕ) (p : Passage) (rules : List GivenRule) (len : ℕ) → IsAt journal s p → AreGiven journal rules → (p.begun ≡ false) ⊎ (rules ≡ []) → HasBody p.held.items len → (0 < length (take len p.held.items)) × IsUnruled journal s (take len p.held.items)
+unruled_goes journal s p rules len S A free B =
+    let none : (taken_in s journal ≡ []) ⊎ (rules_in journal ≡ []) = elim free [
+      | inl fresh ↦ inl (nil_from_length (taken_in s journal) (omega (arith, ltb-false 0 (length (taken_in s journal)) (sym S.begun_is ∙ fresh))))
+      | inr empty ↦ inr (nil_from_length (rules_in journal) (sym A.count ∙ ap (λ (rs : List GivenRule). length rs) empty))
+    ] in (
       omega (arith, length-take-le len p.held.items B.within, B.long),
       inr (inr (none, (body_at p.held.items len, B.is_body, front_packet p.held.items len B))),
     )

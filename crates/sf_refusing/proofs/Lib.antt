@@ -6,3 +6,4 @@ pub mod Faults
 pub mod Deciding
 pub mod Sessions
 pub mod RefusalLaws
+pub mod Laws

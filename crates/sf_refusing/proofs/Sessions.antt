@@ -96,16 +96,17 @@ came_has r r' journal s at p p' bytes H here number set rules held output begun 
 -- ---- a turn
 
 -- the turns that the engine made after what stood at the front went on
+pub have_turned : {E : Type 0} (has_log : E → List LogEntry → Type 0) (engine : E) (r : Refusals) (journal passed : List Act) (s m : ℕ) (result : Result Happened EngineFault) (entries : List LogEntry) → HasJournal r (journal ++ passed) → AreTurns (event.Turn s m) result entries → has_log engine (log_of (journal ++ passed) ++ entries) → Have has_log engine r (journal ++ (passed ++ map Did entries))
+have_turned {E} has_log engine r journal passed s m result entries H turns has =
+    let all : (journal ++ passed) ++ map Did entries ≡ journal ++ (passed ++ map Did entries) = append_assoc journal passed (map Did entries) in
+    subst (λ (j : List Act). Have has_log engine r j) all (
+      plain_all r entries (journal ++ passed) (plain_turns s m result entries turns) H,
+      subst (λ (l : List LogEntry). has_log engine l) (log_done (journal ++ passed) entries) has,
+    )
+
 pub turned : {E : Type 0} (has_log : E → List LogEntry → Type 0) (engine : E) (r : Refusals) (journal passed : List Act) (s m : ℕ) (result : Result Happened EngineFault) (AreMade : List LogEntry → Type 0) (entries : List LogEntry) → PassesOn journal s passed → HasJournal r (journal ++ passed) → AreMade entries → AreTurns (event.Turn s m) result entries → has_log engine (log_of (journal ++ passed) ++ entries) → (acts : List Act) × IsTurn journal s AreMade result acts × Have has_log engine r (journal ++ acts)
 turned {E} has_log engine r journal passed s m result AreMade entries on H made turns has =
-    let all : (journal ++ passed) ++ map Did entries ≡ journal ++ (passed ++ map Did entries) = append_assoc journal passed (map Did entries) in (
-      passed ++ map Did entries,
-      inr (inl (passed, entries, on, made, refl)),
-      subst (λ (j : List Act). Have has_log engine r j) all (
-        plain_all r entries (journal ++ passed) (plain_turns s m result entries turns) H,
-        subst (λ (l : List LogEntry). has_log engine l) (log_done (journal ++ passed) entries) has,
-      ),
-    )
+    (passed ++ map Did entries, inr (inl (passed, entries, on, made, refl)), have_turned has_log engine r journal passed s m result entries H turns has)
 
 -- ---- what is sent
 
@@ -176,6 +177,23 @@ were_there log s k e G may u U =
     let at : MayComeTo log (event.Sent s k) (Ok G.happened) =
     subst (λ (r : Result Happened EngineFault). MayComeTo log (event.Sent s k) r) G.result (subst (λ (ev : Event). MayComeTo log ev e.result) G.event may) in
     omega (arith, sent_may log s k G.happened at, ap (λ (b : List ℕ). length b) U.packets, length-append U.sent u, U.count)
+
+-- and it came to no other than this
+sent_so : (log : List LogEntry) (s k : ℕ) (h : Happened) → MayComeTo log (event.Sent s k) (Ok h) → h ≡ happened.Sent
+sent_so log s k happened.Sent may = refl
+sent_so log s k (happened.Opened n) may = absurd may
+sent_so log s k happened.Fed may = absurd may
+sent_so log s k happened.Moved may = absurd may
+sent_so log s k (happened.Blocked n) may = absurd may
+sent_so log s k happened.Decided may = absurd may
+sent_so log s k happened.Wrote may = absurd may
+sent_so log s k happened.Begun may = absurd may
+sent_so log s k happened.Idle may = absurd may
+sent_so log s k (happened.Ended cause) may = absurd may
+sent_so log s k happened.Closed may = absurd may
+
+pub were_sent : (log : List LogEntry) (s k : ℕ) (h : Happened) → MayComeTo log (event.Sent s k) (Ok h) → let r : Result Happened EngineFault = Ok h in r ≡ Ok happened.Sent
+were_sent log s k h may = ap (λ (x : Happened). let r : Result Happened EngineFault = Ok x in r) (sent_so log s k h may)
 
 sent_is : (s k : ℕ) (e : LogEntry) → IsGone s k e → (other : ℕ) → sent_at other e.event e.result ≡ (if nat_eq s other then k else 0)
 sent_is s k e G other =

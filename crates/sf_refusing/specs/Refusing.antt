@@ -33,11 +33,12 @@ pub record IsFed (session : ℕ) (bytes : List ℕ) (e : LogEntry) : Type 0 wher
   pub happened : Happened
   pub result : e.result ≡ Ok happened
 
--- Bytes that no rule is asked about: none; a wrong length, with what follows it; or the packet that
--- a session begins with.
+-- Bytes that no rule is asked about: none; a wrong length, with what follows it; or a packet that a
+-- session begins with, or for which there is no rule yet.
 abbrev pub IsUnruled : List Act → ℕ → List ℕ → Type 0
 IsUnruled front session bytes = (bytes ≡ []) ⊎ (((cause : BadCut) × IsCut bytes (cut.Bad cause))
-    ⊎ ((taken_in session front ≡ []) × ((body : List ℕ) × IsBody body × (bytes ≡ packet body))))
+    ⊎ (((taken_in session front ≡ []) ⊎ (rules_in front ≡ []))
+    × ((body : List ℕ) × IsBody body × (bytes ≡ packet body))))
 
 -- A packet is passed on: no rule refuses it.
 pub record MayPass (front : List Act) (p : Packet) (e : LogEntry) : Type 0 where

@@ -1,6 +1,6 @@
 //! What stands at the front of the bytes that are held for a session.
 
-ghost use Rattle.std.specs.Prelude.{◌≡◌, ◌++◌, ℕ, List, [], true, IfOk, IfSome, IfNone};
+ghost use Rattle.std.specs.Prelude.{◌≡◌, ◌⊎◌, ◌++◌, ℕ, List, [], true, false, IfOk, IfSome, IfNone};
 ghost use Rattle.sf_request.specs.declared.request.Asked.{Asked};
 ghost use Rattle.sf_request.specs.declared.request.Asked.TheVariants.{Request};
 ghost use Rattle.sf_request.specs.declared.request.WireRequest.{WireRequest};
@@ -71,8 +71,16 @@ fn decide<E: Sftp>(
     Ok(true)
 }
 
-/// The first packet of a session, or a wrong length with what follows it, is passed on; another
-/// packet is decided on. The session waits for bytes.
+/// Whether a session's next packet is one that rules are asked about.
+fn is_ruled(rules: &[GivenRule], passage: &Passage) -> bool
+    ensures ruled { result ≡ true → passage.now.begun ≡ true }
+    ensures unruled { result ≡ false → (passage.now.begun ≡ false) ⊎ (rules.now ≡ []) }
+{
+    passage.begun && !rules.is_empty()
+}
+
+/// The first packet of a session, any where there is no rule, or a wrong length with what follows
+/// it, is passed on; another packet is decided on. The session waits for bytes.
 pub(crate) fn take_front<E: Sftp>(
     alloc: Global,
     rules: &mut Vec<GivenRule>,
@@ -89,7 +97,7 @@ pub(crate) fn take_front<E: Sftp>(
         Cut::More => return Ok(false),
         Cut::Bad(_) => passage.held.len(),
         Cut::Whole(len) => {
-            if passage.begun {
+            if is_ruled(rules, passage) {
                 return decide(alloc, rules, passage, engine, session, len);
             }
             len

@@ -1,6 +1,6 @@
 //! Requests refused by order, on an engine.
 
-ghost use Rattle.std.specs.Prelude.{◌≡◌, ◌<◌, ◌≤◌, ◌+◌, ◌⊎◌, ◌++◌, ◌∷◌, ◌↔◌, ℕ, IsTrue, List, [], length, take, map, drop, nat_lt, ◌&&◌, true, false, slice_get, Some, None, Ok, Err, IfOk, IfErr, IfSome, IfNone, OnOk, OnErr};
+ghost use Rattle.std.specs.Prelude.{◌≡◌, ◌<◌, ◌≤◌, ◌+◌, ◌^◌, ◌⊎◌, ◌++◌, ◌∷◌, ◌↔◌, ℕ, IsTrue, List, [], length, take, map, drop, nat_lt, ◌&&◌, true, false, slice_get, Some, None, Ok, Err, IfOk, IfErr, IfSome, IfNone, OnOk, OnErr};
 ghost use Rattle.std.specs.Global.{Vec};
 ghost use Rattle.sf_wire.specs.declared.cutting.Cut.TheVariants as cut;
 ghost use Rattle.sf_wire.specs.Packets.{IsCut};
@@ -57,6 +57,7 @@ impl Refusals {
 
     /// Gives a rule, of which the number is told: 0, 1, 2 and so on.
     pub fn rule(&mut self, rule: Rule) -> Result<usize, AllocError>
+        ensures few { IfOk result (λ number. number < 2 ^ 63) }
         ensures ok { IfOk result (λ number. (journal : List Act) → HasJournal self.old journal
             → HasJournal self.new (journal ++ Ruled rule ∷ [])
             × (since_given (journal ++ Ruled rule ∷ []) number ≡ Some (rule, []))) }
@@ -131,8 +132,8 @@ impl Refusals {
     }
 
     /// Where a session waits for bytes, what is held for it goes on. Whether a request was refused is
-    /// told.
-    fn move_on<E: Sftp>(&mut self, engine: &mut E, session: u64) -> Result<bool, EngineFault>
+    /// told. For who knows more of an engine's turns than `turn` and `turns` tell.
+    pub fn move_on<E: Sftp>(&mut self, engine: &mut E, session: u64) -> Result<bool, EngineFault>
         ensures { (journal : List Act) → Have E.has_log engine.old self.old journal
             → (acts : List Act) × MovesOn journal session result acts
             × Have E.has_log engine.new self.new (journal ++ acts) }
@@ -223,7 +224,7 @@ impl Refusals {
     ) -> Result<Happened, EngineFault>
         ensures ok { OnOk result ((journal : List Act)
             → Have E.has_log engine.old self.old journal
-            → (told : List LogEntry)
+            → (result ≡ Ok happened.Sent) × (told : List LogEntry)
             × Have E.has_log engine.new self.new
             (journal ++ map Did told ++ Went session count ∷ [])) }
         ensures err { OnErr result ((engine.new ≡ engine.old)

@@ -1,4 +1,4 @@
-use Rattle.std.proofs.Common.{◌≡◌, ◌+◌, ◌<◌, ℕ, List, [], ◌∷◌, ◌++◌, Some, None, Ok, false, length, take, refl, ap, sym, ◌∙◌, subst, arith}
+use Rattle.std.proofs.Common.{◌≡◌, ◌+◌, ◌<◌, ◌⊎◌, ℕ, List, [], ◌∷◌, ◌++◌, Some, None, Ok, false, length, take, refl, ap, sym, ◌∙◌, subst, arith}
 use Rattle.std.specs.Global.{Vec}
 use Rattle.std.specs.Prelude.{slice_range}
 use Rattle.std.proofs.lemmas.Result.{err_from_is_err_and}
@@ -7,6 +7,7 @@ use Rattle.sf_request.specs.declared.request.Asked.{Asked}
 use Rattle.sf_request.specs.Requests.{Asks}
 use Rattle.sf_engine.specs.declared.event.Event.TheVariants as event
 use Rattle.sf_engine.specs.Promise.{LogEntry, log_entry}
+use Rattle.sf_refusing.specs.declared.given.GivenRule.{GivenRule}
 use Rattle.sf_refusing.specs.declared.passage.Passage.{Passage}
 use Rattle.sf_refusing.specs.Journal.{log_of}
 use Rattle.sf_refusing.proofs.Vecs.{vec_of}
@@ -15,9 +16,9 @@ use Rattle.sf_wire.specs.declared.cutting.Cut.TheVariants as cut
 use Rattle.sf_wire.specs.Packets.{IsCut}
 use Rattle.sf_wire.specs.Streams.{HasBody}
 use Rattle.sf_refusing.specs.Refusing.{IsFed, IsUnruled}
-use Rattle.sf_refusing.proofs.Deciding.{IsDone, none_held, done_err, done_did, done_nothing, bad_goes, first_goes}
+use Rattle.sf_refusing.proofs.Deciding.{IsDone, none_held, done_err, done_did, done_nothing, bad_goes, unruled_goes}
 use Rattle.sf_refusing.proofs.front.take_front.Goals as goal
-use Rattle.sf_refusing.proofs.front.take_front.Goals.{in-Bad, in-Whole+else-passage}
+use Rattle.sf_refusing.proofs.front.take_front.Goals.{in-Bad, in-Whole+else-is_ruled}
 
 pub returns-in-More : goal.returns-in-More
 returns-in-More g c = λ journal S.
@@ -48,8 +49,9 @@ returns g c = λ journal S.
       | in-Bad w ↦
           bad_goes journal c.args.session held len w.in-Bad.field-0 (w.len-is ∙ w.len-len.ensures.value)
           (subst (λ (b : List ℕ). IsCut b (cut.Bad w.in-Bad.field-0)) c.as_slice.ensures w.in-Bad.ensures.found)
-      | in-Whole+else-passage w ↦
-          first_goes journal c.args.session p len S.at w.if-passage.false
+      | in-Whole+else-is_ruled w ↦
+          let free = subst (λ (rs : List GivenRule). (p.begun ≡ false) ⊎ (rs ≡ [])) w.deref.ensures.value (w.is_ruled.ensures.unruled w.if-is_ruled.false) in
+          unruled_goes journal c.args.session p c.args.rules.now.items len S.at S.rules free
           (subst (λ (n : ℕ). HasBody held n) (sym w.len-is) (subst (λ (b : List ℕ). HasBody b w.in-Whole.len) c.as_slice.ensures w.in-Whole.ensures.whole))
     ] in
     done_did g.E.Sftp.has_log c.args.engine.now c.pass.new.engine journal c.args.session p c.pass.new.self c.args.rules.now.items e len S F on.3 ok.0 ok.1 ok.2 goes.0 goes.1

@@ -14,7 +14,7 @@ use Rattle.sf_refusing.specs.Journal.{Act, Went, log_of}
 use Rattle.sf_refusing.specs.Refusing.{Have, MayRefuseSent}
 use Rattle.sf_refusing.specs.Fronts.{IsAt}
 use Rattle.sf_refusing.proofs.Faults.{on_err_from, sent_refused}
-use Rattle.sf_refusing.proofs.Sessions.{on_err, on_ok_from, kept_has, have_still, went_has, IsGone, were_there, sent_has, sent_none, log_went, log_went_alone}
+use Rattle.sf_refusing.proofs.Sessions.{on_err, on_ok_from, kept_has, have_still, went_has, IsGone, were_there, sent_has, sent_none, were_sent, log_went, log_went_alone}
 use Rattle.sf_refusing.proofs.refusals.Refusals.sent.Goals as goal
 
 pub returns-in_default-clause-ok : goal.returns-in_default-clause-ok
@@ -26,6 +26,7 @@ returns-in_default-clause-ok g c = on_ok_from c.apply.result _ (λ h is journal 
     let e : LogEntry = log_entry (event.Sent s n) c.apply.result on.0 on.1 in
     let G : IsGone s n e = record { event = refl; happened = h; result = is } in
     let lawful = (g.met.E.Sftp.kept c.apply.new.self (log_of journal ++ e ∷ []) on.2).lawful (log_of journal) [] e refl in (
+      is ∙ were_sent (log_of journal) s n h (subst (λ (r : Result Happened EngineFault). MayComeTo (log_of journal) (event.Sent s n) r) is lawful.comes),
       e ∷ [],
       (
         sent_none c.args.self.now journal s n e H.0 none G (λ u U. were_there (log_of journal) s n e G lawful.comes u U),
@@ -43,6 +44,7 @@ returns-then-count-waiting-clause-ok g c = λ journal H.
     let now : Refusals = record { alloc = c.args.self.now.alloc; passages = with_item c.args.self.now.passages c.in-Some.at p'; rules = c.args.self.now.rules } in
     let still = have_still g.E.Sftp.has_log c.args.engine.now c.args.self.now journal H in
     let le : n ≤ length p.output.items = omega (arith, c.if-count-waiting.true, c.len-waiting.ensures.value) in (
+      refl,
       [],
       (
         went_has c.args.self.now now (journal ++ []) s c.in-Some.at n p p' (take n p.output.items) still.0 here c.in-Some.ensures.some.0 refl refl (length-take-le n p.output.items le)
@@ -74,6 +76,7 @@ returns-clause-ok g c = λ journal H.
     let e : LogEntry = log_entry (event.Sent s k) (Ok c.in_ok-sent.sent) on.0 on.1 in
     let G : IsGone s k e = record { event = refl; happened = c.in_ok-sent.sent; result = refl } in
     let lawful = (g.met.E.Sftp.kept c.apply-2.new.self (log_of journal ++ e ∷ []) on.2).lawful (log_of journal) [] e refl in (
+      were_sent (log_of journal) s k c.in_ok-sent.sent lawful.comes,
       e ∷ [],
       (
         sent_has c.args.self.now now journal s c.in-Some.at n k e p p' H.0 here c.in-Some.ensures.some.0 refl refl G (omega (arith, c.len-waiting.ensures.value, c.if-count-waiting.false)) (λ u U. were_there (log_of journal) s k e G lawful.comes u U) c.clear.ensures.items refl refl,

@@ -1,0 +1,152 @@
+-- What is told of the calls that go through an engine's refusals. Whatever journal both have, such
+-- acts stand behind it afterwards.
+use Rattle.std.specs.Prelude.{◌≡◌, ◌<◌, ◌≤◌, ◌-◌, ◌^◌, ◌++◌, ◌⊎◌, ◌↔◌, Bool, IsTrue, true, false, ℕ, zero, suc, ℤ, pos, negsuc, List, [], ◌∷◌, length, map, take, drop, Option, Some, None, Result, Ok, Err, OnErr}
+use Rattle.sf_wire.specs.declared.cutting.Cut.TheVariants as cut
+use Rattle.sf_wire.specs.Packets.{IsCut}
+use Rattle.sf_engine.specs.declared.event.Event.TheVariants as event
+use Rattle.sf_engine.specs.declared.event.Happened.{Happened}
+use Rattle.sf_engine.specs.declared.event.Happened.TheVariants as happened
+use Rattle.sf_engine.specs.declared.event.EngineFault.{EngineFault}
+use Rattle.sf_engine.specs.Promise.{LogEntry, IsKnown, AreTurns, WaitsForBytes}
+use Rattle.sf_engine.specs.Views.{EngineView}
+use Rattle.sf_engine.specs.contracts.promise.EngineSftp.TheImpl.{ghosts}
+use Rattle.sf_refusing.specs.declared.refusals.Refusals.{Refusals}
+use Rattle.sf_refusing.specs.Journal.{Act, Came, Went, Did, log_of, came_in, taken_in}
+use Rattle.sf_refusing.specs.Refusing.{Have, IsOwn, IsFed, IsTurn, IsNextOutput, MayRefuseFeed, MayRefuseSent}
+use Rattle.sf_c.specs.declared.turns.Settled.{Settled}
+use Rattle.sf_c.specs.Numbers.{IsNumber, IsFresh, leads_on, replies_of}
+
+-- ---- an engine and its refusals go on
+
+abbrev pub GoesOn : (List Act → List Act → Type 0) → EngineView → Refusals → EngineView → Refusals → Type 0
+GoesOn AreActs old r new r' = (journal : List Act) → Have ghosts.has_log old r journal
+    → (acts : List Act) × AreActs journal acts × Have ghosts.has_log new r' (journal ++ acts)
+
+-- so of those that C has
+abbrev pub InBoth : Option EngineView → Option Refusals → (EngineView → Refusals → EngineView → Refusals → Type 0)
+    → Option EngineView → Option Refusals → Type 0
+InBoth before rules Leads after rules' =
+    (old : EngineView) × (r : Refusals) × (new : EngineView) × (r' : Refusals)
+    × (before ≡ Some old) × (rules ≡ Some r) × (after ≡ Some new) × (rules' ≡ Some r')
+    × Leads old r new r'
+
+-- ---- bytes come and go
+
+-- The engine was asked whether it takes bytes, and they came; or they were refused.
+abbrev pub ComeBytes : ℕ → List ℕ → Result Happened EngineFault → List Act → List Act → Type 0
+ComeBytes session bytes (Ok h) journal acts = (asked : LogEntry) × IsFed session [] asked
+    × (asked.result ≡ Ok h) × (acts ≡ Did asked ∷ Came session bytes ∷ [])
+ComeBytes session bytes (Err f) journal acts =
+    MayRefuseFeed (log_of journal) session f × (acts ≡ [])
+
+abbrev pub GoBytes : ℕ → ℕ → Result Happened EngineFault → List Act → List Act → Type 0
+GoBytes session count (Ok h) journal acts = (h ≡ happened.Sent)
+    × ((told : List LogEntry) × (acts ≡ map Did told ++ Went session count ∷ []))
+GoBytes session count (Err f) journal acts =
+    MayRefuseSent journal session count f × (acts ≡ [])
+
+-- so they did, and what came of it has this number; refused, the engine is as before
+abbrev pub Moves : (Result Happened EngineFault → List Act → List Act → Type 0) → ℤ
+    → EngineView → Refusals → EngineView → Refusals → Type 0
+Moves AreBytes n old r new r' = (result : Result Happened EngineFault) × IsNumber result n
+    × OnErr result (new ≡ old) × GoesOn (AreBytes result) old r new r'
+
+abbrev pub FeedsBytes : ℕ → List ℕ → ℤ → EngineView → Refusals → EngineView → Refusals → Type 0
+FeedsBytes session bytes n = Moves (ComeBytes session bytes) n
+
+abbrev pub SendsBytes : ℕ → ℕ → ℤ → EngineView → Refusals → EngineView → Refusals → Type 0
+SendsBytes session count n = Moves (GoBytes session count) n
+
+-- ---- turns
+
+-- one turn of a session: a refusal, or a turn of the engine, after a packet was passed on
+abbrev pub IsOneTurn : ℕ → ℕ → Result Happened EngineFault → List Act → List Act → Type 0
+IsOneTurn session moment result journal acts =
+    IsTurn journal session (λ entries. (e : LogEntry) × (entries ≡ e ∷ [])
+    × AreTurns (event.Turn session moment) result entries) result acts
+
+abbrev pub TurnsOnce : ℕ → ℕ → ℤ → EngineView → Refusals → EngineView → Refusals → Type 0
+TurnsOnce session moment n old r new r' = (result : Result Happened EngineFault)
+    × IsNumber result n × GoesOn (IsOneTurn session moment result) old r new r'
+
+-- the same, but the engine's turns went on as long as its call was on its way to its reply; no call
+-- has steps for 2^64
+abbrev pub AreTurnsOf : ℕ → ℕ → Result Happened EngineFault → List Act → List Act → Type 0
+AreTurnsOf session moment result journal acts =
+    IsTurn journal session (AreTurns (event.Turn session moment) result) result acts
+    × (replies_of result ≡ 0 → leads_on result ≡ true → 2 ^ 64 - 1 ≤ length acts)
+
+-- turns that wrote so many replies, one after another
+abbrev pub HaveReplied : ℕ → ℕ → ℕ → List Act → List Act → Type 0
+HaveReplied zero session moment journal acts = acts ≡ []
+HaveReplied (suc replies) session moment journal acts = (front : List Act) × (back : List Act)
+    × (acts ≡ front ++ back) × HaveReplied replies session moment journal front
+    × AreTurnsOf session moment (Ok happened.Wrote) (journal ++ front) back
+
+-- Turns were made, up to one that wrote no reply and led to no other, and fewer replies were written
+-- before it than may be; or as many were.
+abbrev pub TurnsTo : ℕ → ℕ → ℕ → Option (Result Happened EngineFault) → List Act → List Act → Type 0
+TurnsTo most session moment None journal acts = HaveReplied most session moment journal acts
+TurnsTo most session moment (Some result) journal acts = (replies : ℕ) × (replies < most)
+    × (front : List Act) × (back : List Act) × (acts ≡ front ++ back)
+    × HaveReplied replies session moment journal front × (replies_of result ≡ 0)
+    × AreTurnsOf session moment result (journal ++ front) back
+
+-- the turns behind a first one, which may have led to them
+abbrev pub FollowsFirst : Bool → Result Happened EngineFault → ℕ → ℕ → ℕ → Settled → List Act → List Act → Type 0
+FollowsFirst false first most session moment settled journal acts =
+    (settled ≡ record { last = Some first; moved = false }) × (acts ≡ [])
+FollowsFirst true first most session moment settled journal acts = (settled.moved ≡ true)
+    × TurnsTo (most - replies_of first) session moment settled.last journal acts
+
+-- A session was settled: no turn was to be made; or there was a first one, and those that it led to.
+abbrev pub AreSettled : ℕ → ℕ → ℕ → Settled → List Act → List Act → Type 0
+AreSettled zero session moment settled journal acts =
+    (settled ≡ record { last = None; moved = false }) × (acts ≡ [])
+AreSettled (suc most) session moment settled journal acts = (first : Result Happened EngineFault)
+    × (front : List Act) × (back : List Act) × (acts ≡ front ++ back)
+    × IsOneTurn session moment first journal front
+    × FollowsFirst (leads_on first) first (suc most) session moment settled (journal ++ front) back
+
+-- the number of the turn that led to no other, or 6
+abbrev pub IsLastNumber : Option (Result Happened EngineFault) → ℤ → Type 0
+IsLastNumber None n = n ≡ pos 6
+IsLastNumber (Some result) n = IsNumber result n
+
+abbrev pub Settles : ℕ → ℕ → ℕ → ℤ → Bool → EngineView → Refusals → EngineView → Refusals → Type 0
+Settles most session moment n moved old r new r' = (settled : Settled)
+    × IsLastNumber settled.last n × (moved ≡ settled.moved)
+    × GoesOn (AreSettled most session moment settled) old r new r'
+
+-- ---- what is told
+
+-- Whether a session waits for bytes, and less than a packet is held of what came for it.
+abbrev pub WantsBytes : EngineView → Refusals → ℕ → Bool → Type 0
+WantsBytes engine r session wants = (journal : List Act) → Have ghosts.has_log engine r journal
+    → IsOwn session journal → IsTrue wants ↔ (WaitsForBytes (log_of journal) session
+    × ((held : List ℕ) → came_in session journal ≡ taken_in session journal ++ held → IsCut held cut.More))
+
+-- what waits to be sent next to a session
+abbrev pub HasNext : EngineView → Refusals → ℕ → List ℕ → Type 0
+HasNext engine r session output = (journal : List Act) → Have ghosts.has_log engine r journal
+    → IsOwn session journal → IsKnown (log_of journal) session × IsNextOutput journal session output
+
+abbrev pub HasNoSession : EngineView → Refusals → ℕ → Type 0
+HasNoSession engine r session = (journal : List Act) → Have ghosts.has_log engine r journal
+    → IsKnown (log_of journal) session → ⊥
+
+-- the output as far as there is room, and how long it is
+abbrev pub CopiesOutput : EngineView → Refusals → ℕ → List ℕ → ℤ → List ℕ → Type 0
+CopiesOutput engine r session old n new =
+    (output : List ℕ) × HasNext engine r session output × (n ≡ pos (length output))
+    × (new ≡ take (length old) output ++ drop (length output) old)
+
+-- a session's output was copied, or there is no such session
+abbrev pub Outputs : EngineView → Refusals → ℕ → List ℕ → ℤ → List ℕ → Type 0
+Outputs engine r session old n new = CopiesOutput engine r session old n new
+    ⊎ (HasNoSession engine r session × (n ≡ negsuc 1) × (new ≡ old))
+
+-- so of those that C has
+abbrev pub OfBoth : Option EngineView → Option Refusals → (EngineView → Refusals → Type 0) → Type 0
+OfBoth engine rules Tells = (e : EngineView) × (r : Refusals) × (engine ≡ Some e)
+    × (rules ≡ Some r) × Tells e r
