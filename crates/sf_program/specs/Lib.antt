@@ -2,4 +2,5 @@ pub mod Statuses
 pub mod Commands
 pub mod Carrying
 pub mod Totals
+pub mod Loading
 pub mod Descriptors

@@ -28,6 +28,7 @@ totals_text sessions calls folded =
 abbrev pub IsTellFault : CoreView → List Transcript → ServerFault → Type 0
 IsTellFault core transcripts fault.Audit = ¬ AgreesWith core.records core.folded transcripts
 IsTellFault core transcripts fault.CannotListen = ⊥
+IsTellFault core transcripts fault.NotLoaded = ⊥
 IsTellFault core transcripts fault.OutOfMemory = ⊥
 IsTellFault core transcripts fault.Stream = Unit {0}
 

@@ -4,6 +4,7 @@
 //! Start with `stdio.rt`: it serves one session on standard input and output; its contract says
 //! when the exit status is 0, and `specs/Statuses.antt` which status each end has. `server.rt`
 //! serves many sessions at a Unix socket (`listening.rt`), and `totals.rt` tells what they came to;
+//! `loading.rt` makes the tree of a local folder before;
 //! `connection.rt` carries standard streams to such a socket, and `client.rt` runs one command on
 //! it. `descriptors.rt` asks the system's streams whether they would wait, for lines that read
 //! ahead, and `output.rt` writes to them; both are told bytes by whatever tells them, and what the
@@ -17,6 +18,7 @@ pub mod clock;
 pub mod connection;
 pub mod descriptors;
 pub mod listening;
+pub mod loading;
 pub mod output;
 pub mod server;
 pub mod socket_line;

@@ -7,6 +7,7 @@ ghost use Rattle.sf_program.specs.Totals.{HasToldTotals};
 
 use crate::clock::SystemClock;
 use crate::listening::{listen, next_line};
+use crate::loading::{NotLoaded, load_by_line};
 use crate::socket_line::SocketLine;
 use crate::totals::tell;
 use crossbeam_channel::{Receiver, Sender, bounded};
@@ -26,6 +27,8 @@ use std::thread::{self, Threads};
 pub enum ServerFault {
     /// Nobody can connect at the path, or no connection could be had for some time.
     CannotListen,
+    /// The tree wasn't made, and that was told.
+    NotLoaded,
     OutOfMemory,
     /// What is to be told can't be written.
     Stream,
@@ -40,14 +43,21 @@ impl From<AllocError> for ServerFault {
     }
 }
 
+impl From<NotLoaded> for ServerFault {
+    fn from(_fault: NotLoaded) -> ServerFault {
+        ServerFault::NotLoaded
+    }
+}
+
 impl ServerFault {
-    /// The line that tells of the fault.
-    pub fn line(self) -> &'static str {
+    /// The line that tells of the fault, where it wasn't told.
+    pub fn line(self) -> Option<&'static str> {
         match self {
-            ServerFault::CannotListen => "sftpd: cannot listen",
-            ServerFault::OutOfMemory => "sftpd: out of memory",
-            ServerFault::Stream => "sftpd: stream",
-            ServerFault::Audit => "sftpd: audit failed",
+            ServerFault::CannotListen => Some("sftpd: cannot listen"),
+            ServerFault::NotLoaded => None,
+            ServerFault::OutOfMemory => Some("sftpd: out of memory"),
+            ServerFault::Stream => Some("sftpd: stream"),
+            ServerFault::Audit => Some("sftpd: audit failed"),
         }
     }
 }
@@ -56,24 +66,59 @@ impl ServerFault {
 /// queue.
 const WAITING: usize = 256;
 
-/// Accepts so many connections, or until nobody takes them, and sends them to the workers. Tells
-/// whether connections could be had.
+/// Accepts so many connections, or until nobody takes them, and sends them to the workers.
 fn accept_all<T: Wait>(
     rt: &HostRuntime,
     threads: &T,
     listener: &UnixListener,
-    lines: Sender<SocketLine>,
+    lines: &Sender<SocketLine>,
     most: u64,
-) -> bool {
+) -> Result<(), ServerFault> {
     for _ in 0..most {
         let Some(line) = next_line(rt, listener) else {
-            return false;
+            return Err(ServerFault::CannotListen);
         };
         if lines.send(threads, line).is_err() {
             break;
         }
     }
-    true
+    Ok(())
+}
+
+/// Listens, tells so on standard error, and accepts. The socket's file is removed once no more are
+/// accepted.
+fn listen_and_accept<T: Wait>(
+    rt: &HostRuntime,
+    threads: &T,
+    path: &str,
+    lines: &Sender<SocketLine>,
+    most: u64,
+) -> Result<(), ServerFault> {
+    let Ok(listener) = listen(rt, path) else {
+        return Err(ServerFault::CannotListen);
+    };
+    let _ = writeln!(rt.stderr(), "sftpd: listening at {path}");
+    let accepted = accept_all(rt, threads, &listener, lines, most);
+    let _ = fs::remove_file(rt, path);
+    accepted
+}
+
+/// Makes the tree, if it is to begin with anything, and then takes connections.
+fn load_and_accept<T: Wait>(
+    rt: &HostRuntime,
+    threads: &T,
+    listener: Option<&UnixListener>,
+    serving: Serving<'_>,
+    lines: Sender<SocketLine>,
+) -> Result<(), ServerFault> {
+    if let Some(tree) = serving.tree {
+        load_by_line(rt, threads, tree, &lines)?;
+    }
+    let most = serving.sessions.unwrap_or(u64::MAX);
+    match listener {
+        Some(listener) => accept_all(rt, threads, listener, &lines, most),
+        None => listen_and_accept(rt, threads, serving.socket, &lines, most),
+    }
 }
 
 /// So many clocks.
@@ -92,7 +137,7 @@ fn clocks(rt: &HostRuntime, count: u32) -> Result<Vec<SystemClock<'_, HostRuntim
 fn serve_core<T: Threads + Wait + Sync>(
     rt: &HostRuntime,
     threads: &T,
-    listener: &UnixListener,
+    listener: Option<&UnixListener>,
     serving: Serving<'_>,
     core: Core,
 ) -> Result<Ended, ServerFault>
@@ -104,7 +149,6 @@ fn serve_core<T: Threads + Wait + Sync>(
     let alloc = rt.alloc();
     let (sender, lines) = bounded(alloc, WAITING)?;
     let clocks = clocks(rt, serving.workers)?;
-    let most = serving.sessions.unwrap_or(u64::MAX);
     let keeps = serving.sessions.is_some();
     thread::scope(
         thread::scope_env(),
@@ -115,14 +159,14 @@ fn serve_core<T: Threads + Wait + Sync>(
             requires few { vec_len clocks < 2 ^ 32 }
             ensures { IfOk result (λ ended. HasTold keeps ended.core ended.transcripts.items) }
         {
-            let accepting = scope.spawn(move || accept_all(rt, threads, listener, sender, most));
+            let accepting = scope.spawn(move || load_and_accept(
+                rt, threads, listener, serving, sender,
+            ));
             let Ok(accepting) = accepting else {
                 return Err(ServerFault::OutOfMemory);
             };
             let ended = serve_to_end(threads, alloc, core, lines, clocks, keeps);
-            if !accepting.join(threads) {
-                return Err(ServerFault::CannotListen);
-            }
+            accepting.join(threads)?;
             ended
         },
     )
@@ -145,12 +189,13 @@ fn serve_to_end<T: Threads + Wait + Sync>(
     Ok(serve_on_core(threads, alloc, core, &lines, clocks, &NoObserver, keeps)?)
 }
 
-/// Serves the connections to a listener, and writes what they came to where it was asked for a
-/// number of sessions.
+/// Serves the connections to a listener, or without one to that at the socket's path, which it makes
+/// once the tree is made; and writes what they came to where it was asked for a number of sessions.
+/// The session that makes the tree counts for none of them; its calls are among the calls.
 pub fn serve_on<T: Threads + Wait + Sync, W: Write>(
     rt: &HostRuntime,
     threads: &T,
-    listener: &UnixListener,
+    listener: Option<&UnixListener>,
     serving: Serving<'_>,
     output: &mut W,
 ) -> Result<(), ServerFault>
@@ -165,7 +210,7 @@ pub fn serve_on<T: Threads + Wait + Sync, W: Write>(
     tell(&ended.core, ended.transcripts.as_slice(), sessions, output)
 }
 
-/// Serves sessions at a Unix socket. Once it listens, it tells so on standard error.
+/// Serves sessions at a Unix socket.
 pub fn serve<T: Threads + Wait + Sync>(
     rt: &HostRuntime,
     threads: &T,
@@ -173,12 +218,5 @@ pub fn serve<T: Threads + Wait + Sync>(
 ) -> Result<(), ServerFault>
     requires { 0 < serving.keep }
 {
-    let Ok(listener) = listen(rt, serving.socket) else {
-        return Err(ServerFault::CannotListen);
-    };
-    let path = serving.socket;
-    let _ = writeln!(rt.stderr(), "sftpd: listening at {path}");
-    let ended = serve_on(rt, threads, &listener, serving, &mut rt.stdout());
-    let _ = fs::remove_file(rt, path);
-    ended
+    serve_on(rt, threads, None, serving, &mut rt.stdout())
 }

@@ -48,6 +48,32 @@ pub fn run_stdio<L: Line, C: Clock, E: Line>(
     status(outcome)
 }
 
+/// Serves one session over a line, on an engine that has served others, as `run_stdio` does on a new
+/// one.
+pub fn run_stdio_on<L: Line, C: Clock, E: Line>(
+    alloc: Global,
+    engine: &mut Engine,
+    line: &mut L,
+    clock: &mut C,
+    errors: &mut E,
+) -> u8
+    ensures { (outcome : Result Cause ServeFault)
+        × ServingComesTo
+        (io_state (line_view (L.incoming line.old) (L.outgoing line.old) (L.calls line.old))
+        (C.told clock.old) engine.old)
+        (io_state (line_view (L.incoming line.new) (L.outgoing line.new) (L.calls line.new))
+        (C.told clock.new) engine.new)
+        (L.failed line.old) (L.failed line.new) outcome
+        × (result ≡ exit_status outcome)
+        × (Appends (E.outgoing errors.old) (E.outgoing errors.new) (line_of outcome)
+        ⊎ Rose (E.failed errors.old) (E.failed errors.new)) }
+{
+    let ended = serve_on(alloc, engine, line, clock);
+    // What can't be told on standard error is still told by the status.
+    let _ = report(errors, ended);
+    status(ended)
+}
+
 /// Serves the session on a new engine.
 fn serve<L: Line, C: Clock>(
     alloc: Global,

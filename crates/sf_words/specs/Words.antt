@@ -20,7 +20,7 @@ paths_len (command.Link old new) = length old.now + length new.now
 
 -- one record is kept at least, or the paths of the command have together fewer than 2^31 bytes
 abbrev pub CanBeDone : Action → Type 0
-CanBeDone (action.Stdio keep) = 0 < keep
+CanBeDone (action.Stdio stdio) = 0 < stdio.keep
 CanBeDone (action.Serve serving) = 0 < serving.keep
 CanBeDone (action.Connect socket) = Unit {0}
 CanBeDone (action.Client socket command) = paths_len command < 2 ^ 31

@@ -8,4 +8,4 @@ mod command;
 mod words;
 
 pub use command::ClientCommand;
-pub use words::{Action, RefusedWords, Serving, read_words};
+pub use words::{Action, RefusedWords, Serving, Stdio, read_words};

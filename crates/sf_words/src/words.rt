@@ -8,6 +8,15 @@ use clap::builder::ValueParser;
 use clap::{Arg, ArgAction, ArgMatches, Command, Error};
 use std::alloc::{AllocError, Global};
 
+/// What `sftpd stdio` is asked for.
+#[derive(Clone, Copy, Debug, PartialEq, Eq)]
+pub struct Stdio<'a> {
+    /// How many records of calls are kept.
+    pub keep: usize,
+    /// The local folder whose files and directories the tree begins with; without one it is empty.
+    pub tree: Option<&'a str>,
+}
+
 /// What `sftpd serve` is asked for.
 #[derive(Clone, Copy, Debug, PartialEq, Eq)]
 pub struct Serving<'a> {
@@ -19,13 +28,15 @@ pub struct Serving<'a> {
     pub sessions: Option<u64>,
     /// How many records of calls are kept.
     pub keep: usize,
+    /// The local folder whose files and directories the tree begins with; without one it is empty.
+    pub tree: Option<&'a str>,
 }
 
 /// What the program is to do.
 #[derive(Clone, Copy, Debug, PartialEq, Eq)]
 pub enum Action<'a> {
-    /// One session on standard input and output, whose engine keeps so many records.
-    Stdio(usize),
+    /// One session on standard input and output.
+    Stdio(Stdio<'a>),
     /// Sessions at a Unix socket.
     Serve(Serving<'a>),
     /// Standard input and output, carried to and from the Unix socket of this path.
@@ -63,16 +74,26 @@ const KEEP: usize = 256;
 
 const MOST_KEPT: u64 = 1_000_000;
 
-/// The words of `sftpd stdio`.
-fn stdio_words<'a>(alloc: Global) -> Result<Command<'a>, AllocError> {
-    let keep = Arg::new(alloc, "keep")
+fn keep_word<'a>(alloc: Global) -> Arg<'a> {
+    Arg::new(alloc, "keep")
         .long("keep")
         .value_name("N")
         .value_parser(ValueParser::unsigned(1, MOST_KEPT))
-        .help("How many records of calls are kept: 1 to 1000000, by default 256");
+        .help("How many records of calls are kept: 1 to 1000000, by default 256")
+}
+
+fn tree_word<'a>(alloc: Global) -> Arg<'a> {
+    Arg::new(alloc, "tree").long("tree").value_name("DIR").help(
+        "The local folder whose files and directories the tree begins with",
+    )
+}
+
+/// The words of `sftpd stdio`.
+fn stdio_words<'a>(alloc: Global) -> Result<Command<'a>, AllocError> {
     Command::new(alloc, "stdio")
         .about("Serves one session on standard input and output, to the end of the input")
-        .arg(keep)
+        .arg(keep_word(alloc))?
+        .arg(tree_word(alloc))
 }
 
 /// How many workers serve sessions where the words don't say, and at most.
@@ -102,17 +123,13 @@ fn serve_words<'a>(alloc: Global) -> Result<Command<'a>, AllocError> {
         .value_name("K")
         .value_parser(ValueParser::unsigned(1, MOST_SESSIONS))
         .help("Ends after so many sessions, and compares what they were told: 1 to 1000000");
-    let keep = Arg::new(alloc, "keep")
-        .long("keep")
-        .value_name("N")
-        .value_parser(ValueParser::unsigned(1, MOST_KEPT))
-        .help("How many records of calls are kept: 1 to 1000000, by default 256");
     Command::new(alloc, "serve")
         .about("Serves sessions at a Unix socket, many at once, on one tree")
         .arg(socket_word(alloc))?
         .arg(workers)?
         .arg(sessions)?
-        .arg(keep)
+        .arg(keep_word(alloc))?
+        .arg(tree_word(alloc))
 }
 
 /// The words of `sftpd connect`.
@@ -164,11 +181,20 @@ pub fn read_words<'a>(alloc: Global, words: &'a [String]) -> Result<Action<'a>, 
     if let Some(found) = matches.subcommand_matches("connect") {
         return Ok(Action::Connect(found.get_str("socket").unwrap_or("")));
     }
-    let keep = matches
-        .subcommand_matches("stdio")
-        .and_then(|found| found.get_one::<usize>("keep"))
-        .unwrap_or(KEEP);
-    Ok(Action::Stdio(keep.max(1)))
+    if let Some(found) = matches.subcommand_matches("stdio") {
+        return Ok(Action::Stdio(stdio_action(found)));
+    }
+    Err(RefusedWords::Usage)
+}
+
+/// What the words after `stdio` ask for.
+fn stdio_action<'a>(matches: &ArgMatches<'a>) -> Stdio<'a>
+    ensures { 0 < result.keep }
+{
+    Stdio {
+        keep: matches.get_one::<usize>("keep").unwrap_or(KEEP).max(1),
+        tree: matches.get_str("tree"),
+    }
 }
 
 /// What the words after `serve` ask for.
@@ -180,6 +206,7 @@ fn serve_action<'a>(matches: &ArgMatches<'a>) -> Serving<'a>
         workers: matches.get_one::<u32>("workers").unwrap_or(WORKERS),
         sessions: matches.get_one::<u64>("sessions"),
         keep: matches.get_one::<usize>("keep").unwrap_or(KEEP).max(1),
+        tree: matches.get_str("tree"),
     }
 }
 

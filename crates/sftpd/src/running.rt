@@ -10,9 +10,10 @@ use sf_program::client::run_client;
 use sf_program::clock::SystemClock;
 use sf_program::connection::connect;
 use sf_program::descriptors::Descriptors;
+use sf_program::loading::engine_of_folder;
 use sf_program::server::serve;
-use sf_program::stdio::run_stdio;
-use sf_words::{Action, ClientCommand, RefusedWords, Serving, read_words};
+use sf_program::stdio::{run_stdio, run_stdio_on};
+use sf_words::{Action, ClientCommand, RefusedWords, Serving, Stdio, read_words};
 use std::env;
 use std::io::{self, ErrorKind, Input, Read};
 use std::os::unix::net::UnixStream;
@@ -30,7 +31,7 @@ pub(crate) fn run<T: Threads + Wait + Sync>(rt: &HostRuntime, threads: &T) -> u8
         return refuse_words(rt, ErrorKind::OutOfMemory);
     };
     match read_words(alloc, &words) {
-        Ok(Action::Stdio(keep)) => stdio(rt, keep),
+        Ok(Action::Stdio(words)) => stdio(rt, words),
         Ok(Action::Serve(serving)) => serve_sessions(rt, threads, serving),
         Ok(Action::Connect(socket)) => carry(rt, threads, socket),
         Ok(Action::Client(socket, command)) => client(rt, socket, command),
@@ -40,13 +41,19 @@ pub(crate) fn run<T: Threads + Wait + Sync>(rt: &HostRuntime, threads: &T) -> u8
 }
 
 /// Serves the session on standard input and output.
-fn stdio(rt: &HostRuntime, keep: usize) -> u8
-    requires { 0 < keep }
+fn stdio(rt: &HostRuntime, words: Stdio<'_>) -> u8
+    requires { 0 < words.keep }
 {
     let mut line = AheadLine::new(rt.alloc(), Descriptors::standard(rt));
     let mut errors = StreamLine::new(io::empty(), rt.stderr());
     let mut clock = SystemClock::new(rt);
-    run_stdio(rt.alloc(), keep, &mut line, &mut clock, &mut errors)
+    let Some(tree) = words.tree else {
+        return run_stdio(rt.alloc(), words.keep, &mut line, &mut clock, &mut errors);
+    };
+    let Some(mut engine) = engine_of_folder(rt, words.keep, tree) else {
+        return 1;
+    };
+    run_stdio_on(rt.alloc(), &mut engine, &mut line, &mut clock, &mut errors)
 }
 
 /// Serves sessions at a socket.
@@ -60,7 +67,9 @@ fn serve_sessions<T: Threads + Wait + Sync>(
     match serve(rt, threads, serving) {
         Ok(()) => 0,
         Err(fault) => {
-            let _ = rt.eprintln(fault.line());
+            if let Some(line) = fault.line() {
+                let _ = rt.eprintln(line);
+            }
             1
         }
     }

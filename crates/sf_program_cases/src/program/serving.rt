@@ -75,6 +75,7 @@ fn served<T: Threads + Wait + Abort + Sync>(
         workers: 2,
         sessions: Some(inputs.len() as u64),
         keep,
+        tree: None,
     };
     let mut told = Vec::new(rt.alloc());
     let (replies, ended) = thread::join(
@@ -82,7 +83,7 @@ fn served<T: Threads + Wait + Abort + Sync>(
         || sessions(rt, path, inputs),
         || -> Result<(), ServerFault>
             requires { 0 < serving.keep }
-        { serve_on(rt, threads, &listener, serving, &mut told) },
+        { serve_on(rt, threads, Some(&listener), serving, &mut told) },
     );
     fs::remove_file(rt, path)?;
     assert_eq!(threads; ended, Ok(()));
@@ -259,10 +260,11 @@ fn served_in_memory<R: Threads + Wait + Abort + Sync>(
 #[test]
 fn lines_of_faults(rt: HostRuntime) {
     for (fault, want) in [
-        (ServerFault::CannotListen, "sftpd: cannot listen"),
-        (ServerFault::OutOfMemory, "sftpd: out of memory"),
-        (ServerFault::Stream, "sftpd: stream"),
-        (ServerFault::Audit, "sftpd: audit failed"),
+        (ServerFault::CannotListen, Some("sftpd: cannot listen")),
+        (ServerFault::NotLoaded, None),
+        (ServerFault::OutOfMemory, Some("sftpd: out of memory")),
+        (ServerFault::Stream, Some("sftpd: stream")),
+        (ServerFault::Audit, Some("sftpd: audit failed")),
     ] {
         assert!(rt; fault.line() == want);
     }

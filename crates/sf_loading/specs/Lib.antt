@@ -1,0 +1,4 @@
+pub mod Items
+pub mod Loading
+pub mod Lines
+pub mod Talking

@@ -1,0 +1,111 @@
+-- Items that are made, one request each.
+use Rattle.std.specs.Prelude.{◌≡◌, ◌⊎◌, ℕ, List, [], ◌∷◌, ◌++◌, true, false, Option, Some, None, Result, Ok, Err}
+use Rattle.sf_field.specs.Fields.{be64}
+use Rattle.sf_field.specs.Attributes.{no_attrs}
+use Rattle.sf_field.specs.declared.open_flags.OpenFlags.{OpenFlags}
+use Rattle.sf_request.specs.declared.request.WireRequest.{WireRequest}
+use Rattle.sf_request.specs.declared.request.WireRequest.TheVariants as request
+use Rattle.sf_reply.specs.declared.reply.Reply.{Reply}
+use Rattle.sf_reply.specs.declared.reply.Reply.TheVariants as reply
+use Rattle.sf_reply.specs.declared.reply.StatusCode.TheVariants as status
+use Rattle.sf_trees.specs.declared.fault.TreeFault.{TreeFault}
+use Rattle.sf_trees.specs.Deeds.{Deed, Begins, Asks, Ends, fault_in_reply}
+use Rattle.sf_loading.specs.declared.folder.Item.{Item}
+use Rattle.sf_loading.specs.declared.folder.Item.TheVariants as item
+use Rattle.sf_loading.specs.declared.making.LoadFault.{LoadFault}
+use Rattle.sf_loading.specs.declared.making.LoadFault.TheVariants as fault
+use Rattle.sf_loading.specs.Items.{Gives, HasNone}
+
+-- WRITE, CREAT and EXCL: a file that is there is none of the folder's
+abbrev pub to_make : OpenFlags
+to_make = record {
+  read = false;
+  write = true;
+  append = false;
+  create = true;
+  truncate = false;
+  exclusive = true;
+}
+
+-- the request that an item is, by the handle of the last file
+abbrev pub request_of : List ℕ → Item → WireRequest
+request_of handle (item.Directory path) = request.Mkdir path.items no_attrs
+request_of handle (item.DirectoryAttributes path attrs) = request.SetStat path.items attrs
+request_of handle (item.File path) = request.Open path.items to_make no_attrs
+request_of handle (item.Bytes offset bytes) = request.Write handle offset bytes.items
+request_of handle (item.FileAttributes attrs) = request.FSetStat handle attrs
+request_of handle item.FileEnd = request.Close handle
+
+-- the handle of a file that was opened
+abbrev pub opened_by : Result Reply TreeFault → Result ℕ TreeFault
+opened_by (Ok (reply.Handle number)) = Ok number
+opened_by (Ok other) = Err (fault_in_reply other)
+opened_by (Err why) = Err why
+
+-- the handle that there was, if the request was done
+abbrev pub done_with : ℕ → Result Reply TreeFault → Result ℕ TreeFault
+done_with handle (Ok (reply.Status status.Success)) = Ok handle
+done_with handle (Ok other) = Err (fault_in_reply other)
+done_with handle (Err why) = Err why
+
+-- the last file's handle, once an item is made
+abbrev pub settled_by : ℕ → Item → Result Reply TreeFault → Result ℕ TreeFault
+settled_by handle (item.Directory path) came = done_with handle came
+settled_by handle (item.DirectoryAttributes path attrs) came = done_with handle came
+settled_by handle (item.File path) came = opened_by came
+settled_by handle (item.Bytes offset bytes) came = done_with handle came
+settled_by handle (item.FileAttributes attrs) came = done_with handle came
+settled_by handle item.FileEnd came = done_with handle came
+
+-- The items were made, in order, each by its request; and the handle of the last file then.
+unfoldable pub Makes : (session handle : ℕ) → List Item → List Deed → (last : ℕ) → Type 0
+Makes session handle [] deeds last = (deeds ≡ []) × (last ≡ handle)
+Makes session handle (x ∷ xs) deeds last = (came : Result Reply TreeFault) × (after : ℕ)
+    × (rest : List Deed) × (deeds ≡ Asks session (request_of (be64 handle) x) came ∷ rest)
+    × (settled_by handle x came ≡ Ok after) × Makes session after xs rest last
+
+-- One item was taken, and made, or refused; or there was none, or the folder failed.
+abbrev pub Turns : (session handle : ℕ) → (old new : Option (List Item)) → List Deed
+    → Result (Option ℕ) LoadFault → Type 0
+Turns session handle old new deeds (Ok (Some after)) = (x : Item) × (came : Result Reply TreeFault)
+    × Gives old (x ∷ []) new × (deeds ≡ Asks session (request_of (be64 handle) x) came ∷ [])
+    × (settled_by handle x came ≡ Ok after)
+Turns session handle old new deeds (Ok None) = HasNone old new × (deeds ≡ [])
+Turns session handle old new deeds (Err (fault.Folder why)) = deeds ≡ []
+Turns session handle old new deeds (Err (fault.Server why)) = (x : Item)
+    × (came : Result Reply TreeFault) × Gives old (x ∷ []) new
+    × (deeds ≡ Asks session (request_of (be64 handle) x) came ∷ [])
+    × (settled_by handle x came ≡ Err why)
+
+-- the last turn
+abbrev pub EndsBy : (session handle : ℕ) → (old new : Option (List Item)) → List Deed
+    → Result (Unit {0}) LoadFault → Type 0
+EndsBy session handle old new deeds (Ok done) = Turns session handle old new deeds (Ok None)
+EndsBy session handle old new deeds (Err why) = Turns session handle old new deeds (Err why)
+
+-- Items that the folder gave were made, in order, by a session that had no file open; and then it
+-- had no more, or failed, or one more was refused.
+pub record MakesItems (session : ℕ) (old new : Option (List Item)) (deeds : List Deed)
+    (result : Result (Unit {0}) LoadFault) : Type 0 where
+  pub items : List Item
+  pub now : Option (List Item)
+  pub last : ℕ
+  pub made : List Deed
+  pub end : List Deed
+  pub gives : Gives old items now
+  pub makes : Makes session 0 items made last
+  pub parts : deeds ≡ made ++ end
+  pub ends : EndsBy session last now new end result
+
+-- A session began, made the items, and ended.
+pub record HasLoaded (old new : Option (List Item)) (deeds : List Deed)
+    (result : Result (Unit {0}) LoadFault) : Type 0 where
+  pub session : ℕ
+  pub inner : List Deed
+  pub parts : deeds ≡ Begins (Ok session) ∷ inner ++ Ends session ∷ []
+  pub made : MakesItems session old new inner result
+
+-- so, or no session began
+abbrev pub Loads : (old new : Option (List Item)) → List Deed → Result (Unit {0}) LoadFault → Type 0
+Loads old new deeds result = HasLoaded old new deeds result
+    ⊎ ((why : TreeFault) × (deeds ≡ Begins (Err why) ∷ []) × (result ≡ Err (fault.Server why)))

@@ -1,0 +1,173 @@
+//! Items, made one after the other.
+
+ghost use Rattle.std.specs.Prelude.{◌≡◌, ◌∷◌, ℕ, List, [], Ok, Err};
+ghost use Rattle.sf_field.specs.Fields.{be64};
+ghost use Rattle.sf_trees.specs.Deeds.{Does, IsAsked, fault_in_reply};
+ghost use Rattle.sf_loading.specs.Loading.{request_of, settled_by, opened_by, done_with, Turns, MakesItems, Loads};
+
+use crate::folder::{Folder, FolderFault, Item};
+use sf_field::{NO_ATTRS, OpenFlags};
+use sf_reply::{Reply, StatusCode};
+use sf_request::{ByteStr, WireRequest};
+use sf_trees::{Server, TreeFault};
+use thiserror::Error;
+
+/// Why a tree wasn't made. What was made before it stays.
+#[derive(Clone, Copy, Debug, PartialEq, Eq, Error)]
+pub enum LoadFault {
+    #[error("{0}")]
+    Folder(FolderFault),
+    /// The last item that the folder gave was refused.
+    #[error("{0}")]
+    Server(TreeFault),
+}
+
+/// WRITE, CREAT and EXCL.
+const TO_MAKE: OpenFlags = OpenFlags {
+    read: false,
+    write: true,
+    append: false,
+    create: true,
+    truncate: false,
+    exclusive: true,
+};
+
+/// The request that an item is, where the last file has this handle.
+fn request_of<'a>(handle: &'a [u8], item: &'a Item) -> WireRequest<'a>
+    ensures { result ≡ request_of handle.now item.now }
+{
+    match item {
+        Item::Directory(path) => WireRequest::Mkdir {
+            path: ByteStr::new(path),
+            attrs: NO_ATTRS,
+        },
+        Item::DirectoryAttributes(path, attrs) => WireRequest::SetStat {
+            path: ByteStr::new(path),
+            attrs: *attrs,
+        },
+        Item::File(path) => WireRequest::Open {
+            filename: ByteStr::new(path),
+            flags: TO_MAKE,
+            attrs: NO_ATTRS,
+        },
+        Item::Bytes(offset, bytes) => WireRequest::Write {
+            handle: ByteStr::new(handle),
+            offset: *offset,
+            data: ByteStr::new(bytes),
+        },
+        Item::FileAttributes(attrs) => WireRequest::FSetStat {
+            handle: ByteStr::new(handle),
+            attrs: *attrs,
+        },
+        Item::FileEnd => WireRequest::Close {
+            handle: ByteStr::new(handle),
+        },
+    }
+}
+
+/// Why a reply isn't the one that is due.
+fn refusal_of(reply: &Reply) -> TreeFault
+    ensures { result ≡ fault_in_reply reply.now }
+{
+    match reply {
+        Reply::Status(code) => TreeFault::Status(*code),
+        Reply::NoMemory => TreeFault::OutOfMemory,
+        _ => TreeFault::Reply,
+    }
+}
+
+/// The handle of a file that was opened.
+fn opened_by(came: &Result<Reply, TreeFault>) -> Result<u64, TreeFault>
+    ensures { result ≡ opened_by came.now }
+{
+    match came {
+        Ok(Reply::Handle(number)) => Ok(*number),
+        Ok(reply) => Err(refusal_of(reply)),
+        Err(fault) => Err(*fault),
+    }
+}
+
+/// The handle that there was, if the request was done.
+fn done_with(handle: u64, came: &Result<Reply, TreeFault>) -> Result<u64, TreeFault>
+    ensures { result ≡ done_with handle came.now }
+{
+    match came {
+        Ok(Reply::Status(StatusCode::Success)) => Ok(handle),
+        Ok(reply) => Err(refusal_of(reply)),
+        Err(fault) => Err(*fault),
+    }
+}
+
+/// The last file's handle, once an item is made.
+fn settled_by(handle: u64, item: &Item, came: &Result<Reply, TreeFault>) -> Result<u64, TreeFault>
+    ensures { result ≡ settled_by handle item.now came.now }
+{
+    match item {
+        Item::File(_) => opened_by(came),
+        _ => done_with(handle, came),
+    }
+}
+
+/// Makes an item.
+fn make<S: Server>(server: &mut S, session: u64, handle: u64, item: &Item) -> Result<u64, TreeFault>
+    ensures { Does S.reaches server.old server.new
+        (IsAsked session (request_of (be64 handle) item.now) (settled_by handle item.now)) result }
+{
+    let text = handle.to_be_bytes();
+    let came = server.ask(session, &request_of(&text, item));
+    settled_by(handle, item, &came)
+}
+
+/// Takes the next item and makes it; nothing where there is none.
+fn turn<F: Folder, S: Server>(
+    folder: &mut F,
+    server: &mut S,
+    session: u64,
+    handle: u64,
+) -> Result<Option<u64>, LoadFault>
+    ensures { Does S.reaches server.old server.new
+        (Turns session handle (F.items folder.old) (F.items folder.new)) result }
+{
+    match folder.next() {
+        Ok(Some(item)) => match make(server, session, handle, &item) {
+            Ok(last) => Ok(Some(last)),
+            Err(fault) => Err(LoadFault::Server(fault)),
+        },
+        Ok(None) => Ok(None),
+        Err(fault) => Err(LoadFault::Folder(fault)),
+    }
+}
+
+/// Makes all items, by a session.
+fn make_all<F: Folder, S: Server>(
+    folder: &mut F,
+    server: &mut S,
+    session: u64,
+) -> Result<(), LoadFault>
+    ensures { Does S.reaches server.old server.new
+        (MakesItems session (F.items folder.old) (F.items folder.new)) result }
+{
+    let mut handle = 0;
+    for _ in 0..u64::MAX {
+        match turn(folder, server, session, handle) {
+            Ok(Some(last)) => handle = last,
+            Ok(None) => return Ok(()),
+            Err(fault) => return Err(fault),
+        }
+    }
+    Err(LoadFault::Folder(FolderFault::TooMany))
+}
+
+/// Makes all that a folder gives, by a session of its own.
+pub fn load<F: Folder, S: Server>(folder: &mut F, server: &mut S) -> Result<(), LoadFault>
+    ensures { Does S.reaches server.old server.new
+        (Loads (F.items folder.old) (F.items folder.new)) result }
+{
+    let session = match server.begin() {
+        Ok(session) => session,
+        Err(fault) => return Err(LoadFault::Server(fault)),
+    };
+    let made = make_all(folder, server, session);
+    server.finish(session);
+    made
+}

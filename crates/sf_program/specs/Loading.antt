@@ -1,0 +1,21 @@
+-- An engine whose tree was made of a folder.
+use Rattle.std.specs.Prelude.{◌≡◌, ℕ, List, [], Option, Some, Ok}
+use Rattle.sf_engine.specs.Views.{EngineView}
+use Rattle.sf_engine.specs.Fits.{Fits}
+use Rattle.sf_trees.specs.Deeds.{Does}
+use Rattle.sf_asking.specs.Askers.{AskerView}
+use Rattle.sf_asking.specs.Asking.{Reaches}
+use Rattle.sf_loading.specs.declared.folder.Item.{Item}
+use Rattle.sf_loading.specs.Loading.{Loads}
+
+abbrev pub asked_at : ℕ → EngineView → AskerView
+asked_at moment e = record { engine = e; moment = moment }
+
+-- On a new engine, which keeps so many records, all was made that a folder gave, by one session.
+pub record IsLoaded (keep moment : ℕ) (old new : Option (List Item)) (e : EngineView) : Type 0 where
+  pub first : EngineView
+  pub fits : Fits first []
+  pub keeps : first.core.keep ≡ Some keep
+  pub last : AskerView
+  pub loads : Does Reaches (asked_at moment first) last (Loads old new) (Ok tt)
+  pub engine : last.engine ≡ e
