@@ -1,0 +1,299 @@
+/* Long runs of the library, one by each word:
+ *
+ *     long keeps|engines|sessions|calls|handles|moments|files|packets|names
+ *
+ * What a run is answered is compared with what docs/PROTOCOL.md says. It stops at the first other
+ * answer. */
+#include "lucernetick.h"
+
+#include <stdio.h>
+#include <stdlib.h>
+#include <string.h>
+
+enum { MOMENT = 100, DAY = 86400, ROOM = 1 << 20, MOST = 262144 };
+
+/* The lengths of some replies. */
+enum { VERSION = 71, OK = 28, ATTRS = 41, HANDLE = 21 };
+
+static lt_engine *engine;
+static uint64_t session;
+static uint8_t room[ROOM], bytes[MOST + 8];
+
+static void same(const char *what, uint64_t at, int64_t got, int64_t wanted)
+{
+    if (got == wanted)
+        return;
+    fprintf(stderr, "long: %s, at %llu: wanted %lld, got %lld\n", what, (unsigned long long)at,
+            (long long)wanted, (long long)got);
+    exit(1);
+}
+
+static void put_u32(uint8_t *at, uint64_t number)
+{
+    for (int i = 0; i < 4; i++)
+        at[i] = (uint8_t)(number >> (24 - 8 * i));
+}
+
+static int64_t u32_at(const uint8_t *at)
+{
+    return (int64_t)at[0] << 24 | at[1] << 16 | at[2] << 8 | at[3];
+}
+
+/* INIT; STAT of / under the id 1; MKDIR and RMDIR of /a under the ids 2 and 3. */
+static const uint8_t INIT[] = {0, 0, 0, 5, 1, 0, 0, 0, 3};
+static const uint8_t STAT[] = {0, 0, 0, 10, 17, 0, 0, 0, 1, 0, 0, 0, 1, '/'};
+static const uint8_t MKDIR[] = {0, 0, 0, 15, 14, 0, 0, 0, 2, 0, 0, 0, 2, '/', 'a', 0, 0, 0, 0};
+static const uint8_t RMDIR[] = {0, 0, 0, 11, 15, 0, 0, 0, 3, 0, 0, 0, 2, '/', 'a'};
+
+/* What waits for the session, so many bytes, is sent. */
+static const uint8_t *answered(uint64_t at, int64_t wanted)
+{
+    same("so many bytes", at, lt_output(engine, session, room, sizeof room), wanted);
+    same("they are sent", at, lt_sent(engine, session, (size_t)wanted), 0);
+    return room;
+}
+
+/* Feeds the session whole packets at a moment, and takes what they are answered, which must have so
+ * many bytes. */
+static const uint8_t *ask(uint64_t at, uint32_t moment, const uint8_t *packets, size_t length,
+                          int64_t wanted)
+{
+    const uint64_t all = UINT64_MAX;
+    same("bytes are taken", at, lt_feed(engine, session, packets, length), 0);
+    same("all are answered", at, lt_settle(engine, session, moment, all, NULL), LT_TURN_IDLE);
+    return answered(at, wanted);
+}
+
+/* The same by single turns. */
+static const uint8_t *ask_by_turns(uint64_t at, uint32_t moment, const uint8_t *packets,
+                                   size_t length, int64_t wanted)
+{
+    int64_t did = LT_TURN_WROTE;
+    same("bytes are taken", at, lt_feed(engine, session, packets, length), 0);
+    while (did >= LT_TURN_WROTE && did <= LT_TURN_DECIDED)
+        did = lt_turn(engine, session, moment);
+    same("all are answered", at, did, LT_TURN_IDLE);
+    return answered(at, wanted);
+}
+
+/* A status OK for this id. */
+static void is_ok(uint64_t at, const uint8_t *reply, uint8_t id)
+{
+    uint8_t ok[OK] = {0, 0, 0, 24, 101, 0,   0,   0,   id,  0,   0,   0,
+                      0, 0, 0, 0,  7,   'S', 'u', 'c', 'c', 'e', 's', 's'};
+    same("OK", at, memcmp(reply, ok, OK), 0);
+}
+
+/* The attributes of the root where it was changed at a moment, for an id. */
+static void is_root(uint64_t at, const uint8_t *reply, uint32_t id, uint64_t moment)
+{
+    uint8_t wanted[ATTRS] = {0, 0, 0, 37, 105, [12] = 15, [31] = 0x41, [32] = 0xed};
+    put_u32(wanted + 5, id);
+    put_u32(wanted + 37, moment);
+    same("the root's attributes", at, memcmp(reply, wanted, ATTRS), 0);
+}
+
+static void begin(uint64_t keep)
+{
+    engine = lt_new_keeping(keep);
+    same("an engine", keep, engine != NULL, 1);
+    session = (uint64_t)lt_open(engine);
+    same("its first session", keep, (int64_t)session, 1);
+    ask(keep, MOMENT, INIT, sizeof INIT, VERSION);
+}
+
+/* MKDIR and RMDIR, again and again, so many calls. All are at the moment `MOMENT`. */
+static void make_and_remove(uint64_t calls)
+{
+    for (uint64_t call = 1; call < calls; call += 2) {
+        is_ok(call, ask(call, MOMENT, MKDIR, sizeof MKDIR, OK), 2);
+        is_ok(call + 1, ask(call + 1, MOMENT, RMDIR, sizeof RMDIR, OK), 3);
+    }
+}
+
+/* The records of the last calls are kept, and no others, in the order of their numbers. */
+static void last_are_kept(uint64_t keep, uint64_t calls)
+{
+    lt_call call;
+    for (uint64_t at = 0; at < keep; at++) {
+        uint64_t number = calls - keep + 1 + at;
+        same("how many are kept", at, lt_calls(engine, at, &call), (int64_t)keep);
+        same("a record's number", at, (int64_t)call.number, (int64_t)number);
+        same("its kind", at, call.kind, number % 2 == 1 ? LT_KIND_MKDIR : LT_KIND_RMDIR);
+        same("its path", at, call.path.length == 2 && memcmp(call.path.at, "/a", 2) == 0, 1);
+        same("its answer", at, call.answer, LT_ANSWER_STATUS);
+        same("its status", at, call.status, 0);
+    }
+}
+
+/* Each power of two is a number of records to keep, and a million. */
+static void keeps(void)
+{
+    for (int i = 0; i <= 20; i++) {
+        uint64_t keep = i < 20 ? (uint64_t)1 << i : 1000000;
+        begin(keep);
+        make_and_remove(keep + 50 + keep % 2);
+        last_are_kept(keep, keep + 50 + keep % 2);
+        lt_free(engine);
+    }
+}
+
+/* An engine for each number of records to keep, up to 100,000. */
+static void engines(void)
+{
+    for (uint64_t keep = 1; keep <= 100000; keep++) {
+        begin(keep);
+        make_and_remove(2);
+        lt_free(engine);
+    }
+}
+
+/* More than a million sessions on one engine. */
+static void sessions(void)
+{
+    begin(1);
+    make_and_remove(2);
+    for (uint64_t number = 2; number <= 1000100; number++) {
+        session = (uint64_t)lt_open(engine);
+        same("a session's number", number, (int64_t)session, (int64_t)number);
+        ask(number, MOMENT, INIT, sizeof INIT, VERSION);
+        is_root(number, ask(number, MOMENT, STAT, sizeof STAT, ATTRS), 1, MOMENT);
+        same("it is closed", number, lt_close(engine, session), 0);
+        same("it ends", number, lt_turn(engine, session, MOMENT), LT_TURN_ENDED + LT_CAUSE_CLOSED);
+    }
+    lt_free(engine);
+}
+
+/* Opens /f, under the id 4. The call's number is seen by its handle. */
+static void open_file(uint64_t number)
+{
+    static const uint8_t OPEN[] = {0, 0,   0,   19, 3, 0, 0,    0, 4, 0, 0, 0,
+                                   2, '/', 'f', 0,  0, 0, 0x0b, 0, 0, 0, 0};
+    const uint8_t *reply = ask(number, MOMENT, OPEN, sizeof OPEN, HANDLE);
+    same("a handle", number, reply[4], 102);
+    same("its front", number, u32_at(reply + 13), 0);
+    same("its number", number, u32_at(reply + 17), (int64_t)number);
+}
+
+enum { MANY = 3000100 };
+
+/* More than three million calls of one session. */
+static void calls(void)
+{
+    begin(1);
+    make_and_remove(MANY);
+    open_file(MANY + 1);
+    lt_free(engine);
+}
+
+/* As many by a handle, which are answered at once: FSTATs, under the id 5, of an empty file. */
+static void handles(void)
+{
+    static const uint8_t FSTAT[] = {0, 0, 0, 17, 8, 0, 0, 0, 5, 0, 0, 0, 8, 0, 0, 0, 0, 0, 0, 0, 1};
+    static const uint8_t told[ATTRS] = {0,    0, 0, 37, 105, 0, 0, 0, 5, [12] = 15, [31] = 0x81,
+                                        0xa4, 0, 0, 0,  100, 0, 0, 0, 100};
+    begin(1);
+    open_file(1);
+    for (uint64_t call = 2; call <= MANY; call++) {
+        const uint8_t *reply = ask(call, MOMENT, FSTAT, sizeof FSTAT, ATTRS);
+        same("the file's attributes", call, memcmp(reply, told, ATTRS), 0);
+    }
+    open_file(MANY + 1);
+    lt_free(engine);
+}
+
+/* A directory is made at each second of a day, and the seconds are of different days. */
+static void moments(void)
+{
+    begin(1);
+    for (uint32_t second = 0; second < DAY; second++) {
+        uint32_t moment = second + DAY * (second % 20000);
+        is_ok(second, ask_by_turns(second, moment, MKDIR, sizeof MKDIR, OK), 2);
+        is_root(second, ask(second, moment, STAT, sizeof STAT, ATTRS), 1, moment);
+        is_ok(second, ask(second, moment, RMDIR, sizeof RMDIR, OK), 3);
+    }
+    lt_free(engine);
+}
+
+static void fill(void)
+{
+    uint64_t state = 1;
+    for (size_t i = 0; i < sizeof bytes; i++) {
+        state = state * 6364136223846793005u + 1442695040888963407u;
+        bytes[i] = (uint8_t)(state >> 33);
+    }
+}
+
+/* A file of each length to 70,000, written and read. */
+static void files(void)
+{
+    const lt_bytes path = {(const uint8_t *)"/f", 2};
+    lt_tree *tree;
+    fill();
+    engine = lt_new();
+    for (size_t length = 0; length <= 70000; length++) {
+        const lt_bytes contents = {bytes + length % 4093, length};
+        same("a file is written", length, lt_write_file(engine, path, contents, MOMENT, NULL), 0);
+        same("a tree", length, lt_tree_of(engine, &tree), 0);
+        same("its bytes", length, lt_tree_read(tree, 1, 0, room, sizeof room), (int64_t)length);
+        same("they are", length, memcmp(room, contents.at, length), 0);
+        lt_tree_free(tree);
+    }
+    lt_free(engine);
+}
+
+/* A STAT whose path other bytes follow, of each length that a packet may have. */
+static void packets(void)
+{
+    begin(1);
+    memcpy(bytes, STAT, sizeof STAT);
+    for (uint32_t length = sizeof STAT - 4; length <= MOST; length++) {
+        put_u32(bytes, length);
+        put_u32(bytes + 5, length);
+        is_root(length, ask(length, MOMENT, bytes, length + 4, ATTRS), length, 0);
+    }
+    lt_free(engine);
+}
+
+/* The path of one of many directories. */
+static lt_bytes name_of(uint32_t number)
+{
+    static char path[16];
+    return (lt_bytes){(const uint8_t *)path, (size_t)snprintf(path, sizeof path, "/%06u", number)};
+}
+
+/* A tree of 100,100 names, whole, after each is made. */
+static void names(void)
+{
+    const uint32_t count = 100100;
+    lt_tree *tree;
+    lt_leaf leaf;
+    engine = lt_new();
+    for (uint32_t i = 0; i < count; i++)
+        same("a directory", i, lt_make_directory(engine, name_of(i), MOMENT, NULL), 0);
+    same("a tree", count, lt_tree_of(engine, &tree), 0);
+    for (uint32_t i = 0; i < count; i++) {
+        lt_bytes path = name_of(i);
+        same("how many leaves", i, lt_tree_leaf(tree, i + 1, &leaf), count + 1);
+        same("a leaf's length", i, (int64_t)leaf.path.length, (int64_t)path.length);
+        same("a leaf's path", i, memcmp(leaf.path.at, path.at, path.length), 0);
+    }
+    lt_tree_free(tree);
+    lt_free(engine);
+}
+
+int main(int count, char **words)
+{
+    static const struct {
+        const char *name;
+        void (*run)(void);
+    } runs[] = {{"keeps", keeps}, {"engines", engines}, {"sessions", sessions},
+                {"calls", calls}, {"handles", handles}, {"moments", moments},
+                {"files", files}, {"packets", packets}, {"names", names}};
+    for (size_t i = 0; count == 2 && i < sizeof runs / sizeof *runs; i++)
+        if (strcmp(words[1], runs[i].name) == 0) {
+            runs[i].run();
+            return 0;
+        }
+    return 2;
+}
