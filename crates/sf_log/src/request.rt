@@ -1,0 +1,192 @@
+//! Requests as a line has them.
+
+ghost use Rattle.std.specs.Prelude.{◌≡◌};
+ghost use Rattle.std.specs.Fmt.{WritesOnOk};
+ghost use Rattle.sf_log.specs.Lines.{size_text, owner_text, mode_text, times_text, flag_text, access_text, making_text, has_access};
+
+use crate::path::QuotedPath;
+use sf_call::Request;
+use sf_field::{Attrs, OpenFlags, Owner, Times};
+use std::fmt;
+
+/// The parts of attributes that are given, each behind a space.
+#[derive(Clone, Copy)]
+pub(crate) struct AttrsText<'a>(pub(crate) &'a Attrs);
+
+/// The flags that are set, behind their word.
+#[derive(Clone, Copy)]
+struct FlagsText(OpenFlags);
+
+/// A request's name, and its paths and numbers.
+#[derive(Clone, Copy)]
+pub(crate) struct RequestText<'a>(pub(crate) &'a Request);
+
+fn write_size<W: fmt::Write>(f: &mut fmt::Formatter<W>, size: Option<u64>) -> fmt::Result
+    ensures { WritesOnOk W.write_str_gives f.old result (size_text size) f.new }
+{
+    match size {
+        Some(size) => write!(f, " size {size}"),
+        None => f.write_str(""),
+    }
+}
+
+fn write_owner<W: fmt::Write>(f: &mut fmt::Formatter<W>, owner: Option<Owner>) -> fmt::Result
+    ensures { WritesOnOk W.write_str_gives f.old result (owner_text owner) f.new }
+{
+    match owner {
+        Some(Owner { uid, gid }) => write!(f, " uid {uid} gid {gid}"),
+        None => f.write_str(""),
+    }
+}
+
+fn write_mode<W: fmt::Write>(f: &mut fmt::Formatter<W>, permissions: Option<u32>) -> fmt::Result
+    ensures { WritesOnOk W.write_str_gives f.old result (mode_text permissions) f.new }
+{
+    match permissions {
+        Some(permissions) => write!(f, " mode 0{permissions:o}"),
+        None => f.write_str(""),
+    }
+}
+
+fn write_times<W: fmt::Write>(f: &mut fmt::Formatter<W>, times: Option<Times>) -> fmt::Result
+    ensures { WritesOnOk W.write_str_gives f.old result (times_text times) f.new }
+{
+    match times {
+        Some(Times { atime, mtime }) => write!(f, " atime {atime} mtime {mtime}"),
+        None => f.write_str(""),
+    }
+}
+
+impl fmt::Display for AttrsText<'_> {
+    ghost use Rattle.std.specs.Prelude.{Some};
+    ghost use Rattle.sf_log.specs.Lines.{attrs_text};
+
+    ghost output = { λ attrs. Some (attrs_text attrs.0.now) };
+
+    fn fmt<W: fmt::Write>(&self, f: &mut fmt::Formatter<W>) -> fmt::Result {
+        let attrs = *self.0;
+        write_size(f, attrs.size)?;
+        write_owner(f, attrs.owner)?;
+        write_mode(f, attrs.permissions)?;
+        write_times(f, attrs.times)
+    }
+}
+
+/// A flag's name where it is set, behind a comma where it follows another.
+fn write_flag<W: fmt::Write>(
+    f: &mut fmt::Formatter<W>,
+    is_set: bool,
+    follows: bool,
+    name: &str,
+) -> fmt::Result
+    ensures { WritesOnOk W.write_str_gives f.old result (flag_text is_set follows name.now) f.new }
+{
+    if !is_set {
+        return f.write_str("");
+    }
+    if follows {
+        f.write_str(",")?;
+    }
+    f.write_str(name)
+}
+
+/// What is to be done with the file.
+fn write_access<W: fmt::Write>(f: &mut fmt::Formatter<W>, flags: OpenFlags) -> fmt::Result
+    ensures { WritesOnOk W.write_str_gives f.old result (access_text flags) f.new }
+{
+    write_flag(f, flags.read, false, "READ")?;
+    write_flag(f, flags.write, flags.read, "WRITE")?;
+    write_flag(f, flags.append, flags.read || flags.write, "APPEND")
+}
+
+/// Whether it is to be made or emptied.
+fn write_making<W: fmt::Write>(
+    f: &mut fmt::Formatter<W>,
+    follows: bool,
+    flags: OpenFlags,
+) -> fmt::Result
+    ensures { WritesOnOk W.write_str_gives f.old result (making_text follows flags) f.new }
+{
+    write_flag(f, flags.create, follows, "CREATE")?;
+    write_flag(f, flags.truncate, follows || flags.create, "TRUNCATE")?;
+    let follows = follows || flags.create || flags.truncate;
+    write_flag(f, flags.exclusive, follows, "EXCL")
+}
+
+/// Whether there is a flag of what is to be done with the file.
+fn has_access(flags: OpenFlags) -> bool
+    ensures { result ≡ has_access flags }
+{
+    flags.read || flags.write || flags.append
+}
+
+impl fmt::Display for FlagsText {
+    ghost use Rattle.std.specs.Prelude.{Some};
+    ghost use Rattle.sf_log.specs.Lines.{flags_text};
+
+    ghost output = { λ flags. Some (flags_text flags.0) };
+
+    fn fmt<W: fmt::Write>(&self, f: &mut fmt::Formatter<W>) -> fmt::Result {
+        let flags = self.0;
+        f.write_str(" flags ")?;
+        write_access(f, flags)?;
+        write_making(f, has_access(flags), flags)
+    }
+}
+
+impl fmt::Display for RequestText<'_> {
+    ghost use Rattle.std.specs.Prelude.{Some};
+    ghost use Rattle.sf_log.specs.Lines.{request_text};
+
+    ghost output = { λ request. Some (request_text request.0.now) };
+
+    fn fmt<W: fmt::Write>(&self, f: &mut fmt::Formatter<W>) -> fmt::Result {
+        match self.0 {
+            Request::Stat(path) => write!(f, "stat {}", QuotedPath(path)),
+            Request::SetStat(path, attrs) => {
+                write!(f, "setstat {}{}", QuotedPath(path), AttrsText(attrs))
+            }
+            Request::Mkdir(path, attrs) => {
+                write!(f, "mkdir {}{}", QuotedPath(path), AttrsText(attrs))
+            }
+            Request::Rmdir(path) => write!(f, "rmdir {}", QuotedPath(path)),
+            Request::Remove(path) => write!(f, "remove {}", QuotedPath(path)),
+            Request::OpenDir(path) => write!(f, "opendir {}", QuotedPath(path)),
+            Request::Open(path, flags, attrs) => write!(
+                f,
+                "open {}{}{}",
+                QuotedPath(path),
+                FlagsText(*flags),
+                AttrsText(attrs)
+            ),
+            Request::Close(handle) => write!(f, "close handle {handle}"),
+            Request::FStat(handle) => write!(f, "fstat handle {handle}"),
+            Request::FSetStat(handle, attrs) => {
+                write!(f, "fsetstat handle {handle}{}", AttrsText(attrs))
+            }
+            Request::Read {
+                handle,
+                offset,
+                len,
+            } => write!(f, "read handle {handle} offset {offset} length {len}"),
+            Request::Write {
+                handle,
+                offset,
+                data,
+            } => {
+                let len = data.len();
+                write!(f, "write handle {handle} offset {offset} length {len}")
+            }
+            Request::ReadDir(handle) => write!(f, "readdir handle {handle}"),
+            Request::Rename(old, new) => {
+                write!(f, "rename {} {}", QuotedPath(old), QuotedPath(new))
+            }
+            Request::PosixRename(old, new) => {
+                write!(f, "posix-rename {} {}", QuotedPath(old), QuotedPath(new))
+            }
+            Request::Link(old, new) => {
+                write!(f, "hardlink {} {}", QuotedPath(old), QuotedPath(new))
+            }
+        }
+    }
+}
