@@ -1,5 +1,5 @@
-/* The functions of lucernetick.h over those that the crate `sf_c` exports: what can't be refused there,
- * since a reference isn't NULL, is refused here. */
+/* The functions of lucernetick.h over those that the crate `sf_c` exports: what can't be refused
+ * there, since a reference isn't NULL, is refused here. */
 #include "lucernetick.h"
 
 #include <stdlib.h>
@@ -12,8 +12,8 @@ struct refusals {
     void *at;
 };
 
-/* What the crate has of an engine, its box or NULL; its refusals; and room for the bytes of a record, of which the crate
- * doesn't know. */
+/* What the crate has of an engine, its box or NULL; its refusals; and room for the bytes of a
+ * record, of which the crate doesn't know. */
 struct lt_engine {
     void *at;
     struct refusals refusals;
@@ -75,33 +75,42 @@ struct rule {
     bool has_path;
 };
 
-/* Where one takes a `const` engine, refusals or tree, the crate takes the box out for the call and puts it back. */
+/* Where one takes a `const` engine, refusals or tree, the crate takes the box out for the call and
+ * puts it back. */
 int64_t lucernetick_new(lt_engine *engine, struct refusals *refusals, uint64_t keep);
 void lucernetick_free(lt_engine *engine, struct refusals *refusals);
 int64_t lucernetick_open(lt_engine *engine);
-int64_t lucernetick_feed(lt_engine *engine, struct refusals *refusals, uint64_t session, const uint8_t *bytes,
-                         size_t length);
-int64_t lucernetick_turn(lt_engine *engine, struct refusals *refusals, uint64_t session, uint32_t moment);
-int64_t lucernetick_settle(lt_engine *engine, struct refusals *refusals, uint64_t session, uint32_t moment,
-                           uint64_t most, bool *moved);
+int64_t lucernetick_feed(lt_engine *engine, struct refusals *refusals, uint64_t session,
+                         const uint8_t *bytes, size_t length);
+int64_t lucernetick_turn(lt_engine *engine, struct refusals *refusals, uint64_t session,
+                         uint32_t moment);
+int64_t lucernetick_settle(lt_engine *engine, struct refusals *refusals, uint64_t session,
+                           uint32_t moment, uint64_t most, bool *moved);
 uint64_t lucernetick_run_all(lt_engine *engine);
 int64_t lucernetick_close(lt_engine *engine, uint64_t session);
-bool lucernetick_wants_bytes(const lt_engine *engine, const struct refusals *refusals, uint64_t session);
-int64_t lucernetick_output(const lt_engine *engine, const struct refusals *refusals, uint64_t session, uint8_t *room,
+bool lucernetick_wants_bytes(const lt_engine *engine, const struct refusals *refusals,
+                             uint64_t session);
+int64_t lucernetick_output(const lt_engine *engine, const struct refusals *refusals,
+                           uint64_t session, uint8_t *room, size_t length);
+int64_t lucernetick_sent(lt_engine *engine, struct refusals *refusals, uint64_t session,
+                         size_t count);
+int64_t lucernetick_refuse(struct refusals *refusals, const struct rule *rule, const uint8_t *path,
                            size_t length);
-int64_t lucernetick_sent(lt_engine *engine, struct refusals *refusals, uint64_t session, size_t count);
-int64_t lucernetick_refuse(struct refusals *refusals, const struct rule *rule, const uint8_t *path, size_t length);
 int64_t lucernetick_refused(const struct refusals *refusals, uint64_t number);
-int64_t lucernetick_call(lt_engine *engine, uint64_t at, struct told *told, uint8_t *room, size_t length);
-int64_t lucernetick_make_directory(lt_engine *engine, const uint8_t *path, size_t length, uint32_t moment,
-                                   lt_place *at);
+int64_t lucernetick_call(lt_engine *engine, uint64_t at, struct told *told, uint8_t *room,
+                         size_t length);
+int64_t lucernetick_make_directory(lt_engine *engine, const uint8_t *path, size_t length,
+                                   uint32_t moment, lt_place *at);
 int64_t lucernetick_write_file(lt_engine *engine, const uint8_t *path, size_t path_length,
-                               const uint8_t *contents, size_t length, uint32_t moment, lt_place *at);
+                               const uint8_t *contents, size_t length, uint32_t moment,
+                               lt_place *at);
 int64_t lucernetick_link(lt_engine *engine, const uint8_t *old_path, size_t old_length,
                          const uint8_t *new_path, size_t new_length, uint32_t moment, lt_place *at);
 int64_t lucernetick_tree(const lt_engine *engine, lt_tree *tree);
-int64_t lucernetick_tree_leaf(const lt_tree *tree, uint64_t at, struct leaf *leaf, uint8_t *room, size_t length);
-int64_t lucernetick_tree_read(const lt_tree *tree, uint64_t at, uint64_t offset, uint8_t *room, size_t length);
+int64_t lucernetick_tree_leaf(const lt_tree *tree, uint64_t at, struct leaf *leaf, uint8_t *room,
+                              size_t length);
+int64_t lucernetick_tree_read(const lt_tree *tree, uint64_t at, uint64_t offset, uint8_t *room,
+                              size_t length);
 int64_t lucernetick_tree_gap(const lt_tree *tree, uint64_t at, uint64_t offset);
 void lucernetick_tree_free(lt_tree *tree);
 
@@ -268,7 +277,8 @@ int64_t lt_feed(lt_engine *engine, uint64_t session, const uint8_t *bytes, size_
 
 int64_t lt_turn(lt_engine *engine, uint64_t session, uint32_t moment)
 {
-    return engine == NULL ? LT_REFUSAL_BAD_POINTER : lucernetick_turn(engine, &engine->refusals, session, moment);
+    return engine == NULL ? LT_REFUSAL_BAD_POINTER
+                          : lucernetick_turn(engine, &engine->refusals, session, moment);
 }
 
 int64_t lt_settle(lt_engine *engine, uint64_t session, uint32_t moment, uint64_t most, bool *moved)
@@ -289,7 +299,8 @@ int64_t lt_run_all(lt_engine *engine)
 
 int64_t lt_wants_bytes(const lt_engine *engine, uint64_t session)
 {
-    return engine == NULL ? LT_REFUSAL_BAD_POINTER : lucernetick_wants_bytes(engine, &engine->refusals, session);
+    return engine == NULL ? LT_REFUSAL_BAD_POINTER
+                          : lucernetick_wants_bytes(engine, &engine->refusals, session);
 }
 
 int64_t lt_close(lt_engine *engine, uint64_t session)
@@ -302,12 +313,14 @@ int64_t lt_output(const lt_engine *engine, uint64_t session, uint8_t *room, size
     uint8_t none[1];
     if (engine == NULL || !are_bytes(room, length))
         return LT_REFUSAL_BAD_POINTER;
-    return lucernetick_output(engine, &engine->refusals, session, length == 0 ? none : room, length);
+    return lucernetick_output(engine, &engine->refusals, session, length == 0 ? none : room,
+                              length);
 }
 
 int64_t lt_sent(lt_engine *engine, uint64_t session, size_t count)
 {
-    return engine == NULL ? LT_REFUSAL_BAD_POINTER : lucernetick_sent(engine, &engine->refusals, session, count);
+    return engine == NULL ? LT_REFUSAL_BAD_POINTER
+                          : lucernetick_sent(engine, &engine->refusals, session, count);
 }
 
 /* The next so many bytes at a place, which moves behind them. */
@@ -393,7 +406,8 @@ static const uint8_t *place_of(lt_bytes bytes)
 
 int64_t lt_refuse(lt_engine *engine, const lt_rule *rule)
 {
-    if (engine == NULL || rule == NULL || (rule->path.at != NULL && rule->path.length > PTRDIFF_MAX))
+    if (engine == NULL || rule == NULL
+        || (rule->path.at != NULL && rule->path.length > PTRDIFF_MAX))
         return LT_REFUSAL_BAD_POINTER;
     lt_bytes path = rule->path.at == NULL ? (lt_bytes){NULL, 0} : rule->path;
     struct rule given = {
@@ -429,7 +443,8 @@ int64_t lt_make_directory(lt_engine *engine, lt_bytes path, uint32_t moment, lt_
     return stopped_at(answer, at, place);
 }
 
-int64_t lt_write_file(lt_engine *engine, lt_bytes path, lt_bytes contents, uint32_t moment, lt_place *place)
+int64_t lt_write_file(lt_engine *engine, lt_bytes path, lt_bytes contents, uint32_t moment,
+                      lt_place *place)
 {
     lt_place at = {0};
     int64_t answer = LT_REFUSAL_BAD_POINTER;
@@ -439,13 +454,14 @@ int64_t lt_write_file(lt_engine *engine, lt_bytes path, lt_bytes contents, uint3
     return stopped_at(answer, at, place);
 }
 
-int64_t lt_link(lt_engine *engine, lt_bytes path, lt_bytes new_path, uint32_t moment, lt_place *place)
+int64_t lt_link(lt_engine *engine, lt_bytes path, lt_bytes new_path, uint32_t moment,
+                lt_place *place)
 {
     lt_place at = {0};
     int64_t answer = LT_REFUSAL_BAD_POINTER;
     if (engine != NULL && are_there(path) && are_there(new_path))
-        answer = lucernetick_link(engine, place_of(path), path.length, place_of(new_path), new_path.length,
-                                  moment, &at);
+        answer = lucernetick_link(engine, place_of(path), path.length, place_of(new_path),
+                                  new_path.length, moment, &at);
     return stopped_at(answer, at, place);
 }
 
@@ -488,7 +504,8 @@ int64_t lt_tree_leaf(lt_tree *tree, uint64_t at, lt_leaf *leaf)
     return count;
 }
 
-int64_t lt_tree_read(const lt_tree *tree, uint64_t at, uint64_t offset, uint8_t *room, size_t length)
+int64_t lt_tree_read(const lt_tree *tree, uint64_t at, uint64_t offset, uint8_t *room,
+                     size_t length)
 {
     uint8_t none[1];
     if (tree == NULL || !are_bytes(room, length))

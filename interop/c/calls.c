@@ -1,5 +1,5 @@
-/* Calls each function of lucernetick.h as a program may, and as it shouldn't, and compares the numbers.
- * Ends with how many were the same, and how many not. */
+/* Calls each function of lucernetick.h as a program may, and as it shouldn't, and compares the
+ * numbers. Ends with how many were the same, and how many not. */
 #include "lucernetick.h"
 
 #include <stdio.h>
@@ -41,7 +41,8 @@ static void texts(void)
         {LT_TURN_ENDED + LT_CAUSE_CLOSED, "ended: the session was closed"},
         {LT_REFUSAL_OUT_OF_MEMORY, "out of memory"},
         {LT_REFUSAL_TOO_MANY_SESSIONS, "256 sessions are open"},
-        {LT_REFUSAL_BAD_POINTER, "the engine was closed, or a pointer is NULL, or a length too large"},
+        {LT_REFUSAL_BAD_POINTER,
+         "the engine was closed, or a pointer is NULL, or a length too large"},
         {LT_REFUSAL_IS_BLOCKED, "the call of another session is in the way"},
         {LT_REFUSAL_STATUS_BASE - 2, "No such file"},
         {LT_REFUSAL_STATUS_BASE - 4, "Failure"},
@@ -76,10 +77,14 @@ static void null_pointers(void)
     same("output without an engine", lt_output(NULL, 1, &byte, 1), LT_REFUSAL_BAD_POINTER);
     same("sent without an engine", lt_sent(NULL, 1, 0), LT_REFUSAL_BAD_POINTER);
     same("feed without bytes", lt_feed(engine, (uint64_t)session, NULL, 1), LT_REFUSAL_BAD_POINTER);
-    same("feed of too many", lt_feed(engine, (uint64_t)session, &byte, SIZE_MAX), LT_REFUSAL_BAD_POINTER);
-    same("feed of one too many", lt_feed(engine, (uint64_t)session, &byte, TOO_MANY), LT_REFUSAL_BAD_POINTER);
-    same("output without room", lt_output(engine, (uint64_t)session, NULL, 1), LT_REFUSAL_BAD_POINTER);
-    same("output of too many", lt_output(engine, (uint64_t)session, &byte, TOO_MANY), LT_REFUSAL_BAD_POINTER);
+    same("feed of too many", lt_feed(engine, (uint64_t)session, &byte, SIZE_MAX),
+         LT_REFUSAL_BAD_POINTER);
+    same("feed of one too many", lt_feed(engine, (uint64_t)session, &byte, TOO_MANY),
+         LT_REFUSAL_BAD_POINTER);
+    same("output without room", lt_output(engine, (uint64_t)session, NULL, 1),
+         LT_REFUSAL_BAD_POINTER);
+    same("output of too many", lt_output(engine, (uint64_t)session, &byte, TOO_MANY),
+         LT_REFUSAL_BAD_POINTER);
     lt_free(engine);
 }
 
@@ -92,10 +97,12 @@ static void unknown_sessions(void)
     for (size_t i = 0; i < 3; i++) {
         same("feed nobody", lt_feed(engine, numbers[i], &byte, 1), LT_REFUSAL_NO_SUCH_SESSION);
         same("turn of nobody", lt_turn(engine, numbers[i], MOMENT), LT_REFUSAL_NO_SUCH_SESSION);
-        same("settle nobody", lt_settle(engine, numbers[i], MOMENT, 1, NULL), LT_REFUSAL_NO_SUCH_SESSION);
+        same("settle nobody", lt_settle(engine, numbers[i], MOMENT, 1, NULL),
+             LT_REFUSAL_NO_SUCH_SESSION);
         same("nobody wants bytes", lt_wants_bytes(engine, numbers[i]), 0);
         same("close nobody", lt_close(engine, numbers[i]), LT_REFUSAL_NO_SUCH_SESSION);
-        same("output of nobody", lt_output(engine, numbers[i], &byte, 1), LT_REFUSAL_NO_SUCH_SESSION);
+        same("output of nobody", lt_output(engine, numbers[i], &byte, 1),
+             LT_REFUSAL_NO_SUCH_SESSION);
         same("sent of nobody", lt_sent(engine, numbers[i], 0), LT_REFUSAL_NO_SUCH_SESSION);
     }
     lt_free(engine);
@@ -178,7 +185,8 @@ static void after_the_end(void)
     same("not INIT", lt_turn(engine, 1, MOMENT), LT_TURN_ENDED + LT_CAUSE_NOT_INIT);
     same("a feed after the end", lt_feed(engine, 1, INIT, sizeof INIT), LT_REFUSAL_HAS_ENDED);
     same("a turn after the end", lt_turn(engine, 1, MOMENT), LT_TURN_ENDED + LT_CAUSE_NOT_INIT);
-    same("settle after the end", lt_settle(engine, 1, MOMENT, 9, NULL), LT_TURN_ENDED + LT_CAUSE_NOT_INIT);
+    same("settle after the end", lt_settle(engine, 1, MOMENT, 9, NULL),
+         LT_TURN_ENDED + LT_CAUSE_NOT_INIT);
     same("output after the end", lt_output(engine, 1, room, sizeof room), 0);
     same("sent after the end", lt_sent(engine, 1, 1), LT_REFUSAL_NOT_SENT);
     same("close after the end", lt_close(engine, 1), 0);
@@ -192,7 +200,8 @@ static void after_the_end(void)
 }
 
 /* Whether a session's turns move anything, and what they come to. */
-static void moves(const char *name, lt_engine *engine, uint64_t session, uint64_t most, bool wanted, int64_t answer)
+static void moves(const char *name, lt_engine *engine, uint64_t session, uint64_t most, bool wanted,
+                  int64_t answer)
 {
     bool moved = !wanted;
     same(name, lt_settle(engine, session, MOMENT, most, &moved), answer);
@@ -245,9 +254,11 @@ static void blocked(void)
 }
 
 /* MKDIR of /a/x, /b and /b/y, under the id 7. */
-static const uint8_t MAKE_X[] = {0, 0, 0, 17, 14, 0, 0, 0, 7, 0, 0, 0, 4, '/', 'a', '/', 'x', 0, 0, 0, 0};
+static const uint8_t MAKE_X[] = {0, 0, 0, 17, 14, 0, 0, 0, 7, 0, 0, 0, 4, '/', 'a', '/', 'x',
+                                 0, 0, 0, 0};
 static const uint8_t MAKE_B[] = {0, 0, 0, 15, 14, 0, 0, 0, 7, 0, 0, 0, 2, '/', 'b', 0, 0, 0, 0};
-static const uint8_t MAKE_Y[] = {0, 0, 0, 17, 14, 0, 0, 0, 7, 0, 0, 0, 4, '/', 'b', '/', 'y', 0, 0, 0, 0};
+static const uint8_t MAKE_Y[] = {0, 0, 0, 17, 14, 0, 0, 0, 7, 0, 0, 0, 4, '/', 'b', '/', 'y',
+                                 0, 0, 0, 0};
 
 /* RENAME of /a/x to /b/y/x under the id 8, and of /b/y to /a/x/y under the id 9. */
 static const uint8_t TO_B[] = {0, 0, 0, 23, 18, 0, 0, 0, 8, 0, 0, 0, 4, '/', 'a', '/', 'x',
@@ -278,8 +289,8 @@ static lt_engine *crossing(void)
     return engine;
 }
 
-/* In rounds the first session is ahead: five of them until its rename is decided, in the last of which the
- * other one takes the root, and three more, since /a/x is gone. */
+/* In rounds the first session is ahead: five of them until its rename is decided, in the last of
+ * which the other one takes the root, and three more, since /a/x is gone. */
 static void rounds(void)
 {
     uint8_t room[64];
@@ -302,18 +313,19 @@ static void rounds(void)
     lt_free(engine);
 }
 
-/* The reply of the schedule's second session, after VERSION: the attributes of /a, size 0, nobody's, 0o755,
- * of the moment 100. */
+/* The reply of the schedule's second session, after VERSION: the attributes of /a, size 0,
+ * nobody's, 0o755, of the moment 100. */
 static const uint8_t LOOKED[] = {0, 0, 0, 37, 105, 0, 0, 0, 8, 0, 0, 0, 15, 0, 0, 0, 0, 0, 0, 0, 0,
                                  0, 0, 0, 0, 0, 0, 0, 0, 0, 0, 65, 237, 0, 0, 0, 100, 0, 0, 0, 100};
 
-/* A schedule of two sessions, of which the second one looks at /a before the first one has made it. It
- * compares what the turns did, and leaves what was sent. */
+/* A schedule of two sessions, of which the second one looks at /a before the first one has made it.
+ * It compares what the turns did, and leaves what was sent. */
 static void schedule(uint8_t first[128], uint8_t second[128])
 {
     const uint64_t sessions[] = {1, 2, 2, 1, 1, 2, 1, 2, 2, 2, 1};
-    const int64_t did[] = {LT_TURN_WROTE, LT_TURN_WROTE, LT_TURN_BEGUN, LT_TURN_BEGUN, LT_TURN_MOVED, LT_TURN_BLOCKED,
-                           LT_TURN_DECIDED, LT_TURN_MOVED, LT_TURN_DECIDED, LT_TURN_WROTE, LT_TURN_WROTE};
+    const int64_t did[] = {LT_TURN_WROTE, LT_TURN_WROTE, LT_TURN_BEGUN, LT_TURN_BEGUN,
+                           LT_TURN_MOVED, LT_TURN_BLOCKED, LT_TURN_DECIDED, LT_TURN_MOVED,
+                           LT_TURN_DECIDED, LT_TURN_WROTE, LT_TURN_WROTE};
     lt_engine *engine = lt_new();
     lt_open(engine);
     lt_open(engine);
@@ -338,9 +350,10 @@ static void replayed(void)
     same("the second one's reply", memcmp(second[0] + VERSION, LOOKED, sizeof LOOKED), 0);
 }
 
-/* OPEN of /f to write it anew, under the id 9; WRITE of 3 bytes at 5 and READ of all by the handle 3, CLOSE of it;
- * OPENDIR of /, READDIR by the handle 7; SETSTAT of the mode of /a. */
-static const uint8_t OPEN[] = {0, 0, 0, 19, 3, 0, 0, 0, 9, 0, 0, 0, 2, '/', 'f', 0, 0, 0, 0x1b, 0, 0, 0, 0};
+/* OPEN of /f to write it anew, under the id 9; WRITE of 3 bytes at 5 and READ of all by the handle
+ * 3, CLOSE of it; OPENDIR of /, READDIR by the handle 7; SETSTAT of the mode of /a. */
+static const uint8_t OPEN[] = {0, 0, 0, 19, 3, 0, 0, 0, 9, 0, 0, 0, 2, '/', 'f',
+                               0, 0, 0, 0x1b, 0, 0, 0, 0};
 static const uint8_t WRITE[] = {0, 0, 0, 32, 6, 0, 0, 0, 9, 0, 0, 0, 8, 0, 0, 0, 0, 0, 0, 0, 3,
                                 0, 0, 0, 0, 0, 0, 0, 5, 0, 0, 0, 3, 'x', 'y', 'z'};
 static const uint8_t READ[] = {0, 0, 0, 29, 5, 0, 0, 0, 9, 0, 0, 0, 8, 0, 0, 0, 0, 0, 0, 0, 3,
@@ -348,8 +361,10 @@ static const uint8_t READ[] = {0, 0, 0, 29, 5, 0, 0, 0, 9, 0, 0, 0, 8, 0, 0, 0, 
 static const uint8_t CLOSE[] = {0, 0, 0, 17, 4, 0, 0, 0, 9, 0, 0, 0, 8, 0, 0, 0, 0, 0, 0, 0, 3};
 static const uint8_t OPENDIR[] = {0, 0, 0, 10, 11, 0, 0, 0, 9, 0, 0, 0, 1, '/'};
 static const uint8_t READDIR[] = {0, 0, 0, 17, 12, 0, 0, 0, 9, 0, 0, 0, 8, 0, 0, 0, 0, 0, 0, 0, 7};
-static const uint8_t SETSTAT[] = {0, 0, 0, 19, 9, 0, 0, 0, 9, 0, 0, 0, 2, '/', 'a', 0, 0, 0, 4, 0, 0, 1, 0xc0};
-static const uint8_t RENAME[] = {0, 0, 0, 17, 18, 0, 0, 0, 9, 0, 0, 0, 2, '/', 'f', 0, 0, 0, 2, '/', 'a'};
+static const uint8_t SETSTAT[] = {0, 0, 0, 19, 9, 0, 0, 0, 9, 0, 0, 0, 2, '/', 'a',
+                                  0, 0, 0, 4, 0, 0, 1, 0xc0};
+static const uint8_t RENAME[] = {0, 0, 0, 17, 18, 0, 0, 0, 9, 0, 0, 0, 2, '/', 'f',
+                                 0, 0, 0, 2, '/', 'a'};
 
 static int are(lt_bytes bytes, const char *text, size_t length)
 {
@@ -451,8 +466,10 @@ static lt_bytes text(const char *bytes)
     return (lt_bytes){(const uint8_t *)bytes, strlen(bytes)};
 }
 
-/* What a function that makes trees answered, at which request, and at how many bytes of the path. */
-static void stops(const char *name, int64_t answer, lt_place place, int64_t wanted, uint32_t kind, size_t length)
+/* What a function that makes trees answered, at which request, and at how many bytes of the
+ * path. */
+static void stops(const char *name, int64_t answer, lt_place place, int64_t wanted, uint32_t kind,
+                  size_t length)
 {
     same(name, answer, wanted);
     same("by this request", place.kind, kind);
@@ -474,9 +491,12 @@ static void made(lt_engine *engine)
     stops("the root", answer, place, LT_REFUSAL_STATUS_BASE - 4, LT_KIND_OPEN, 1);
     answer = lt_link(engine, text("/none"), text("/x"), MOMENT, &place);
     stops("no file", answer, place, LT_REFUSAL_STATUS_BASE - 2, LT_KIND_HARDLINK, 2);
-    same("a path without bytes", lt_make_directory(engine, (lt_bytes){NULL, 1}, MOMENT, NULL), LT_REFUSAL_BAD_POINTER);
-    same("too large a length", lt_make_directory(engine, (lt_bytes){INIT, TOO_MANY}, MOMENT, NULL), LT_REFUSAL_BAD_POINTER);
-    same("contents without bytes", lt_write_file(engine, text("/x"), (lt_bytes){NULL, 1}, MOMENT, NULL),
+    same("a path without bytes", lt_make_directory(engine, (lt_bytes){NULL, 1}, MOMENT, NULL),
+         LT_REFUSAL_BAD_POINTER);
+    same("too large a length", lt_make_directory(engine, (lt_bytes){INIT, TOO_MANY}, MOMENT, NULL),
+         LT_REFUSAL_BAD_POINTER);
+    same("contents without bytes",
+         lt_write_file(engine, text("/x"), (lt_bytes){NULL, 1}, MOMENT, NULL),
          LT_REFUSAL_BAD_POINTER);
     same("no engine", lt_link(NULL, text("/g"), text("/x"), MOMENT, NULL), LT_REFUSAL_BAD_POINTER);
 }
@@ -491,7 +511,8 @@ static void reads(const lt_tree *tree, uint64_t at, uint64_t offset, const char 
 }
 
 /* A leaf of a tree at a place, of seven. Its label is the number of the call that made it. */
-static void leaf_is(lt_tree *tree, uint64_t at, const char *path, uint64_t label, uint32_t mode, const char *contents)
+static void leaf_is(lt_tree *tree, uint64_t at, const char *path, uint64_t label, uint32_t mode,
+                    const char *contents)
 {
     lt_leaf leaf;
     same(path, lt_tree_leaf(tree, at, &leaf), 7);
@@ -504,7 +525,8 @@ static void leaf_is(lt_tree *tree, uint64_t at, const char *path, uint64_t label
     reads(tree, at, 0, contents);
 }
 
-/* The tree that `made` makes: of its calls the 2nd, 4th and 12th make directories, the 6th and 9th files. */
+/* The tree that `made` makes: of its calls the 2nd, 4th and 12th make directories, the 6th and 9th
+ * files. */
 static void is_as_made(lt_tree *tree)
 {
     leaf_is(tree, 0, "/", 0, 040755, "");
@@ -613,7 +635,8 @@ static void large_trees(void)
         contents[i] = (uint8_t)(i % 251);
     for (int i = 0; i < MANY_FILES; i++)
         same("a file", lt_write_file(engine, one_of_many(i), one_of_many(i), MOMENT, NULL), 0);
-    same("a large file", lt_write_file(engine, text("/large"), (lt_bytes){contents, LARGE}, MOMENT, NULL), 0);
+    same("a large file",
+         lt_write_file(engine, text("/large"), (lt_bytes){contents, LARGE}, MOMENT, NULL), 0);
     same("a tree", lt_tree_of(engine, &tree), 0);
     lt_free(engine);
     for (int i = 0; i < MANY_FILES; i++) {
@@ -629,8 +652,9 @@ static void large_trees(void)
     lt_tree_free(tree);
 }
 
-/* A tree, which the engine's further calls change as little as it changes the engine: no session opens, and no call is
- * recorded. It is the tree of the calls that were decided, also where one is half way and holds the root. */
+/* A tree, which the engine's further calls change as little as it changes the engine: no session
+ * opens, and no call is recorded. It is the tree of the calls that were decided, also where one is
+ * half way and holds the root. */
 static void trees(void)
 {
     lt_engine *engine = lt_new_keeping(0);
@@ -647,7 +671,8 @@ static void trees(void)
     same("no further session", lt_open(engine), (int64_t)session + 1);
     same("no further call", lt_calls(engine, UINT64_MAX, &call), calls);
     is_as_made(tree);
-    same("a file is replaced", lt_write_file(engine, text("/g"), text("other"), MOMENT, NULL), LT_REFUSAL_IS_BLOCKED);
+    same("a file is replaced", lt_write_file(engine, text("/g"), text("other"), MOMENT, NULL),
+         LT_REFUSAL_IS_BLOCKED);
     lt_run_all(engine);
     same("and again", lt_write_file(engine, text("/d/f"), text("other"), MOMENT, NULL), 0);
     sparse(engine);
@@ -695,15 +720,16 @@ static void bad_rules(lt_engine *engine)
     }
     for (uint32_t kind = 0; kind < 256; kind++) {
         rule = rule_of(kind, NO_PATH, 0, 0);
-        bool is = kind == LT_KIND_ANY || (kind >= LT_KIND_OPEN && kind <= LT_KIND_RENAME) || kind == LT_KIND_POSIX_RENAME
-                  || kind == LT_KIND_HARDLINK;
+        bool is = kind == LT_KIND_ANY || (kind >= LT_KIND_OPEN && kind <= LT_KIND_RENAME)
+                  || kind == LT_KIND_POSIX_RENAME || kind == LT_KIND_HARDLINK;
         same("which numbers are kinds", lt_refuse(engine, &rule) >= 0, is);
         if (!is)
             same("a number that is no kind", lt_refuse(engine, &rule), LT_REFUSAL_BAD_KIND);
     }
 }
 
-/* A rule for MKDIR of /a, given after INIT was answered: the first MKDIR passes, the second and third are refused. */
+/* A rule for MKDIR of /a, given after INIT was answered: the first MKDIR passes, the second and
+ * third are refused. */
 static void rules(void)
 {
     uint8_t room[256];
@@ -720,21 +746,26 @@ static void rules(void)
     for (int i = 0; i < 4; i++)
         lt_feed(engine, (uint64_t)session, MKDIR, sizeof MKDIR);
     lt_feed(engine, (uint64_t)session, STAT, sizeof STAT);
-    same("it goes on to its end", lt_settle(engine, (uint64_t)session, MOMENT, 10, NULL), LT_TURN_IDLE);
+    same("it goes on to its end", lt_settle(engine, (uint64_t)session, MOMENT, 10, NULL),
+         LT_TURN_IDLE);
     same("it waits for bytes then", lt_wants_bytes(engine, (uint64_t)session), 1);
     same("how many were refused", lt_refused(engine, 0), 2);
     same("how many the other one refused", lt_refused(engine, 1), 0);
     same("no third rule", lt_refused(engine, 2), LT_REFUSAL_NO_SUCH_RULE);
-    /* A STATUS has its text's length more than 21 bytes: "Success" has 7, and "Permission denied" 17. */
-    same("what waits up to the last of them", lt_output(engine, (uint64_t)session, room, sizeof room), OK + 2 * 38);
+    /* A STATUS has its text's length more than 21 bytes: "Success" has 7, and "Permission denied"
+     * 17. */
+    same("what waits up to the last of them",
+         lt_output(engine, (uint64_t)session, room, sizeof room), OK + 2 * 38);
     same("the code of the first", room[12], 0);
     same("the code of the second", room[OK + 12], 3);
     same("its id", room[OK + 8], 7);
-    same("more than waits there", lt_sent(engine, (uint64_t)session, OK + 2 * 38 + OK + 41 + 1), LT_REFUSAL_NOT_SENT);
+    same("more than waits there", lt_sent(engine, (uint64_t)session, OK + 2 * 38 + OK + 41 + 1),
+         LT_REFUSAL_NOT_SENT);
     same("that was sent", lt_sent(engine, (uint64_t)session, OK + 2 * 38), 0);
-    /* "Failure" for the fourth MKDIR, since /a is there, and the attributes of /a: 5 numbers of 4 bytes, one of 8,
-     * and 13 bytes before them. */
-    same("what waits behind them", lt_output(engine, (uint64_t)session, room, sizeof room), OK + 41);
+    /* "Failure" for the fourth MKDIR, since /a is there, and the attributes of /a: 5 numbers of 4
+     * bytes, one of 8, and 13 bytes before them. */
+    same("what waits behind them", lt_output(engine, (uint64_t)session, room, sizeof room),
+         OK + 41);
     same("the code of the fourth", room[12], 4);
     same("all was sent", lt_sent(engine, (uint64_t)session, OK + 41), 0);
     same("nothing waits", lt_output(engine, (uint64_t)session, room, sizeof room), 0);
