@@ -48,8 +48,9 @@ const (
 	AnswerAttrs    AnswerKind = C.LT_ANSWER_ATTRS
 )
 
-// A CallAttributes has the attributes that a call asks for, or is answered. Given has the protocol's bits for
-// those that are there: 1 for the size, 2 for both owners, 4 for the permissions, 8 for both times.
+// A CallAttributes has the attributes that a call asks for, or is answered. Given has the
+// protocol's bits for those that are there: 1 for the size, 2 for both owners, 4 for the
+// permissions, 8 for both times.
 type CallAttributes struct {
 	Given        uint32
 	Size         uint64
@@ -90,8 +91,8 @@ func (answer Answer) IsOK() bool {
 	return answer.Kind > AnswerStatus || answer.Kind == AnswerStatus && answer.Status == 0
 }
 
-// Calls has the records of calls that are kept, in the order in which they took effect, the oldest first. Those
-// of WriteFiles and of snapshots are among them, by sessions of their own.
+// Calls has the records of calls that are kept, in the order in which they took effect, the oldest
+// first. Those of WriteFiles and of snapshots are among them, by sessions of their own.
 func (engine *Engine) Calls() ([]Call, error) {
 	engine.lock.Lock()
 	defer engine.lock.Unlock()

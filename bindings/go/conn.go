@@ -33,8 +33,8 @@ func (clock *VirtualTime) Set(moment uint32) { clock.moment.Store(moment) }
 // most is how many replies are written before another session may have the engine.
 const most = 64
 
-// A Conn is a session as a client's connection: what is written to it are requests, what is read from it
-// their replies. One goroutine may read while another one writes.
+// A Conn is a session as a client's connection: what is written to it are requests, what is read
+// from it their replies. One goroutine may read while another one writes.
 type Conn struct {
 	session *Session
 	clock   Clock
@@ -44,7 +44,8 @@ type Conn struct {
 
 var _ io.ReadWriteCloser = (*Conn)(nil)
 
-// Connect opens a session for a client. The clock tells the moment at which each of its calls begins.
+// Connect opens a session for a client. The clock tells the moment at which each of its calls
+// begins.
 func (engine *Engine) Connect(clock Clock) (*Conn, error) {
 	session, err := engine.Open()
 	if err != nil {
@@ -71,7 +72,8 @@ func (conn *Conn) Write(data []byte) (int, error) {
 	return len(data), nil
 }
 
-// Read waits for bytes to be there, and takes them. After the session's last reply it answers io.EOF.
+// Read waits for bytes to be there, and takes them. After the session's last reply it answers
+// io.EOF.
 func (conn *Conn) Read(room []byte) (int, error) {
 	engine := conn.session.engine
 	engine.lock.Lock()

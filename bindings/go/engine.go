@@ -1,9 +1,9 @@
-// Package lucernetick is a whole SFTP server, version 3, inside a test: its tree is in memory, and its
-// clock is the test's.
+// Package lucernetick is a whole SFTP server, version 3, inside a test: its tree is in memory, and
+// its clock is the test's.
 //
-// An Engine asks no clock and starts no goroutine: sessions are fed bytes, are given turns, and have the
-// bytes that their clients are to be sent. The same calls give the same bytes each time. A Conn is a
-// session for a client, as sftp.NewClientPipe of github.com/pkg/sftp takes it.
+// An Engine asks no clock and starts no goroutine: sessions are fed bytes, are given turns, and
+// have the bytes that their clients are to be sent. The same calls give the same bytes each time. A
+// Conn is a session for a client, as sftp.NewClientPipe of github.com/pkg/sftp takes it.
 package lucernetick
 
 /*
@@ -68,20 +68,20 @@ func (turn Turn) String() string { return message(C.int64_t(turn)) }
 // HasEnded tells whether the session has ended.
 func (turn Turn) HasEnded() bool { return turn > C.LT_TURN_ENDED }
 
-// An Engine is one tree of files, and any sessions on it. Goroutines may share it: one call is made at a
-// time.
+// An Engine is one tree of files, and any sessions on it. Goroutines may share it: one call is made
+// at a time.
 type Engine struct {
 	lock    sync.Mutex
 	moved   *sync.Cond // told when a session did something, was fed, or was closed
 	pointer *C.lt_engine
 }
 
-// New makes an engine whose tree is the root alone. It keeps the records of its last 256 calls. Close frees
-// it.
+// New makes an engine whose tree is the root alone. It keeps the records of its last 256 calls.
+// Close frees it.
 func New() (*Engine, error) { return over(C.lt_new()) }
 
-// NewKeeping makes an engine as New does, which keeps the records of its last keep calls, or of all of them
-// where keep is 0. They take memory, with what was written and read, and change no answer.
+// NewKeeping makes an engine as New does, which keeps the records of its last keep calls, or of all
+// of them where keep is 0. They take memory, with what was written and read, and change no answer.
 func NewKeeping(keep uint64) (*Engine, error) { return over(C.lt_new_keeping(C.uint64_t(keep))) }
 
 func over(pointer *C.lt_engine) (*Engine, error) {
@@ -95,8 +95,8 @@ func over(pointer *C.lt_engine) (*Engine, error) {
 
 var _ io.Closer = (*Engine)(nil)
 
-// Close frees the engine. Further calls on it and its sessions are refused; a further Close does nothing.
-// The error is always nil.
+// Close frees the engine. Further calls on it and its sessions are refused; a further Close does
+// nothing. The error is always nil.
 func (engine *Engine) Close() error {
 	engine.lock.Lock()
 	defer engine.lock.Unlock()
@@ -113,9 +113,9 @@ func (engine *Engine) Open() (*Session, error) {
 	return engine.open()
 }
 
-// RunAll makes rounds, until no call is under way: in each, every session whose call is under way has one
-// turn, at the moment 0, by rising session numbers. It answers how many there were. What these calls are
-// answered waits for later turns, which write it. A closed engine alone refuses it.
+// RunAll makes rounds, until no call is under way: in each, every session whose call is under way
+// has one turn, at the moment 0, by rising session numbers. It answers how many there were. What
+// these calls are answered waits for later turns, which write it. A closed engine alone refuses it.
 func (engine *Engine) RunAll() (uint64, error) {
 	engine.lock.Lock()
 	defer engine.lock.Unlock()
@@ -135,15 +135,16 @@ type Session struct {
 // Number is 1 for an engine's first session, then 2, 3 and so on.
 func (session *Session) Number() uint64 { return uint64(session.number) }
 
-// Feed appends bytes that the client sent to those that the session hasn't read. They may be cut anywhere.
+// Feed appends bytes that the client sent to those that the session hasn't read. They may be cut
+// anywhere.
 func (session *Session) Feed(data []byte) error {
 	session.engine.lock.Lock()
 	defer session.engine.lock.Unlock()
 	return session.feed(data)
 }
 
-// Turn does one thing: it writes an answer, makes one step of the session's call, or reads a packet. A
-// call that begins has moment as its time, in seconds since 1970.
+// Turn does one thing: it writes an answer, makes one step of the session's call, or reads a
+// packet. A call that begins has moment as its time, in seconds since 1970.
 func (session *Session) Turn(moment uint32) (Turn, error) {
 	session.engine.lock.Lock()
 	defer session.engine.lock.Unlock()
@@ -156,15 +157,16 @@ func (session *Session) Turn(moment uint32) (Turn, error) {
 	return turn, err
 }
 
-// Settle turns until the session is idle or blocked or has ended, or until most replies were written.
+// Settle turns until the session is idle or blocked or has ended, or until most replies were
+// written.
 func (session *Session) Settle(moment uint32, most uint64) (Turn, error) {
 	session.engine.lock.Lock()
 	defer session.engine.lock.Unlock()
 	return session.settle(moment, most)
 }
 
-// WantsBytes tells whether the session waits for bytes of its client: none of its calls is under way, no
-// whole packet is unread, and it hasn't ended.
+// WantsBytes tells whether the session waits for bytes of its client: none of its calls is under
+// way, no whole packet is unread, and it hasn't ended.
 func (session *Session) WantsBytes() (bool, error) {
 	session.engine.lock.Lock()
 	defer session.engine.lock.Unlock()
@@ -172,8 +174,8 @@ func (session *Session) WantsBytes() (bool, error) {
 	return wants == 1, err
 }
 
-// Output copies the bytes that wait to be sent to the client. Where a request was refused, these are those up
-// to the last such reply: what is behind it waits once they were sent.
+// Output copies the bytes that wait to be sent to the client. Where a request was refused, these
+// are those up to the last such reply: what is behind it waits once they were sent.
 func (session *Session) Output() ([]byte, error) {
 	session.engine.lock.Lock()
 	defer session.engine.lock.Unlock()

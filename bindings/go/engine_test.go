@@ -17,8 +17,8 @@ const looks = "\x00\x00\x00\x05\x01\x00\x00\x00\x03\x00\x00\x00\x0b\x11\x00\x00\
 // version is the length of VERSION's packet.
 const version = 71
 
-// What the second session of the schedule is sent after VERSION: the attributes of /a, size 0, nobody's,
-// 0o755, of the moment 100.
+// What the second session of the schedule is sent after VERSION: the attributes of /a, size 0,
+// nobody's, 0o755, of the moment 100.
 const looked = "\x00\x00\x00\x25\x69\x00\x00\x00\x08\x00\x00\x00\x0f\x00\x00\x00\x00\x00\x00\x00\x00" +
 	"\x00\x00\x00\x00\x00\x00\x00\x00\x00\x00\x41\xed\x00\x00\x00\x64\x00\x00\x00\x64"
 
@@ -31,8 +31,8 @@ func open(t *testing.T, engine *Engine, data string) *Session {
 	return session
 }
 
-// replay is what the turns of a schedule did, and what its two sessions were sent. The second session
-// looks at /a before the first one has made it.
+// replay is what the turns of a schedule did, and what its two sessions were sent. The second
+// session looks at /a before the first one has made it.
 func replay(t *testing.T) ([]Turn, [2]string) {
 	t.Helper()
 	engine := newEngine(t)
@@ -87,8 +87,8 @@ func written(t *testing.T, session *Session) string {
 	return string(output)
 }
 
-// In rounds the first rename is ahead: five of them until it is decided, in the last of which the other one
-// takes the root, and three more, since what that moves to is gone.
+// In rounds the first rename is ahead: five of them until it is decided, in the last of which the
+// other one takes the root, and three more, since what that moves to is gone.
 func TestCrossingRenamesInRounds(t *testing.T) {
 	engine := newEngine(t)
 	must(t, engine.WriteFiles(map[string][]byte{"/a/x": nil, "/b/y": nil}, 0))
@@ -216,7 +216,8 @@ func TestAGapIsZeros(t *testing.T) {
 	same(t, found["/g"].Pieces, found["/f"].Pieces)
 }
 
-// No session opens, also where as many are open as may be, and no call is recorded; and a snapshot stays.
+// No session opens, also where as many are open as may be, and no call is recorded; and a snapshot
+// stays.
 func TestASnapshotAsksForNothing(t *testing.T) {
 	engine, err := FromFiles(map[string][]byte{"/f": bytes.Repeat([]byte("1"), 40_000)}, 0)
 	must(t, err)

@@ -11,9 +11,9 @@ import (
 )
 
 // Save writes the tree into a folder of the system, which is made where it is missing: names,
-// contents, times, and the nine lowest bits of the permissions; all names of a file are one file, and
-// a sparse file has its gaps there too. Owners aren't set. Nothing that is there is replaced: Save stops
-// at it, with fs.ErrExist.
+// contents, times, and the nine lowest bits of the permissions; all names of a file are one file,
+// and a sparse file has its gaps there too. Owners aren't set. Nothing that is there is replaced:
+// Save stops at it, with fs.ErrExist.
 func (tree Snapshot) Save(folder string) error {
 	if err := os.MkdirAll(folder, 0o777); err != nil {
 		return err

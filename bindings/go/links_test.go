@@ -7,8 +7,8 @@ import (
 	"testing"
 )
 
-// alike is an engine with two files of two names each and one of one, which differ in their names alone:
-// their atimes are 5, their mtimes 9.
+// alike is an engine with two files of two names each and one of one, which differ in their names
+// alone: their atimes are 5, their mtimes 9.
 func alike(t *testing.T) *Engine {
 	t.Helper()
 	same := []byte("same")

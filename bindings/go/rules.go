@@ -37,8 +37,8 @@ func (status Status) Code() uint32 {
 // Always is a Rule's Times where all requests are refused.
 const Always = math.MaxUint64
 
-// A Rule is which requests are refused, how many of them, and by which status. The zero value refuses the
-// next request, whatever it asks, by StatusFailure.
+// A Rule is which requests are refused, how many of them, and by which status. The zero value
+// refuses the next request, whatever it asks, by StatusFailure.
 type Rule struct {
 	Session uint64 // its number; 0 is any, also one that opens later
 	Kind    Kind   // 0 is any
@@ -54,9 +54,9 @@ type GivenRule struct {
 	number C.uint64_t
 }
 
-// Refuse refuses requests from now on: each is answered by a status in its place, never reaches the tree, and
-// is no call that is recorded. Of more rules for one request the first that refuses it answers. INIT is never
-// refused, and no request that a turn has taken already.
+// Refuse refuses requests from now on: each is answered by a status in its place, never reaches the
+// tree, and is no call that is recorded. Of more rules for one request the first that refuses it
+// answers. INIT is never refused, and no request that a turn has taken already.
 func (engine *Engine) Refuse(rule Rule) (*GivenRule, error) {
 	given := C.lt_rule{
 		session: C.uint64_t(rule.Session),

@@ -24,13 +24,13 @@ type Entry struct {
 	UID, GID     uint32
 	Atime, Mtime uint32 // seconds since 1970
 	Size         uint64 // how many bytes a file has; 0 for a directory
-	// Pieces are a file's bytes without the gaps of a sparse one: all that is in no piece is zeros. A piece
-	// begins at a multiple of 32768. None is 32768 zeros, so that files of the same bytes have the same
-	// pieces.
+	// Pieces are a file's bytes without the gaps of a sparse one: all that is in no piece is zeros.
+	// A piece begins at a multiple of 32768. None is 32768 zeros, so that files of the same bytes
+	// have the same pieces.
 	Pieces []Piece
-	// File is a file's number, which all of its names share and no other one has; 0 for a directory. Numbers
-	// are given by each snapshot, from 1 in the order of the tree: a directory comes before what is below it,
-	// and names in the order of their bytes.
+	// File is a file's number, which all of its names share and no other one has; 0 for a
+	// directory. Numbers are given by each snapshot, from 1 in the order of the tree: a directory
+	// comes before what is below it, and names in the order of their bytes.
 	File int
 }
 
@@ -46,8 +46,8 @@ func (entry Entry) IsDir() bool { return entry.Mode&kindMask == kindDirectory }
 // Permissions are the lowest twelve bits of its mode.
 func (entry Entry) Permissions() uint32 { return entry.Mode & 0o7777 }
 
-// Contents are all bytes of a file, a sparse one's gaps as zeros; nil for a directory. They may be the
-// snapshot's own.
+// Contents are all bytes of a file, a sparse one's gaps as zeros; nil for a directory. They may be
+// the snapshot's own.
 func (entry Entry) Contents() []byte {
 	if entry.IsDir() {
 		return nil
@@ -87,10 +87,10 @@ func (entry Entry) ReadAt(room []byte, offset int64) (int, error) {
 	return count, nil
 }
 
-// Snapshot is the whole tree by paths, "/" among them. It is exactly the tree after the calls that took
-// effect so far, also while others are under way: none is waited for. Nothing is asked of the engine as a
-// client asks: no session opens, no call is recorded, and no time changes. The engine is locked while the
-// tree is taken, and not while files are read.
+// Snapshot is the whole tree by paths, "/" among them. It is exactly the tree after the calls that
+// took effect so far, also while others are under way: none is waited for. Nothing is asked of the
+// engine as a client asks: no session opens, no call is recorded, and no time changes. The engine
+// is locked while the tree is taken, and not while files are read.
 func (engine *Engine) Snapshot() (Snapshot, error) {
 	tree, err := engine.take()
 	if err != nil {

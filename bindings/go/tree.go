@@ -3,23 +3,27 @@ package lucernetick
 /*
 #include "lucernetick.h"
 
-// As lt_make_directory, lt_write_file and lt_link, with each pointer of Go's an argument of its own.
-static int64_t make_directory(lt_engine *engine, const uint8_t *path, size_t length, uint32_t moment,
-                              lt_place *place)
+// As lt_make_directory, lt_write_file and lt_link, with each pointer of Go's an argument of its
+// own.
+static int64_t make_directory(lt_engine *engine, const uint8_t *path, size_t length,
+                              uint32_t moment, lt_place *place)
 {
     return lt_make_directory(engine, (lt_bytes){path, length}, moment, place);
 }
 
-static int64_t write_file(lt_engine *engine, const uint8_t *path, size_t path_length, const uint8_t *contents,
-                          size_t length, uint32_t moment, lt_place *place)
+static int64_t write_file(lt_engine *engine, const uint8_t *path, size_t path_length,
+                          const uint8_t *contents, size_t length, uint32_t moment, lt_place *place)
 {
-    return lt_write_file(engine, (lt_bytes){path, path_length}, (lt_bytes){contents, length}, moment, place);
+    return lt_write_file(engine, (lt_bytes){path, path_length}, (lt_bytes){contents, length},
+                         moment, place);
 }
 
-static int64_t hard_link(lt_engine *engine, const uint8_t *path, size_t length, const uint8_t *new_path,
-                         size_t new_length, uint32_t moment, lt_place *place)
+static int64_t hard_link(lt_engine *engine, const uint8_t *path, size_t length,
+                         const uint8_t *new_path, size_t new_length, uint32_t moment,
+                         lt_place *place)
 {
-    return lt_link(engine, (lt_bytes){path, length}, (lt_bytes){new_path, new_length}, moment, place);
+    return lt_link(engine, (lt_bytes){path, length}, (lt_bytes){new_path, new_length}, moment,
+                   place);
 }
 */
 import "C"
@@ -30,9 +34,9 @@ import (
 	"sort"
 )
 
-// ErrBlocked: the call of another session, which has yet to take its turns, holds what a request wants. The
-// request stays as it is, in a session that gets no further turn but by RunAll: it may hold a directory until
-// then.
+// ErrBlocked: the call of another session, which has yet to take its turns, holds what a request
+// wants. The request stays as it is, in a session that gets no further turn but by RunAll: it may
+// hold a directory until then.
 var ErrBlocked = errors.New("lucernetick: " + Blocked.String())
 
 // A StatusError is the answer to a request of WriteFiles or Link that wasn't done.
@@ -59,8 +63,9 @@ func FromFiles(files map[string][]byte, moment uint32) (*Engine, error) {
 	return engine, nil
 }
 
-// WriteFiles makes or replaces these files, by requests of sessions of their own at this moment, in the
-// order of their paths. Directories on the way are made where they are missing. Nil stands for a directory.
+// WriteFiles makes or replaces these files, by requests of sessions of their own at this moment, in
+// the order of their paths. Directories on the way are made where they are missing. Nil stands for
+// a directory.
 func (engine *Engine) WriteFiles(files map[string][]byte, moment uint32) error {
 	paths := make([]string, 0, len(files))
 	for path := range files {
@@ -77,9 +82,9 @@ func (engine *Engine) WriteFiles(files map[string][]byte, moment uint32) error {
 	return nil
 }
 
-// Link gives the file at the old path the new one too, by a request of a session of its own at this moment.
-// Directories on the new path's way are made where they are missing. It is refused with a StatusError where the
-// new path is there already.
+// Link gives the file at the old path the new one too, by a request of a session of its own at this
+// moment. Directories on the new path's way are made where they are missing. It is refused with a
+// StatusError where the new path is there already.
 func (engine *Engine) Link(old, new string, moment uint32) error {
 	engine.lock.Lock()
 	defer engine.lock.Unlock()
