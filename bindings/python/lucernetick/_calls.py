@@ -216,8 +216,8 @@ library.lt_calls.argtypes = [ctypes.c_void_p, ctypes.c_uint64, ctypes.POINTER(Lt
 
 
 def read_calls(engine: Optional[int]) -> Iterator[tuple[int, Optional[Call]]]:
-    """What the library answers for each record and one place more, with the record; None where a session left, and
-    where there is no record."""
+    """What the library answers for each record and one place more, with the record; None where a
+    session left, and where there is no record."""
     at, count, call = 0, 1, LtCall()
     while at < count:
         count = library.lt_calls(engine, at, call)

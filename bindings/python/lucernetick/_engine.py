@@ -69,12 +69,14 @@ def checked(answer: int) -> int:
 class Engine(Refuses):
     """One tree of files, and any sessions on it. It asks no clock and starts no thread.
 
-    The same calls give the same bytes each time. Threads may share an engine: one call is made at a time.
+    The same calls give the same bytes each time. Threads may share an engine: one call is made at a
+    time.
     """
 
     def __init__(self, keep: int = KEEP) -> None:
-        """An engine whose tree is the root alone. It keeps the records of its last `keep` calls, or of all
-        of them where `keep` is 0. They take memory, with what was written and read, and change no answer."""
+        """An engine whose tree is the root alone. It keeps the records of its last `keep` calls, or
+        of all of them where `keep` is 0. They take memory, with what was written and read, and
+        change no answer."""
         self._lock = threading.RLock()
         self._moved = threading.Condition(self._lock)
         """Told when a session did something, so that one that was blocked may try again."""
@@ -108,27 +110,28 @@ class Engine(Refuses):
     def write_files(self, files: Files, *, moment: int = 0) -> None:
         """Makes or replaces these files, by requests of sessions of their own at this moment.
 
-        Keys are paths, values contents, or None for a directory, or `Link(path)` for a further name of the
-        file at that path. Directories on the way are made where they are missing. Links are made after all
-        others, in their order; one is refused with `StatusError` where its own path is there already. Text is
-        encoded as UTF-8.
+        Keys are paths, values contents, or None for a directory, or `Link(path)` for a further name
+        of the file at that path. Directories on the way are made where they are missing. Links are
+        made after all others, in their order; one is refused with `StatusError` where its own path
+        is there already. Text is encoded as UTF-8.
         """
         write_tree(self, files, moment)
 
     def snapshot(self) -> Snapshot:
-        """The whole tree by paths: each directory before what is below it, `/` first, and names in the order
-        of their bytes. It is exactly the tree after the calls that took effect so far, also while others are
-        under way: none is waited for. Names that aren't UTF-8 are decoded as `os.fsdecode` does.
+        """The whole tree by paths: each directory before what is below it, `/` first, and names in
+        the order of their bytes. It is exactly the tree after the calls that took effect so far,
+        also while others are under way: none is waited for. Names that aren't UTF-8 are decoded as
+        `os.fsdecode` does.
 
-        Nothing is asked of the engine as a client asks: no session opens, no call is recorded, and no time
-        changes. Its lock is held while the tree is taken, and not while files are read.
+        Nothing is asked of the engine as a client asks: no session opens, no call is recorded, and
+        no time changes. Its lock is held while the tree is taken, and not while files are read.
         """
         return Snapshot(read_tree(self))
 
     def run_all(self) -> int:
-        """Rounds, until no call is under way: in each, every session whose call is under way has one turn, at
-        the moment 0, by rising session numbers. Answers how many there were. What these calls are answered
-        waits for later turns, which write it."""
+        """Rounds, until no call is under way: in each, every session whose call is under way has
+        one turn, at the moment 0, by rising session numbers. Answers how many there were. What
+        these calls are answered waits for later turns, which write it."""
         with self._moved:
             rounds = checked(library.lt_run_all(self._engine))
             if rounds:
@@ -136,7 +139,8 @@ class Engine(Refuses):
             return rounds
 
     def calls(self) -> list[Call]:
-        """The records of calls that are kept, in the order in which they took effect, the oldest first.
+        """The records of calls that are kept, in the order in which they took effect, the oldest
+        first.
 
         Those of `write_files` are among them, by sessions of their own.
         """
@@ -243,21 +247,23 @@ class Session:
         return f"<lucernetick session {self.number}>"
 
     def feed(self, data: bytes) -> None:
-        """Appends bytes that its client sent to those that it hasn't read. They may be cut anywhere."""
+        """Appends bytes that its client sent to those that it hasn't read. They may be cut
+        anywhere."""
         self.engine._feed(self.number, bytes(data))
 
     def turn(self, moment: int) -> Turn:
-        """Does one thing: writes an answer, makes one step of its call, or reads a packet. A call that
-        begins has `moment` as its time, in seconds since 1970."""
+        """Does one thing: writes an answer, makes one step of its call, or reads a packet. A call
+        that begins has `moment` as its time, in seconds since 1970."""
         return self.engine._turn(self.number, seconds(moment))
 
     def settle(self, moment: int, most: int = 1_000_000) -> Turn:
-        """Turns until one is idle or blocked or the session has ended, or until `most` replies were written."""
+        """Turns until one is idle or blocked or the session has ended, or until `most` replies were
+        written."""
         return self.engine._settle(self.number, seconds(moment), unsigned(most))
 
     def wants_bytes(self) -> bool:
-        """Whether it waits for bytes of its client: none of its calls is under way, no whole packet is
-        unread, and it hasn't ended."""
+        """Whether it waits for bytes of its client: none of its calls is under way, no whole packet
+        is unread, and it hasn't ended."""
         return self.engine._wants_bytes(self.number)
 
     def output(self) -> bytes:

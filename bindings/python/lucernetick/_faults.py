@@ -57,9 +57,9 @@ class StatusError(Error):
 
 
 class BlockedError(Error):
-    """The call of another session, which has yet to take its turns, holds what a request wants. The request
-    stays as it is, in a session that gets no further turn but by `Engine.run_all`: it may hold a directory
-    until then."""
+    """The call of another session, which has yet to take its turns, holds what a request wants. The
+    request stays as it is, in a session that gets no further turn but by `Engine.run_all`: it may
+    hold a directory until then."""
 
 
 class EndedError(Error):

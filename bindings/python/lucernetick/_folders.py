@@ -12,8 +12,8 @@ PERMISSIONS = 0o777
 
 
 class Snapshot(Dict[str, Entry]):
-    """A whole tree: what is at each path. A directory stands before what is below it, and names in the
-    order of their bytes."""
+    """A whole tree: what is at each path. A directory stands before what is below it, and names in
+    the order of their bytes."""
 
     def save(self, folder: Union[str, os.PathLike[str]]) -> None:
         """Writes it into a folder of the system, which is made where it is missing, and has to be

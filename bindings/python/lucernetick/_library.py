@@ -12,8 +12,8 @@ STATUS_BASE = -100
 
 
 def places() -> Iterator[pathlib.Path]:
-    """Where the library may be: the file that the variable names, in this package, or where `./library`
-    leaves it in the repository that this file belongs to."""
+    """Where the library may be: the file that the variable names, in this package, or where
+    `./library` leaves it in the repository that this file belongs to."""
     named = os.environ.get(VARIABLE)
     if named:
         yield pathlib.Path(named)

@@ -155,8 +155,8 @@ class Server(Closes, Refuses):
         return connection
 
     async def serve(self, reader: StreamReader, writer: StreamWriter) -> None:
-        """Serves one session over asyncio's streams, or others that have their methods, to its end: it is what
-        `asyncio.start_unix_server` calls for each connection."""
+        """Serves one session over asyncio's streams, or others that have their methods, to its end:
+        it is what `asyncio.start_unix_server` calls for each connection."""
         back, forth = await asyncio.open_connection(sock=self.connect())
         to_server = asyncio.ensure_future(_pass_on(reader, forth))
         try:
@@ -208,7 +208,8 @@ class Server(Closes, Refuses):
                 return
 
     def _settle(self, session: Session, line: Line) -> Turn:
-        """Takes the session's turns until it waits for bytes or has ended, and sends what it wrote."""
+        """Takes the session's turns until it waits for bytes or has ended, and sends what it
+        wrote."""
         while True:
             turn = self._turns(session, line.replies)
             if output := session.take():

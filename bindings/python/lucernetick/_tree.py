@@ -1,4 +1,5 @@
-"""Whole trees: written by the library, which does it by requests of sessions of its own, and taken."""
+"""Whole trees: written by the library, which does it by requests of sessions of its own, and
+taken."""
 
 from __future__ import annotations
 
@@ -52,12 +53,12 @@ class Entry:
     size: int
     """How many bytes a file has; 0 for a directory."""
     pieces: tuple[tuple[int, bytes], ...]
-    """A file's bytes, by their offsets, without the gaps of a sparse one: all that is in no piece is zeros.
-    A piece begins at a multiple of 32768. None is 32768 zeros, so that files of the same bytes have the
-    same pieces."""
+    """A file's bytes, by their offsets, without the gaps of a sparse one: all that is in no piece
+    is zeros. A piece begins at a multiple of 32768. None is 32768 zeros, so that files of the same
+    bytes have the same pieces."""
     file: Optional[int]
-    """A file's number, which all of its names share and no other one has; None for a directory. Numbers are
-    given by each snapshot, from 1 in its order."""
+    """A file's number, which all of its names share and no other one has; None for a directory.
+    Numbers are given by each snapshot, from 1 in its order."""
 
     @property
     def contents(self) -> Optional[bytes]:

@@ -20,8 +20,8 @@ def virtual_time() -> VirtualTime:
 
 @pytest.fixture
 def sftp_tree(virtual_time: VirtualTime) -> Iterator[Server]:
-    """A server with an empty tree of its own: `connect()` gives a socket for a client, `snapshot()` the
-    whole tree. Every time in it is what `virtual_time` says."""
+    """A server with an empty tree of its own: `connect()` gives a socket for a client, `snapshot()`
+    the whole tree. Every time in it is what `virtual_time` says."""
     with Engine() as engine, Server(engine, virtual_time) as server:
         yield server
 
