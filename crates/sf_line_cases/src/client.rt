@@ -8,7 +8,7 @@ use sf_engine::Engine;
 use sf_field::Attrs;
 use sf_line::{MemoryLine, Pieces};
 use sf_reply::{Entry, StatusCode};
-use sf_serving::serve_one;
+use sf_serving::{NoObserver, serve_one};
 use sf_session::Cause;
 use std::alloc::Global;
 use std::process::Abort;
@@ -40,7 +40,7 @@ fn served(alloc: Global, requests: &[u8]) -> Result<(Cause, Vec<u8>), Fail> {
     let all = Pieces::new(usize::MAX, usize::MAX);
     let mut line = MemoryLine::new(alloc, requests, all, all);
     let mut engine = Engine::new(alloc)?;
-    let ended = serve_one(alloc, &mut engine, &mut line, &mut StillClock)?;
+    let ended = serve_one(alloc, &mut engine, &mut line, &mut StillClock, &NoObserver)?;
     Ok((ended, Vec::from_slice(alloc, line.output())?))
 }
 

@@ -3,7 +3,7 @@
 use sf_cases::{RisingClock, StillClock, hex_bytes, hex_packets};
 use sf_engine::Engine;
 use sf_line::{Line, MemoryLine, Pieces};
-use sf_serving::serve_one;
+use sf_serving::{NoObserver, serve_one};
 use sf_session::{Cause, Clock, ServeFault};
 use std::alloc::Global;
 use std::process::Abort;
@@ -26,7 +26,7 @@ fn serve_at<L: Line, C: Clock>(
     clock: &mut C,
 ) -> Result<Cause, ServeFault> {
     let mut engine = Engine::with_keep(alloc, 256)?;
-    serve_one(alloc, &mut engine, line, clock)
+    serve_one(alloc, &mut engine, line, clock, &NoObserver)
 }
 
 /// A session at the moment 100.

@@ -1,6 +1,6 @@
 -- One call of a session, made at its desk.
-use Rattle.std.proofs.Common.{◌≡◌, ◌≢◌, ◌≤◌, ◌+◌, ℕ, false, List, [], ◌∷◌, ◌++◌, length, Option, Some, None, Result, Ok, Err, refl, ap, sym, ◌∙◌, subst, append-nil, length-append, arith}
-use Rattle.std.specs.Prelude.{IfSome, OnOk}
+use Rattle.std.proofs.Common.{◌≡◌, ◌≢◌, ◌≤◌, ◌+◌, ℕ, true, false, List, [], ◌∷◌, ◌++◌, length, Option, Some, None, Result, Ok, Err, refl, ap, sym, ◌∙◌, subst, append-nil, length-append, lt_of_not-le, arith}
+use Rattle.std.specs.Prelude.{IfSome, OnOk, IsOk}
 use Rattle.std.specs.Result.{is_err}
 use Rattle.std.specs.Io.KnownBytes.{Appends}
 use Rattle.sf_field.specs.Fields.{packet}
@@ -11,7 +11,8 @@ use Rattle.sf_call.specs.Answers.{AnswerView as Answer}
 use Rattle.sf_call.specs.declared.fault.CoreFault.{CoreFault}
 use Rattle.sf_call.specs.ReplyKinds.{longest_packet}
 use Rattle.sf_session.specs.declared.asking.Ask.TheVariants as ask
-use Rattle.sf_session.specs.Sessions.{SessionView, refusal_of}
+use Rattle.sf_session.specs.declared.session.SessionFault.{SessionFault}
+use Rattle.sf_session.specs.Sessions.{SessionView, refusal_of, reply_room}
 use Rattle.sf_session.proofs.Laws.{refusal_short}
 use Rattle.sf_engine.specs.Worlds.{Response, ByCall, Refused, ask_behind, packet_for}
 use Rattle.sf_engine.specs.Laws.{HasShortPacket}
@@ -20,7 +21,8 @@ use Rattle.sf_noted.specs.Pages.Presence.{UnderWay}
 use Rattle.sf_pool.specs.declared.desk.Begin.{Begin}
 use Rattle.sf_pool.specs.Desks.{DeskState, Joined, IsResting, IsLastAnswer, DeskView, Notes}
 use Rattle.sf_pool.specs.Scenes.{response_calls, Attempt, attempt, answer_attempts, BeginsCalls}
-use Rattle.sf_pool.specs.AtDesks.{MakesCall, talk, after_calls, IsAnsweredAt}
+use Rattle.sf_pool.specs.declared.calling.Stop.TheVariants as stop
+use Rattle.sf_pool.specs.AtDesks.{MakesCall, talk, after_calls, IsAnsweredAt, IsLong, FailsCall}
 
 abbrev pub deed : ℕ → Request → Reply → CallRecord
 deed number request reply = record { number = number; request = request; reply = reply }
@@ -95,6 +97,19 @@ call_refused request Asked {d = d} fault v w same written asked =
     let answers : Answers request Asked d d (λ id. Refused id request fault) =
     record { asks = λ id. refl; noted = λ id. ap (λ (c : List CallRecord). record d { calls = c }) (sym (append-nil d.calls)); asked = λ id. asked } in
     subst (λ (x : DeskView). MakesCall request Asked (talk d v) (talk x w)) (sym same) (made_by v w v.waiting answers (λ id e. refusal_short id fault) written)
+
+-- a reply that found no room is no short one
+long : (waiting : Option ℕ) (reply : Reply) (r : Result (Unit {0}) SessionFault) → IfSome waiting (λ id. length (packet (reply_body id reply)) ≤ reply_room → IsOk r) → is_err r ≡ true → IsLong waiting reply
+long None reply r enough err = tt
+long (Some id) reply (Ok x) enough err = absurd (cc)
+long (Some id) reply (Err f) enough err = lt_of_not-le (λ (le : length (packet (reply_body id reply)) ≤ reply_room). let no : false ≡ true = enough le in (cc))
+
+pub call_unanswered : {d d1 d2 : DeskView} {request : Request} {number moment : ℕ} (waiting : Option ℕ) (Asked : List Attempt → Type 0) (answer : Answer) (r : Result (Unit {0}) SessionFault) → IsMade d d1 d2 request number moment → IsLastAnswer d2.calls answer.number answer.reply
+    → IfSome waiting (λ id. length (packet (reply_body id answer.reply)) ≤ reply_room → IsOk r) → is_err r ≡ true → Asked (attempt request (Ok number) ∷ []) → FailsCall waiting request stop.OutOfMemory Asked d d2
+call_unanswered {d = d} {d2 = d2} {request = request} {number = number} waiting Asked answer r made last enough err asked =
+    let h = noted_so made in
+    let same = last_at d.calls d2.calls (deed number request h.0) answer.number answer.reply (ap (λ (x : DeskView). x.calls) h.1) last in
+    (number, (h.0, h.1, long waiting h.0 r (subst (λ (x : Reply). IfSome waiting (λ id. length (packet (reply_body id x)) ≤ reply_room → IsOk r)) same enough) err), asked)
 
 -- a desk was asked to begin a call at the moment that was told for it, and no other since
 pub one_begin : (tl tl' : Option (List ℕ)) (b : Option (List Begin)) {b1 b2 : Option (List Begin)} (request : Request) (moment : ℕ) (outcome : Result ℕ CoreFault)

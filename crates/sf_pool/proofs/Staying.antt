@@ -1,5 +1,5 @@
 -- A session's stay between two events.
-use Rattle.std.proofs.Common.{◌≡◌, ◌≢◌, ◌++◌, ◌∷◌, [], ℕ, Bool, List, Option, Some, None, map, refl, sym, ap, ◌∙◌, subst, append_assoc}
+use Rattle.std.proofs.Common.{◌≡◌, ◌≢◌, ◌++◌, ◌∷◌, [], ℕ, Bool, List, Option, Some, map, refl, sym, ap, ◌∙◌, subst, append_assoc}
 use Rattle.std.proofs.lemmas.List.{map-append}
 use Rattle.sf_reply.specs.declared.reply.Reply.{Reply}
 use Rattle.sf_call.specs.declared.request.Request.{Request}
@@ -19,7 +19,7 @@ use Rattle.sf_pool.specs.declared.desk.StepResult.{StepResult}
 use Rattle.sf_pool.specs.declared.desk.StepResult.TheVariants.{Answered}
 use Rattle.sf_pool.specs.declared.stay.Place.{Place}
 use Rattle.sf_pool.specs.declared.stay.Place.TheVariants as place
-use Rattle.sf_pool.specs.Desks.{IsLastAnswer, DeskView, counted, Steps}
+use Rattle.sf_pool.specs.Desks.{IsLast, IsLastAnswer, DeskView, counted, Steps}
 use Rattle.sf_pool.specs.OnCores.{IsPageOf}
 use Rattle.sf_pool.specs.Stays.{desk_at, IsStay}
 
@@ -31,10 +31,9 @@ refused_known v refused.Sessions h e = cc
 refused_known v refused.NumbersSpent h e = cc
 
 -- the last call that is kept is the last that was told
-pub last_kept : (d : DeskView) (asked : Option Request) (t : Transcript) → IsStay d asked t → (earlier : List AnsweredCall) (call : AnsweredCall) → t.calls.items ≡ earlier ++ call ∷ [] → IsLastAnswer d.calls call.answer.number call.answer.reply
+pub last_kept : (d : DeskView) (asked : Option Request) (t : Transcript) → IsStay d asked t → (earlier : List AnsweredCall) (call : AnsweredCall) → t.calls.items ≡ earlier ++ call ∷ [] → IsLast d.calls (call_record call)
 last_kept d asked t stay earlier call whole = (
   stay.earlier ++ map call_record earlier,
-  call.request,
   stay.whole
       ∙ (ap (λ (l : List AnsweredCall). stay.earlier ++ map call_record l) whole
       ∙ (ap (λ (l : List CallRecord). stay.earlier ++ l) (map-append call_record earlier (call ∷ [])) ∙ sym (append_assoc stay.earlier (map call_record earlier) (call_record call ∷ [])))),

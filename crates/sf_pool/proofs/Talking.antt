@@ -17,7 +17,7 @@ use Rattle.sf_session.specs.declared.fault.ServeFault.{ServeFault}
 use Rattle.sf_session.specs.declared.session.Next.TheVariants as next
 use Rattle.sf_session.specs.Asking.{AsksFor}
 use Rattle.sf_session.specs.Sessions.{SessionView, Begins, NextGives, LocalPacket, EndsBy, new_session}
-use Rattle.sf_engine.specs.Worlds.{Response, Version, Locally, ByCall, ask_behind, packet_for, transcript, Phase, Resting as AtRest, UnderWay as InCall, Decided, Gone as Left, SessionState, new_state}
+use Rattle.sf_engine.specs.Worlds.{Response, Version, Locally, ask_behind, packet_for, transcript, Phase, Resting as AtRest, UnderWay as InCall, Decided, Gone as Left, SessionState, new_state}
 use Rattle.sf_engine.specs.Traces.{has_begun, fed, closed_now}
 use Rattle.sf_engine.specs.Laws.{pending, asks_of, AreAsked, IsRest, IsRead, HasShortPacket}
 use Rattle.sf_engine.proofs.Laws.{all_push, begun_is, begun_push, asked_push}
@@ -395,7 +395,7 @@ goes_pended {v = v} {w = w} {t = t} {f = f} g go gives same n counts =
     same ∙ x.now ∙ ap (λ (l : List ℕ). record { unread = x.rest; output = l; begun = true; waiting = Some x.id; ended = None }) out in
     goes_body (Err g) go b n (shown w x.rest (v.output ++ transcript []) (Some x.id) is) batch_none (counts (after_body t x.body x.rest [] f) refl) tt
 
-pub goes_stopped : {start now now' : DeskScene} {v m w : SessionView} {request : Request} {t : SessionState} (why : Stop) → MayGo start now v t → NextGives v (next.Call request) m → w ≡ m → FailsCall request why (BeginsCalls now.told now'.told now.begins now'.begins) now.desk now'.desk
+pub goes_stopped : {start now now' : DeskScene} {v m w : SessionView} {request : Request} {t : SessionState} (why : Stop) → MayGo start now v t → NextGives v (next.Call request) m → w ≡ m → FailsCall m.waiting request why (BeginsCalls now.told now'.told now.begins now'.begins) now.desk now'.desk
     → Goes start (standing_after why) w now' (Err (stop_fault why)) t
 goes_stopped {request = request} stop.OutOfMemory go gives same fails =
     let is = fails.1.1 in

@@ -1,12 +1,14 @@
 -- No public clause cites this module.
 -- A session that is served at a desk, between two of its packets.
-use Rattle.std.specs.Prelude.{◌≡◌, ◌≤◌, ℕ, List, [], ◌∷◌, ◌++◌, length, Option, Some, None, Ok, IfSome}
+use Rattle.std.specs.Prelude.{◌≡◌, ◌<◌, ◌≤◌, ℕ, List, [], ◌∷◌, ◌++◌, length, Option, Some, None, Ok, IfSome}
 use Rattle.sf_call.specs.declared.request.Request.{Request}
+use Rattle.sf_field.specs.Fields.{packet}
 use Rattle.sf_reply.specs.declared.reply.Reply.{Reply}
+use Rattle.sf_reply.specs.Replies.{reply_body}
 use Rattle.sf_session.specs.declared.asking.Ask.TheVariants as ask
 use Rattle.sf_session.specs.declared.fault.ServeFault.{ServeFault}
 use Rattle.sf_session.specs.declared.fault.ServeFault.TheVariants as fault
-use Rattle.sf_session.specs.Sessions.{SessionView}
+use Rattle.sf_session.specs.Sessions.{SessionView, reply_room}
 use Rattle.sf_engine.specs.Worlds.{Response, ask_behind, packet_for, transcript, Resting as AtRest, SessionState}
 use Rattle.sf_engine.specs.Traces.{has_begun}
 use Rattle.sf_engine.specs.Laws.{HasShortPacket}
@@ -49,18 +51,25 @@ MakesCall request Asked x y =
     × (y.desk ≡ after_calls x.desk (response_calls a) y.desk.steps)
     × Asked (answer_attempts a) × HasShortPacket a)
 
--- The session's call of this number was made and its reply found no room; or it has no answer.
-abbrev pub LacksReply : Request → ℕ → Stop → DeskView → DeskView → Type 0
-LacksReply request number stop.OutOfMemory d d' = (reply : Reply) × (d' ≡ after_calls d
+-- a reply to this request has more bytes than were reserved
+abbrev pub IsLong : Option ℕ → Reply → Type 0
+IsLong waiting reply = IfSome waiting (λ id. reply_room < length (packet (reply_body id reply)))
+
+-- The session's call of this number was made, and its reply, which is no short one, found no room;
+-- or it has no answer.
+abbrev pub LacksReply : Option ℕ → Request → ℕ → Stop → DeskView → DeskView → Type 0
+LacksReply waiting request number stop.OutOfMemory d d' = (reply : Reply) × (d' ≡ after_calls d
     (record { number = number; request = request; reply = reply } ∷ []) d'.steps)
-LacksReply request number stop.UnderWay d d' = (moment : ℕ)
+    × IsLong waiting reply
+LacksReply waiting request number stop.UnderWay d d' = (moment : ℕ)
     × (d' ≡ after_steps (record d { place = Joined (UnderWay number moment request) }) d'.steps)
     × (most_counted ≤ d'.steps)
 
 -- The session's call began, and has no reply. The desk was asked for it alone.
-abbrev pub FailsCall : Request → Stop → (List Attempt → Type 0) → DeskView → DeskView → Type 0
-FailsCall request stop Asked d d' =
-    (number : ℕ) × LacksReply request number stop d d' × Asked (attempt request (Ok number) ∷ [])
+abbrev pub FailsCall : Option ℕ → Request → Stop → (List Attempt → Type 0) → DeskView → DeskView
+    → Type 0
+FailsCall waiting request stop Asked d d' = (number : ℕ)
+    × LacksReply waiting request number stop d d' × Asked (attempt request (Ok number) ∷ [])
 
 -- ---- how it stands
 

@@ -5,7 +5,7 @@ use Rattle.sf_call.specs.declared.request.Request.{Request}
 use Rattle.sf_call.specs.declared.fault.CoreFault.{CoreFault}
 use Rattle.sf_audit.specs.Audits.{CallRecord}
 use Rattle.sf_noted.specs.Pages.{Presence}
-use Rattle.sf_noted.specs.Pages.Presence.{Resting, UnderWay}
+use Rattle.sf_noted.specs.Pages.Presence.{Resting}
 use Rattle.sf_noted.specs.PageChanges.{as_told, IsUnderWay}
 use Rattle.sf_pool.specs.declared.desk.StepResult.{StepResult}
 use Rattle.sf_pool.specs.declared.desk.StepResult.TheVariants.{Going, Answered}
@@ -27,6 +27,10 @@ HasCallUnderWay _ = ⊥
 abbrev pub IsLastAnswer : List CallRecord → ℕ → Reply → Type 0
 IsLastAnswer calls number reply = (earlier : List CallRecord) × (request : Request)
     × (calls ≡ earlier ++ record { number = number; request = request; reply = reply } ∷ [])
+
+-- the last of the calls is this
+abbrev pub IsLast : List CallRecord → CallRecord → Type 0
+IsLast calls call = (earlier : List CallRecord) × (calls ≡ earlier ++ call ∷ [])
 
 -- what is kept in order goes on by these, where it is kept
 abbrev pub Notes : {T : Type 0} → Option (List T) → Option (List T) → List T → Type 0

@@ -1,6 +1,6 @@
 //! One call of a session, made at its desk.
 
-ghost use Rattle.std.specs.Prelude.{◌≡◌, ◌≤◌, true, false, IsSome, OnOk, IfErr};
+ghost use Rattle.std.specs.Prelude.{◌≡◌, ◌≢◌, ◌≤◌, [], true, false, IsSome, OnOk, IfErr};
 ghost use Rattle.sf_serving.specs.Hosts.{most_counted};
 ghost use Rattle.sf_pool.specs.Desks.{IsResting, HasCallUnderWay};
 ghost use Rattle.sf_pool.specs.Scenes.{BeginsCalls};
@@ -8,7 +8,9 @@ ghost use Rattle.sf_pool.specs.AtDesks.{MakesCall, talk, after_steps, IsAnswered
 
 use crate::desk::{Desk, StepResult};
 use crate::observer::StepObserver;
+use sf_audit::AnsweredCall;
 use sf_call::Request;
+use sf_serving::{CallObserver, ObservedCall};
 use sf_session::{Clock, Session};
 
 /// Why a call has no reply.
@@ -56,6 +58,26 @@ fn finish<D: Desk, G: StepObserver>(desk: &mut D, observer: &G, session: u64, nu
     false
 }
 
+/// Tells the observer of the last call where it wants that. Nothing is held then.
+fn tell_call<D: Desk, G: CallObserver>(desk: &mut D, observer: &G, session: u64, moment: u32)
+    requires { (D.at desk.old).calls ≢ [] }
+    ensures at { D.at desk.new ≡ D.at desk.old }
+    ensures begins { D.begins desk.new ≡ D.begins desk.old }
+{
+    if !observer.hears_calls() {
+        return;
+    }
+    desk.rest();
+    let AnsweredCall { request, answer } = desk.last_call();
+    observer.called(ObservedCall {
+        session,
+        number: answer.number(),
+        moment,
+        request,
+        reply: answer.reply(),
+    });
+}
+
 /// Makes the call that a packet asked for, at the clock's next moment. Its reply, or that of its
 /// refusal, is appended to the session's output.
 pub(crate) fn make_call<D: Desk, C: Clock, G: StepObserver>(
@@ -71,7 +93,7 @@ pub(crate) fn make_call<D: Desk, C: Clock, G: StepObserver>(
     ensures made { OnOk result (MakesCall request
         (BeginsCalls (C.told clock.old) (C.told clock.new) (D.begins desk.old) (D.begins desk.new))
         (talk (D.at desk.old) session.old) (talk (D.at desk.new) session.new)) }
-    ensures fails { IfErr result (λ stop. FailsCall request stop
+    ensures fails { IfErr result (λ stop. FailsCall session.old.waiting request stop
         (BeginsCalls (C.told clock.old) (C.told clock.new) (D.begins desk.old) (D.begins desk.new))
         (D.at desk.old) (D.at desk.new)) }
     ensures session { IfErr result (λ _. session.new ≡ session.old) }
@@ -88,7 +110,8 @@ pub(crate) fn make_call<D: Desk, C: Clock, G: StepObserver>(
         return Err(Stop::UnderWay);
     }
     observer.answered(number, call);
-    if session.answer(desk.answer()).is_err() {
+    tell_call(desk, observer, number, moment);
+    if session.answer(&desk.last_call().answer).is_err() {
         return Err(Stop::OutOfMemory);
     }
     Ok(())

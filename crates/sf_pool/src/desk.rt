@@ -2,11 +2,13 @@
 
 ghost use Rattle.std.specs.Prelude.{◌≡◌, ◌≢◌, ◌<◌, List, [], ◌∷◌, length, Option, None, OnErr, IfOk, IfErr};
 ghost use Rattle.sf_call.specs.declared.fault.CoreFault.TheVariants.{Stranger};
+ghost use Rattle.sf_audit.specs.Audits.{call_record};
 ghost use Rattle.sf_noted.specs.Pages.Presence.{Resting, UnderWay, Departed};
 ghost use Rattle.sf_pool.specs.declared.desk.Begin.{Begin};
-ghost use Rattle.sf_pool.specs.Desks.{New, Refused, Joined, IsResting, HasCallUnderWay, IsLastAnswer, Notes, share_of, DeskView, Steps};
+ghost use Rattle.sf_pool.specs.Desks.{New, Refused, Joined, IsResting, HasCallUnderWay, IsLast, Notes, share_of, DeskView, Steps};
 
-use sf_call::{Answer, CoreFault, Request};
+use sf_audit::AnsweredCall;
+use sf_call::{CoreFault, Request};
 use sf_core::Share;
 
 /// What a step came to.
@@ -14,7 +16,7 @@ use sf_core::Share;
 pub enum StepResult {
     /// The call has no answer yet.
     Going,
-    /// The call was answered: `answer` tells how.
+    /// The call was answered: `last_call` tells how.
     Answered,
 }
 
@@ -82,10 +84,10 @@ pub trait Desk {
         ensures rests { rests self.new }
         ensures begins { begins self.new ≡ begins self.old };
 
-    /// The answer to the last call.
-    fn answer(&self) -> &Answer
+    /// The last call, with its answer.
+    fn last_call(&self) -> &AnsweredCall
         requires { (at self.now).calls ≢ [] }
-        ensures { IsLastAnswer (at self.now).calls result.now.number result.now.reply };
+        ensures { IsLast (at self.now).calls (call_record result.now) };
 
     /// The session leaves, and its share of the calls is told: as many as it was answered. It rests
     /// then.

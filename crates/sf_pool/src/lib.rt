@@ -20,7 +20,7 @@ mod stay;
 pub use desk::{Begin, Desk, StepResult};
 pub use hall::Hall;
 pub use lock_desk::LockDesk;
-pub use observer::{NoObserver, StepObserver};
+pub use observer::StepObserver;
 pub use serving::serve;
 pub use stay::{Stay, Stayed, Stepped};
 

@@ -8,7 +8,8 @@ ghost use Rattle.sf_pool.specs.OnCores.{IsVisitOf, calls_begun_by};
 use crate::desk::{Desk, StepResult};
 use crate::hall::{Hall, LOOKS};
 use crate::stay::{Stay, Stayed};
-use sf_call::{Answer, CoreFault, Request};
+use sf_audit::AnsweredCall;
+use sf_call::{CoreFault, Request};
 use sf_core::Share;
 use sf_noted::NotedCore;
 use sf_roll::RollName;
@@ -384,8 +385,8 @@ impl<R: Wait, B: RollName + Ledger> Desk for LockDesk<'_, R, B> {
         self.let_go();
     }
 
-    fn answer(&self) -> &Answer {
-        self.stay.answer()
+    fn last_call(&self) -> &AnsweredCall {
+        self.stay.last_call()
     }
 
     fn leave(&mut self) -> Share {

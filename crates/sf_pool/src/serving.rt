@@ -29,7 +29,7 @@ fn join_refusal(fault: CoreFault) -> ServeFault
 }
 
 /// Serves one session over a line, at a desk that it has not joined, to the end of the input or of
-/// the session, and merges its share of the calls.
+/// the session, and merges its share of the calls. The observer is told of it, and of its calls.
 ///
 /// Where a call has no answer after 2^64 - 1 steps, its session is left at the desk.
 pub fn serve<D: Desk, L: Line, C: Clock, G: StepObserver>(
@@ -61,9 +61,11 @@ pub fn serve<D: Desk, L: Line, C: Clock, G: StepObserver>(
         Ok(number) => number,
         Err(fault) => return Err(join_refusal(fault)),
     };
+    observer.joined(number);
     let mut host = DeskHost::new(alloc, number, observer);
     let served = serve_session(&mut host, desk, line, clock, &mut piece);
     host.add_share(share);
+    observer.left(number, served);
     match served {
         Ok(_) => Ok(()),
         Err(fault) => Err(fault),

@@ -11,7 +11,7 @@ ghost use Rattle.sf_audit.specs.Audits.{call_record};
 ghost use Rattle.sf_noted.specs.Pages.Presence.{Resting, UnderWay, Departed};
 ghost use Rattle.sf_pool.specs.OnCores.{BeginsAt, RefusesAt, StepsAt, stepped_to, IsVisitOf, calls_begun_by};
 ghost use Rattle.sf_pool.specs.Stays.{visit_in, lane_in};
-ghost use Rattle.sf_pool.specs.Desks.{New, Refused, Joined, IsResting, HasCallUnderWay, IsLastAnswer, new_desk, share_of, Steps};
+ghost use Rattle.sf_pool.specs.Desks.{New, Refused, Joined, IsResting, HasCallUnderWay, IsLast, new_desk, share_of, Steps};
 
 use crate::desk::StepResult;
 use sf_audit::{AnsweredCall, Transcript};
@@ -237,13 +237,13 @@ impl<B: RollName + Ledger> Stay<B> {
         }
     }
 
-    /// The answer to the last call.
-    pub fn answer(&self) -> &Answer
+    /// The last call, with its answer.
+    pub fn last_call(&self) -> &AnsweredCall
         requires { self.now.calls ≢ [] }
-        ensures { IsLastAnswer self.now.calls result.now.number result.now.reply }
+        ensures { IsLast self.now.calls (call_record result.now) }
     {
         match self.transcript.calls.as_slice().split_last() {
-            Some((call, _earlier)) => &call.answer,
+            Some((call, _earlier)) => call,
             None => unreachable!(),
         }
     }

@@ -1,3 +1,4 @@
+mod Connections
 mod Carrying
 pub mod Lines
 mod Talks

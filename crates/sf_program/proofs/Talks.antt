@@ -1,5 +1,5 @@
 -- A session of `stdio` is a conversation.
-use Rattle.std.proofs.Common.{◌≡◌, ℕ, [], Result, Ok, Err}
+use Rattle.std.proofs.Common.{ℕ, [], Result, Ok, Err}
 use Rattle.sf_session.specs.declared.cause.Cause.{Cause}
 use Rattle.sf_session.specs.declared.fault.ServeFault.{ServeFault}
 use Rattle.sf_engine.specs.Fits.{Fits}

@@ -3,4 +3,5 @@ pub mod Commands
 pub mod Carrying
 pub mod Totals
 pub mod Loading
+pub mod Accepting
 pub mod Descriptors

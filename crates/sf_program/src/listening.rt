@@ -1,5 +1,6 @@
 //! The Unix socket at which a server listens.
 
+use crate::accepting::Acceptor;
 use crate::socket_line::{SocketLine, socket_line};
 use std::io::{self, ErrorKind};
 use std::os::unix::fs::FileTypeExt;
@@ -7,10 +8,7 @@ use std::os::unix::net::{UnixListener, UnixStream};
 use std::time::Duration;
 use std::{fs, thread};
 
-/// How often a connection is asked for before the server gives up, and how long it waits in
-/// between. A system that is short of descriptors has some again once sessions have ended.
-const TRIES: u32 = 1000;
-
+/// How long a server waits before it asks for a connection again.
 const PAUSE_MILLISECONDS: u64 = 10;
 
 /// Whether there is a socket's file at the path, and nobody listens.
@@ -44,13 +42,24 @@ fn accept(rt: &HostRuntime, listener: &UnixListener) -> io::Result<SocketLine> {
     socket_line(rt.alloc(), stream)
 }
 
-/// The next connection. Where none can be had, it is asked for again, for some ten seconds.
-pub(crate) fn next_line(rt: &HostRuntime, listener: &UnixListener) -> Option<SocketLine> {
-    for _ in 0..TRIES {
-        if let Ok(line) = accept(rt, listener) {
-            return Some(line);
-        }
-        thread::sleep(rt, Duration::from_millis(PAUSE_MILLISECONDS));
+/// Connections to a listener.
+#[derive(Drop)]
+pub(crate) struct Connections<'a> {
+    pub(crate) rt: &'a HostRuntime,
+    pub(crate) listener: &'a UnixListener,
+}
+
+impl Acceptor<SocketLine> for Connections<'_> {
+    ghost use Rattle.std.specs.Prelude.{None};
+
+    // What the system gives isn't told.
+    ghost given = { λ _. None };
+
+    fn accept(&mut self) -> Option<SocketLine> {
+        accept(self.rt, self.listener).ok()
     }
-    None
+
+    fn wait(&mut self) {
+        thread::sleep(self.rt, Duration::from_millis(PAUSE_MILLISECONDS));
+    }
 }

@@ -5,14 +5,15 @@ ghost use Rattle.sf_core.specs.Histories.{IsHistory};
 ghost use Rattle.sf_workers.specs.Told.{HasTold};
 ghost use Rattle.sf_program.specs.Totals.{HasToldTotals};
 
+use crate::accepting::{Stopped, Taker, accept_all};
 use crate::clock::SystemClock;
-use crate::listening::{listen, next_line};
+use crate::listening::{Connections, listen};
 use crate::loading::{NotLoaded, load_by_line};
 use crate::socket_line::SocketLine;
 use crate::totals::tell;
 use crossbeam_channel::{Receiver, Sender, bounded};
 use sf_core::Core;
-use sf_pool::NoObserver;
+use sf_pool::StepObserver;
 use sf_words::Serving;
 use sf_workers::{Ended, serve_on_core};
 use std::alloc::{AllocError, Global};
@@ -66,23 +67,38 @@ impl ServerFault {
 /// queue.
 const WAITING: usize = 256;
 
+/// The workers, who take connections from a channel.
+#[derive(Drop)]
+struct Workers<'a, T> {
+    threads: &'a T,
+    lines: &'a Sender<SocketLine>,
+}
+
+impl<T: Wait> Taker<SocketLine> for Workers<'_, T> {
+    ghost use Rattle.std.specs.Prelude.{None};
+
+    // A channel doesn't tell what passed through it.
+    ghost taken = { λ _. None };
+
+    fn take(&mut self, line: SocketLine) -> bool {
+        self.lines.send(self.threads, line).is_ok()
+    }
+}
+
 /// Accepts so many connections, or until nobody takes them, and sends them to the workers.
-fn accept_all<T: Wait>(
+fn accept<T: Wait>(
     rt: &HostRuntime,
     threads: &T,
     listener: &UnixListener,
     lines: &Sender<SocketLine>,
     most: u64,
 ) -> Result<(), ServerFault> {
-    for _ in 0..most {
-        let Some(line) = next_line(rt, listener) else {
-            return Err(ServerFault::CannotListen);
-        };
-        if lines.send(threads, line).is_err() {
-            break;
-        }
+    let mut connections = Connections { rt, listener };
+    let mut workers = Workers { threads, lines };
+    match accept_all(&mut connections, &mut workers, most) {
+        Stopped::All | Stopped::Ended => Ok(()),
+        Stopped::NoneLeft => Err(ServerFault::CannotListen),
     }
-    Ok(())
 }
 
 /// Listens, tells so on standard error, and accepts. The socket's file is removed once no more are
@@ -98,7 +114,7 @@ fn listen_and_accept<T: Wait>(
         return Err(ServerFault::CannotListen);
     };
     let _ = writeln!(rt.stderr(), "sftpd: listening at {path}");
-    let accepted = accept_all(rt, threads, &listener, lines, most);
+    let accepted = accept(rt, threads, &listener, lines, most);
     let _ = fs::remove_file(rt, path);
     accepted
 }
@@ -116,7 +132,7 @@ fn load_and_accept<T: Wait>(
     }
     let most = serving.sessions.unwrap_or(u64::MAX);
     match listener {
-        Some(listener) => accept_all(rt, threads, listener, &lines, most),
+        Some(listener) => accept(rt, threads, listener, &lines, most),
         None => listen_and_accept(rt, threads, serving.socket, &lines, most),
     }
 }
@@ -134,12 +150,13 @@ fn clocks(rt: &HostRuntime, count: u32) -> Result<Vec<SystemClock<'_, HostRuntim
 
 /// Serves connections on a core that no session has joined. One more thread accepts, and this one
 /// has the workers. What sessions were told is kept where they are counted.
-fn serve_core<T: Threads + Wait + Sync>(
+fn serve_core<T: Threads + Wait + Sync, G: StepObserver + Sync>(
     rt: &HostRuntime,
     threads: &T,
     listener: Option<&UnixListener>,
     serving: Serving<'_>,
     core: Core,
+    observer: &G,
 ) -> Result<Ended, ServerFault>
     requires new { IsHistory core [] }
     requires none { (core.joins ≡ 0) × (core.drawn ≡ 0) }
@@ -165,7 +182,7 @@ fn serve_core<T: Threads + Wait + Sync>(
             let Ok(accepting) = accepting else {
                 return Err(ServerFault::OutOfMemory);
             };
-            let ended = serve_to_end(threads, alloc, core, lines, clocks, keeps);
+            let ended = serve_to_end(threads, alloc, core, lines, clocks, observer, keeps);
             accepting.join(threads)?;
             ended
         },
@@ -173,12 +190,13 @@ fn serve_core<T: Threads + Wait + Sync>(
 }
 
 /// Serves the lines that a channel gives. Nobody takes any after that.
-fn serve_to_end<T: Threads + Wait + Sync>(
+fn serve_to_end<T: Threads + Wait + Sync, G: StepObserver + Sync>(
     threads: &T,
     alloc: Global,
     core: Core,
     lines: Receiver<SocketLine>,
     clocks: Vec<SystemClock<'_, HostRuntime>>,
+    observer: &G,
     keeps: bool,
 ) -> Result<Ended, ServerFault>
     requires new { IsHistory core [] }
@@ -186,17 +204,19 @@ fn serve_to_end<T: Threads + Wait + Sync>(
     requires few { vec_len clocks < 2 ^ 32 }
     ensures { IfOk result (λ ended. HasTold keeps ended.core ended.transcripts.items) }
 {
-    Ok(serve_on_core(threads, alloc, core, &lines, clocks, &NoObserver, keeps)?)
+    Ok(serve_on_core(threads, alloc, core, &lines, clocks, observer, keeps)?)
 }
 
 /// Serves the connections to a listener, or without one to that at the socket's path, which it makes
 /// once the tree is made; and writes what they came to where it was asked for a number of sessions.
-/// The session that makes the tree counts for none of them; its calls are among the calls.
-pub fn serve_on<T: Threads + Wait + Sync, W: Write>(
+/// The session that makes the tree counts for none of them; its calls are among the calls. The
+/// observer is told of all sessions, and of their calls.
+pub fn serve_on<T: Threads + Wait + Sync, G: StepObserver + Sync, W: Write>(
     rt: &HostRuntime,
     threads: &T,
     listener: Option<&UnixListener>,
     serving: Serving<'_>,
+    observer: &G,
     output: &mut W,
 ) -> Result<(), ServerFault>
     requires { 0 < serving.keep }
@@ -205,18 +225,19 @@ pub fn serve_on<T: Threads + Wait + Sync, W: Write>(
         (W.contents output.old) (W.contents output.new)) }
 {
     let core = Core::with_keep(rt.alloc(), serving.keep)?;
-    let ended = serve_core(rt, threads, listener, serving, core)?;
+    let ended = serve_core(rt, threads, listener, serving, core, observer)?;
     let sessions = serving.sessions.unwrap_or(u64::MAX);
     tell(&ended.core, ended.transcripts.as_slice(), sessions, output)
 }
 
 /// Serves sessions at a Unix socket.
-pub fn serve<T: Threads + Wait + Sync>(
+pub fn serve<T: Threads + Wait + Sync, G: StepObserver + Sync>(
     rt: &HostRuntime,
     threads: &T,
     serving: Serving<'_>,
+    observer: &G,
 ) -> Result<(), ServerFault>
     requires { 0 < serving.keep }
 {
-    serve_on(rt, threads, None, serving, &mut rt.stdout())
+    serve_on(rt, threads, None, serving, observer, &mut rt.stdout())
 }

@@ -13,18 +13,19 @@ ghost use Rattle.sf_program.specs.Statuses.{exit_status, line_of_cause, line_of,
 
 use sf_engine::Engine;
 use sf_line::{Line, LineFault, write_all};
-use sf_serving::serve_one;
+use sf_serving::{CallObserver, serve_one};
 use sf_session::{Cause, Clock, ServeFault};
 use std::alloc::Global;
 
 /// Serves one session over a line, on an engine of its own that keeps the last `keep` records of
 /// its calls; writes the one line of an early end to `errors`; and answers the exit status: 0 at
-/// the end of the input, else 1.
-pub fn run_stdio<L: Line, C: Clock, E: Line>(
+/// the end of the input, else 1. The observer is told of the session, and of its calls.
+pub fn run_stdio<L: Line, C: Clock, G: CallObserver, E: Line>(
     alloc: Global,
     keep: usize,
     line: &mut L,
     clock: &mut C,
+    observer: &G,
     errors: &mut E,
 ) -> u8
     requires { 0 < keep }
@@ -42,7 +43,7 @@ pub fn run_stdio<L: Line, C: Clock, E: Line>(
         × (Appends (E.outgoing errors.old) (E.outgoing errors.new) (line_of outcome)
         ⊎ Rose (E.failed errors.old) (E.failed errors.new)) }
 {
-    let outcome = serve(alloc, keep, line, clock);
+    let outcome = serve(alloc, keep, line, clock, observer);
     // What can't be told on standard error is still told by the status.
     let _ = report(errors, outcome);
     status(outcome)
@@ -50,11 +51,12 @@ pub fn run_stdio<L: Line, C: Clock, E: Line>(
 
 /// Serves one session over a line, on an engine that has served others, as `run_stdio` does on a new
 /// one.
-pub fn run_stdio_on<L: Line, C: Clock, E: Line>(
+pub fn run_stdio_on<L: Line, C: Clock, G: CallObserver, E: Line>(
     alloc: Global,
     engine: &mut Engine,
     line: &mut L,
     clock: &mut C,
+    observer: &G,
     errors: &mut E,
 ) -> u8
     ensures { (outcome : Result Cause ServeFault)
@@ -68,18 +70,19 @@ pub fn run_stdio_on<L: Line, C: Clock, E: Line>(
         × (Appends (E.outgoing errors.old) (E.outgoing errors.new) (line_of outcome)
         ⊎ Rose (E.failed errors.old) (E.failed errors.new)) }
 {
-    let ended = serve_on(alloc, engine, line, clock);
+    let ended = serve_on(alloc, engine, line, clock, observer);
     // What can't be told on standard error is still told by the status.
     let _ = report(errors, ended);
     status(ended)
 }
 
 /// Serves the session on a new engine.
-fn serve<L: Line, C: Clock>(
+fn serve<L: Line, C: Clock, G: CallObserver>(
     alloc: Global,
     keep: usize,
     line: &mut L,
     clock: &mut C,
+    observer: &G,
 ) -> Result<Cause, ServeFault>
     requires { 0 < keep }
     ensures ends { SessionEnds keep
@@ -95,18 +98,19 @@ fn serve<L: Line, C: Clock>(
     match Engine::with_keep(alloc, keep) {
         Ok(engine) => {
             let mut engine = engine;
-            serve_on(alloc, &mut engine, line, clock)
+            serve_on(alloc, &mut engine, line, clock, observer)
         }
         Err(_) => Err(ServeFault::OutOfMemory),
     }
 }
 
 /// Serves the session on this engine.
-fn serve_on<L: Line, C: Clock>(
+fn serve_on<L: Line, C: Clock, G: CallObserver>(
     alloc: Global,
     engine: &mut Engine,
     line: &mut L,
     clock: &mut C,
+    observer: &G,
 ) -> Result<Cause, ServeFault>
     ensures { ServingComesTo
         (io_state (line_view (L.incoming line.old) (L.outgoing line.old) (L.calls line.old))
@@ -114,7 +118,7 @@ fn serve_on<L: Line, C: Clock>(
         (io_state (line_view (L.incoming line.new) (L.outgoing line.new) (L.calls line.new))
         (C.told clock.new) engine.new) (L.failed line.old) (L.failed line.new) result }
 {
-    match serve_one(alloc, engine, line, clock) {
+    match serve_one(alloc, engine, line, clock, observer) {
         Ok(cause) => Ok(cause),
         Err(fault) => Err(fault),
     }

@@ -274,8 +274,8 @@ fn visit<B: RollName + Ledger>(
     let number = desk.begin(request, 100)?;
     assert_eq!(rt; desk.step(), StepResult::Going);
     assert_eq!(rt; desk.step(), StepResult::Answered);
-    assert_eq!(rt; desk.answer().number(), number);
-    assert_eq!(rt; desk.answer().session(), session);
+    assert_eq!(rt; desk.last_call().answer.number(), number);
+    assert_eq!(rt; desk.last_call().answer.session(), session);
     let share = desk.leave();
     Ok((desk.end(), share))
 }

@@ -4,11 +4,13 @@ use sf_cases::{StillClock, hex_bytes};
 use sf_line::{MemoryLine, Pieces};
 use sf_program::clock::moment;
 use sf_program::stdio::run_stdio;
+use sf_serving::NoObserver;
 use std::alloc::Global;
 use std::process::Abort;
 use std::test::*;
 use std::time::Duration;
 
+mod accepting;
 mod carrying;
 mod commands;
 mod serving;
@@ -19,7 +21,14 @@ fn is_told(rt: &impl Abort, alloc: Global, input: &[u8], status: u8, told: &[u8]
     let mut line = MemoryLine::new(alloc, input, all, all);
     let mut errors = MemoryLine::new(alloc, b"", all, all);
     assert_eq!(rt;
-        run_stdio(alloc, 1, &mut line, &mut StillClock, &mut errors),
+        run_stdio(
+            alloc,
+            1,
+            &mut line,
+            &mut StillClock,
+            &NoObserver,
+            &mut errors
+        ),
         status
     );
     assert_eq!(rt; errors.output(), told);

@@ -9,7 +9,8 @@ use sf_audit::{Totals, Transcript, audit};
 use sf_cases::{FailingLine, StillClock, hex_packets};
 use sf_core::Core;
 use sf_line::{Line, MemoryLine, Pieces};
-use sf_pool::{NoObserver, StepObserver};
+use sf_pool::StepObserver;
+use sf_serving::{CallObserver, NoObserver};
 use sf_workers::{Ended, serve_on_core};
 use std::alloc::Global;
 use std::process::Abort;
@@ -143,6 +144,8 @@ impl TwoCalls {
     }
 }
 
+impl CallObserver for TwoCalls {}
+
 impl StepObserver for TwoCalls {
     fn stops(&self, _session: u64, _number: u64, _steps: u64) -> bool {
         true
@@ -197,6 +200,8 @@ impl InTheWay {
     }
 }
 
+impl CallObserver for InTheWay {}
+
 impl StepObserver for InTheWay {
     fn stops(&self, _session: u64, _number: u64, _steps: u64) -> bool {
         true
@@ -213,8 +218,6 @@ impl StepObserver for InTheWay {
             }
         }
     }
-
-    fn answered(&self, _session: u64, _number: u64) {}
 }
 
 /// Sends the first line, and the second one once call 2 was seen.

@@ -22,7 +22,7 @@ use Rattle.sf_engine.specs.Conversation.{IsSubsequence, IsConversation}
 use Rattle.sf_engine.proofs.Laws.{all_map, IsOnly, begun_times, told_talk, none_due}
 use Rattle.sf_serving.specs.Ends.{IsEnd}
 use Rattle.sf_serving.specs.Serving.{Progress, ServedSoFar, IsServed}
-use Rattle.sf_serving.specs.OnEngine.{IoState, IsOf, IsEntryOf, moment_of, IsTimed, AreTimed, engine_held, IsTold, since_at, ServesLine, StopsEarly}
+use Rattle.sf_serving.specs.OnEngine.{IoState, IsOf, IsEntryOf, IsTimed, AreTimed, engine_held, IsTold, since_at, ServesLine, StopsEarly}
 use Rattle.sf_serving.specs.Talks.{TalkView, talk_view, Passes, ConversesTo}
 
 of_only : (session : ℕ) (ev : Event) (r : Result Happened EngineFault) → IsOf session ev r → IsOnly session ev

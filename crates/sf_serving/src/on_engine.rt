@@ -14,7 +14,9 @@ ghost use Rattle.sf_serving.specs.Serving.{line_view};
 ghost use Rattle.sf_serving.specs.OnEngine.{Since, IsToldBy, io_state, may_begin_after, Turns, Feeds, Applies, HasOutput, ServesLine, StopsEarly, IsUnchanged, open_refusal, IsOpenFault, IsServeFault};
 
 use crate::host::{Host, Went};
+use crate::observer::{CallObserver, ObservedCall};
 use crate::serving::{new_piece, serve_session};
+use sf_call::Record;
 use sf_engine::{Engine, EngineFault, Event, Happened};
 use sf_line::Line;
 use sf_session::{Cause, Clock, ServeFault};
@@ -115,14 +117,63 @@ fn waiting(engine: &Engine, session: u64) -> &[u8]
     }
 }
 
-/// A session of an engine, and how often it was given turns.
-#[derive(Debug, Drop)]
-struct EngineHost {
-    session: u64,
-    turns: u64,
+/// The record as a call of the session, if it is one.
+fn observed(record: &Record, session: u64) -> Option<ObservedCall<'_>> {
+    match record {
+        Record::Did {
+            number,
+            session: by,
+            moment,
+            request,
+            reply,
+        } if *by == session => Some(ObservedCall {
+            session,
+            number: *number,
+            moment: *moment,
+            request,
+            reply,
+        }),
+        _ => None,
+    }
 }
 
-impl Host<Engine> for EngineHost {
+/// The last call of the session among the records.
+fn last_call(records: &[Record], session: u64) -> Option<ObservedCall<'_>> {
+    for record in records.iter().rev() {
+        let call = observed(record, session);
+        if call.is_some() {
+            return call;
+        }
+    }
+    None
+}
+
+/// Tells the observer of the session's last call, unless that has this number, and so it was told of
+/// it. Gives the number of the last one that it was told of.
+fn tell_call<G: CallObserver>(observer: &G, engine: &Engine, session: u64, told: u64) -> u64 {
+    if !observer.hears_calls() {
+        return told;
+    }
+    match last_call(engine.core().history(), session) {
+        Some(call) if call.number != told => {
+            observer.called(call);
+            call.number
+        }
+        _ => told,
+    }
+}
+
+/// A session of an engine, how often it was given turns, and who is told of its calls.
+#[derive(Drop)]
+struct EngineHost<'a, G> {
+    session: u64,
+    turns: u64,
+    observer: &'a G,
+    // The number of the last call that the observer was told of, 0 before the first.
+    told: u64,
+}
+
+impl<G: CallObserver> Host<Engine> for EngineHost<'_, G> {
     ghost use Rattle.sf_serving.specs.OnEngine.{Since, IsToldBy, engine_held};
 
     ghost Start = { Since };
@@ -149,8 +200,12 @@ impl Host<Engine> for EngineHost {
             self.turns += 1;
             let happened = match turns(engine, clock, self.session, may_begin) {
                 Ok(happened) => happened,
-                Err(_) => return Err(ServeFault::OutOfMemory),
+                Err(_) => {
+                    tell_call(self.observer, engine, self.session, self.told);
+                    return Err(ServeFault::OutOfMemory);
+                }
             };
+            self.told = tell_call(self.observer, engine, self.session, self.told);
             match happened {
                 Happened::Idle => return Ok(Went::Waits),
                 Happened::Ended(cause) => return Ok(Went::Ended(cause)),
@@ -185,12 +240,13 @@ impl Host<Engine> for EngineHost {
 }
 
 /// Serves one session over a line, on an engine that may have others, to the end of the input or of
-/// the session.
-pub fn serve_one<L: Line, C: Clock>(
+/// the session. The observer is told of it, and of its calls.
+pub fn serve_one<L: Line, C: Clock, G: CallObserver>(
     alloc: Global,
     engine: &mut Engine,
     line: &mut L,
     clock: &mut C,
+    observer: &G,
 ) -> Result<Cause, ServeFault>
     ensures served { IfOk result (λ cause. ServesLine
         (io_state (line_view (L.incoming line.old) (L.outgoing line.old) (L.calls line.old))
@@ -207,6 +263,14 @@ pub fn serve_one<L: Line, C: Clock>(
 {
     let mut piece = new_piece(alloc)?;
     let session = open(engine)?;
-    let mut host = EngineHost { session, turns: 0 };
-    serve_session(&mut host, engine, line, clock, &mut piece)
+    observer.joined(session);
+    let mut host = EngineHost {
+        session,
+        turns: 0,
+        observer,
+        told: 0,
+    };
+    let outcome = serve_session(&mut host, engine, line, clock, &mut piece);
+    observer.left(session, outcome);
+    outcome
 }

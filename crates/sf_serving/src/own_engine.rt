@@ -3,6 +3,7 @@
 ghost use Rattle.std.specs.Prelude.{◌<◌};
 ghost use Rattle.sf_serving.specs.Talks.{talk_view, ConversesTo};
 
+use crate::observer::NoObserver;
 use crate::on_engine::serve_one;
 use sf_engine::Engine;
 use sf_line::Line;
@@ -26,7 +27,7 @@ pub fn serve_alone<L: Line, C: Clock>(
     match Engine::with_keep(alloc, keep) {
         Ok(engine) => {
             let mut engine = engine;
-            serve_one(alloc, &mut engine, line, clock)
+            serve_one(alloc, &mut engine, line, clock, &NoObserver)
         }
         Err(_) => Err(ServeFault::OutOfMemory),
     }

@@ -15,6 +15,8 @@ pub struct Stdio<'a> {
     pub keep: usize,
     /// The local folder whose files and directories the tree begins with; without one it is empty.
     pub tree: Option<&'a str>,
+    /// The file of the log, or `-` for standard error; without one there is no log.
+    pub log: Option<&'a str>,
 }
 
 /// What `sftpd serve` is asked for.
@@ -30,6 +32,8 @@ pub struct Serving<'a> {
     pub keep: usize,
     /// The local folder whose files and directories the tree begins with; without one it is empty.
     pub tree: Option<&'a str>,
+    /// The file of the log, or `-` for standard error; without one there is no log.
+    pub log: Option<&'a str>,
 }
 
 /// What the program is to do.
@@ -88,12 +92,19 @@ fn tree_word<'a>(alloc: Global) -> Arg<'a> {
     )
 }
 
+fn log_word<'a>(alloc: Global) -> Arg<'a> {
+    Arg::new(alloc, "log").long("log").value_name("PATH").help(
+        "Where a line is written for each session and each call; - is standard error",
+    )
+}
+
 /// The words of `sftpd stdio`.
 fn stdio_words<'a>(alloc: Global) -> Result<Command<'a>, AllocError> {
     Command::new(alloc, "stdio")
         .about("Serves one session on standard input and output, to the end of the input")
         .arg(keep_word(alloc))?
-        .arg(tree_word(alloc))
+        .arg(tree_word(alloc))?
+        .arg(log_word(alloc))
 }
 
 /// How many workers serve sessions where the words don't say, and at most.
@@ -129,7 +140,8 @@ fn serve_words<'a>(alloc: Global) -> Result<Command<'a>, AllocError> {
         .arg(workers)?
         .arg(sessions)?
         .arg(keep_word(alloc))?
-        .arg(tree_word(alloc))
+        .arg(tree_word(alloc))?
+        .arg(log_word(alloc))
 }
 
 /// The words of `sftpd connect`.
@@ -194,6 +206,7 @@ fn stdio_action<'a>(matches: &ArgMatches<'a>) -> Stdio<'a>
     Stdio {
         keep: matches.get_one::<usize>("keep").unwrap_or(KEEP).max(1),
         tree: matches.get_str("tree"),
+        log: matches.get_str("log"),
     }
 }
 
@@ -207,6 +220,7 @@ fn serve_action<'a>(matches: &ArgMatches<'a>) -> Serving<'a>
         sessions: matches.get_one::<u64>("sessions"),
         keep: matches.get_one::<usize>("keep").unwrap_or(KEEP).max(1),
         tree: matches.get_str("tree"),
+        log: matches.get_str("log"),
     }
 }
 

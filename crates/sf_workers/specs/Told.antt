@@ -1,6 +1,6 @@
 -- What the sessions of a core were told, by all workers together.
-use Rattle.std.specs.Prelude.{◌≡◌, ◌⊎◌, ℕ, List, [], map, Bool, Option, Some, None, All, if◌then◌else◌}
-use Rattle.std.specs.List.{sum_by}
+use Rattle.std.specs.Prelude.{◌≡◌, ◌⊎◌, ℕ, List, [], ◌++◌, map, Bool, Option, Some, None, All, if◌then◌else◌}
+use Rattle.std.specs.List.{cons_option, sum_by}
 use Rattle.sf_call.specs.declared.record.Record.{Record}
 use Rattle.sf_core.specs.Cores.{CoreView}
 use Rattle.sf_core.specs.Histories.{IsHistory}
@@ -38,6 +38,15 @@ pub record WasServed (x : ℕ × Page) (from line : LineView) : Type 0 where
 abbrev pub CameOf : Option (ℕ × Page) → (from line : LineView) → Type 0
 CameOf None from line = line ≡ from
 CameOf (Some x) from line = WasServed x from line
+
+-- A session was served over a line, and its visit is noted, if it joined; or nothing was read or
+-- written, and there was no room to note one more.
+abbrev pub ServesLine : (visits visits' : List (ℕ × Page)) → (lacks_room : Type 0)
+    → (from line : LineView) → Type 0
+ServesLine visits visits' lacks_room from line =
+    ((visit : Option (ℕ × Page)) × CameOf visit from line
+    × (visits' ≡ visits ++ cons_option visit []))
+    ⊎ (lacks_room × (visits' ≡ visits) × (line ≡ from))
 
 -- how many calls they began
 abbrev pub calls_of : List (ℕ × Page) → ℕ

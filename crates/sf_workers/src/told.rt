@@ -1,6 +1,7 @@
 //! What the sessions of a worker were told, and of all workers.
 
-ghost use Rattle.std.specs.Prelude.{◌≡◌, ◌<◌, ◌+◌, ◌++◌, [], true, map, vec_len, IfOk, IfSome, OnOk};
+ghost use Rattle.std.specs.Prelude.{◌≡◌, ◌<◌, ◌≤◌, ◌⊎◌, ◌+◌, ◌++◌, [], true, map, vec_len, IfOk, IfSome, OnOk, OnErr};
+ghost use Rattle.std.specs.List.{cons_option};
 ghost use Rattle.std.specs.Vec.{vec_capacity};
 ghost use Rattle.sf_pool.specs.OnCores.{calls_begun_by};
 ghost use Rattle.sf_workers.specs.Told.{told_on, told_in, kept_of, calls_of};
@@ -39,6 +40,8 @@ impl<B: RollName> Told<B> {
         ensures keeps { self.new.keeps ≡ self.old.keeps }
         ensures room { OnOk result ((vec_len self.new.visits < vec_capacity self.new.visits)
             × (vec_len self.new.transcripts < vec_capacity self.new.transcripts)) }
+        ensures full { OnErr result ((vec_capacity self.old.visits ≤ vec_len self.old.visits)
+            ⊎ (vec_capacity self.old.transcripts ≤ vec_len self.old.transcripts)) }
     {
         let Told {
             visits,
@@ -55,6 +58,7 @@ impl<B: RollName> Told<B> {
         requires transcripts { vec_len self.old.transcripts < vec_capacity self.old.transcripts }
         requires told { self.old.keeps ≡ true
             → IfSome visit (λ visit. told_in transcript ≡ told_on visit) }
+        ensures visits { self.new.visits.items ≡ self.old.visits.items ++ cons_option visit [] }
         ensures calls { calls_of self.new.visits.items
             ≡ calls_of self.old.visits.items + calls_begun_by visit }
         ensures keeps { self.new.keeps ≡ self.old.keeps }

@@ -1,12 +1,13 @@
 //! Threads that take lines from a channel, and serve each to its end.
 
-ghost use Rattle.std.specs.Prelude.{◌≡◌, ◌*◌, List, true, vec_len, All, IfOk, IfSome};
+ghost use Rattle.std.specs.Prelude.{◌≡◌, ◌≤◌, ◌⊎◌, ◌*◌, List, true, vec_len, All, IfOk, IfSome};
+ghost use Rattle.std.specs.Vec.{vec_capacity};
 ghost use Rattle.sf_call.specs.declared.record.Record.{Record};
 ghost use Rattle.sf_noted.specs.Visits.{IsVisitIn};
 ghost use Rattle.sf_serving.specs.Serving.{line_view};
 ghost use Rattle.sf_pool.specs.OnCores.{calls_begun_by};
 ghost use Rattle.sf_workers.specs.Conversations.{ConversesIn};
-ghost use Rattle.sf_workers.specs.Told.{told_on, told_in, calls_of, CameOf};
+ghost use Rattle.sf_workers.specs.Told.{told_on, told_in, calls_of, CameOf, ServesLine};
 
 use crate::told::Told;
 use crossbeam_channel::Receiver;
@@ -131,7 +132,12 @@ impl<B: RollName + Ledger> Served<B> {
         clock: &mut C,
         observer: &G,
     ) -> Served<B>
-        ensures { result.told.keeps ≡ self.told.keeps }
+        ensures keeps { result.told.keeps ≡ self.told.keeps }
+        ensures line { ServesLine self.told.visits.items result.told.visits.items
+            ((vec_capacity self.told.visits ≤ vec_len self.told.visits)
+            ⊎ (vec_capacity self.told.transcripts ≤ vec_len self.told.transcripts))
+            (line_view (L.incoming line.old) (L.outgoing line.old) (L.calls line.old))
+            (line_view (L.incoming line.new) (L.outgoing line.new) (L.calls line.new)) }
     {
         let Served {
             mut told,

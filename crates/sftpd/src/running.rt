@@ -6,13 +6,16 @@ ghost use Rattle.sf_words.specs.Words.{paths_len};
 use clap::{Error, error};
 use sf_ahead::AheadLine;
 use sf_line::StreamLine;
+use sf_pool::StepObserver;
 use sf_program::client::run_client;
 use sf_program::clock::SystemClock;
 use sf_program::connection::connect;
 use sf_program::descriptors::Descriptors;
 use sf_program::loading::engine_of_folder;
+use sf_program::log::open_log;
 use sf_program::server::serve;
 use sf_program::stdio::{run_stdio, run_stdio_on};
+use sf_serving::{CallObserver, NoObserver};
 use sf_words::{Action, ClientCommand, RefusedWords, Serving, Stdio, read_words};
 use std::env;
 use std::io::{self, ErrorKind, Input, Read};
@@ -31,7 +34,7 @@ pub(crate) fn run<T: Threads + Wait + Sync>(rt: &HostRuntime, threads: &T) -> u8
         return refuse_words(rt, ErrorKind::OutOfMemory);
     };
     match read_words(alloc, &words) {
-        Ok(Action::Stdio(words)) => stdio(rt, words),
+        Ok(Action::Stdio(words)) => stdio(rt, threads, words),
         Ok(Action::Serve(serving)) => serve_sessions(rt, threads, serving),
         Ok(Action::Connect(socket)) => carry(rt, threads, socket),
         Ok(Action::Client(socket, command)) => client(rt, socket, command),
@@ -40,23 +43,51 @@ pub(crate) fn run<T: Threads + Wait + Sync>(rt: &HostRuntime, threads: &T) -> u8
     }
 }
 
-/// Serves the session on standard input and output.
-fn stdio(rt: &HostRuntime, words: Stdio<'_>) -> u8
+/// Serves the session on standard input and output, with a log where one is asked for.
+fn stdio<T: Wait>(rt: &HostRuntime, threads: &T, words: Stdio<'_>) -> u8
     requires { 0 < words.keep }
 {
-    let mut line = AheadLine::new(rt.alloc(), Descriptors::standard(rt));
+    let Some(path) = words.log else {
+        return serve_stdio(rt, words, &NoObserver);
+    };
+    match open_log(rt, threads, path, words.tree) {
+        Some(log) => serve_stdio(rt, words, &log),
+        None => 1,
+    }
+}
+
+/// Serves the session on standard input and output.
+fn serve_stdio<G: CallObserver>(rt: &HostRuntime, words: Stdio<'_>, observer: &G) -> u8
+    requires { 0 < words.keep }
+{
+    let alloc = rt.alloc();
+    let mut line = AheadLine::new(alloc, Descriptors::standard(rt));
     let mut errors = StreamLine::new(io::empty(), rt.stderr());
     let mut clock = SystemClock::new(rt);
     let Some(tree) = words.tree else {
-        return run_stdio(rt.alloc(), words.keep, &mut line, &mut clock, &mut errors);
+        return run_stdio(
+            alloc,
+            words.keep,
+            &mut line,
+            &mut clock,
+            observer,
+            &mut errors,
+        );
     };
     let Some(mut engine) = engine_of_folder(rt, words.keep, tree) else {
         return 1;
     };
-    run_stdio_on(rt.alloc(), &mut engine, &mut line, &mut clock, &mut errors)
+    run_stdio_on(
+        alloc,
+        &mut engine,
+        &mut line,
+        &mut clock,
+        observer,
+        &mut errors,
+    )
 }
 
-/// Serves sessions at a socket.
+/// Serves sessions at a socket, with a log where one is asked for.
 fn serve_sessions<T: Threads + Wait + Sync>(
     rt: &HostRuntime,
     threads: &T,
@@ -64,7 +95,25 @@ fn serve_sessions<T: Threads + Wait + Sync>(
 ) -> u8
     requires { 0 < serving.keep }
 {
-    match serve(rt, threads, serving) {
+    let Some(path) = serving.log else {
+        return serve_socket(rt, threads, serving, &NoObserver);
+    };
+    match open_log(rt, threads, path, serving.tree) {
+        Some(log) => serve_socket(rt, threads, serving, &log),
+        None => 1,
+    }
+}
+
+/// Serves sessions at a socket.
+fn serve_socket<T: Threads + Wait + Sync, G: StepObserver + Sync>(
+    rt: &HostRuntime,
+    threads: &T,
+    serving: Serving<'_>,
+    observer: &G,
+) -> u8
+    requires { 0 < serving.keep }
+{
+    match serve(rt, threads, serving, observer) {
         Ok(()) => 0,
         Err(fault) => {
             if let Some(line) = fault.line() {

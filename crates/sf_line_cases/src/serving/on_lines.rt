@@ -1,5 +1,7 @@
 //! Sessions on lines that wait, and on lines that fail.
 
+ghost use Rattle.std.specs.Prelude.{◌≡◌, ◌++◌, ◌∷◌, []};
+
 use super::lines::AskingLine;
 use super::*;
 use sf_cases::FailingLine;
@@ -110,5 +112,64 @@ fn rising_moments(rt: HostRuntime) -> Result<(), Fail> {
     };
     assert_eq!(rt; accessed, made);
     assert!(rt; 1000 <= made && made < made_later && made_later < clock.next());
+    Ok(())
+}
+
+/// A clock whose moments rise by one each time, up to the last one that there is, and which keeps
+/// them.
+#[derive(Drop)]
+struct KeepingClock<'a, R: Abort> {
+    rt: &'a R,
+    next: u32,
+    told: Vec<u32>,
+}
+
+impl<'a, R: Abort> KeepingClock<'a, R> {
+    /// A clock that tells this moment first.
+    fn new(rt: &'a R, alloc: Global, first: u32) -> KeepingClock<'a, R> {
+        KeepingClock {
+            rt,
+            next: first,
+            told: Vec::new(alloc),
+        }
+    }
+
+    /// Keeps a moment that it tells.
+    fn keep(&mut self, moment: u32)
+        ensures { self.new.told.items ≡ self.old.told.items ++ moment ∷ [] }
+    {
+        if self.told.push(moment).is_err() {
+            panic!(self.rt; "no memory");
+        }
+    }
+}
+
+impl<R: Abort> Clock for KeepingClock<'_, R> {
+    ghost use Rattle.std.specs.Prelude.{Some};
+
+    ghost told = { λ c. Some c.told.items };
+
+    fn now(&mut self) -> u32 {
+        let moment = self.next;
+        self.next = self.next.saturating_add(1);
+        self.keep(moment);
+        moment
+    }
+}
+
+/// By a clock that keeps its moments each call begins at one of them.
+#[test]
+fn moments_that_are_kept(rt: HostRuntime) -> Result<(), Fail> {
+    let alloc = rt.alloc();
+    let input = hex_packets(alloc, &[INIT, MKDIR, STAT])?;
+    let all = Pieces::new(usize::MAX, usize::MAX);
+    let mut line = MemoryLine::new(alloc, &input, all, all);
+    let mut clock = KeepingClock::new(&rt, alloc, 1000);
+    assert_eq!(rt; serve_at(alloc, &mut line, &mut clock)?, Cause::Closed);
+    let Some((_, made)) = moments_at(line.output(), 99) else {
+        panic!(rt; "a reply is missing");
+    };
+    assert_eq!(rt; clock.told.first(), Some(&1000));
+    assert!(rt; clock.told.contains(&made));
     Ok(())
 }

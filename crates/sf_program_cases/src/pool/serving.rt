@@ -7,9 +7,10 @@ ghost use Rattle.sf_pool.specs.Desks.{new_desk};
 use super::*;
 use sf_call::CoreFault;
 use sf_cases::requests::stat;
-use sf_cases::{RisingClock, StillClock, hex_packets};
+use sf_cases::{StillClock, hex_packets};
 use sf_line::{Line, LineCall, MemoryLine, Pieces};
-use sf_pool::{Begin, NoObserver, Stay, serve};
+use sf_pool::{Begin, Stay, serve};
+use sf_serving::NoObserver;
 use sf_session::{Clock, ServeFault};
 
 mod failing;
@@ -147,8 +148,8 @@ impl<B: RollName + Ledger> Desk for OwnDesk<'_, B> {
 
     fn rest(&mut self) {}
 
-    fn answer(&self) -> &Answer {
-        self.stay.answer()
+    fn last_call(&self) -> &AnsweredCall {
+        self.stay.last_call()
     }
 
     fn leave(&mut self) -> Share {
@@ -234,8 +235,8 @@ impl<R: Abort, B: RollName + Ledger> Desk for TellingDesk<'_, R, B> {
 
     fn rest(&mut self) {}
 
-    fn answer(&self) -> &Answer {
-        self.own.answer()
+    fn last_call(&self) -> &AnsweredCall {
+        self.own.last_call()
     }
 
     fn leave(&mut self) -> Share {
@@ -379,6 +380,48 @@ fn tell_alone<B: RollName + Ledger, R: Abort, L: Line, C: Clock>(
     )
 }
 
+/// A clock whose moments rise by one each time, up to the last one that there is, and which keeps
+/// them.
+#[derive(Drop)]
+struct KeepingClock<'a, R: Abort> {
+    rt: &'a R,
+    next: u32,
+    told: Vec<u32>,
+}
+
+impl<'a, R: Abort> KeepingClock<'a, R> {
+    /// A clock that tells this moment first.
+    fn new(rt: &'a R, alloc: Global, first: u32) -> KeepingClock<'a, R> {
+        KeepingClock {
+            rt,
+            next: first,
+            told: Vec::new(alloc),
+        }
+    }
+
+    /// Keeps a moment that it tells.
+    fn keep(&mut self, moment: u32)
+        ensures { self.new.told.items ≡ self.old.told.items ++ moment ∷ [] }
+    {
+        if self.told.push(moment).is_err() {
+            panic!(self.rt; "no memory");
+        }
+    }
+}
+
+impl<R: Abort> Clock for KeepingClock<'_, R> {
+    ghost use Rattle.std.specs.Prelude.{Some};
+
+    ghost told = { λ c. Some c.told.items };
+
+    fn now(&mut self) -> u32 {
+        let moment = self.next;
+        self.next = self.next.saturating_add(1);
+        self.keep(moment);
+        moment
+    }
+}
+
 /// The calls that began, each at its moment, and the one that the desk refused, whose reply says
 /// so.
 #[test]
@@ -388,13 +431,17 @@ fn begins_and_a_refusal(rt: HostRuntime) -> Result<(), Fail> {
     let want = hex_packets(alloc, &[TOLD[0], TOLD[1], REFUSED, TOLD_AGAIN])?;
     let whole = Pieces::new(usize::MAX, usize::MAX);
     let mut line = MemoryLine::new(alloc, &input, whole, whole);
-    let mut clock = RisingClock::new(100);
+    let mut clock = KeepingClock::new(&rt, alloc, 100);
     let core = Core::new(alloc)?;
     let roll = NewRoll::new(alloc)?;
     let blank = Blank::new(2);
-    let (begins, told, share) = tell_alone::<Brand, HostRuntime, MemoryLine, RisingClock>(
-        &rt, alloc, core, roll, blank, &mut line, &mut clock,
-    )?;
+    let (begins, told, share) = tell_alone::<
+        Brand,
+        HostRuntime,
+        MemoryLine,
+        KeepingClock<'_, HostRuntime>,
+    >(&rt, alloc, core, roll, blank, &mut line, &mut clock)?;
+    assert_eq!(rt; clock.told.as_slice(), [100, 101, 102].as_slice());
     assert_eq!(rt; line.output(), want.as_slice());
     assert_eq!(rt; (told.calls.len(), share.calls()), (2, 2));
     let want = vec![in alloc;

@@ -8,7 +8,6 @@ use sf_audit::Transcript;
 use sf_cases::hex_packets;
 use sf_core::Core;
 use sf_line::{Line, write_all};
-use sf_pool::NoObserver;
 use sf_program::listening::listen;
 use sf_program::server::{ServerFault, serve_on};
 use sf_program::socket_line::socket_line;
@@ -76,6 +75,7 @@ fn served<T: Threads + Wait + Abort + Sync>(
         sessions: Some(inputs.len() as u64),
         keep,
         tree: None,
+        log: None,
     };
     let mut told = Vec::new(rt.alloc());
     let (replies, ended) = thread::join(
@@ -83,7 +83,16 @@ fn served<T: Threads + Wait + Abort + Sync>(
         || sessions(rt, path, inputs),
         || -> Result<(), ServerFault>
             requires { 0 < serving.keep }
-        { serve_on(rt, threads, Some(&listener), serving, &mut told) },
+        {
+            serve_on(
+                rt,
+                threads,
+                Some(&listener),
+                serving,
+                &NoObserver,
+                &mut told,
+            )
+        },
     );
     fs::remove_file(rt, path)?;
     assert_eq!(threads; ended, Ok(()));

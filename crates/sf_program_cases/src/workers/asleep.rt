@@ -73,6 +73,8 @@ impl Sleeper {
     }
 }
 
+impl CallObserver for Sleeper {}
+
 impl StepObserver for Sleeper {
     fn stops(&self, _session: u64, _number: u64, _steps: u64) -> bool {
         true

@@ -120,13 +120,9 @@ struct SecondsAnswers<'a> {
     signs: &'a Signs,
 }
 
+impl CallObserver for SecondsAnswers<'_> {}
+
 impl StepObserver for SecondsAnswers<'_> {
-    fn stops(&self, _session: u64, _number: u64, _steps: u64) -> bool {
-        false
-    }
-
-    fn between(&self, _session: u64, _number: u64, _steps: u64) {}
-
     fn answered(&self, session: u64, _number: u64) {
         if session == 2 {
             self.signs.done.fetch_add(1, Ordering::SeqCst);
@@ -190,6 +186,8 @@ fn six_calls_beside_an_idle_client(rt: HostRuntime) -> Result<(), Fail> {
 struct WakesBehindTheDoor<'a> {
     signs: &'a Signs,
 }
+
+impl CallObserver for WakesBehindTheDoor<'_> {}
 
 impl StepObserver for WakesBehindTheDoor<'_> {
     fn stops(&self, session: u64, _number: u64, _steps: u64) -> bool {
@@ -296,6 +294,8 @@ impl TwoSleepers<'_> {
         }
     }
 }
+
+impl CallObserver for TwoSleepers<'_> {}
 
 impl StepObserver for TwoSleepers<'_> {
     fn stops(&self, _session: u64, _number: u64, _steps: u64) -> bool {

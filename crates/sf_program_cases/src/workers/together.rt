@@ -168,6 +168,8 @@ impl InTheMidst<'_> {
     }
 }
 
+impl CallObserver for InTheMidst<'_> {}
+
 impl StepObserver for InTheMidst<'_> {
     fn stops(&self, session: u64, number: u64, steps: u64) -> bool {
         session == 1 && number == 5 && steps == 0
@@ -344,13 +346,9 @@ struct Telling<'a> {
     two: &'a Two,
 }
 
+impl CallObserver for Telling<'_> {}
+
 impl StepObserver for Telling<'_> {
-    fn stops(&self, _session: u64, _number: u64, _steps: u64) -> bool {
-        false
-    }
-
-    fn between(&self, _session: u64, _number: u64, _steps: u64) {}
-
     fn answered(&self, session: u64, _number: u64) {
         if session != 1 {
             self.two.tell();

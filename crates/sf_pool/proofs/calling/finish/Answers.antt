@@ -1,4 +1,4 @@
-use Rattle.std.proofs.Common.{◌∙◌, refl, sym, ap, subst, arith}
+use Rattle.std.proofs.Common.{◌∙◌, refl, sym, subst, arith}
 use Rattle.sf_pool.specs.Desks.{HasCallUnderWay, DeskView}
 use Rattle.sf_pool.proofs.calling.finish.Goals as goal
 

@@ -1,6 +1,7 @@
-use Rattle.std.proofs.Common.{Ok, Err, refl, sym, ◌∙◌}
+use Rattle.std.proofs.Common.{Ok, Err, refl, sym, ◌∙◌, subst}
 use Rattle.sf_pool.specs.Scenes.{BeginsCalls}
-use Rattle.sf_pool.proofs.Calls.{IsMade, one_begin, call_made, call_refused, on_ok_at}
+use Rattle.sf_pool.specs.Desks.{DeskView, IsLastAnswer}
+use Rattle.sf_pool.proofs.Calls.{IsMade, one_begin, call_made, call_refused, call_unanswered, on_ok_at}
 use Rattle.sf_pool.proofs.calling.make_call.Goals as goal
 
 pub returns-in-Err-clause-made : goal.returns-in-Err-clause-made
@@ -15,8 +16,25 @@ returns-clause-made g c =
       begun = c.in-Ok.ensures.ok;
       answered = c.finish.ensures.answered c.if-not-finish.false;
     } in
-    call_made (BeginsCalls (g.C.Clock.told c.args.clock.now) (g.C.Clock.told c.now-moment.new.self) (g.D.Desk.begins c.args.desk.now) (g.D.Desk.begins c.finish.new.desk))
-    c.answer.result.now _ _ made c.answer.ensures
-    (on_ok_at c.answer-2.result _ (sym c.is_err.ensures.value ∙ c.if-is_err.false) c.answer-2.ensures.ok)
-    c.answer-2.ensures.short
-    (one_begin _ _ _ c.args.request c.now-moment.result (Ok c.in-Ok.call) c.now-moment.ensures c.in-Ok.ensures.asked c.finish.ensures.begins)
+    let made_here = subst (λ (d : DeskView). IsMade (g.D.Desk.at c.args.desk.now) (g.D.Desk.at c.begin.new.self) d c.args.request c.in-Ok.call c.now-moment.result) (sym c.tell_call.ensures.at) made in
+    let call = c.last_call.result.now in
+    let last : IsLastAnswer (g.D.Desk.at c.tell_call.new.desk).calls call.answer.number call.answer.reply = (c.last_call.ensures.0, call.request, c.last_call.ensures.1) in
+    call_made (BeginsCalls (g.C.Clock.told c.args.clock.now) (g.C.Clock.told c.now-moment.new.self) (g.D.Desk.begins c.args.desk.now) (g.D.Desk.begins c.tell_call.new.desk))
+    call.answer _ _ made_here last
+    (on_ok_at c.answer.result _ (sym c.is_err.ensures.value ∙ c.if-is_err.false) c.answer.ensures.ok)
+    c.answer.ensures.short
+    (one_begin _ _ _ c.args.request c.now-moment.result (Ok c.in-Ok.call) c.now-moment.ensures c.in-Ok.ensures.asked (c.tell_call.ensures.begins ∙ c.finish.ensures.begins))
+
+pub returns-then-is_err-clause-fails : goal.returns-then-is_err-clause-fails
+returns-then-is_err-clause-fails g c =
+    let made : IsMade (g.D.Desk.at c.args.desk.now) (g.D.Desk.at c.begin.new.self) (g.D.Desk.at c.finish.new.desk) c.args.request c.in-Ok.call c.now-moment.result = record {
+      rests = c.requires.resting;
+      begun = c.in-Ok.ensures.ok;
+      answered = c.finish.ensures.answered c.if-not-finish.false;
+    } in
+    let made_here = subst (λ (d : DeskView). IsMade (g.D.Desk.at c.args.desk.now) (g.D.Desk.at c.begin.new.self) d c.args.request c.in-Ok.call c.now-moment.result) (sym c.tell_call.ensures.at) made in
+    let call = c.last_call.result.now in
+    let last : IsLastAnswer (g.D.Desk.at c.tell_call.new.desk).calls call.answer.number call.answer.reply = (c.last_call.ensures.0, call.request, c.last_call.ensures.1) in
+    call_unanswered c.args.session.now.waiting (BeginsCalls (g.C.Clock.told c.args.clock.now) (g.C.Clock.told c.now-moment.new.self) (g.D.Desk.begins c.args.desk.now) (g.D.Desk.begins c.tell_call.new.desk))
+    call.answer c.answer.result made_here last c.answer.ensures.enough (sym c.is_err.ensures.value ∙ c.if-is_err.true)
+    (one_begin _ _ _ c.args.request c.now-moment.result (Ok c.in-Ok.call) c.now-moment.ensures c.in-Ok.ensures.asked (c.tell_call.ensures.begins ∙ c.finish.ensures.begins))

@@ -1,13 +1,10 @@
-use Rattle.std.proofs.Common.{ℕ, List, subst}
-use Rattle.std.specs.Prelude.{is_some, unwrap_or, OnOk, Result, Ok, Err}
+use Rattle.std.proofs.Common.{ℕ, subst}
+use Rattle.std.specs.Prelude.{OnOk, Result, Ok, Err}
 use Rattle.std.specs.List.{count_by}
 use Rattle.std.specs.Io.KnownBytes.{Appends}
-use Rattle.sf_call.specs.declared.record.Record.{Record}
 use Rattle.sf_book.specs.Books.{is_call}
-use Rattle.sf_core.specs.Histories.{IsHistory}
-use Rattle.sf_audit.specs.declared.transcript.Transcript.{Transcript}
 use Rattle.sf_audit.specs.Audits.{AgreesWith}
-use Rattle.sf_program.specs.Totals.{totals_text, HasToldTotals}
+use Rattle.sf_program.specs.Totals.{totals_text}
 use Rattle.sf_program.proofs.server.serve_on.Goals as goal
 
 so_if_ok : {A E P Q : Type 0} → (r : Result A E) → (P → Q) → OnOk r P → OnOk r Q

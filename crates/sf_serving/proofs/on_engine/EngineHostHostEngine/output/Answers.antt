@@ -2,4 +2,4 @@ use Rattle.sf_serving.proofs.Hosting.{output_here}
 use Rattle.sf_serving.proofs.on_engine.EngineHostHostEngine.output.Goals as goal
 
 pub returns : goal.returns
-returns c = λ start told t tells. output_here _ tells c.waiting.ensures
+returns g c = λ start told t tells. output_here _ tells c.waiting.ensures
