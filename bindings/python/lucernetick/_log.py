@@ -9,7 +9,7 @@ from ._library import STATUS_BASE, library, message
 
 FLAGS = ("READ", "WRITE", "APPEND", "CREATE", "TRUNCATE", "EXCL")
 """What the bits of OPEN's pflags ask for, from the lowest on."""
-LETTERS = dict(zip(b"\a\b\t\n\v\f\r\\", "abtnvfr\\"))
+LETTERS = dict(zip(b'\a\b\t\n\v\f\r\\"', 'abtnvfr\\"'))
 BEYOND = 2**63
 """A place at which there is no record."""
 
@@ -22,9 +22,10 @@ class Log:
         session 1 call 1 at 1700000000: mkdir "/a" mode 0755 -> Success
         session 1 closed
 
-    What isn't printable ASCII in a path is escaped as in the log of OpenSSH's server. Sessions of
-    `write_files` are left out. It looks at the records that the engine keeps, whenever a session
-    has done something: of more calls at once than are kept it tells the last ones.
+    What isn't printable ASCII in a path is escaped as in the log of OpenSSH's server, and a quote
+    as `\\"`. Sessions of `write_files` are left out. It looks at the records that the engine keeps,
+    whenever a session has done something: of more calls at once than are kept it tells the last
+    ones.
     """
 
     sessions: int
@@ -125,7 +126,7 @@ def attribute_words(given: Attributes) -> list[str]:
 
 def escaped(path: str) -> str:
     """A path in printable ASCII, as OpenSSH's server writes it: other bytes by a letter or by octal
-    digits."""
+    digits. A quote is escaped, too."""
     return "".join(map(escaped_byte, path_bytes(path)))
 
 

@@ -119,7 +119,7 @@ def test_a_session_that_ends_by_a_fault() -> None:
 
 
 def test_paths_are_escaped_as_openssh_does() -> None:
-    """What OpenSSH 9.2's server wrote to its log for these bytes."""
+    """What OpenSSH 9.2's server wrote to its log for these bytes, but for the quote."""
     file = io.StringIO()
     with Engine() as engine:
         Server(engine, log=Log(file))
@@ -128,7 +128,7 @@ def test_paths_are_escaped_as_openssh_does() -> None:
         session.feed(packet(INIT, u32(3)) + packet(STAT, u32(1), string(path)))
         session.settle(5)
     _, line = file.getvalue().splitlines()
-    escaped = r'/\001\a\b\t\n\v\f\r\016\033\037 !"' + r"'\\~\177\200\303\244\377"
+    escaped = r'/\001\a\b\t\n\v\f\r\016\033\037 !\"' + r"'\\~\177\200\303\244\377"
     assert line == f'session 1 call 1 at 5: stat "{escaped}" -> No such file'
 
 
