@@ -3,7 +3,8 @@
  *     lengths alone|streams LAST
  *
  * `alone`: for each length from 1 to LAST a piece of so many bytes is sent, and nothing more before
- * the server has read it; and a reply of so many bytes is asked for, where there is one.
+ * the server has read it: a WRITE, whose reply is waited for, or a part of one, where that is
+ * shorter. And for each length that a reply of DATA has, one of so many bytes is asked for.
  * `streams`: requests are sent in pieces of 1 byte, of 2, and so on to LAST, and replies are read
  * by reads of 1 byte, of 2, and so on, each way as fast as it goes.
  * Each reply is compared. */
@@ -22,8 +23,8 @@
 enum { LINE = 0, PATTERN = 1 << 17, SHIFTS = 4093, SECONDS = 30 };
 
 /* How many bytes a READ has, what a WRITE has before its data and DATA before its own, and OK's
- * STATUS and VERSION have; and how many come behind a WRITE's first piece. */
-enum { READ = 33, HEAD = 33, DATA = 13, OK = 28, VERSION = 71, BEHIND = 40 };
+ * STATUS and VERSION have; and how many a WRITE has that comes in two pieces. */
+enum { READ = 33, HEAD = 33, DATA = 13, OK = 28, VERSION = 71, SHORT = 60 };
 
 static uint8_t pattern[PATTERN + SHIFTS];
 
@@ -158,21 +159,28 @@ static void begin(void)
     receive(handle, sizeof handle, 0);
 }
 
-/* A WRITE comes in two pieces, the first of so many bytes; then a READ of what it wrote is answered
- * by so many bytes. */
-static void one_length(uint32_t length)
+static uint8_t request[PATTERN], reply[PATTERN];
+
+/* A WRITE comes in two pieces, the first of so many bytes. */
+static void in_two(uint32_t length)
 {
-    static uint8_t request[PATTERN], reply[PATTERN];
-    uint32_t id = 2 * length, count = length + BEHIND - HEAD;
-    put_write(request, id, count);
+    uint32_t id = 2 * length;
+    put_write(request, id, SHORT - HEAD);
     send_all(request, length, length);
     wait_until_read(length);
-    send_all(request + length, BEHIND, length);
+    send_all(request + length, SHORT - length, length);
     receive(reply, put_ok(reply, id), length);
-    if (length <= DATA)
-        return;
-    send_all(request, put_read(request, id + 1, length - DATA), length);
-    receive(reply, put_data(reply, id + 1, id, length - DATA), length);
+}
+
+/* A WRITE of so many bytes in all comes in one piece, and is answered. Then what it wrote is
+ * read. */
+static void in_one(uint32_t length)
+{
+    uint32_t id = 2 * length, count = length - HEAD;
+    send_all(request, put_write(request, id, count), length);
+    receive(reply, put_ok(reply, id), length);
+    send_all(request, put_read(request, id + 1, count), length);
+    receive(reply, put_data(reply, id + 1, id, count), length);
 }
 
 /* How many bytes the WRITE and the READ under ids 2 k and 2 k + 1 are of. */
@@ -268,9 +276,13 @@ int main(int count, char **words)
     fill_pattern();
     begin();
     if (strcmp(words[1], "alone") == 0) {
-        for (uint32_t length = 1; length <= last; length++) {
-            alarm(SECONDS);
-            one_length(length);
+        /* A reply is shorter than the WRITE of its bytes. */
+        for (uint32_t length = 1; length <= last + HEAD - DATA; length++) {
+            alarm(2 * SECONDS);
+            if (length <= HEAD)
+                in_two(length);
+            else
+                in_one(length);
         }
         return 0;
     }

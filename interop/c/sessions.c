@@ -10,6 +10,7 @@
 #include <stdlib.h>
 #include <string.h>
 #include <sys/socket.h>
+#include <sys/time.h>
 #include <sys/un.h>
 #include <sys/wait.h>
 #include <unistd.h>
@@ -41,8 +42,10 @@ static void have_session(const struct sockaddr_un *at, long session)
 {
     char got[ANSWERED];
     size_t have = 0;
+    const struct timeval most = {.tv_sec = SECONDS};
     int line = socket(AF_UNIX, SOCK_STREAM, 0);
-    if (line < 0 || connect(line, (const struct sockaddr *)at, sizeof *at) != 0)
+    if (line < 0 || setsockopt(line, SOL_SOCKET, SO_RCVTIMEO, &most, sizeof most) != 0
+        || connect(line, (const struct sockaddr *)at, sizeof *at) != 0)
         stop(session, "no connection");
     if (send(line, asked, sizeof asked, MSG_NOSIGNAL) != sizeof asked)
         stop(session, "it takes nothing");
@@ -61,7 +64,7 @@ static void be_client(const struct sockaddr_un *at, int client, long count)
 {
     asked[MADE] = asked[REMOVED] = (uint8_t)('0' + client);
     for (long session = 1; session <= count; session++) {
-        alarm(SECONDS);
+        alarm(2 * SECONDS);
         have_session(at, session);
     }
     exit(0);

@@ -10,6 +10,5 @@ pub keeps_served : (start now : DeskScene) (from line : LineView) (old new : ℕ
 keeps_served start now from line old new serves = serves.1.keeps
 
 pub keeps_stopped : (f : ServeFault) (start now : DeskScene) (from line : LineView) (failed failed' old new : ℕ) → StopsDesk f start now from line failed failed' old new → now.desk.keeps ≡ start.desk.keeps
-keeps_stopped f start now from line failed failed' old new (inl (inl never, begins, told, same, share)) = ap (λ (d : DeskView). d.keeps) never.1
-keeps_stopped f start now from line failed failed' old new (inl (inr never, begins, told, same, share)) = ap (λ (d : DeskView). d.keeps) never.2
+keeps_stopped f start now from line failed failed' old new (inl (never, begins, told, same, share)) = ap (λ (d : DeskView). d.keeps) never.2
 keeps_stopped f start now from line failed failed' old new (inr serves) = serves.1.keeps

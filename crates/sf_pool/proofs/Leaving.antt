@@ -1,5 +1,5 @@
 -- How a desk is left.
-use Rattle.std.proofs.Common.{◌≡◌, ◌≢◌, ℕ, Some, None, length, refl, sym, ◌∙◌, inl, inr, arith}
+use Rattle.std.proofs.Common.{◌≡◌, ◌≢◌, ℕ, Some, None, length, refl, ap, sym, ◌∙◌, inl, inr, arith}
 use Rattle.sf_call.specs.declared.fault.CoreFault.{CoreFault}
 use Rattle.sf_call.specs.declared.fault.CoreFault.TheVariants as refused
 use Rattle.sf_session.specs.declared.cause.Cause.{Cause}
@@ -12,9 +12,10 @@ use Rattle.sf_serving.specs.Hosts.{IsLeftFor}
 use Rattle.sf_serving.specs.Serving.{LineView, Progress, Serves, IsServed, HasWrittenFor, IsStopped, IsStop}
 use Rattle.sf_pool.specs.declared.at_desk.Standing.{Standing}
 use Rattle.sf_pool.specs.declared.at_desk.Standing.TheVariants as standing
-use Rattle.sf_noted.specs.Pages.Presence.{Departed}
-use Rattle.sf_pool.specs.Desks.{DeskState, Joined, share_of, DeskView}
-use Rattle.sf_pool.specs.Scenes.{DeskScene, state_calls, NotesCalls, IsShared, join_refusal, IsInCall, HasLeft, LeavesFor, IsDeskFault}
+use Rattle.sf_noted.specs.Pages.{Presence}
+use Rattle.sf_noted.specs.Pages.Presence.{UnderWay, Departed}
+use Rattle.sf_pool.specs.Desks.{DeskState, New, Refused, Joined, share_of, DeskView}
+use Rattle.sf_pool.specs.Scenes.{DeskScene, state_calls, NotesCalls, IsShared, join_refusal, IsInCall, ServesDesk, HasLeft, LeavesFor, StopsDesk, IsDeskFault}
 use Rattle.sf_pool.specs.AtDesks.{IsToldAt, IsOver, IsCounted, IsAdded}
 
 shared_by : (share n old new : ℕ) → share ≡ share_of n → IsShared share old new → IsShared n old new
@@ -76,3 +77,31 @@ join_fault refused.OutOfMemory failed failed' known = tt
 join_fault refused.Sessions failed failed' known = tt
 join_fault refused.NumbersSpent failed failed' known = tt
 join_fault refused.Stranger failed failed' known = absurd (known refl)
+
+-- ---- a desk at which a session was served was asked to let it join
+
+joined_not_new : (place : DeskState) (presence : Presence) → place ≡ Joined presence → place ≢ New
+joined_not_new place presence e new = let no : New ≡ Joined presence = sym new ∙ e in cc
+
+pub refused_not_new : (place : DeskState) (refusal : CoreFault) → place ≡ Refused refusal → place ≢ New
+refused_not_new place refusal e new = let no : New ≡ Refused refusal = sym new ∙ e in cc
+
+left_not_new : (d : DeskView) (t : SessionState) (old new : ℕ) → HasLeft d t old new → d.place ≢ New
+left_not_new d t old new (inl left) = joined_not_new d.place Departed left.0
+left_not_new d t old new (inr call) = joined_not_new d.place (UnderWay call.0.number call.0.moment call.0.request) call.0.placed
+
+left_for_not_new : (f : ServeFault) (d : DeskView) (p : Progress) (old new : ℕ) → LeavesFor f d p old new → d.place ≢ New
+left_for_not_new fault.Line d p old new h = left_not_new d p.told old new h
+left_for_not_new fault.OutOfMemory d p old new h = left_not_new d p.told old new h
+left_for_not_new fault.Sessions d p old new h = absurd h
+left_for_not_new fault.Stranger d p old new h = absurd h
+left_for_not_new fault.NumbersSpent d p old new h = left_not_new d p.told old new h.0
+
+pub served_not_new : (start now : DeskScene) (from line : LineView) (old new : ℕ) → ServesDesk start now from line old new → now.desk.place ≢ New
+served_not_new start now from line old new (p, notes, served, (ends, left, shared)) = joined_not_new now.desk.place Departed left
+
+pub stopped_not_new : (f : ServeFault) (start now : DeskScene) (from line : LineView) (failed failed' old new : ℕ) → StopsDesk f start now from line failed failed' old new → now.desk.place ≢ New
+stopped_not_new f start now from line failed failed' old new (inl (never, begins, told, same, share)) =
+    refused_not_new now.desk.place never.0 (ap (λ (d : DeskView). d.place) never.2)
+stopped_not_new f start now from line failed failed' old new (inr (p, notes, served, (wrote, leaves))) =
+    left_for_not_new f now.desk p old new leaves

@@ -1,5 +1,5 @@
 -- A session's stay between two events.
-use Rattle.std.proofs.Common.{◌≡◌, ◌≢◌, ◌++◌, ◌∷◌, [], ℕ, Bool, List, Option, Some, map, refl, sym, ap, ◌∙◌, subst, append_assoc}
+use Rattle.std.proofs.Common.{◌≡◌, ◌≢◌, ◌++◌, ◌∷◌, [], ℕ, Bool, List, Option, Some, Result, map, refl, sym, ap, ◌∙◌, subst, append_assoc}
 use Rattle.std.proofs.lemmas.List.{map-append}
 use Rattle.sf_reply.specs.declared.reply.Reply.{Reply}
 use Rattle.sf_call.specs.declared.request.Request.{Request}
@@ -19,9 +19,9 @@ use Rattle.sf_pool.specs.declared.desk.StepResult.{StepResult}
 use Rattle.sf_pool.specs.declared.desk.StepResult.TheVariants.{Answered}
 use Rattle.sf_pool.specs.declared.stay.Place.{Place}
 use Rattle.sf_pool.specs.declared.stay.Place.TheVariants as place
-use Rattle.sf_pool.specs.Desks.{IsLast, IsLastAnswer, DeskView, counted, Steps}
-use Rattle.sf_pool.specs.OnCores.{IsPageOf}
-use Rattle.sf_pool.specs.Stays.{desk_at, IsStay}
+use Rattle.sf_pool.specs.Desks.{New, IsLast, IsLastAnswer, DeskView, counted, Steps}
+use Rattle.sf_pool.specs.OnCores.{IsPageOf, IsVisitOf, calls_begun_by}
+use Rattle.sf_pool.specs.Stays.{desk_at, calls_in, WasAsked, EndsAs, IsStay}
 
 -- no session is refused as a stranger
 pub refused_known : (v : CoreView) (fault : CoreFault) → RefusesJoin v fault → fault ≢ refused.Stranger
@@ -64,3 +64,25 @@ last_answered lane lane' number reply own noted = subst (λ (l : ℕ × Page). I
         (lane.1.told, request, ap (λ (k : ℕ). lane.1.told ++ record { number = k; request = request; reply = reply } ∷ []) same)
     by_presence Resting e = absurd (cc)
     by_presence Departed e = absurd (cc)
+
+-- ---- how it ends
+
+pub was_asked : {B : Type 0} (p : Place B) (keeps : Bool) (steps : ℕ) (d : DeskView) → desk_at p keeps steps ≡ d → d.place ≢ New → WasAsked p
+was_asked place.New keeps steps d view asked = asked (ap (λ (x : DeskView). x.place) (sym view))
+was_asked (place.Refused fault) keeps steps d view asked = tt
+was_asked (place.Joined lane) keeps steps d view asked = tt
+was_asked (place.Left visit) keeps steps d view asked = tt
+
+pub visit_of : {B : Type 0} (p : Place B) (keeps : Bool) (steps : ℕ) (d : DeskView) (ended : Result (ℕ × Page) CoreFault) → desk_at p keeps steps ≡ d → EndsAs p ended → IsVisitOf d ended
+visit_of place.New keeps steps d ended view ends = absurd ends
+visit_of (place.Refused fault) keeps steps d ended view ends = subst (IsVisitOf d) (sym ends) (ap (λ (x : DeskView). x.place) (sym view))
+visit_of (place.Joined lane) keeps steps d ended view ends =
+    subst (IsVisitOf d) (sym ends) (subst (λ (x : DeskView). IsPageOf x lane) view (record { session = refl; place = refl; told = refl }))
+visit_of (place.Left visit) keeps steps d ended view ends =
+    subst (IsVisitOf d) (sym ends) (subst (λ (x : DeskView). IsPageOf x visit) view (record { session = refl; place = refl; told = refl }))
+
+pub calls_of_end : {B : Type 0} (p : Place B) (ended : Result (ℕ × Page) CoreFault) → EndsAs p ended → calls_in p ≡ calls_begun_by ended
+calls_of_end place.New ended ends = absurd ends
+calls_of_end (place.Refused fault) ended ends = ap calls_begun_by (sym ends)
+calls_of_end (place.Joined lane) ended ends = ap calls_begun_by (sym ends)
+calls_of_end (place.Left visit) ended ends = ap calls_begun_by (sym ends)

@@ -1,5 +1,5 @@
 -- What the events of a session's stay do to its core, and what the stay comes to.
-use Rattle.std.specs.Prelude.{◌≡◌, ◌⊎◌, ◌+◌, ℕ, true, false, length, Option, Some, None}
+use Rattle.std.specs.Prelude.{◌≡◌, ◌⊎◌, ◌+◌, ℕ, true, false, length, Result, Ok, Err}
 use Rattle.sf_call.specs.declared.request.Request.{Request}
 use Rattle.sf_call.specs.declared.fault.CoreFault.{CoreFault}
 use Rattle.sf_call.specs.declared.fault.CoreFault.TheVariants.{OutOfMemory}
@@ -13,7 +13,7 @@ use Rattle.sf_noted.specs.Pages.Presence.{UnderWay}
 use Rattle.sf_noted.specs.Noted.{lane_of}
 use Rattle.sf_pool.specs.declared.desk.StepResult.TheVariants.{Going, Answered}
 use Rattle.sf_pool.specs.declared.stay.Stepped.{Stepped}
-use Rattle.sf_pool.specs.Desks.{New, Refused, Joined, IsLastAnswer, DeskView}
+use Rattle.sf_pool.specs.Desks.{Refused, Joined, IsLastAnswer, DeskView}
 
 -- this is the number and the page of the session at the desk
 pub record IsPageOf (d : DeskView) (x : ℕ × Page) : Type 0 where
@@ -21,10 +21,10 @@ pub record IsPageOf (d : DeskView) (x : ℕ × Page) : Type 0 where
   pub place : Joined x.1.presence ≡ d.place
   pub told : x.1.told ≡ d.calls
 
--- and this is what is noted of it, which is nothing if it hasn't joined
-abbrev pub IsVisitOf : DeskView → Option (ℕ × Page) → Type 0
-IsVisitOf d None = (d.place ≡ New) ⊎ ((fault : CoreFault) × (d.place ≡ Refused fault))
-IsVisitOf d (Some x) = IsPageOf d x
+-- and this is what is noted of it, or why it never joined
+abbrev pub IsVisitOf : DeskView → Result (ℕ × Page) CoreFault → Type 0
+IsVisitOf d (Ok x) = IsPageOf d x
+IsVisitOf d (Err refusal) = d.place ≡ Refused refusal
 
 -- how many calls the session began: those that it was told, and the one under way
 abbrev pub under_way : Presence → ℕ
@@ -34,9 +34,9 @@ under_way _ = 0
 abbrev pub calls_begun : Page → ℕ
 calls_begun p = length p.told + under_way p.presence
 
-abbrev pub calls_begun_by : Option (ℕ × Page) → ℕ
-calls_begun_by None = 0
-calls_begun_by (Some x) = calls_begun x.1
+abbrev pub calls_begun_by : Result (ℕ × Page) CoreFault → ℕ
+calls_begun_by (Ok x) = calls_begun x.1
+calls_begun_by (Err refusal) = 0
 
 -- the session's call begins on the core
 abbrev pub BeginsAt : DeskView → CoreView → CoreView → Request → ℕ → Type 0

@@ -114,11 +114,10 @@ join_refusal refused.Sessions = fault.Sessions
 join_refusal refused.NumbersSpent = fault.NumbersSpent
 join_refusal refused.Stranger = fault.Stranger
 
--- the session never joined: there was no memory to read, or it was refused so
+-- the session never joined: it was refused so
 abbrev pub NeverJoins : DeskView → DeskView → ServeFault → Type 0
-NeverJoins start now f = ((f ≡ fault.OutOfMemory) × (now ≡ start))
-    ⊎ ((refusal : CoreFault) × (f ≡ join_refusal refusal)
-    × (now ≡ record start { place = Refused refusal }))
+NeverJoins start now f = (refusal : CoreFault) × (f ≡ join_refusal refusal)
+    × (now ≡ record start { place = Refused refusal })
 
 -- A call is under way: the one at the desk is the one that its session waits for.
 pub record IsInCall (place : DeskState) (phase : Phase) : Type 0 where

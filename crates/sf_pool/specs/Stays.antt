@@ -1,8 +1,9 @@
 -- No public clause cites this module.
 -- What is true of a session's stay between two events.
-use Rattle.std.specs.Prelude.{◌≡◌, ◌≢◌, ◌<◌, ◌++◌, ℕ, Bool, true, List, [], map, Option, Some, None, vec_len}
+use Rattle.std.specs.Prelude.{◌≡◌, ◌≢◌, ◌<◌, ◌++◌, ℕ, Bool, true, List, [], map, Option, Some, None, Result, Ok, Err, vec_len}
 use Rattle.std.specs.Vec.{vec_capacity}
 use Rattle.sf_call.specs.declared.request.Request.{Request}
+use Rattle.sf_call.specs.declared.fault.CoreFault.{CoreFault}
 use Rattle.sf_audit.specs.declared.transcript.Transcript.{Transcript}
 use Rattle.sf_audit.specs.Audits.{CallRecord, call_record}
 use Rattle.sf_noted.specs.Pages.{Page}
@@ -10,17 +11,31 @@ use Rattle.sf_noted.specs.Pages.Presence.{UnderWay, Departed}
 use Rattle.sf_pool.specs.declared.stay.Place.{Place}
 use Rattle.sf_pool.specs.declared.stay.Place.TheVariants as place
 use Rattle.sf_pool.specs.Desks.{DeskState, New, Refused, Joined, DeskView}
+use Rattle.sf_pool.specs.OnCores.{calls_begun}
 
--- the session's number and page, where it has a lane; and where it has joined
+-- the session's number and page, where it has a lane
 abbrev pub lane_in : {B : Type 0} → Place B → Option (ℕ × Page)
 lane_in (place.Joined lane) = Some lane
 lane_in _ = None
 
-abbrev pub visit_in : {B : Type 0} → Place B → Option (ℕ × Page)
-visit_in place.New = None
-visit_in (place.Refused fault) = None
-visit_in (place.Joined lane) = Some lane
-visit_in (place.Left visit) = Some visit
+-- it was asked to join
+abbrev pub WasAsked : {B : Type 0} → Place B → Type 0
+WasAsked place.New = ⊥
+WasAsked _ = Unit {0}
+
+-- what is noted of it at its end, or why it never joined
+abbrev pub EndsAs : {B : Type 0} → Place B → Result (ℕ × Page) CoreFault → Type 0
+EndsAs place.New ended = ⊥
+EndsAs (place.Refused fault) ended = ended ≡ Err fault
+EndsAs (place.Joined lane) ended = ended ≡ Ok lane
+EndsAs (place.Left visit) ended = ended ≡ Ok visit
+
+-- how many calls it began
+abbrev pub calls_in : {B : Type 0} → Place B → ℕ
+calls_in place.New = 0
+calls_in (place.Refused fault) = 0
+calls_in (place.Joined lane) = calls_begun lane.1
+calls_in (place.Left visit) = calls_begun visit.1
 
 -- what a stay shows of a session that is there
 abbrev pub desk_at : {B : Type 0} → Place B → Bool → ℕ → DeskView

@@ -22,7 +22,7 @@ pub use hall::Hall;
 pub use lock_desk::LockDesk;
 pub use observer::StepObserver;
 pub use serving::serve;
-pub use stay::{Stay, Stayed, Stepped};
+pub use stay::{NotJoined, Stay, Stayed, Stepped};
 
 #[cfg(test)]
 mod tests;

@@ -1,8 +1,8 @@
 //! The desk of a session on a core under a lock.
 
-ghost use Rattle.std.specs.Prelude.{◌≡◌, None, true, map};
+ghost use Rattle.std.specs.Prelude.{◌≡◌, ◌≢◌, None, true, map};
 ghost use Rattle.sf_audit.specs.Audits.{call_record};
-ghost use Rattle.sf_pool.specs.Desks.{new_desk};
+ghost use Rattle.sf_pool.specs.Desks.{New, new_desk};
 ghost use Rattle.sf_pool.specs.OnCores.{IsVisitOf, calls_begun_by};
 
 use crate::desk::{Desk, StepResult};
@@ -120,12 +120,14 @@ impl<'a, R: Wait, B: RollName + Ledger> LockDesk<'a, R, B> {
 
     /// The session makes no more calls: what came of it. One that hasn't left is given up.
     pub fn end(self) -> Stayed<B>
+        requires { self.stay.place ≢ New }
         ensures visit { IsVisitOf self.entry.stay result.visit }
         ensures session { result.transcript.session ≡ self.entry.stay.session }
         ensures calls { self.entry.stay.keeps ≡ true
             → map call_record result.transcript.calls.items ≡ self.entry.stay.calls }
         ensures part { result.share.parts ≡ 1 }
         ensures begun { result.share.amount ≡ calls_begun_by result.visit }
+        ensures steps { result.steps ≡ self.entry.stay.steps }
     {
         let LockDesk {
             rt: _,

@@ -1,6 +1,6 @@
 //! A session over a line, whose calls are made at a desk.
 
-ghost use Rattle.std.specs.Prelude.{◌≡◌, ◌≢◌, OnOk, IfErr};
+ghost use Rattle.std.specs.Prelude.{◌≡◌, ◌≢◌, vec_len, OnOk, IfErr};
 ghost use Rattle.sf_serving.specs.Serving.{line_view};
 ghost use Rattle.sf_pool.specs.Desks.{New};
 ghost use Rattle.sf_pool.specs.Scenes.{desk_scene, join_refusal, ServesDesk, StopsDesk, IsDeskFault};
@@ -11,7 +11,7 @@ use crate::observer::StepObserver;
 use sf_call::CoreFault;
 use sf_core::Share;
 use sf_line::Line;
-use sf_serving::{new_piece, serve_session};
+use sf_serving::serve_session;
 use sf_session::{Clock, ServeFault};
 use std::alloc::Global;
 
@@ -30,6 +30,7 @@ fn join_refusal(fault: CoreFault) -> ServeFault
 
 /// Serves one session over a line, at a desk that it has not joined, to the end of the input or of
 /// the session, and merges its share of the calls. The observer is told of it, and of its calls.
+/// What is read comes into the piece, which whoever served its session may use again.
 ///
 /// Where a call has no answer after 2^64 - 1 steps, its session is left at the desk.
 pub fn serve<D: Desk, L: Line, C: Clock, G: StepObserver>(
@@ -38,9 +39,12 @@ pub fn serve<D: Desk, L: Line, C: Clock, G: StepObserver>(
     line: &mut L,
     clock: &mut C,
     observer: &G,
+    piece: &mut Vec<u8>,
     share: &mut Share,
 ) -> Result<(), ServeFault>
-    requires { (D.at desk.old).place ≡ New }
+    requires place { (D.at desk.old).place ≡ New }
+    requires room { vec_len piece.old ≡ 65536 }
+    ensures len { vec_len piece.new ≡ vec_len piece.old }
     ensures served { OnOk result (ServesDesk
         (desk_scene (D.at desk.old) (D.begins desk.old) (C.told clock.old))
         (desk_scene (D.at desk.new) (D.begins desk.new) (C.told clock.new))
@@ -55,15 +59,15 @@ pub fn serve<D: Desk, L: Line, C: Clock, G: StepObserver>(
         (L.failed line.old) (L.failed line.new) share.old share.new) }
     ensures fault { IfErr result (λ fault. IsDeskFault fault (L.failed line.old)
         (L.failed line.new)) }
+    ensures asked { (D.at desk.new).place ≢ New }
 {
-    let mut piece = new_piece(alloc)?;
     let number = match desk.join() {
         Ok(number) => number,
         Err(fault) => return Err(join_refusal(fault)),
     };
     observer.joined(number);
     let mut host = DeskHost::new(alloc, number, observer);
-    let served = serve_session(&mut host, desk, line, clock, &mut piece);
+    let served = serve_session(&mut host, desk, line, clock, piece);
     host.add_share(share);
     observer.left(number, served);
     match served {

@@ -10,7 +10,7 @@ ghost use Rattle.sf_core.specs.Events.{Joins, RefusesJoin, Leaves};
 ghost use Rattle.sf_audit.specs.Audits.{call_record};
 ghost use Rattle.sf_noted.specs.Pages.Presence.{Resting, UnderWay, Departed};
 ghost use Rattle.sf_pool.specs.OnCores.{BeginsAt, RefusesAt, StepsAt, stepped_to, IsVisitOf, calls_begun_by};
-ghost use Rattle.sf_pool.specs.Stays.{visit_in, lane_in};
+ghost use Rattle.sf_pool.specs.Stays.{lane_in, WasAsked, EndsAs};
 ghost use Rattle.sf_pool.specs.Desks.{New, Refused, Joined, IsResting, HasCallUnderWay, IsLast, new_desk, share_of, Steps};
 
 use crate::desk::StepResult;
@@ -34,7 +34,13 @@ enum Place<B: RollName> {
 
 impl<B: RollName> Drop for Place<B> {
     fn drop(self) {
-        let _visit = self.end();
+        match self {
+            Place::New | Place::Refused(_) => {}
+            Place::Joined(lane) => {
+                let _visit = lane.abandon();
+            }
+            Place::Left(_visit) => {}
+        }
     }
 }
 
@@ -50,27 +56,54 @@ impl<B: RollName> Place<B> {
         }
     }
 
-    /// What is noted of the session, if it has joined. It makes no more calls.
-    fn end(self) -> Option<Visit<B>>
-        ensures { result ≡ visit_in self }
+    /// What is noted of the session, or why it never joined. It makes no more calls.
+    fn end(self) -> Result<Visit<B>, NotJoined>
+        requires { WasAsked self }
+        ensures { EndsAs self result }
     {
         match self {
-            Place::New | Place::Refused(_) => None,
-            Place::Joined(lane) => Some(lane.abandon()),
-            Place::Left(visit) => Some(visit),
+            Place::New => unreachable!(),
+            Place::Refused(fault) => Err(NotJoined { fault }),
+            Place::Joined(lane) => Ok(lane.abandon()),
+            Place::Left(visit) => Ok(visit),
         }
     }
+}
+
+/// Why a session never joined. Nobody tells it but the desk of a session that was refused.
+#[derive(Debug, Drop)]
+pub struct NotJoined {
+    fault: CoreFault,
+}
+
+impl NotJoined {
+    /// Why the core refused the session.
+    pub fn fault(&self) -> CoreFault
+        ensures { result ≡ self.now }
+    {
+        self.fault
+    }
+}
+
+impl Model for NotJoined {
+    ghost use Rattle.sf_call.specs.declared.fault.CoreFault.{CoreFault};
+
+    ghost Value = { CoreFault };
+
+    ghost view = { λ n. n.fault };
 }
 
 /// What a stay came to.
 #[derive(Drop)]
 pub struct Stayed<B: RollName + Ledger> {
-    /// What is noted of the session, if it has joined. It takes no memory.
-    pub visit: Option<Visit<B>>,
+    /// What is noted of the session, which takes no memory; or why it never joined.
+    pub visit: Result<Visit<B>, NotJoined>,
     /// What the session was told, where that was kept, or its last call alone.
     pub transcript: Transcript,
     /// The part of the count that was lent, with the calls that the session began.
     pub share: ledger::Share<B>,
+    /// How many steps were made of its calls, up to 2^64 - 1.
+    pub steps: u64,
 }
 
 /// A session's place in a core, and what it was told. It counts its calls in a part of the core's
@@ -91,8 +124,7 @@ pub struct Stay<B: RollName + Ledger> {
 impl<B: RollName + Ledger> Model for Stay<B> {
     ghost use Rattle.std.specs.Prelude.{◌≡◌};
     ghost use Rattle.sf_pool.specs.Desks.{DeskView};
-    ghost use Rattle.sf_pool.specs.OnCores.{calls_begun_by};
-    ghost use Rattle.sf_pool.specs.Stays.{desk_at, visit_in, HasDeparted, IsStay};
+    ghost use Rattle.sf_pool.specs.Stays.{desk_at, calls_in, HasDeparted, IsStay};
 
     ghost Value = { DeskView };
 
@@ -100,7 +132,7 @@ impl<B: RollName + Ledger> Model for Stay<B> {
 
     ghost invariant = { λ s. IsStay (desk_at s.place s.keeps s.steps) s.asked s.transcript
         × HasDeparted s.place × (s.share.parts ≡ 1)
-        × (s.share.amount ≡ calls_begun_by (visit_in s.place)) };
+        × (s.share.amount ≡ calls_in s.place) };
 }
 
 /// What a step of a stay came to.
@@ -268,18 +300,20 @@ impl<B: RollName + Ledger> Stay<B> {
 
     /// The session makes no more calls: what came of it. One that hasn't left is given up.
     pub fn end(self) -> Stayed<B>
+        requires { self.place ≢ New }
         ensures visit { IsVisitOf self result.visit }
         ensures session { result.transcript.session ≡ self.session }
         ensures calls { self.keeps ≡ true
             → map call_record result.transcript.calls.items ≡ self.calls }
         ensures part { result.share.parts ≡ 1 }
         ensures begun { result.share.amount ≡ calls_begun_by result.visit }
+        ensures steps { result.steps ≡ self.steps }
     {
         let Stay {
             place,
             share,
             asked: _asked,
-            steps: _,
+            steps,
             transcript,
             keeps: _,
         } = self;
@@ -287,6 +321,7 @@ impl<B: RollName + Ledger> Stay<B> {
             visit: place.end(),
             transcript,
             share,
+            steps,
         }
     }
 }

@@ -305,11 +305,13 @@ fn visit_in_turn<B: RollName + Ledger>(
         visit: _visit,
         transcript,
         share: mut counted,
+        steps: _,
     } = first;
     let Stayed {
         visit: _other,
         transcript: later,
         share,
+        steps: _,
     } = second;
     counted.merge(share);
     let mut core = core.into_inner();

@@ -161,6 +161,7 @@ fn rounds<P, H: Host<P>, L: Line, C: Clock>(
         → Serves H.held (H.serves start host.new place.new (C.told clock.new)) from
         (line_view (L.incoming line.new) (L.outgoing line.new) (L.calls line.new))
         (Stops fault (H.work host.new place.new))) }
+    ensures len { vec_len piece.new ≡ vec_len piece.old }
     ensures failures { L.failed line.old ≤ L.failed line.new }
     ensures fault { IfErr result (λ fault. IsStop fault (L.failed line.old) (L.failed line.new)
         (H.strange host.new place.new)) }
@@ -260,6 +261,7 @@ pub fn serve_session<P, H: Host<P>, L: Line, C: Clock>(
         (IsStopped fault (L.failed line.old) (L.failed line.new) (H.work host.new place.new))) }
     ensures left { OnOk result (H.left host.new place.new None) }
     ensures left_by { IfErr result (λ fault. IsLeftFor (H.left host.new place.new) fault) }
+    ensures len { vec_len piece.new ≡ vec_len piece.old }
     ensures fault { IfErr result (λ fault. IsStop fault (L.failed line.old) (L.failed line.new)
         (H.strange host.new place.new)) }
 {

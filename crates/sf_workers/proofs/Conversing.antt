@@ -1,10 +1,11 @@
 -- What passed over a line that was served is its session's conversation, in each history that has
 -- its visit.
-use Rattle.std.proofs.Common.{◌≡◌, ℕ, List, [], ◌∷◌, ◌++◌, Bool, true, false, refl, ap, sym, ◌∙◌, subst, inl, inr, append_assoc, map, ◌⊎◌, nat_eq, if◌then◌else◌, Option, Some, None, IfSome}
+use Rattle.std.proofs.Common.{◌≡◌, ℕ, List, [], ◌∷◌, ◌++◌, Bool, true, false, refl, ap, sym, ◌∙◌, subst, inl, inr, append_assoc, map, ◌⊎◌, nat_eq, if◌then◌else◌, Some, None, Result, Ok, Err, IfOk}
 use Rattle.std.specs.List.{flat_map, cons_option}
 use Rattle.std.proofs.lemmas.List.{map-append}
 use Rattle.sf_field.specs.Fields.{packet}
 use Rattle.sf_call.specs.declared.request.Request.{Request}
+use Rattle.sf_call.specs.declared.fault.CoreFault.{CoreFault}
 use Rattle.sf_call.specs.declared.record.Record.{Record}
 use Rattle.sf_call.specs.declared.record.Record.TheVariants.{Did, Left}
 use Rattle.sf_session.specs.declared.asking.Ask.{Ask}
@@ -16,7 +17,7 @@ use Rattle.sf_noted.specs.Pages.{Page}
 use Rattle.sf_noted.specs.Pages.{Presence}
 use Rattle.sf_noted.specs.Pages.Presence.{UnderWay, Departed}
 use Rattle.sf_noted.specs.Visits.{MayWait, IsVisitIn}
-use Rattle.sf_serving.specs.Serving.{LineView}
+use Rattle.sf_serving.specs.Serving.{LineView, Progress}
 use Rattle.sf_pool.specs.Desks.{Joined}
 use Rattle.sf_pool.specs.Scenes.{response_calls, phase_calls, IsInCall}
 use Rattle.sf_workers.specs.Told.{WasServed, CameOf}
@@ -85,7 +86,7 @@ due_of presence phase waits (inr call) may =
 
 -- ---- what passed
 
-conversing : (x : ℕ × Page) (from line : LineView) (history : List Record) → WasServed x from line → IsVisitIn history x → ConversesIn history x.0 from line
+conversing : {Ends : Progress → Type 0} (x : ℕ × Page) (from line : LineView) (history : List Record) → WasServed x from line Ends → IsVisitIn history x → ConversesIn history x.0 from line
 conversing x from line history serves visit =
     let p = serves.progress in
     let t = p.told in
@@ -116,7 +117,7 @@ conversing x from line history serves visit =
     )
 
 -- so it is of what a visit came of
-pub visit_converses : (visit : Option (ℕ × Page)) (from line : LineView) → CameOf visit from line
-    → (history : List Record) → IfSome visit (λ x. IsVisitIn history x → ConversesIn history x.0 from line)
-visit_converses None from line came history = tt
-visit_converses (Some x) from line came history = λ visit. conversing x from line history came visit
+pub visit_converses : (Ends : Progress → Type 0) (visit : Result (ℕ × Page) CoreFault) (from line : LineView) → CameOf visit from line Ends
+    → (history : List Record) → IfOk visit (λ x. IsVisitIn history x → ConversesIn history x.0 from line)
+visit_converses Ends (Err refusal) from line came history = tt
+visit_converses Ends (Ok x) from line came history = λ visit. conversing x from line history came visit

@@ -1,9 +1,8 @@
 //! What the sessions of a worker were told, and of all workers.
 
-ghost use Rattle.std.specs.Prelude.{◌≡◌, ◌<◌, ◌≤◌, ◌⊎◌, ◌+◌, ◌++◌, [], true, map, vec_len, IfOk, IfSome, OnOk, OnErr};
-ghost use Rattle.std.specs.List.{cons_option};
+ghost use Rattle.std.specs.Prelude.{◌≡◌, ◌<◌, ◌≤◌, ◌⊎◌, ◌+◌, ◌++◌, ◌∷◌, [], true, map, vec_len, IfOk, OnOk, OnErr};
 ghost use Rattle.std.specs.Vec.{vec_capacity};
-ghost use Rattle.sf_pool.specs.OnCores.{calls_begun_by};
+ghost use Rattle.sf_pool.specs.OnCores.{calls_begun};
 ghost use Rattle.sf_workers.specs.Told.{told_on, told_in, kept_of, calls_of};
 
 use sf_audit::Transcript;
@@ -52,20 +51,16 @@ impl<B: RollName> Told<B> {
         transcripts.reserve(1)
     }
 
-    /// One session more, which was told this; or none, if it never joined.
-    pub(crate) fn note(&mut self, visit: Option<Visit<B>>, transcript: Transcript)
+    /// One session more, which was told this.
+    pub(crate) fn note(&mut self, visit: Visit<B>, transcript: Transcript)
         requires visits { vec_len self.old.visits < vec_capacity self.old.visits }
         requires transcripts { vec_len self.old.transcripts < vec_capacity self.old.transcripts }
-        requires told { self.old.keeps ≡ true
-            → IfSome visit (λ visit. told_in transcript ≡ told_on visit) }
-        ensures visits { self.new.visits.items ≡ self.old.visits.items ++ cons_option visit [] }
+        requires told { self.old.keeps ≡ true → told_in transcript ≡ told_on visit }
+        ensures visits { self.new.visits.items ≡ self.old.visits.items ++ visit ∷ [] }
         ensures calls { calls_of self.new.visits.items
-            ≡ calls_of self.old.visits.items + calls_begun_by visit }
+            ≡ calls_of self.old.visits.items + calls_begun visit.1 }
         ensures keeps { self.new.keeps ≡ self.old.keeps }
     {
-        let Some(visit) = visit else {
-            return;
-        };
         let Told {
             visits,
             transcripts,

@@ -1,43 +1,51 @@
 //! Threads that take lines from a channel, and serve each to its end.
 
-ghost use Rattle.std.specs.Prelude.{◌≡◌, ◌≤◌, ◌⊎◌, ◌*◌, List, true, vec_len, All, IfOk, IfSome};
+ghost use Rattle.std.specs.Prelude.{◌≡◌, ◌≤◌, ◌⊎◌, ◌*◌, List, true, vec_len, All, IfOk};
 ghost use Rattle.std.specs.Vec.{vec_capacity};
 ghost use Rattle.sf_call.specs.declared.record.Record.{Record};
 ghost use Rattle.sf_noted.specs.Visits.{IsVisitIn};
 ghost use Rattle.sf_serving.specs.Serving.{line_view};
 ghost use Rattle.sf_pool.specs.OnCores.{calls_begun_by};
 ghost use Rattle.sf_workers.specs.Conversations.{ConversesIn};
-ghost use Rattle.sf_workers.specs.Told.{told_on, told_in, calls_of, CameOf, ServesLine};
+ghost use Rattle.sf_workers.specs.Told.{told_on, told_in, calls_of, EndsServing, CameOf, ServesLine};
 
 use crate::told::Told;
 use crossbeam_channel::Receiver;
 use sf_core::Share;
 use sf_line::Line;
 use sf_noted::NotedCore;
-use sf_pool::{Hall, LockDesk, Stayed, StepObserver, serve};
+use sf_pool::{Hall, LockDesk, NotJoined, Stayed, StepObserver, serve};
 use sf_roll::RollName;
-use sf_session::Clock;
+use sf_serving::new_piece;
+use sf_session::{Clock, ServeFault};
 use std::alloc::{AllocError, Global};
 use std::sync::ledger::{self, Ledger};
 use std::sync::{Mutex, Wait};
 use std::thread;
 use std::thread::Threads;
 
-/// What a worker begins with: a part of the count for all its sessions, and one that it lends to
-/// each.
+/// What a worker begins with: room for what a read gives, a part of the count for all its
+/// sessions, and one that it lends to each.
 #[derive(Drop)]
 pub(crate) struct Job<B: RollName + Ledger, C> {
     clock: C,
+    piece: Vec<u8>,
     share: ledger::Share<B>,
+    ghost room: { vec_len piece ≡ 65536 },
     ghost two_parts: { share.parts ≡ 2 },
     ghost none_yet: { share.amount ≡ 0 },
 }
 
-fn job_of<B: RollName + Ledger, C>(clock: C, share: ledger::Share<B>) -> Job<B, C>
+fn job_of<B: RollName + Ledger, C>(clock: C, piece: Vec<u8>, share: ledger::Share<B>) -> Job<B, C>
+    requires room { vec_len piece ≡ 65536 }
     requires two_parts { share.parts ≡ 2 }
     requires none_yet { share.amount ≡ 0 }
 {
-    Job { clock, share }
+    Job {
+        clock,
+        piece,
+        share,
+    }
 }
 
 /// A job for each clock.
@@ -54,7 +62,8 @@ pub(crate) fn jobs<B: RollName + Ledger, C: Drop>(
     let mut clocks = clocks;
     let mut jobs = Vec::new(alloc);
     while let Some(clock) = clocks.pop() {
-        jobs.push(job_of(clock, all.split_off(2, 0)))?;
+        let piece = new_piece(alloc)?;
+        jobs.push(job_of(clock, piece, all.split_off(2, 0)))?;
     }
     Ok(jobs)
 }
@@ -78,8 +87,20 @@ pub struct Place<'a, R, B: RollName + Ledger> {
     pub hall: &'a Hall,
 }
 
-/// Serves a session over a line to its end, at a desk: what its stay there came to. Its calls are
-/// counted in the part that is lent. What it was told is kept, or its last call alone.
+/// What came of a line.
+#[derive(Drop)]
+pub(crate) enum Attended {
+    /// A session was served over it, to its end or to a fault.
+    Served(Result<(), ServeFault>),
+    /// Its session was refused.
+    NotJoined(NotJoined),
+    /// There was no room to note one more.
+    NoRoom(AllocError),
+}
+
+/// Serves a session over a line to its end, at a desk: what its stay there came to, and why it
+/// ended. Its calls are counted in the part that is lent. What it was told is kept, or its last
+/// call alone.
 ///
 /// A session that ends by a fault ends nothing else.
 pub fn serve_line<B: RollName + Ledger, R: Wait, L: Line, C: Clock, G: StepObserver>(
@@ -89,25 +110,38 @@ pub fn serve_line<B: RollName + Ledger, R: Wait, L: Line, C: Clock, G: StepObser
     line: &mut L,
     clock: &mut C,
     observer: &G,
-) -> Stayed<B>
+    piece: &mut Vec<u8>,
+) -> (Stayed<B>, Result<(), ServeFault>)
     requires part { lent.parts ≡ 1 }
     requires none { lent.amount ≡ 0 }
-    ensures part { result.share.parts ≡ 1 }
-    ensures calls { result.share.amount ≡ calls_begun_by result.visit }
-    ensures told { keeps ≡ true → IfSome result.visit (λ visit. told_in result.transcript
+    requires room { vec_len piece.old ≡ 65536 }
+    ensures part { result.0.share.parts ≡ 1 }
+    ensures calls { result.0.share.amount ≡ calls_begun_by result.0.visit }
+    ensures told { keeps ≡ true → IfOk result.0.visit (λ visit. told_in result.0.transcript
         ≡ told_on visit) }
-    ensures line { CameOf result.visit
+    ensures line { CameOf result.0.visit
         (line_view (L.incoming line.old) (L.outgoing line.old) (L.calls line.old))
-        (line_view (L.incoming line.new) (L.outgoing line.new) (L.calls line.new)) }
-    ensures talk { (history : List Record) → IfSome result.visit (λ visit. IsVisitIn history visit
+        (line_view (L.incoming line.new) (L.outgoing line.new) (L.calls line.new))
+        (EndsServing result.1 (L.incoming line.new) (L.failed line.old) (L.failed line.new)
+        result.0.steps) }
+    ensures talk { (history : List Record) → IfOk result.0.visit (λ visit. IsVisitIn history visit
         → ConversesIn history visit.0
         (line_view (L.incoming line.old) (L.outgoing line.old) (L.calls line.old))
         (line_view (L.incoming line.new) (L.outgoing line.new) (L.calls line.new))) }
+    ensures len { vec_len piece.new ≡ vec_len piece.old }
 {
     let mut desk = LockDesk::new(place.rt, place.alloc, place.core, place.hall, keeps, lent);
     let mut share = Share::zero();
-    let _ = serve(place.alloc, &mut desk, line, clock, observer, &mut share);
-    desk.end()
+    let outcome = serve(
+        place.alloc,
+        &mut desk,
+        line,
+        clock,
+        observer,
+        piece,
+        &mut share,
+    );
+    (desk.end(), outcome)
 }
 
 impl<B: RollName + Ledger> Served<B> {
@@ -123,38 +157,50 @@ impl<B: RollName + Ledger> Served<B> {
         }
     }
 
-    /// Serves a session over a line, too. Without room to note what it comes to the line isn't
-    /// served.
+    /// Serves a session over a line, too, and tells what came of it. Without room to note that the
+    /// line isn't served.
     fn serve<R: Wait, L: Line, C: Clock, G: StepObserver>(
         self,
         place: &Place<'_, R, B>,
         line: &mut L,
         clock: &mut C,
         observer: &G,
-    ) -> Served<B>
-        ensures keeps { result.told.keeps ≡ self.told.keeps }
-        ensures line { ServesLine self.told.visits.items result.told.visits.items
+        piece: &mut Vec<u8>,
+    ) -> (Served<B>, Attended)
+        requires room { vec_len piece.old ≡ 65536 }
+        ensures keeps { result.0.told.keeps ≡ self.told.keeps }
+        ensures line { ServesLine result.1 self.told.visits.items result.0.told.visits.items
             ((vec_capacity self.told.visits ≤ vec_len self.told.visits)
             ⊎ (vec_capacity self.told.transcripts ≤ vec_len self.told.transcripts))
             (line_view (L.incoming line.old) (L.outgoing line.old) (L.calls line.old))
-            (line_view (L.incoming line.new) (L.outgoing line.new) (L.calls line.new)) }
+            (line_view (L.incoming line.new) (L.outgoing line.new) (L.calls line.new))
+            (L.failed line.old) (L.failed line.new) }
+        ensures len { vec_len piece.new ≡ vec_len piece.old }
     {
         let Served {
             mut told,
             mut share,
         } = self;
-        if told.reserve().is_err() {
-            return Served { told, share };
+        if let Err(error) = told.reserve() {
+            return (Served { told, share }, Attended::NoRoom(error));
         }
         let lent = share.split_off(1, 0);
+        let (stayed, outcome) = serve_line(place, lent, told.keeps, line, clock, observer, piece);
         let Stayed {
             visit,
             transcript,
             share: own,
-        } = serve_line(place, lent, told.keeps, line, clock, observer);
+            steps: _,
+        } = stayed;
         share.merge(own);
-        told.note(visit, transcript);
-        Served { told, share }
+        let attended = match visit {
+            Ok(visit) => {
+                told.note(visit, transcript);
+                Attended::Served(outcome)
+            }
+            Err(refusal) => Attended::NotJoined(refusal),
+        };
+        (Served { told, share }, attended)
     }
 }
 
@@ -168,13 +214,18 @@ fn work<B: RollName + Ledger, R: Wait, L: Line + Drop, C: Clock + Drop, G: StepO
 ) -> Served<B>
     ensures { result.told.keeps ≡ keeps }
 {
-    let Job { mut clock, share } = job;
+    let Job {
+        mut clock,
+        mut piece,
+        share,
+    } = job;
     let mut served = Served::none(place.alloc, keeps, share);
     for _ in place.rt.forever() {
         let Ok(mut line) = lines.recv(place.rt) else {
             break;
         };
-        served = served.serve(place, &mut line, &mut clock, observer);
+        let (more, _attended) = served.serve(place, &mut line, &mut clock, observer, &mut piece);
+        served = more;
     }
     served
 }

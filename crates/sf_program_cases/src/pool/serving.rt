@@ -1,8 +1,8 @@
 //! Sessions served over lines in memory, at a desk on a core that is lent to it.
 
-ghost use Rattle.std.specs.Prelude.{◌≡◌, ◌++◌, ◌∷◌, [], Some, true};
+ghost use Rattle.std.specs.Prelude.{◌≡◌, ◌++◌, ◌∷◌, ◌≢◌, [], Some, true, vec_len};
 ghost use Rattle.sf_core.specs.Histories.{IsHistory};
-ghost use Rattle.sf_pool.specs.Desks.{new_desk};
+ghost use Rattle.sf_pool.specs.Desks.{New, new_desk};
 
 use super::*;
 use sf_call::CoreFault;
@@ -10,8 +10,9 @@ use sf_cases::requests::stat;
 use sf_cases::{StillClock, hex_packets};
 use sf_line::{Line, LineCall, MemoryLine, Pieces};
 use sf_pool::{Begin, Stay, serve};
-use sf_serving::NoObserver;
+use sf_serving::{NoObserver, new_piece};
 use sf_session::{Clock, ServeFault};
+use std::alloc::AllocError;
 
 mod failing;
 mod long;
@@ -51,7 +52,9 @@ const TOLD_AGAIN: &str =
 struct OwnCore<B: RollName + Ledger> {
     core: NotedCore<B>,
     count: ledger::Share<B>,
+    piece: Vec<u8>,
     ghost parts: { count.parts ≡ 2 },
+    ghost room: { vec_len piece ≡ 65536 },
 }
 
 /// A session's calls on a core that nobody else uses.
@@ -71,18 +74,25 @@ struct Came {
 
 impl<B: RollName + Ledger> OwnCore<B> {
     /// Such a core, which no session has joined.
-    fn open(core: Core, roll: NewRoll<Page>, blank: Blank) -> OwnCore<B>
+    fn open(
+        alloc: Global,
+        core: Core,
+        roll: NewRoll<Page>,
+        blank: Blank,
+    ) -> Result<OwnCore<B>, AllocError>
         requires new { IsHistory core [] }
         requires none { (core.joins ≡ 0) × (core.drawn ≡ 0) }
         requires table { roll ≡ B.table }
         requires name { blank.name ≡ B.name }
         requires parts { (blank.parts ≡ B.parts) × (B.parts ≡ 2) }
     {
+        let piece = new_piece(alloc)?;
         let (calls, count) = blank.open::<B>();
-        OwnCore {
+        Ok(OwnCore {
             core: NotedCore::open(core, roll, calls),
             count,
-        }
+            piece,
+        })
     }
 
     /// Serves a session over a line to its end.
@@ -90,7 +100,16 @@ impl<B: RollName + Ledger> OwnCore<B> {
         let part = self.count.split_off(1, 0);
         let mut desk = OwnDesk::new(alloc, &mut self.core, part);
         let mut share = Share::zero();
-        let ended = serve(alloc, &mut desk, line, clock, &NoObserver, &mut share);
+        let piece = &mut self.piece;
+        let ended = serve(
+            alloc,
+            &mut desk,
+            line,
+            clock,
+            &NoObserver,
+            piece,
+            &mut share,
+        );
         let (told, part) = desk.end();
         self.count.merge(part);
         Came { ended, told, share }
@@ -100,6 +119,7 @@ impl<B: RollName + Ledger> OwnCore<B> {
         let OwnCore {
             core,
             count: _count,
+            piece: _piece,
         } = self;
         core.into_core()
     }
@@ -119,6 +139,7 @@ impl<'a, B: RollName + Ledger> OwnDesk<'a, B> {
 
     /// What the session was told, and the part of the count.
     fn end(self) -> (Transcript, ledger::Share<B>)
+        requires { self.stay.place ≢ New }
         ensures { result.1.parts ≡ 1 }
     {
         let OwnDesk { core: _, stay } = self;
@@ -126,6 +147,7 @@ impl<'a, B: RollName + Ledger> OwnDesk<'a, B> {
             visit: _visit,
             transcript,
             share,
+            steps: _,
         } = stay.end();
         (transcript, share)
     }
@@ -196,7 +218,9 @@ impl<'a, R: Abort, B: RollName + Ledger> TellingDesk<'a, R, B> {
     }
 
     /// What it was asked to begin, and what the session was told.
-    fn end(self) -> (Vec<Begin>, Transcript) {
+    fn end(self) -> (Vec<Begin>, Transcript)
+        requires { self.own.stay.place ≢ New }
+    {
         let TellingDesk { rt: _, own, begins } = self;
         let (told, _part) = own.end();
         (begins, told)
@@ -252,23 +276,24 @@ fn serve_on<B: RollName + Ledger, L: Line, C: Clock>(
     blank: Blank,
     line: &mut L,
     clock: &mut C,
-) -> (Core, Came)
+) -> Result<(Core, Came), AllocError>
     requires new { IsHistory core [] }
     requires none { (core.joins ≡ 0) × (core.drawn ≡ 0) }
     requires table { roll ≡ B.table }
     requires name { blank.name ≡ B.name }
     requires parts { (blank.parts ≡ B.parts) × (B.parts ≡ 2) }
 {
-    let mut own = OwnCore::<B>::open(core, roll, blank);
+    let mut own = OwnCore::<B>::open(alloc, core, roll, blank)?;
     let came = own.serve(alloc, line, clock);
-    (own.into_core(), came)
+    Ok((own.into_core(), came))
 }
 
 fn serve_alone<L: Line>(alloc: Global, line: &mut L) -> Result<(Core, Came), Fail> {
     let core = Core::new(alloc)?;
     let roll = NewRoll::new(alloc)?;
     let clock = &mut StillClock;
-    Ok(serve_on::<Brand, L, StillClock>(alloc, core, roll, Blank::new(2), line, clock))
+    let blank = Blank::new(2);
+    Ok(serve_on::<Brand, L, StillClock>(alloc, core, roll, blank, line, clock)?)
 }
 
 /// Serves these bytes in pieces. The core comes out, what came of it, and what was written.
@@ -347,10 +372,19 @@ fn tell_begins<B: RollName + Ledger, R: Abort, L: Line, C: Clock>(
     let OwnCore {
         mut core,
         mut count,
+        mut piece,
     } = own;
     let mut desk = TellingDesk::new(rt, alloc, &mut core, count.split_off(1, 0));
     let mut share = Share::zero();
-    serve(alloc, &mut desk, line, clock, &NoObserver, &mut share)?;
+    serve(
+        alloc,
+        &mut desk,
+        line,
+        clock,
+        &NoObserver,
+        &mut piece,
+        &mut share,
+    )?;
     let (begins, told) = desk.end();
     Ok((begins, told, share))
 }
@@ -374,7 +408,7 @@ fn tell_alone<B: RollName + Ledger, R: Abort, L: Line, C: Clock>(
     tell_begins(
         rt,
         alloc,
-        OwnCore::<B>::open(core, roll, blank),
+        OwnCore::<B>::open(alloc, core, roll, blank)?,
         line,
         clock,
     )

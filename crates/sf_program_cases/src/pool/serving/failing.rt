@@ -220,7 +220,7 @@ fn fails_on<B: RollName + Ledger, R: Abort>(
     requires name { blank.name ≡ B.name }
     requires parts { (blank.parts ≡ B.parts) × (B.parts ≡ 2) }
 {
-    let mut own = OwnCore::<B>::open(core, roll, blank);
+    let mut own = OwnCore::<B>::open(alloc, core, roll, blank)?;
     let all = visit_all(rt, alloc, &mut own, plans, at, fails)?;
     let failed = all.iter().any(|came| came.ended.is_err());
     agree(rt, alloc, own.into_core(), all)?;
