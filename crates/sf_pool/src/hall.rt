@@ -99,6 +99,12 @@ impl Hall {
         }
     }
 
+    /// How many wait for something to happen. They are counted under the lock, which they give up
+    /// as they begin to wait: whoever has it next makes no event that they miss.
+    pub fn asleep(&self) -> u64 {
+        self.asleep.load(Ordering::SeqCst)
+    }
+
     /// Waits until something happened on the core.
     pub(crate) fn wait<'a, R: Wait, T>(
         &self,

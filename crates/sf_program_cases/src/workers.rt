@@ -22,6 +22,7 @@ use std::thread::Threads;
 
 mod asleep;
 mod beside;
+mod sleepers;
 mod together;
 
 const INIT: &str = "00000005 01 00000003";
