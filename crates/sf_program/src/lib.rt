@@ -8,14 +8,12 @@
 //! `connection.rt` carries standard streams to such a socket, and `client.rt` runs one command on
 //! it. `descriptors.rt` asks the system's streams whether they would wait, for lines that read
 //! ahead, and `output.rt` writes to them; both are told bytes by whatever tells them, and what the
-//! system's descriptors do with bytes is tested. `clock.rt` tells the moment of a call. All else is in the crates below; the promises are
-//! those of `serve_one` of
-//! `sf_serving` and of `serve` of `sf_pool`.
+//! system's descriptors do with bytes is tested. All else is in the crates below; the promises are
+//! those of `serve_one` of `sf_serving` and of `serve` of `sf_pool`.
 #![tactic(auto)]
 
 pub mod accepting;
 pub mod client;
-pub mod clock;
 pub mod connection;
 pub mod descriptors;
 pub mod listening;

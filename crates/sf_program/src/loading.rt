@@ -3,10 +3,10 @@
 ghost use Rattle.std.specs.Prelude.{◌<◌, IfOk};
 ghost use Rattle.sf_program.specs.Loading.{IsLoaded};
 
-use crate::clock::SystemClock;
 use crate::socket_line::{SocketLine, socket_line};
 use crossbeam_channel::Sender;
 use sf_asking::Asker;
+use sf_clock::SystemClock;
 use sf_engine::Engine;
 use sf_folder::{LocalFolder, shown};
 use sf_line::StreamLine;

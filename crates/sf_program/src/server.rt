@@ -6,12 +6,12 @@ ghost use Rattle.sf_workers.specs.Told.{HasTold};
 ghost use Rattle.sf_program.specs.Totals.{HasToldTotals};
 
 use crate::accepting::{Stopped, Taker, accept_all};
-use crate::clock::SystemClock;
 use crate::listening::{Connections, listen};
 use crate::loading::{NotLoaded, load_by_line};
 use crate::socket_line::SocketLine;
 use crate::totals::tell;
 use crossbeam_channel::{Receiver, Sender, bounded};
+use sf_clock::SystemClock;
 use sf_core::Core;
 use sf_pool::StepObserver;
 use sf_words::Serving;

@@ -1,8 +1,8 @@
 //! The statuses and the clock.
 
 use sf_cases::{StillClock, hex_bytes};
+use sf_clock::moment;
 use sf_line::{MemoryLine, Pieces};
-use sf_program::clock::moment;
 use sf_program::stdio::run_stdio;
 use sf_serving::NoObserver;
 use std::alloc::Global;

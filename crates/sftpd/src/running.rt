@@ -5,10 +5,10 @@ ghost use Rattle.sf_words.specs.Words.{paths_len};
 
 use clap::{Error, error};
 use sf_ahead::AheadLine;
+use sf_clock::SystemClock;
 use sf_line::StreamLine;
 use sf_pool::StepObserver;
 use sf_program::client::run_client;
-use sf_program::clock::SystemClock;
 use sf_program::connection::connect;
 use sf_program::descriptors::Descriptors;
 use sf_program::loading::engine_of_folder;

@@ -1,4 +1,5 @@
-//! The clock of the system.
+//! The clock of the system, as the moments of sessions.
+#![tactic(auto)]
 
 ghost use Rattle.std.specs.Prelude.{◌≡◌, ◌-◌, ◌/◌, ◌^◌, min, IfSome, IfNone, None};
 ghost use Rattle.std.specs.Duration.{as_nanos};
