@@ -150,15 +150,16 @@ impl Path {
         requires { n ≤ length self.now }
         ensures { IfOk result (λ path. path ≡ take n self.now) }
     {
-        Path::of(self.front_names(alloc, n)?)
+        Path::of(self.front_names(alloc, n, 0)?)
     }
 
-    fn front_names(&self, alloc: Global, n: usize) -> Result<Vec<Name>, AllocError>
+    /// The first `n` names, with room for so many more.
+    fn front_names(&self, alloc: Global, n: usize, more: usize) -> Result<Vec<Name>, AllocError>
         requires { n ≤ length self.now }
         ensures same { IfOk result (λ names. names.items ≡ take n self.now) }
         ensures names { IfOk result (λ names. IsPath names.items) }
     {
-        let mut names = Vec::with_capacity(alloc, n)?;
+        let mut names = Vec::with_capacity(alloc, n.saturating_add(more))?;
         for name in &self.as_slice()[..n] {
             names.push(name.try_copy(alloc)?)?;
         }
@@ -190,7 +191,7 @@ impl Path {
         requires { n ≤ length other.now }
         ensures { IfOk result (λ path. path ≡ self.now ++ drop n other.now) }
     {
-        let mut names = self.front_names(alloc, self.len())?;
+        let mut names = self.front_names(alloc, self.len(), other.len() - n)?;
         for name in &other.as_slice()[n..] {
             names.push(name.try_copy(alloc)?)?;
         }
@@ -201,7 +202,7 @@ impl Path {
     pub fn below(&self, alloc: Global, name: &Name) -> Result<Path, AllocError>
         ensures { IfOk result (λ path. path ≡ self.now ++ name.now ∷ []) }
     {
-        let mut names = self.front_names(alloc, self.len())?;
+        let mut names = self.front_names(alloc, self.len(), 1)?;
         names.push(Name::from_slice(alloc, name.as_slice())?)?;
         Path::of(names)
     }
