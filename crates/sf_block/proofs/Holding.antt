@@ -4,10 +4,10 @@ use Rattle.std.specs.Prelude.{if◌then◌else◌, IsTrue}
 use Rattle.std.proofs.lemmas.Bool.{cases_lt}
 use Rattle.std.proofs.lemmas.List.{length-append, take-append-le, drop-append-le, length-drop}
 use Rattle.std.proofs.Math.Seq.{drop-append_seam, take-length}
-use Rattle.sf_block.specs.Blocks.{block_in, HasPlace, Puts, Filled, IsHeld, EndsBefore}
+use Rattle.sf_block.specs.Blocks.{block_in, HasPlace, Puts, Filled, IsHeld, EndsBefore, FileBlocks}
 
 -- no copies
-pub held_none : (blocks : List (ℕ × List (List ℕ))) (first : ℕ) (bytes : List ℕ) → length bytes ≡ 0 → IsHeld blocks first bytes
+pub held_none : (blocks : FileBlocks) (first : ℕ) (bytes : List ℕ) → length bytes ≡ 0 → IsHeld blocks first bytes
 held_none blocks first bytes none = record {
   whole = omega (arith, none);
   places = λ j lt. absurd (omega (arith, lt, none));
@@ -15,7 +15,7 @@ held_none blocks first bytes none = record {
 }
 
 -- the same blocks
-pub held_same : (old new : List (ℕ × List (List ℕ))) (first : ℕ) (bytes : List ℕ) → ((k : ℕ) → block_in new k ≡ block_in old k) → ((k : ℕ) → HasPlace old k → HasPlace new k)
+pub held_same : (old new : FileBlocks) (first : ℕ) (bytes : List ℕ) → ((k : ℕ) → block_in new k ≡ block_in old k) → ((k : ℕ) → HasPlace old k → HasPlace new k)
     → IsHeld old first bytes → IsHeld new first bytes
 held_same old new first bytes same kept held = record {
   whole = held.whole;
@@ -23,7 +23,7 @@ held_same old new first bytes same kept held = record {
   are = λ j lt. same (first + j) ∙ held.are j lt;
 }
 
-module _ (old new : List (ℕ × List (List ℕ))) (number : ℕ) (block : List ℕ) (put : Puts old new number block) where
+module _ (old new : FileBlocks) (number : ℕ) (block : List ℕ) (put : Puts old new number block) where
   -- another block was put in its place
   pub held_other : (first : ℕ) (bytes : List ℕ) → (0 < length bytes → first + length bytes / 4096 ≡ number) → IsHeld old first bytes → IsHeld new first bytes
   held_other first bytes ends held = record {

@@ -4,7 +4,7 @@ use Rattle.std.specs.Prelude.{◌⊎◌}
 use Rattle.std.proofs.lemmas.Bool.{cases_lt}
 use Rattle.std.proofs.lemmas.List.{length-take, length-drop, get_or-take, get_or-drop, get_or_past}
 use Rattle.sf_block.specs.Contents.{written, blocks_of}
-use Rattle.sf_block.specs.Blocks.{block_in, byte_in, bytes_from, block_now, block_written, place_in, part_in}
+use Rattle.sf_block.specs.Blocks.{block_in, byte_in, bytes_from, block_now, block_written, place_in, part_in, FileBlocks}
 use Rattle.sf_block.proofs.Places.{length_written, written_before, written_within, written_behind, length_bytes, byte_at, are_bytes}
 use Rattle.sf_block.proofs.Waiting.{now_within, now_before, now_behind}
 
@@ -43,7 +43,7 @@ last_block start [] some = absurd (omega (arith, some))
 last_block start (b ∷ bytes) some = ap (λ n. n / 4096 + 1 - start / 4096) (omega arith)
 
 -- ---- all blocks of a write, waiting
-module _ (blocks old : List (ℕ × List (List ℕ))) (start : ℕ) (bytes : List ℕ) (fresh : List (List ℕ)) (some : 0 < length bytes)
+module _ (blocks old : FileBlocks) (start : ℕ) (bytes : List ℕ) (fresh : List (List ℕ)) (some : 0 < length bytes)
     (same : (k : ℕ) → block_in blocks k ≡ block_in old k)
     (count : length fresh ≡ blocks_of start bytes)
     (laid : (j : ℕ) → j < length fresh → get_or fresh j [] ≡ block_written (block_in old) start bytes (start / 4096 + j)) where

@@ -2,7 +2,7 @@
 use Rattle.std.proofs.Common.{◌≡◌, ◌<◌, ◌≤◌, ◌+◌, ◌*◌, ◌-◌, ◌/◌, ◌%◌, ◌∙◌, ℕ, min, max, List, length, get_or, take, drop, Some, inl, inr, sym, ap, subst, arith}
 use Rattle.std.specs.Prelude.{◌⊎◌}
 use Rattle.std.proofs.lemmas.List.{length-take, length-drop, get_or-take, get_or-drop}
-use Rattle.sf_block.specs.Blocks.{run_in, byte_in, bytes_from, IsRun, AreRuns, IsNoted, IsHeld, IsRunOf, block_in}
+use Rattle.sf_block.specs.Blocks.{run_in, byte_in, bytes_from, IsRun, AreRuns, IsNoted, IsHeld, IsRunOf, block_in, FileBlocks}
 use Rattle.sf_block.proofs.Places.{are_bytes}
 
 -- the same blocks
@@ -58,12 +58,12 @@ runs_noted old new len {start = start} {bytes = bytes} are wrote noted = λ k ru
 ]
 
 -- copies of blocks that are in their places
-pub record InPlace (blocks : List (ℕ × List (List ℕ))) (g : ℕ → List ℕ) (first : ℕ) (bytes : List ℕ) : Type 0 where
+pub record InPlace (blocks : FileBlocks) (g : ℕ → List ℕ) (first : ℕ) (bytes : List ℕ) : Type 0 where
   pub held : IsHeld blocks first bytes
   pub same : (j : ℕ) → j < length bytes / 4096 → g (first + j) ≡ block_in blocks (first + j)
 
 -- a run of them was put in
-pub runs_held : (old new : List (ℕ × List ℕ)) {blocks : List (ℕ × List (List ℕ))} {g : ℕ → List ℕ} {first : ℕ} {bytes : List ℕ} (len : ℕ) → AreRuns old g len → InPlace blocks g first bytes
+pub runs_held : (old new : List (ℕ × List ℕ)) {blocks : FileBlocks} {g : ℕ → List ℕ} {first : ℕ} {bytes : List ℕ} (len : ℕ) → AreRuns old g len → InPlace blocks g first bytes
     → ((k : ℕ) (run : List ℕ) → run_in new k ≡ Some run → (run_in old k ≡ Some run) ⊎ IsRunOf first bytes len k run) → AreRuns new g len
 runs_held old new {g = g} {first = first} {bytes = bytes} len are copies put = λ k run at. elim (put k run at) [
   | inl was ↦ are k run was

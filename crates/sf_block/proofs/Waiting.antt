@@ -3,9 +3,9 @@ use Rattle.std.proofs.Common.{◌≡◌, ◌<◌, ◌≤◌, ◌+◌, ◌-◌, �
 use Rattle.std.specs.Prelude.{◌≢◌}
 use Rattle.std.proofs.lemmas.Bool.{cases_lt, cases_eq}
 use Rattle.std.proofs.lemmas.Grind.{common_steps}
-use Rattle.sf_block.specs.Blocks.{block_in, block_now, Puts}
+use Rattle.sf_block.specs.Blocks.{block_in, block_now, Puts, FileBlocks}
 
-module _ (blocks : List (ℕ × List (List ℕ))) (first : ℕ) (fresh : List (List ℕ)) where
+module _ (blocks : FileBlocks) (first : ℕ) (fresh : List (List ℕ)) where
   pub now_within : (k : ℕ) → first ≤ k → k < first + length fresh → block_now blocks first fresh k ≡ get_or fresh (k - first) []
   now_within k le lt = grind (arith, common_steps)
 
@@ -19,7 +19,7 @@ module _ (blocks : List (ℕ × List (List ℕ))) (first : ℕ) (fresh : List (L
   now_none none k = elim (cases_lt k first) [ inl lt ↦ now_before k lt | inr ge ↦ now_behind k (omega (arith, none, ge)) ]
 
 -- other blocks with the same bytes
-pub now_same : (old new : List (ℕ × List (List ℕ))) (first : ℕ) (fresh : List (List ℕ)) → ((k : ℕ) → block_in new k ≡ block_in old k)
+pub now_same : (old new : FileBlocks) (first : ℕ) (fresh : List (List ℕ)) → ((k : ℕ) → block_in new k ≡ block_in old k)
     → (k : ℕ) → block_now new first fresh k ≡ block_now old first fresh k
 now_same old new first fresh same k = elim (cases_lt k first) [
   | inl lt ↦ now_before new first fresh k lt ∙ same k ∙ sym (now_before old first fresh k lt)
@@ -30,7 +30,7 @@ now_same old new first fresh same k = elim (cases_lt k first) [
 ]
 
 -- the first block that waited is in its place
-pub now_put : (old new : List (ℕ × List (List ℕ))) (first : ℕ) (fresh left : List (List ℕ)) (block : List ℕ) → fresh ≡ block ∷ left → Puts old new first block
+pub now_put : (old new : FileBlocks) (first : ℕ) (fresh left : List (List ℕ)) (block : List ℕ) → fresh ≡ block ∷ left → Puts old new first block
     → (k : ℕ) → block_now new (first + 1) left k ≡ block_now old first fresh k
 now_put old new first fresh left block is put k =
     let len : length fresh ≡ length left + 1 = ap (λ (x : List (List ℕ)). length x) is ∙ omega arith in

@@ -1,7 +1,7 @@
 -- No public clause cites this module.
 -- Bytes in blocks of 4096, each under its number. A missing block is zeros, and so is what a
 -- shorter one lacks.
-use Rattle.std.specs.Prelude.{◌≡◌, ◌⊎◌, ◌≢◌, ◌<◌, ◌≤◌, ◌+◌, ◌-◌, ◌*◌, ◌/◌, ◌%◌, ℕ, max, min, nat_le, nat_lt, ◌&&◌, if◌then◌else◌, List, [], ◌∷◌, map, length, take, drop, Option, Some, None, slice_index_or}
+use Rattle.std.specs.Prelude.{◌≡◌, ◌⊎◌, ◌≢◌, ◌<◌, ◌≤◌, ◌+◌, ◌-◌, ◌*◌, ◌/◌, ◌%◌, ℕ, zero, suc, max, min, nat_le, nat_lt, ◌&&◌, if◌then◌else◌, List, [], ◌∷◌, map, length, take, drop, Option, Some, None, slice_index_or}
 use Rattle.std.specs.Option.{unwrap_or}
 use Rattle.std.specs.List.{range_with_len}
 use Rattle.std.specs.Ordering.{nat_cmp}
@@ -26,13 +26,27 @@ run_in runs k = unless_empty (entry_in runs k)
 abbrev pub row_in : List (ℕ × List (List ℕ)) → ℕ → List (List ℕ)
 row_in rows r = unwrap_or (entry_in rows r) []
 
--- the block of a number
-abbrev pub block_in : List (ℕ × List (List ℕ)) → ℕ → List ℕ
-block_in rows k = slice_index_or (row_in rows (k / 8)) (k % 8) []
+-- the block of a number, in its row
+abbrev pub block_in_rows : List (ℕ × List (List ℕ)) → ℕ → List ℕ
+block_in_rows rows k = slice_index_or (row_in rows (k / 8)) (k % 8) []
 
--- a block of this number has a place
-abbrev pub HasPlace : List (ℕ × List (List ℕ)) → ℕ → Type 0
-HasPlace rows k = k % 8 < length (row_in rows (k / 8))
+-- a block of this number has a place in its row
+abbrev pub HasPlaceInRows : List (ℕ × List (List ℕ)) → ℕ → Type 0
+HasPlaceInRows rows k = k % 8 < length (row_in rows (k / 8))
+
+-- the first block, and the others in rows
+pub record FileBlocks : Type 0 where
+  pub first : List ℕ
+  pub rows : List (ℕ × List (List ℕ))
+
+-- the block of a number
+abbrev pub block_in : FileBlocks → ℕ → List ℕ
+block_in blocks zero = blocks.first
+block_in blocks (suc k) = block_in_rows blocks.rows (suc k)
+
+-- a block of this number has a place, as the first one always has
+abbrev pub HasPlace : FileBlocks → ℕ → Type 0
+HasPlace blocks k = (k ≡ 0) ⊎ HasPlaceInRows blocks.rows k
 
 -- the byte at a place
 abbrev pub byte_in : (ℕ → List ℕ) → ℕ → ℕ
@@ -43,18 +57,24 @@ abbrev pub bytes_from : (ℕ → List ℕ) → ℕ → ℕ → List ℕ
 bytes_from block start n = map (byte_in block) (range_with_len start n)
 
 -- the blocks, where some from a number on wait to take their places
-abbrev pub block_now : List (ℕ × List (List ℕ)) → ℕ → List (List ℕ) → ℕ → List ℕ
+abbrev pub block_now : FileBlocks → ℕ → List (List ℕ) → ℕ → List ℕ
 block_now blocks first fresh k =
     if nat_le first k && nat_lt k (first + length fresh) then slice_index_or fresh (k - first) []
     else block_in blocks k
 
 -- a block was put in the place of a number's, and no other changed
-pub record Puts (old new : List (ℕ × List (List ℕ))) (number : ℕ) (block : List ℕ) : Type 0 where
+pub record Puts (old new : FileBlocks) (number : ℕ) (block : List ℕ) : Type 0 where
   pub at : block_in new number ≡ block
   pub others : (k : ℕ) → k ≢ number → block_in new k ≡ block_in old k
   pub kept : (k : ℕ) → HasPlace old k → HasPlace new k
 
--- the same in a row
+-- the same in rows
+pub record PutsInRows (old new : List (ℕ × List (List ℕ))) (number : ℕ) (block : List ℕ) : Type 0 where
+  pub at : block_in_rows new number ≡ block
+  pub others : (k : ℕ) → k ≢ number → block_in_rows new k ≡ block_in_rows old k
+  pub kept : (k : ℕ) → HasPlaceInRows old k → HasPlaceInRows new k
+
+-- the same in one row
 pub record PutsInRow (old new : List (List ℕ)) (i : ℕ) (block : List ℕ) : Type 0 where
   pub at : slice_index_or new i [] ≡ block
   pub others : (j : ℕ) → j ≢ i → slice_index_or new j [] ≡ slice_index_or old j []
@@ -103,7 +123,7 @@ pub record Filled : Type 0 where
   pub bytes : List ℕ
 
 -- whole blocks from a number on have these bytes, one behind another, each in its place
-pub record IsHeld (blocks : List (ℕ × List (List ℕ))) (first : ℕ) (bytes : List ℕ) : Type 0 where
+pub record IsHeld (blocks : FileBlocks) (first : ℕ) (bytes : List ℕ) : Type 0 where
   pub whole : length bytes % 4096 ≡ 0
   pub places : (j : ℕ) → j < length bytes / 4096 → HasPlace blocks (first + j)
   pub are : (j : ℕ) → j < length bytes / 4096

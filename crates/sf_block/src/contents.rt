@@ -207,7 +207,7 @@ impl Contents {
             self.len = n;
             return;
         }
-        self.blocks.cut(n);
+        self.blocks.cut(*self.fresh.allocator(), n);
         self.runs.cut(n / RUN);
         self.len = n;
     }

@@ -15,6 +15,7 @@ mod copies;
 mod filling;
 mod laws;
 mod row;
+mod rows;
 mod runs;
 mod whole;
 

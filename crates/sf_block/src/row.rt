@@ -86,7 +86,7 @@ impl Row {
 }
 
 /// Copies bytes that are too few to be shared, if there is memory.
-fn separate(alloc: Global, block: &mut ByteString)
+pub(crate) fn separate(alloc: Global, block: &mut ByteString)
     ensures { block.new ≡ block.old }
 {
     if block.len() < LEAST_SHARED {

@@ -1,13 +1,13 @@
 use Rattle.std.proofs.Common.{◌≡◌, ◌+◌, ◌*◌, ◌-◌, ◌/◌, ◌<◌, ◌∙◌, ℕ, List, length, take, drop, sym, ap, subst, inl, inr, arith}
 use Rattle.std.proofs.lemmas.Bool.{cases_eq}
-use Rattle.sf_block.specs.Blocks.{block_in, HasPlace}
+use Rattle.sf_block.specs.Blocks.{block_in, HasPlace, FileBlocks}
 use Rattle.sf_block.proofs.contents.share.Goals.{in-Ok, in_default}
 use Rattle.sf_block.proofs.contents.share.Goals as goal
 
 pub loop-i-preserved : goal.loop-i-preserved
 loop-i-preserved c =
-    let old : List (ℕ × List (List ℕ)) = c.args.blocks.now in
-    let now : List (ℕ × List (List ℕ)) = c.loop-i.blocks in
+    let old : FileBlocks = c.args.blocks.now in
+    let now : FileBlocks = c.loop-i.blocks in
     let i : ℕ = c.loop-i.i in
     let bytes : List ℕ = c.args.buffer.now in
     let was = c.loop-i.invariant in
@@ -18,7 +18,7 @@ loop-i-preserved c =
           let size : i * 4096 + 4096 - i * 4096 ≡ 4096 = omega arith in
           let cut : w.in-Ok.part ≡ take 4096 (drop (i * 4096) bytes) = w.in-Ok.ensures ∙ ap (λ n. take n (drop (i * 4096) bytes)) size in
           record {
-            same = λ k. ap (λ (b : List (ℕ × List (List ℕ))). block_in b k) w.blocks-is ∙ elim (cases_eq k number) [
+            same = λ k. ap (λ (b : FileBlocks). block_in b k) w.blocks-is ∙ elim (cases_eq k number) [
               | inl here ↦
                   ap (block_in w.put.new.self) here
                   ∙ w.put.ensures.at
@@ -27,10 +27,10 @@ loop-i-preserved c =
                   ∙ ap (block_in old) (sym here)
               | inr other ↦ w.put.ensures.others k other ∙ was.same k
             ];
-            kept = λ k place. subst (λ (b : List (ℕ × List (List ℕ))). HasPlace b k) (sym w.blocks-is) (w.put.ensures.kept k (was.kept k place));
+            kept = λ k place. subst (λ (b : FileBlocks). HasPlace b k) (sym w.blocks-is) (w.put.ensures.kept k (was.kept k place));
           }
       | in_default w ↦ record {
-        same = λ k. ap (λ (b : List (ℕ × List (List ℕ))). block_in b k) w.blocks-is ∙ was.same k;
-        kept = λ k place. subst (λ (b : List (ℕ × List (List ℕ))). HasPlace b k) (sym w.blocks-is) (was.kept k place);
+        same = λ k. ap (λ (b : FileBlocks). block_in b k) w.blocks-is ∙ was.same k;
+        kept = λ k place. subst (λ (b : FileBlocks). HasPlace b k) (sym w.blocks-is) (was.kept k place);
       }
     ]

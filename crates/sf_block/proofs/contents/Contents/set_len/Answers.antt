@@ -1,6 +1,6 @@
 use Rattle.std.proofs.Common.{arith, ◌≤◌, ◌≡◌, ◌∙◌, ℕ, List, length, get_or, ◌/◌, ◌%◌, sym, ap, refl}
 use Rattle.sf_block.specs.Contents.{FileBytes, resized}
-use Rattle.sf_block.specs.Blocks.{block_in, block_now, byte_in, bytes_from}
+use Rattle.sf_block.specs.Blocks.{block_in, block_now, byte_in, bytes_from, FileBlocks}
 use Rattle.sf_block.proofs.Places.{sized, if_below, if_above, same_file}
 use Rattle.sf_block.proofs.Waiting.{now_none}
 use Rattle.sf_block.proofs.Holding.{held_none}
@@ -21,7 +21,7 @@ returns c =
     let inside = c.self.inside in
     let fresh : List (List ℕ) = inside.fresh.items in
     let block : ℕ → List ℕ = block_now inside.blocks inside.first fresh in
-    let cut : List (ℕ × List (List ℕ)) = c.cut.new.self in
+    let cut : FileBlocks = c.cut.new.self in
     let now : ℕ → List ℕ = block_now cut inside.first fresh in
     let none : length fresh ≡ 0 = ap (λ (v : FileBytes). v.left) c.self.view_is ∙ c.requires in
     let here : (i : ℕ) → byte_in now i ≡ byte_in (block_in cut) i = λ i. ap (λ (b : List ℕ). get_or b (i % 4096) 0) (now_none cut inside.first fresh none (i / 4096)) in
@@ -50,7 +50,7 @@ invariant_of-self-2 c =
     let inside = c.self.inside in
     let fresh : List (List ℕ) = inside.fresh.items in
     let block : ℕ → List ℕ = block_now inside.blocks inside.first fresh in
-    let cut : List (ℕ × List (List ℕ)) = c.cut.new.self in
+    let cut : FileBlocks = c.cut.new.self in
     let now : ℕ → List ℕ = block_now cut inside.first fresh in
     let none : length fresh ≡ 0 = ap (λ (v : FileBytes). v.left) c.self.view_is ∙ c.requires in
     let here : (i : ℕ) → byte_in now i ≡ byte_in (block_in cut) i = λ i. ap (λ (b : List ℕ). get_or b (i % 4096) 0) (now_none cut inside.first fresh none (i / 4096)) in

@@ -1,6 +1,6 @@
 use Rattle.std.proofs.Common.{rules, ◌%◌, get_or, subst, ◌≡◌, ◌+◌, ◌/◌, ◌-◌, ◌<◌, ◌≤◌, ◌∙◌, ℕ, max, List, [], length, sym, ap, arith}
 use Rattle.sf_block.specs.Contents.{FileBytes, written, blocks_of}
-use Rattle.sf_block.specs.Blocks.{block_in, block_now, block_written, byte_in, bytes_from, AreRuns}
+use Rattle.sf_block.specs.Blocks.{block_in, block_now, block_written, byte_in, bytes_from, AreRuns, FileBlocks}
 use Rattle.sf_block.proofs.Places.{same_blocks, same_file}
 use Rattle.sf_block.proofs.Waiting.{now_none, now_same}
 use Rattle.sf_block.proofs.Laying.{last_block, now_small, now_kept, now_laid, lays, lays_ends}
@@ -13,8 +13,8 @@ invariant_of-self-2 c =
     let inside = c.self.inside in
     let bytes : List ℕ = c.args.bytes.now in
     let start : ℕ = c.args.offset in
-    let old : List (ℕ × List (List ℕ)) = inside.blocks in
-    let new : List (ℕ × List (List ℕ)) = c.make_places.new.blocks in
+    let old : FileBlocks = inside.blocks in
+    let new : FileBlocks = c.make_places.new.blocks in
     let fresh : List (List ℕ) = c.from_vec.result.items in
     let is : fresh ≡ c.in_ok-fresh.fresh.items = c.from_vec.ensures.items in
     let count : length fresh ≡ blocks_of start bytes = ap (λ (x : List (List ℕ)). length x) is ∙ c.in_ok-fresh.ensures.count in
@@ -49,8 +49,8 @@ returns-clause-ok c =
     let inside = c.self.inside in
     let bytes : List ℕ = c.args.bytes.now in
     let start : ℕ = c.args.offset in
-    let old : List (ℕ × List (List ℕ)) = inside.blocks in
-    let new : List (ℕ × List (List ℕ)) = c.make_places.new.blocks in
+    let old : FileBlocks = inside.blocks in
+    let new : FileBlocks = c.make_places.new.blocks in
     let fresh : List (List ℕ) = c.from_vec.result.items in
     let is : fresh ≡ c.in_ok-fresh.fresh.items = c.from_vec.ensures.items in
     let count : length fresh ≡ blocks_of start bytes = ap (λ (x : List (List ℕ)). length x) is ∙ c.in_ok-fresh.ensures.count in
@@ -72,8 +72,8 @@ returns-clause-ok c =
 pub invariant_of-self : goal.invariant_of-self
 invariant_of-self c =
     let inside = c.self.inside in
-    let old : List (ℕ × List (List ℕ)) = inside.blocks in
-    let new : List (ℕ × List (List ℕ)) = c.make_places.new.blocks in
+    let old : FileBlocks = inside.blocks in
+    let new : FileBlocks = c.make_places.new.blocks in
     let none : length inside.fresh.items ≡ 0 = ap (λ (v : FileBytes). v.left) c.self.view_is ∙ c.requires.whole in
     let same : (k : ℕ) → block_now new inside.first inside.fresh.items k ≡ block_now old inside.first inside.fresh.items k = λ k.
     now_none new inside.first inside.fresh.items none k ∙ c.make_places.ensures.same k ∙ sym (now_none old inside.first inside.fresh.items none k) in (

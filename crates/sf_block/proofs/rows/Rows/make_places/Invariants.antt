@@ -1,6 +1,6 @@
 use Rattle.std.proofs.Common.{◌≡◌, ◌<◌, ◌≤◌, ◌/◌, ℕ, [], length, slice_index_or}
 use Rattle.sf_block.specs.Blocks.{row_in}
-use Rattle.sf_block.proofs.blocks.Blocks.make_places.Given as goal
+use Rattle.sf_block.proofs.rows.Rows.make_places.Given as goal
 
 abbrev pub invariant-loop-number : goal.invariant-loop-number
 invariant-loop-number l = record {
