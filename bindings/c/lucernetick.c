@@ -7,6 +7,9 @@
 /* How many records lt_new keeps. */
 enum { KEEP = 256 };
 
+/* A file of so many bytes at most is told with its leaf. */
+enum { FEW = 32768 };
+
 /* What the crate has of an engine's refusals, their box or NULL. */
 struct refusals {
     void *at;
@@ -502,6 +505,46 @@ int64_t lt_tree_leaf(lt_tree *tree, uint64_t at, lt_leaf *leaf)
     }
     *leaf = (lt_leaf){{tree->room, (size_t)told.path}, told.attributes, told.label};
     return count;
+}
+
+/* Tells a leaf, if there is one: its path goes into the room, and behind it the bytes of a file that
+ * has few. Answers how many bytes these are, 0 where there isn't room for them. */
+static int64_t tell_leaf(const lt_tree *tree, uint64_t at, lt_leaf *leaf, uint8_t *room,
+                         size_t length)
+{
+    struct leaf told;
+    int64_t count = lucernetick_tree_leaf(tree, at, &told, room, length);
+    if (count < 0)
+        return count;
+    if (at >= (uint64_t)count || told.path > length)
+        return 0;
+    uint64_t size = told.attributes.size <= FEW ? told.attributes.size : 0;
+    if (size > length - told.path)
+        return 0;
+    int64_t read = size == 0 ? 0 : lucernetick_tree_read(tree, at, 0, room + told.path, (size_t)size);
+    if (read < 0)
+        return read;
+    *leaf = (lt_leaf){{room, (size_t)told.path}, told.attributes, told.label};
+    return (int64_t)(told.path + size);
+}
+
+int64_t lt_tree_leaves(const lt_tree *tree, uint64_t at, lt_leaf *leaves, size_t most,
+                       uint8_t *room, size_t length)
+{
+    size_t count = 0;
+    if (tree == NULL || leaves == NULL || room == NULL || length > PTRDIFF_MAX)
+        return LT_REFUSAL_BAD_POINTER;
+    while (count < most) {
+        int64_t used = tell_leaf(tree, at + count, leaves + count, room, length);
+        if (used < 0)
+            return used;
+        if (used == 0)
+            break;
+        room += used;
+        length -= (size_t)used;
+        count++;
+    }
+    return (int64_t)count;
 }
 
 int64_t lt_tree_read(const lt_tree *tree, uint64_t at, uint64_t offset, uint8_t *room,

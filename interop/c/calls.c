@@ -538,6 +538,34 @@ static void is_as_made(lt_tree *tree)
     leaf_is(tree, 6, "/g", 9, 0100644, "");
 }
 
+/* Leaves of that tree, by one call: it has seven, with 35 bytes in all. */
+static void many_at_once(const lt_tree *tree)
+{
+    lt_leaf leaves[9];
+    uint8_t room[64] = {0};
+    same("all leaves", lt_tree_leaves(tree, 0, leaves, 9, room, sizeof room), 7);
+    same("their bytes", memcmp(room, "//d/d/e/d/fcontents/e/e/hcontents/g", 36), 0);
+    same("a path", are(leaves[5].path, "/e/h", 4), 1);
+    same("in the room", leaves[5].path.at == room + 21, 1);
+    same("its label", (int64_t)leaves[5].label, 6);
+    same("its size", (int64_t)leaves[5].attributes.size, 8);
+    same("its permissions", leaves[5].attributes.permissions, 0100644);
+    same("some of them", lt_tree_leaves(tree, 1, leaves, 3, room, sizeof room), 3);
+    same("the first", are(leaves[0].path, "/d", 2), 1);
+    same("as there is room", lt_tree_leaves(tree, 0, leaves, 9, room, 19), 4);
+    same("too little for the contents", lt_tree_leaves(tree, 0, leaves, 9, room, 18), 3);
+    same("too little for the path", lt_tree_leaves(tree, 3, leaves, 9, room, 3), 0);
+    same("no room", lt_tree_leaves(tree, 0, leaves, 9, room, 0), 0);
+    same("none wanted", lt_tree_leaves(tree, 0, leaves, 0, room, sizeof room), 0);
+    same("none further", lt_tree_leaves(tree, 7, leaves, 9, room, sizeof room), 0);
+    same("none far behind", lt_tree_leaves(tree, UINT64_MAX, leaves, 9, room, sizeof room), 0);
+    same("of no tree", lt_tree_leaves(NULL, 0, leaves, 9, room, 64), LT_REFUSAL_BAD_POINTER);
+    same("to nowhere", lt_tree_leaves(tree, 0, NULL, 9, room, 64), LT_REFUSAL_BAD_POINTER);
+    same("paths to nowhere", lt_tree_leaves(tree, 0, leaves, 9, NULL, 9), LT_REFUSAL_BAD_POINTER);
+    same("too much room", lt_tree_leaves(tree, 0, leaves, 9, room, TOO_MANY),
+         LT_REFUSAL_BAD_POINTER);
+}
+
 /* What may be asked of a tree beside its leaves, and what may not. */
 static void asked(lt_engine *engine, lt_tree *tree)
 {
@@ -645,6 +673,8 @@ static void large_trees(void)
         same("a path", are(leaf.path, (const char *)path.at, path.length), 1);
         reads(tree, (uint64_t)i + 2, 0, (const char *)path.at);
     }
+    same("all but the large one's bytes", lt_tree_leaves(tree, MANY_FILES + 2, &leaf, 1, room, 6), 1);
+    same("which is told", (int64_t)leaf.attributes.size, LARGE);
     same("a large file", lt_tree_read(tree, MANY_FILES + 2, 0, room, sizeof room), LARGE);
     same("its bytes", memcmp(room, contents, LARGE), 0);
     same("from an offset on", lt_tree_read(tree, MANY_FILES + 2, 40000, room, 200000), 200000);
@@ -677,6 +707,7 @@ static void trees(void)
     same("and again", lt_write_file(engine, text("/d/f"), text("other"), MOMENT, NULL), 0);
     sparse(engine);
     is_as_made(tree);
+    many_at_once(tree);
     asked(engine, tree);
     lt_free(engine);
     is_as_made(tree);

@@ -39,7 +39,7 @@ Files = Union[
 """Contents by paths."""
 
 
-@dataclass(frozen=True)
+@dataclass(frozen=True, init=False)
 class Entry:
     """A file or directory of a snapshot."""
 
@@ -59,6 +59,28 @@ class Entry:
     file: Optional[int]
     """A file's number, which all of its names share and no other one has; None for a directory.
     Numbers are given by each snapshot, from 1 in its order."""
+
+    def __init__(
+        self,
+        mode: int,
+        uid: int,
+        gid: int,
+        atime: int,
+        mtime: int,
+        size: int,
+        pieces: tuple[tuple[int, bytes], ...],
+        file: Optional[int],
+    ) -> None:
+        # That of a frozen class takes three times as long, which a tree of many files shows.
+        fields = self.__dict__
+        fields["mode"] = mode
+        fields["uid"] = uid
+        fields["gid"] = gid
+        fields["atime"] = atime
+        fields["mtime"] = mtime
+        fields["size"] = size
+        fields["pieces"] = pieces
+        fields["file"] = file
 
     @property
     def contents(self) -> Optional[bytes]:
@@ -96,6 +118,9 @@ class LtPlace(ctypes.Structure):
 LEAF = struct.Struct("PNQ6IQ")
 """The fields of lt_leaf in include/lucernetick.h."""
 
+MANY = 1024
+"""How many leaves are asked for at once."""
+
 
 def declare() -> None:
     """The library's functions for trees."""
@@ -107,6 +132,10 @@ def declare() -> None:
         ("lt_link", [engine, LtBytes, LtBytes, moment, place]),
         ("lt_tree_of", [engine, ctypes.POINTER(tree)]),
         ("lt_tree_leaf", [tree, number, ctypes.c_char_p]),
+        (
+            "lt_tree_leaves",
+            [tree, number, ctypes.c_char_p, ctypes.c_size_t, ctypes.c_char_p, ctypes.c_size_t],
+        ),
         ("lt_tree_read", [tree, number, number, ctypes.c_char_p, ctypes.c_size_t]),
         ("lt_tree_gap", [tree, number, number]),
     ):
@@ -158,8 +187,9 @@ class Tree:
 
     def __init__(self, engine: Engine) -> None:
         self._tree = ctypes.c_void_p()
-        self._leaf = ctypes.create_string_buffer(LEAF.size)
-        self._room = ctypes.create_string_buffer(UNIT)
+        self._leaves = ctypes.create_string_buffer(MANY * LEAF.size)
+        self._room = ctypes.create_string_buffer(2 * UNIT)
+        self._unit = ctypes.create_string_buffer(UNIT)
         self._numbers: dict[int, int] = {}
         """Of files, by their labels."""
         with engine._lock:
@@ -171,37 +201,51 @@ class Tree:
     def __exit__(self, *_fault: object) -> None:
         library.lt_tree_free(self._tree)
 
-    def entries(self) -> Iterator[tuple[bytes, Entry]]:
+    def entries(self) -> dict[str, Entry]:
         """What is at each path, in the order of the tree."""
-        at, count = 0, 1
+        found: dict[str, Entry] = {}
+        at, count = 0, library.lt_tree_leaf(self._tree, 2**64 - 1, self._leaves)
+        if count < 0:
+            done(count, "")
         while at < count:
-            count = library.lt_tree_leaf(self._tree, at, self._leaf)
-            if count < 0:
-                done(count, "")
-            path, length, size, _, uid, gid, mode, atime, mtime, label = LEAF.unpack(self._leaf)
-            name, pieces = ctypes.string_at(path, length), self._pieces(at, size)
-            yield name, Entry(mode, uid, gid, atime, mtime, size, pieces, self._number(mode, label))
+            told = library.lt_tree_leaves(
+                self._tree, at, self._leaves, MANY, self._room, len(self._room)
+            )
+            if told < 0:
+                done(told, "")
+            if told == 0:
+                # The path alone is longer.
+                self._room = ctypes.create_string_buffer(2 * len(self._room))
+            self._add(found, at, told)
+            at += told
+        return found
+
+    def _add(self, found: dict[str, Entry], at: int, count: int) -> None:
+        """Adds the leaves that were told, of which the first one is at this place. A tree of many
+        files spends its time here."""
+        room, end, numbers = self._room.raw, 0, self._numbers
+        leaves = LEAF.iter_unpack(self._leaves[: count * LEAF.size])
+        for _, length, size, _, uid, gid, mode, atime, mtime, label in leaves:
+            begin, end = end, end + length
+            path = room[begin:end]
+            pieces: tuple[tuple[int, bytes], ...] = ()
+            if size > UNIT:
+                pieces = tuple(self._joined(at, size))
+            elif size:
+                begin, end = end, end + size
+                unit = room[begin:end]
+                if unit[0] or has_bytes(unit):
+                    pieces = ((0, unit),)
+            file = None if stat.S_ISDIR(mode) else numbers.setdefault(label, len(numbers) + 1)
+            found[text(path)] = Entry(mode, uid, gid, atime, mtime, size, pieces, file)
             at += 1
-
-    def _number(self, mode: int, label: int) -> Optional[int]:
-        """The number of a file."""
-        if stat.S_ISDIR(mode):
-            return None
-        return self._numbers.setdefault(label, len(self._numbers) + 1)
-
-    def _pieces(self, at: int, size: int) -> tuple[tuple[int, bytes], ...]:
-        """A file's bytes, as an `Entry` has them."""
-        if size > UNIT:
-            return tuple(self._joined(at, size))
-        unit = self._read(at, 0) if size else b""
-        return ((0, unit),) if has_bytes(unit) else ()
 
     def _read(self, at: int, offset: int) -> bytes:
         """The unit at this offset."""
-        count = library.lt_tree_read(self._tree, at, offset, self._room, UNIT)
+        count = library.lt_tree_read(self._tree, at, offset, self._unit, UNIT)
         if count < 0:
             done(count, "")
-        return ctypes.string_at(self._room, count)
+        return self._unit[:count]
 
     def _units(self, at: int, size: int) -> Iterator[tuple[int, bytes]]:
         """The units that aren't in a gap."""
@@ -237,4 +281,4 @@ def has_bytes(unit: bytes) -> bool:
 def read_tree(engine: Engine) -> dict[str, Entry]:
     """The engine's lock is held while its tree is taken, and no longer."""
     with Tree(engine) as tree:
-        return {text(path): entry for path, entry in tree.entries()}
+        return tree.entries()

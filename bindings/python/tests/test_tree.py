@@ -6,7 +6,7 @@ from typing import Union
 import pytest
 
 from lucernetick import Engine, StatusError
-from packets import INIT, OPEN, SETSTAT, WRITE, packet, string, u32
+from packets import INIT, OPEN, RENAME, SETSTAT, WRITE, packet, string, u32
 
 
 def test_files_with_the_directories_on_their_way() -> None:
@@ -50,6 +50,34 @@ def test_more_names_than_one_listing_has() -> None:
         found = engine.snapshot()
     assert {path: entry.contents for path, entry in found.items() if path in files} == files
     assert len(found) == 102
+
+
+def test_files_of_all_sizes() -> None:
+    """More than the library tells by one call, and more bytes."""
+    sizes = [0, 1, 32767, 32768, 32769, 65536, 70000]
+    files = {f"/{k:04}": bytes([k % 255 + 1]) * sizes[k % 7] for k in range(100)}
+    files |= {f"/{k:04}": str(k).encode() for k in range(100, 3000)}
+    with Engine.from_files(files) as engine:
+        found = engine.snapshot()
+    assert {path: entry.contents for path, entry in found.items() if path in files} == files
+    assert [entry.file for entry in found.values()] == [None, *range(1, 3001)]
+
+
+def test_a_path_longer_than_any_that_is_asked() -> None:
+    """By renames of deep directories below each other."""
+    names = "/".join(["x" * 255] * 15)
+    with Engine.from_files({f"/0/{names}/f": b"1"}) as engine:
+        session = engine.open()
+        session.feed(packet(INIT, u32(3)))
+        for k in range(1, 18):
+            engine.write_files({f"/{k}/{names}": None})
+            old, new = f"/{k - 1}".encode(), f"/{k}/{names}/{k - 1}".encode()
+            session.feed(packet(RENAME, u32(7), string(old), string(new)))
+            session.settle(0)
+        found = engine.snapshot()
+    *_, deepest = found
+    assert deepest == "".join(f"/{k}/{names}" for k in reversed(range(18))) + "/f"
+    assert found[deepest].contents == b"1"
 
 
 def test_names_are_bytes() -> None:
