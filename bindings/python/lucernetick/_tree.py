@@ -224,7 +224,7 @@ class Tree:
         """Adds the leaves that were told, of which the first one is at this place. A tree of many
         files spends its time here."""
         room, end, numbers = self._room.raw, 0, self._numbers
-        leaves = LEAF.iter_unpack(self._leaves[: count * LEAF.size])
+        leaves = LEAF.iter_unpack(self._leaves.raw[: count * LEAF.size])
         for _, length, size, _, uid, gid, mode, atime, mtime, label in leaves:
             begin, end = end, end + length
             path = room[begin:end]
@@ -245,7 +245,7 @@ class Tree:
         count = library.lt_tree_read(self._tree, at, offset, self._unit, UNIT)
         if count < 0:
             done(count, "")
-        return self._unit[:count]
+        return ctypes.string_at(self._unit, count)
 
     def _units(self, at: int, size: int) -> Iterator[tuple[int, bytes]]:
         """The units that aren't in a gap."""

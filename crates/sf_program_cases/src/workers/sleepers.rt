@@ -1,12 +1,13 @@
 //! Two calls that sleep at once: each is woken by what it waits for, whoever else sleeps.
 
-ghost use Rattle.std.specs.Prelude.{◌≡◌};
+ghost use Rattle.std.specs.Prelude.{◌≡◌, vec_len};
 
 use super::asleep::{OPEN_A_F, SIZE_A_F, TRIES, add_write};
 use super::*;
 use sf_noted::{NotedCore, Page};
 use sf_pool::{Hall, Stayed};
 use sf_roll::{NewRoll, RollName};
+use sf_serving::new_piece;
 use sf_workers::{Place, serve_line};
 use std::marker::Brand;
 use std::sync::Mutex;
@@ -129,14 +130,17 @@ impl<R: Abort + Clock> StepObserver for TwoSleepers<'_, R> {
     }
 }
 
-/// A session that comes once so many calls are held, and the part of the count that is lent to it.
+/// A session that comes once so many calls are held, the part of the count that is lent to it, and
+/// room for what a read gives.
 #[derive(Drop)]
 struct Turn<'a, B: RollName + Ledger> {
     line: MemoryLine<'a>,
     after: u64,
     part: Share<B>,
+    piece: Vec<u8>,
     ghost one_part: { part.parts ≡ 1 },
     ghost none_yet: { part.amount ≡ 0 },
+    ghost room: { vec_len piece ≡ 65536 },
 }
 
 fn turn_of<'a, B: RollName + Ledger>(
@@ -144,12 +148,18 @@ fn turn_of<'a, B: RollName + Ledger>(
     input: &'a [u8],
     after: u64,
     part: Share<B>,
-) -> Turn<'a, B>
+) -> Result<Turn<'a, B>, Fail>
     requires one_part { part.parts ≡ 1 }
     requires none_yet { part.amount ≡ 0 }
 {
     let line = line(alloc, input);
-    Turn { line, after, part }
+    let piece = new_piece(alloc)?;
+    Ok(Turn {
+        line,
+        after,
+        part,
+        piece,
+    })
 }
 
 /// Four sessions, each of which comes once the call of the one before it is held.
@@ -163,10 +173,10 @@ fn turns<'a, B: RollName + Ledger>(
 {
     let mut rest = all;
     let [one, two, three, four] = inputs;
-    let one = turn_of(alloc, one, 0, rest.split_off(1, 0));
-    let two = turn_of(alloc, two, 1, rest.split_off(1, 0));
-    let three = turn_of(alloc, three, 2, rest.split_off(1, 0));
-    let four = turn_of(alloc, four, 3, rest);
+    let one = turn_of(alloc, one, 0, rest.split_off(1, 0))?;
+    let two = turn_of(alloc, two, 1, rest.split_off(1, 0))?;
+    let three = turn_of(alloc, three, 2, rest.split_off(1, 0))?;
+    let four = turn_of(alloc, four, 3, rest)?;
     Ok(vec![in alloc; one, two, three, four]?)
 }
 
@@ -180,13 +190,17 @@ fn take_turn<B: RollName + Ledger, R: Wait + Abort + Clock>(
         mut line,
         after,
         part,
+        mut piece,
     } = turn;
     observer.wait_for(Sign::Held(after), LOOKS);
+    let clock = &mut StillClock;
+    let (stayed, _outcome) = serve_line(place, part, true, &mut line, clock, observer, &mut piece);
     let Stayed {
         visit: _visit,
         transcript,
         share: _share,
-    } = serve_line(place, part, true, &mut line, &mut StillClock, observer);
+        steps: _,
+    } = stayed;
     transcript
 }
 
