@@ -1,7 +1,7 @@
-/* How long each turn of a WRITE takes, by the calls of lucernetick.h, for writes of several lengths: each is
- * written COUNT times over the same file, and its turns are timed one by one. Prints, of each length, the
- * blocks, and the medians of the turn that reads the packet, of the WRITE's first step, and of the longest of
- * its later ones, in nanoseconds. */
+/* How long each turn of a WRITE takes, by the calls of lucernetick.h, for writes of several
+ * lengths: each is written COUNT times over the same file, and its turns are timed one by one.
+ * Prints, of each length, the blocks, and the medians of the turn that reads the packet, of the
+ * WRITE's first step, and of the longest of its later ones, in nanoseconds. */
 #include "lucernetick.h"
 
 #include <stdio.h>
@@ -42,7 +42,8 @@ static void feed(const uint8_t *bytes, size_t length)
 /* Drops what was answered, which is so long. */
 static void drop(int64_t length)
 {
-    if (lt_output(engine, session, NULL, 0) != length || lt_sent(engine, session, (size_t)length) != 0)
+    if (lt_output(engine, session, NULL, 0) != length
+        || lt_sent(engine, session, (size_t)length) != 0)
         stop("another reply");
 }
 
@@ -59,7 +60,8 @@ static void ask(const uint8_t *bytes, size_t length, int64_t reply)
 static void open_file(void)
 {
     static const uint8_t init[] = {0, 0, 0, 5, 1, 0, 0, 0, 3};
-    static const uint8_t open[] = {0, 0, 0, 19, 3, 0, 0, 0, 7, 0, 0, 0, 2, '/', 'f', 0, 0, 0, 10, 0, 0, 0, 0};
+    static const uint8_t open[] = {0, 0,   0,   19, 3, 0, 0,  0, 7, 0, 0, 0,
+                                   2, '/', 'f', 0,  0, 0, 10, 0, 0, 0, 0};
     ask(init, sizeof init, 71);
     ask(open, sizeof open, 21);
 }
@@ -106,7 +108,8 @@ static void measure(uint8_t *packet, uint32_t length)
             stop("not answered");
         drop(28);
     }
-    printf("| %u | %d | %.0f | %.0f | %.0f |\n", length, turns, median(reading), median(first), median(later));
+    printf("| %u | %d | %.0f | %.0f | %.0f |\n", length, turns, median(reading), median(first),
+           median(later));
 }
 
 int main(void)
@@ -120,7 +123,8 @@ int main(void)
     session = (uint64_t)lt_open(engine);
     open_file();
     memcpy(packet, head, sizeof head);
-    printf("| Bytes | Steps | Reads the packet | First step | Longest later step |\n|---|---|---|---|---|\n");
+    printf("| Bytes | Steps | Reads the packet | First step | Longest later step |\n");
+    printf("|---|---|---|---|---|\n");
     for (size_t i = 0; i < sizeof lengths / sizeof *lengths; i++)
         measure(packet, lengths[i]);
     lt_free(engine);

@@ -1,7 +1,8 @@
 /* A server in C: sessions on one tree, over a Unix socket, by one thread.
  *     serve SOCKET MOMENT
- * Every call begins at this moment, in seconds since 1970. It serves until its standard input ends. While a client is
- * slow to read, it reads on what that client sends, up to 16 MiB, and serves the others. */
+ * Every call begins at this moment, in seconds since 1970. It serves until its standard input ends.
+ * While a client is slow to read, it reads on what that client sends, up to 16 MiB, and serves the
+ * others. */
 #define _POSIX_C_SOURCE 200809L
 #include "lucernetick.h"
 
@@ -45,8 +46,8 @@ struct server {
     struct client clients[FIRST + CLIENTS];
 };
 
-/* Sends what waits to be sent to a client, as far as it takes that without waiting. Answers how much waits then, or a
- * number below 0 where that fails. */
+/* Sends what waits to be sent to a client, as far as it takes that without waiting. Answers how
+ * much waits then, or a number below 0 where that fails. */
 static int64_t send_output(struct server *server, nfds_t at)
 {
     static uint8_t room[PIECE];
@@ -62,7 +63,8 @@ static int64_t send_output(struct server *server, nfds_t at)
     return waiting;
 }
 
-/* Reads some of what a client sent, which its session is fed later. Answers whether there was memory for it. */
+/* Reads some of what a client sent, which its session is fed later. Answers whether there was
+ * memory for it. */
 static int read_ahead(struct server *server, nfds_t at)
 {
     struct client *client = &server->clients[at];
@@ -85,11 +87,13 @@ static int read_ahead(struct server *server, nfds_t at)
     return 1;
 }
 
-/* Feeds a session the next piece of what its client sent. Answers whether there was memory for it. */
+/* Feeds a session the next piece of what its client sent. Answers whether there was memory. */
 static int feed(struct server *server, struct client *client)
 {
     struct piece *first = client->first;
-    if (lt_feed(server->engine, client->session, first->bytes + first->from, first->to - first->from) < 0)
+    if (lt_feed(server->engine, client->session, first->bytes + first->from,
+                first->to - first->from)
+        < 0)
         return 0;
     client->ahead -= first->to - first->from;
     first->from = first->to;
@@ -102,8 +106,9 @@ static int feed(struct server *server, struct client *client)
     return 1;
 }
 
-/* Takes a session's turns, and sends what it wrote, until its client has to read or to send something. Answers whether
- * it goes on. Here no session is ever blocked, since none is left half way in a call. */
+/* Takes a session's turns, and sends what it wrote, until its client has to read or to send
+ * something. Answers whether it goes on. Here no session is ever blocked, since none is left half
+ * way in a call. */
 static int settle(struct server *server, nfds_t at)
 {
     struct client *client = &server->clients[at];
@@ -132,11 +137,12 @@ static int serve_client(struct server *server, nfds_t at)
     if (!settle(server, at))
         return 0;
     int waits = lt_output(server->engine, client->session, NULL, 0) > 0;
-    line->events = (short)((waits ? POLLOUT : 0) | (client->ahead < AHEAD && !client->is_closed ? POLLIN : 0));
+    line->events =
+        (short)((waits ? POLLOUT : 0) | (client->ahead < AHEAD && !client->is_closed ? POLLIN : 0));
     return 1;
 }
 
-/* Ends a session, whose call is carried out, and its connection. The last client takes its place. */
+/* Ends a session, whose call is carried out, and its connection. The last client replaces it. */
 static void leave(struct server *server, nfds_t at)
 {
     struct client *client = &server->clients[at];
@@ -159,7 +165,8 @@ static void take_client(struct server *server)
     int line = accept(server->lines[LISTENER].fd, NULL, NULL);
     if (line < 0)
         return;
-    int64_t session = server->count < FIRST + CLIENTS ? lt_open(server->engine) : LT_REFUSAL_TOO_MANY_SESSIONS;
+    int64_t session =
+        server->count < FIRST + CLIENTS ? lt_open(server->engine) : LT_REFUSAL_TOO_MANY_SESSIONS;
     if (session < 0) {
         close(line);
         return;
@@ -182,7 +189,8 @@ static int listen_at(const char *path)
     return line;
 }
 
-/* Serves until standard input ends. A client that leaves is replaced by the last one, so they go backwards. */
+/* Serves until standard input ends. A client that leaves is replaced by the last one, so they go
+ * backwards. */
 static void serve(struct server *server)
 {
     while (poll(server->lines, server->count, -1) >= 0 && server->lines[INPUT].revents == 0) {
