@@ -339,9 +339,9 @@ int64_t lt_tree_leaf(lt_tree *tree, uint64_t at, lt_leaf *leaf);
  * most. What `leaves` is set to is as by lt_tree_leaf, but for the paths: these are copied into
  * `room`, each behind what is there of the leaf before it, and behind a path the contents of a file
  * of at most 32768 bytes, a gap's zeros among them. Answers how many leaves were told: as many as
- * there are, or as there is room for, so it may be 0 before the end. What wasn't told is undefined. */
-int64_t lt_tree_leaves(const lt_tree *tree, uint64_t at, lt_leaf *leaves, size_t most, uint8_t *room,
-                       size_t length);
+ * there are, or as there is room for, so it may be 0 before the end. The rest is undefined. */
+int64_t lt_tree_leaves(const lt_tree *tree, uint64_t at, lt_leaf *leaves, size_t most,
+                       uint8_t *room, size_t length);
 
 /* Copies the bytes of a leaf from an offset on into `room`: as many as there are, but `length` at
  * most. Answers how many: 0 from the end of a file on, for a directory, and where there is no leaf.
