@@ -12,7 +12,8 @@ import time
 
 from checks import same
 from packets import (
-    CLOSE, DATA, HANDLE, INIT, NO_ATTRIBUTES, OK, OPEN, READ, STATUS, VERSION, WRITE, packet, string, u32, u64,
+    CLOSE, DATA, HANDLE, INIT, NO_ATTRIBUTES, OK, OPEN, READ, STATUS, VERSION, WRITE, packet,
+    string, u32, u64,
 )
 
 MIB = 1 << 20
@@ -21,7 +22,8 @@ CONTENTS = random.Random(3).randbytes(16 * MIB)
 
 
 class Session:
-    """A session by packets, with requests that are sent as they are and replies that are read when that is asked."""
+    """A session by packets, with requests that are sent as they are and replies that are read when
+    that is asked."""
 
     def __init__(self, to_server, from_server):
         self.to_server, self.from_server = to_server, from_server
@@ -75,7 +77,9 @@ def sends_reads(session, count):
     handle = session.open(b"/read")
     session.ask(WRITE, handle, u64(0), string(data))
     first = session.id + 1
-    session.send(b"".join(session.request(READ, handle, u64(0), u32(len(data))) for _ in range(count)))
+    session.send(
+        b"".join(session.request(READ, handle, u64(0), u32(len(data))) for _ in range(count))
+    )
     time.sleep(1)
     for number in range(first, first + count):
         same(session.packet(), bytes([DATA]) + u32(number) + string(data))
@@ -89,12 +93,18 @@ def sends_writes(session, count):
     handle = session.open(b"/written")
     first = session.id + 1
     offsets = range(0, len(data), size)
-    session.send(b"".join(session.request(WRITE, handle, u64(at), string(data[at : at + size])) for at in offsets))
+    session.send(
+        b"".join(
+            session.request(WRITE, handle, u64(at), string(data[at : at + size])) for at in offsets
+        )
+    )
     time.sleep(1)
     for number in range(first, first + count):
         reply = session.packet()
         same((reply[0], reply[1:9]), (STATUS, u32(number) + u32(OK)))
-    got = b"".join(session.ask(READ, handle, u64(at), u32(100000))[9:] for at in range(0, len(data), 100000))
+    got = b"".join(
+        session.ask(READ, handle, u64(at), u32(100000))[9:] for at in range(0, len(data), 100000)
+    )
     same(got == data, True)
     session.ask(CLOSE, handle)
 

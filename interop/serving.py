@@ -13,7 +13,11 @@ import time
 from checks import same
 
 TOP = os.path.dirname(os.path.dirname(os.path.abspath(__file__)))
-PROGRAM = os.path.abspath(sys.argv[1]) if len(sys.argv) > 1 else os.path.join(TOP, "crates/sftpd/out/sftpd")
+PROGRAM = (
+    os.path.abspath(sys.argv[1])
+    if len(sys.argv) > 1
+    else os.path.join(TOP, "crates/sftpd/out/sftpd")
+)
 SECONDS = 60
 WORKERS = 8
 
@@ -41,9 +45,12 @@ def find_paramiko():
 
 
 class Server:
-    """`sftpd serve` with so many workers, which ends after so many sessions, where they are counted."""
+    """`sftpd serve` with so many workers, which ends after so many sessions, where they are
+    counted."""
 
-    def __init__(self, room, sessions=None, words=("--keep", "1000000"), surroundings=None, workers=WORKERS):
+    def __init__(
+        self, room, sessions=None, words=("--keep", "1000000"), surroundings=None, workers=WORKERS
+    ):
         self.path = os.path.join(room, "socket")
         self.sessions = sessions
         count = [] if sessions is None else ["--sessions", str(sessions)]
@@ -81,7 +88,8 @@ class Server:
         return int(found[1])
 
     def end_after_the_rest(self):
-        """As `end`, where clients chose how many sessions to open: the rest of them ask for nothing."""
+        """As `end`, where clients chose how many sessions to open: the rest of them ask for
+        nothing."""
         while self.process.poll() is None:
             with contextlib.suppress(OSError):
                 self.connect().close()
@@ -118,7 +126,13 @@ def make_tree(folder):
     """Folders in folders, an empty one, files of 0 to 300000 bytes, a name with spaces."""
     os.makedirs(os.path.join(folder, "a/b/c"))
     os.mkdir(os.path.join(folder, "empty"))
-    sizes = {"large": 300000, "a/lines": 4000, "a/b/c/deep": 10, "a/a name with spaces": 11, "a/b/nothing": 0}
+    sizes = {
+        "large": 300000,
+        "a/lines": 4000,
+        "a/b/c/deep": 10,
+        "a/a name with spaces": 11,
+        "a/b/nothing": 0,
+    }
     for name, size in sizes.items():
         with open(os.path.join(folder, name), "wb") as file:
             file.write(os.urandom(size))

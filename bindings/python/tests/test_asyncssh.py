@@ -62,7 +62,9 @@ def test_a_client_of_ssh(sftp_tree: Server) -> None:
         words = {"server_host_keys": [key], "encoding": None}
         listening = await asyncssh.create_server(Anybody, "127.0.0.1", 0, **words)
         port = listening.sockets[0].getsockname()[1]
-        async with asyncssh.connect("127.0.0.1", port, known_hosts=None, username="anybody") as connection:
+        async with asyncssh.connect(
+            "127.0.0.1", port, known_hosts=None, username="anybody"
+        ) as connection:
             async with connection.start_sftp_client() as client:
                 await client.mkdir("/d")
                 async with client.open("/d/f", "wb") as file:

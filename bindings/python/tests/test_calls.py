@@ -25,7 +25,9 @@ def test_an_upload_by_a_temporary_name(sftp_tree: Server, virtual_time: VirtualT
     assert (opened.kind, opened.path, opened.reply.handle) == (Kind.OPEN, "/today.csv.part", 1)
     [wrote] = [call for call in calls if call.kind == Kind.WRITE]
     assert (wrote.handle, wrote.offset, wrote.length, wrote.data) == (1, 0, 6, b"1,2,3\n")
-    assert (renamed.kind, renamed.path, renamed.new_path) == (Kind.POSIX_RENAME, "/today.csv.part", "/today.csv")
+    assert (renamed.kind, renamed.path, renamed.new_path) == (
+        Kind.POSIX_RENAME, "/today.csv.part", "/today.csv"
+    )
     assert not [call for call in calls if call.kind == Kind.OPENDIR]
 
 

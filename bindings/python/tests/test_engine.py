@@ -54,7 +54,8 @@ def test_a_schedule_gives_the_same_bytes_each_time() -> None:
     did, made, looked = runs[0]
     assert tuple(did) == DID
     assert replies(made)[1] == status(7, OK, b"Success")
-    # The look began before /a was made, and is told of it: size 0, nobody's, 0o755, of the moment 100.
+    # The look began before /a was made, and is told of it: size 0, nobody's, 0o755, of the moment
+    # 100.
     directory = u32(15) + bytes(8) + u32(0) + u32(0) + u32(0o40755) + u32(100) + u32(100)
     assert replies(looked)[1] == bytes([ATTRS]) + u32(8) + directory
 
@@ -69,8 +70,8 @@ def begun(engine: Engine, old: bytes, new: bytes) -> Session:
 
 
 def test_crossing_renames_in_rounds() -> None:
-    """Five rounds until the first rename is decided, in the last of which the other one takes the root;
-    and three more, since what it moves to is gone."""
+    """Five rounds until the first rename is decided, in the last of which the other one takes the
+    root; and three more, since what it moves to is gone."""
     with Engine.from_files({"/a/x": None, "/b/y": None}) as engine:
         first, second = begun(engine, b"/a/x", b"/b/y/x"), begun(engine, b"/b/y", b"/a/x/y")
         assert engine.run_all() == 8
@@ -251,7 +252,9 @@ def test_who_wants_bytes() -> None:
 def test_threads_share_an_engine() -> None:
     with Engine() as engine:
         threads = [
-            threading.Thread(target=engine.write_files, args=({f"/{name}/{k}": b"" for k in range(50)},))
+            threading.Thread(
+                target=engine.write_files, args=({f"/{name}/{k}": b"" for k in range(50)},)
+            )
             for name in "abcd"
         ]
         for thread in threads:

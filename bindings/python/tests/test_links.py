@@ -47,7 +47,9 @@ def alike() -> Engine:
     session = client(engine)
     for path in (b"/a", b"/b", b"/d/e"):
         times = u32(0x8) + u32(5) + u32(9)
-        assert ask(session, packet(SETSTAT, u32(1), string(path), times)) == status(1, OK, b"Success")
+        assert ask(
+            session, packet(SETSTAT, u32(1), string(path), times)
+        ) == status(1, OK, b"Success")
     session.close()
     return engine
 
@@ -66,7 +68,11 @@ def test_a_tree_that_begins_with_links() -> None:
     }
     with Engine.from_files(files, moment=77) as engine:
         found = engine.snapshot()
-    named = {path: (entry.file, entry.contents) for path, entry in found.items() if not entry.is_directory}
+    named = {
+        path: (entry.file, entry.contents)
+        for path, entry in found.items()
+        if not entry.is_directory
+    }
     one, two = (1, b"one"), (2, b"two")
     assert named == {"/a": one, "/b": two, "/d/a": one, "/d/c": one, "/e/f/b": two}
     assert [found[path].file for path in ("/", "/d", "/e", "/e/f")] == [None] * 4

@@ -45,7 +45,10 @@ def test_names_that_it_has() -> None:
 def test_what_it_says_of_itself() -> None:
     """As an index of packages shows it, and as pip goes by it."""
     found = importlib.metadata.metadata("lucernetick")
-    wanted = "Name Version Summary Author Keywords Classifier Requires-Python Provides-Extra Requires-Dist"
+    wanted = (
+        "Name Version Summary Author Keywords Classifier Requires-Python Provides-Extra "
+        "Requires-Dist"
+    )
     assert set(wanted.split()) <= set(found.keys())
     assert found["Version"] == lucernetick.__version__
     assert found["Description-Content-Type"] == "text/markdown"

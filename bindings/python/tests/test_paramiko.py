@@ -96,7 +96,9 @@ def test_times_are_virtual(
     found = client.stat("d/f")
     assert (found.st_atime, found.st_mtime) == (1_700_000_060, 7)
     assert client.stat("d").st_mtime == 1_700_000_060
-    assert {entry.mtime for entry in sftp_tree.snapshot().values()} == {1_700_000_000, 1_700_000_060, 7}
+    assert {entry.mtime for entry in sftp_tree.snapshot().values()} == {
+        1_700_000_000, 1_700_000_060, 7
+    }
 
 
 def test_time_of_the_fixture_at_first(client: paramiko.SFTPClient) -> None:
@@ -144,7 +146,8 @@ def test_a_connection_waits_for_a_call_that_is_held(sftp_tree: Server) -> None:
 
 
 def test_rounds_carry_out_the_calls_of_connections(sftp_tree: Server) -> None:
-    """A client that a held session keeps waiting goes on when `run_all` has carried out both calls."""
+    """A client that a held session keeps waiting goes on when `run_all` has carried out both
+    calls."""
     held = sftp_tree.engine.open()
     held.feed(MAKES)
     assert [held.turn(100) for _ in range(3)] == [Turn.WROTE, Turn.BEGUN, Turn.MOVED]

@@ -34,7 +34,9 @@ def test_an_empty_tree_is_the_root() -> None:
     with Engine() as engine:
         found = engine.snapshot()
     assert list(found) == ["/"]
-    assert (found["/"].mode, found["/"].mtime, found["/"].contents) == (stat.S_IFDIR | 0o755, 0, None)
+    assert (found["/"].mode, found["/"].mtime, found["/"].contents) == (
+        stat.S_IFDIR | 0o755, 0, None
+    )
 
 
 def test_contents_are_replaced() -> None:
