@@ -1,5 +1,5 @@
-/* COUNT STATs by the calls of lucernetick.h, of a directory four deep, each fed, settled, looked at and sent.
- * Prints the processor time of one in nanoseconds. */
+/* COUNT STATs by the calls of lucernetick.h, of a directory four deep, each fed, settled, looked at
+ * and sent. Prints the processor time of one in nanoseconds. */
 #include "lucernetick.h"
 
 #include <stdio.h>
@@ -62,7 +62,8 @@ int main(int count, char **words)
     for (long i = 0; i < stats; i++)
         ask(packet, length, REPLY);
     clock_gettime(CLOCK_PROCESS_CPUTIME_ID, &end);
-    double spent = (double)(end.tv_sec - begin.tv_sec) * 1e9 + (double)(end.tv_nsec - begin.tv_nsec);
+    double spent =
+        (double)(end.tv_sec - begin.tv_sec) * 1e9 + (double)(end.tv_nsec - begin.tv_nsec);
     printf("%ld STATs, %.0f ns each\n", stats, spent / (double)stats);
     lt_free(engine);
     return 0;

@@ -1,5 +1,6 @@
-//! What a search in an ordered map costs by itself: in one of 10 names and in one of 100,000, made in random
-//! order, each with a node of 152 bytes behind it. No search begins before the one before it has ended.
+//! What a search in an ordered map costs by itself: in one of 10 names and in one of 100,000, made
+//! in random order, each with a node of 152 bytes behind it. No search begins before the one before
+//! it has ended.
 //!
 //!   rustc --edition 2021 -O -o out/map map.rs && out/map
 

@@ -1,5 +1,6 @@
-/* What a tree of COUNT small files takes by the calls of lucernetick.h, in directories of 1000: to be taken, to be told
- * with all bytes of its files, and to be freed. Prints the processor time of each in milliseconds, the least of five. */
+/* What a tree of COUNT small files takes by the calls of lucernetick.h, in directories of 1000: to
+ * be taken, to be told with all bytes of its files, and to be freed. Prints the processor time of
+ * each in milliseconds, the least of five. */
 #include "lucernetick.h"
 
 #include <stdio.h>
@@ -25,11 +26,13 @@ static double now(void)
 /* The path of a file, which is its contents too. */
 static lt_bytes path_of(int64_t number, char *room)
 {
-    int length = snprintf(room, ROOM, "/d%lld/f%lld", (long long)number / EACH, (long long)number % EACH);
+    int length = snprintf(room, ROOM, "/d%lld/f%lld", (long long)number / EACH,
+                          (long long)number % EACH);
     return (lt_bytes){(const uint8_t *)room, (size_t)length};
 }
 
-/* Tells all leaves, and reads what each has: how many files there are whose contents are their paths. */
+/* Tells all leaves, and reads what each has: how many files there are whose contents are their
+ * paths. */
 static int64_t told(lt_tree *tree)
 {
     uint8_t room[ROOM];
@@ -38,7 +41,8 @@ static int64_t told(lt_tree *tree)
     for (int64_t at = 0; at < count; at++) {
         count = lt_tree_leaf(tree, (uint64_t)at, &leaf);
         int64_t length = lt_tree_read(tree, (uint64_t)at, 0, room, sizeof room);
-        files += length > 0 && (size_t)length == leaf.path.length && memcmp(room, leaf.path.at, (size_t)length) == 0;
+        files += length > 0 && (size_t)length == leaf.path.length &&
+                 memcmp(room, leaf.path.at, (size_t)length) == 0;
     }
     return files;
 }
@@ -71,8 +75,9 @@ int main(int count, char **words)
         tell = least(tell, all - taken);
         drop = least(drop, now() - all);
     }
-    printf("%lld files: %.0f ms to take, %.0f to tell with their bytes, %.0f to free, %.0f in all\n", (long long)files,
-           take, tell, drop, take + tell + drop);
+    printf("%lld files: %.0f ms to take, %.0f to tell with their bytes, %.0f to free, "
+           "%.0f in all\n",
+           (long long)files, take, tell, drop, take + tell + drop);
     lt_free(engine);
     return 0;
 }

@@ -303,12 +303,14 @@ int64_t lt_make_directory(lt_engine *engine, lt_bytes path, uint32_t moment, lt_
 
 /* Makes a file with these contents, or replaces its contents. Directories on its way are made where
  * they are missing. */
-int64_t lt_write_file(lt_engine *engine, lt_bytes path, lt_bytes contents, uint32_t moment, lt_place *place);
+int64_t lt_write_file(lt_engine *engine, lt_bytes path, lt_bytes contents, uint32_t moment,
+                      lt_place *place);
 
 /* Gives the file at the path the new one too. Directories on the new path's way are made where they
  * are missing. It is refused where the new path is there already. The place's length is of the new
  * path. */
-int64_t lt_link(lt_engine *engine, lt_bytes path, lt_bytes new_path, uint32_t moment, lt_place *place);
+int64_t lt_link(lt_engine *engine, lt_bytes path, lt_bytes new_path, uint32_t moment,
+                lt_place *place);
 
 /* The whole tree of an engine at a moment. It stays as it was taken whatever becomes of the engine,
  * and shares the bytes of files with it: a tree of many files takes little memory beside their
@@ -347,7 +349,8 @@ int64_t lt_tree_leaves(const lt_tree *tree, uint64_t at, lt_leaf *leaves, size_t
  * most. Answers how many: 0 from the end of a file on, for a directory, and where there is no leaf.
  * It wants memory for 32768 bytes at most, which it gives back; refused for want of it, it may have
  * copied some. Where `length` is 0, `room` may be NULL. */
-int64_t lt_tree_read(const lt_tree *tree, uint64_t at, uint64_t offset, uint8_t *room, size_t length);
+int64_t lt_tree_read(const lt_tree *tree, uint64_t at, uint64_t offset, uint8_t *room,
+                     size_t length);
 
 /* How many bytes of a leaf, from an offset on, are zeros that take no memory, since nothing was
  * written there: a gap of a sparse file, which ends at a multiple of 32768 or at the end of the

@@ -1,9 +1,9 @@
 #!/usr/bin/env bash
-# Installs what is missing of these packages of Debian's, and where several scripts ask at once one after
-# the other:
+# Installs what is missing of these packages of Debian's, and where several scripts ask at once one
+# after the other:
 #   bash interop/install.sh PACKAGE..
-# A package that has a `/` is a command and its package: `sftp/openssh-client`. Tells nothing: who asked
-# looks whether what it needs is there.
+# A package that has a `/` is a command and its package: `sftp/openssh-client`. Tells nothing: who
+# asked looks whether what it needs is there.
 set -u
 exec >/dev/null 2>&1 9>/tmp/lucernetick-packages.lock
 flock 9

@@ -13,7 +13,8 @@
 //!   load shared ..
 //!   load carry ..
 //!
-//! measure many sessions on one tree, and what carries bytes to and from a socket: see these modules.
+//! measure many sessions on one tree, and what carries bytes to and from a socket: see these
+//! modules.
 
 mod carry;
 mod session;

@@ -221,7 +221,8 @@ impl Session {
     }
 }
 
-/// The processor time of a process so far, in seconds, without its children. The system counts hundredths.
+/// The processor time of a process so far, in seconds, without its children. The system counts
+/// hundredths.
 pub fn processor_seconds(process: u32) -> Outcome<f64> {
     let path = format!("/proc/{process}/stat");
     let text = std::fs::read_to_string(&path).map_err(|error| format!("{path}: {error}"))?;

@@ -507,8 +507,8 @@ int64_t lt_tree_leaf(lt_tree *tree, uint64_t at, lt_leaf *leaf)
     return count;
 }
 
-/* Tells a leaf, if there is one: its path goes into the room, and behind it the bytes of a file that
- * has few. Answers how many bytes these are, 0 where there isn't room for them. */
+/* Tells a leaf, if there is one: its path goes into the room, and behind it the bytes of a file
+ * that has few. Answers how many bytes these are, 0 where there isn't room for them. */
 static int64_t tell_leaf(const lt_tree *tree, uint64_t at, lt_leaf *leaf, uint8_t *room,
                          size_t length)
 {
@@ -521,7 +521,8 @@ static int64_t tell_leaf(const lt_tree *tree, uint64_t at, lt_leaf *leaf, uint8_
     uint64_t size = told.attributes.size <= FEW ? told.attributes.size : 0;
     if (size > length - told.path)
         return 0;
-    int64_t read = size == 0 ? 0 : lucernetick_tree_read(tree, at, 0, room + told.path, (size_t)size);
+    int64_t read =
+        size == 0 ? 0 : lucernetick_tree_read(tree, at, 0, room + told.path, (size_t)size);
     if (read < 0)
         return read;
     *leaf = (lt_leaf){{room, (size_t)told.path}, told.attributes, told.label};

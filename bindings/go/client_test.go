@@ -133,7 +133,8 @@ func TestTimesAreVirtual(t *testing.T) {
 	same(t, info.ModTime().Unix(), int64(7))
 	found, err := engine.Snapshot()
 	must(t, err)
-	same(t, []uint32{found["/"].Mtime, found["/d"].Mtime, found["/d"].Atime}, []uint32{1700000000, 7, 1700000000})
+	same(t, []uint32{found["/"].Mtime, found["/d"].Mtime, found["/d"].Atime},
+		[]uint32{1700000000, 7, 1700000000})
 }
 
 // hold makes a session's turns until its call has taken the root.
@@ -238,7 +239,9 @@ func TestAClosedConn(t *testing.T) {
 
 func TestFilesAtTheStart(t *testing.T) {
 	long := bytes.Repeat([]byte("x"), 300000)
-	engine, err := FromFiles(map[string][]byte{"/a/b": []byte("one"), "c": {}, "/a/deep/er": long, "/e": nil}, 77)
+	engine, err := FromFiles(map[string][]byte{
+		"/a/b": []byte("one"), "c": {}, "/a/deep/er": long, "/e": nil,
+	}, 77)
 	must(t, err)
 	defer engine.Close()
 	client := connect(t, engine, WallClock)

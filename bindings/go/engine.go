@@ -27,15 +27,15 @@ const (
 	ErrOutOfMemory     Refusal = C.LT_REFUSAL_OUT_OF_MEMORY
 	ErrNoSuchSession   Refusal = C.LT_REFUSAL_NO_SUCH_SESSION
 	ErrTooManySessions Refusal = C.LT_REFUSAL_TOO_MANY_SESSIONS // 256 sessions are open
-	ErrHasEnded        Refusal = C.LT_REFUSAL_HAS_ENDED         // the session has ended or was closed, and takes no more bytes
+	ErrHasEnded        Refusal = C.LT_REFUSAL_HAS_ENDED         // the session has ended or was closed
 	ErrNumbersSpent    Refusal = C.LT_REFUSAL_NUMBERS_SPENT
 	ErrNotSent         Refusal = C.LT_REFUSAL_NOT_SENT    // fewer bytes wait to be sent
 	ErrBadPointer      Refusal = C.LT_REFUSAL_BAD_POINTER // the engine was closed
-	ErrLongPath        Refusal = C.LT_REFUSAL_LONG_PATH   // a path has more bytes than a packet has room for: 262080
+	ErrLongPath        Refusal = C.LT_REFUSAL_LONG_PATH   // a path has more than 262080 bytes
 	ErrNoReply         Refusal = C.LT_REFUSAL_NO_REPLY    // not the reply that was due
 	ErrBadKind         Refusal = C.LT_REFUSAL_BAD_KIND    // a rule's kind is not that of a request
 	ErrBadStatus       Refusal = C.LT_REFUSAL_BAD_STATUS  // a rule's status is none
-	ErrBadPath         Refusal = C.LT_REFUSAL_BAD_PATH    // a rule's path is too long, has too long a name, or a byte 0
+	ErrBadPath         Refusal = C.LT_REFUSAL_BAD_PATH    // a rule's path has one of a path's faults
 )
 
 // Error is the library's text.
@@ -209,7 +209,8 @@ func (engine *Engine) open() (*Session, error) {
 }
 
 func (session *Session) feed(data []byte) error {
-	_, err := checked(C.lt_feed(session.engine.pointer, session.number, start(data), C.size_t(len(data))))
+	_, err := checked(C.lt_feed(session.engine.pointer, session.number, start(data),
+		C.size_t(len(data))))
 	return err
 }
 

@@ -92,7 +92,9 @@ func TestATreeThatBeginsWithLinks(t *testing.T) {
 		must(t, engine.Link(names[0], names[1], 77))
 	}
 	found := snapshot(t, engine)
-	wanted := map[string]int{"/": 0, "/a": 1, "/b": 2, "/d": 0, "/d/a": 1, "/d/c": 1, "/e": 0, "/e/f": 0, "/e/f/b": 2}
+	wanted := map[string]int{
+		"/": 0, "/a": 1, "/b": 2, "/d": 0, "/d/a": 1, "/d/c": 1, "/e": 0, "/e/f": 0, "/e/f/b": 2,
+	}
 	same(t, numbersOf(found), wanted)
 	same(t, string(found["/d/c"].Contents())+string(found["/e/f/b"].Contents()), "onetwo")
 	for _, entry := range found {
@@ -142,7 +144,9 @@ func TestALinkOfAClient(t *testing.T) {
 
 func TestLinksThatAreRefused(t *testing.T) {
 	engine := alike(t)
-	for names, code := range map[[2]string]uint32{{"/none", "/x"}: 2, {"/d", "/x"}: 4, {"/a", "/b"}: 4} {
+	for names, code := range map[[2]string]uint32{
+		{"/none", "/x"}: 2, {"/d", "/x"}: 4, {"/a", "/b"}: 4,
+	} {
 		var status *StatusError
 		same(t, errors.As(engine.Link(names[0], names[1], 0), &status), true)
 		same(t, status.Code, code)
@@ -155,7 +159,8 @@ func TestLinksThatAreRefused(t *testing.T) {
 func TestTheRequestThatIsRefused(t *testing.T) {
 	engine := alike(t)
 	var status *StatusError
-	same(t, errors.As(engine.WriteFiles(map[string][]byte{"/e/f": nil, "/e/x\x00y": nil}, 0), &status), true)
+	same(t, errors.As(engine.WriteFiles(map[string][]byte{"/e/f": nil, "/e/x\x00y": nil}, 0), &status),
+		true)
 	same(t, status.Error(), "lucernetick: STAT /e/x\x00y: Failure")
 	same(t, errors.As(engine.WriteFiles(map[string][]byte{"/a/b/c": {}}, 0), &status), true)
 	same(t, status.Error(), "lucernetick: MKDIR /a: Failure")

@@ -42,7 +42,7 @@ const Always = math.MaxUint64
 type Rule struct {
 	Session uint64 // its number; 0 is any, also one that opens later
 	Kind    Kind   // 0 is any
-	Path    string // "" is any. A request has to name it, in any spelling; one by a handle, as WRITE, names none
+	Path    string // "" is any. A request names it, in any spelling; one by a handle, as WRITE, none
 	After   uint64 // so many of these are let through first
 	Times   uint64 // so many are refused then, and later ones are let through; 0 is one
 	Status  Status

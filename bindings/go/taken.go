@@ -133,7 +133,9 @@ func (tree taken) entry(at C.uint64_t) (string, Entry, error) {
 		return "", Entry{}, err
 	}
 	path, found := string(bytesOf(told.path)), attributesOf(told.attributes)
-	entry := Entry{found.Permissions, found.UID, found.GID, found.Atime, found.Mtime, found.Size, nil, 0}
+	entry := Entry{
+		found.Permissions, found.UID, found.GID, found.Atime, found.Mtime, found.Size, nil, 0,
+	}
 	if !entry.IsDir() {
 		entry.File = tree.number(uint64(told.label))
 	}
@@ -161,7 +163,8 @@ func (tree taken) pieces(at C.uint64_t, size uint64) ([]Piece, error) {
 			offset += uint64(gap)
 			continue
 		}
-		count, err := checked(C.lt_tree_read(tree.pointer, at, C.uint64_t(offset), start(tree.room), unit))
+		count, err := checked(C.lt_tree_read(tree.pointer, at, C.uint64_t(offset), start(tree.room),
+			unit))
 		if err != nil {
 			return nil, err
 		}
@@ -176,7 +179,8 @@ func added(pieces []Piece, offset uint64, more []byte) []Piece {
 	if bytes.Equal(more, zeros[:len(more)]) {
 		return pieces
 	}
-	if last := len(pieces) - 1; last >= 0 && pieces[last].Offset+uint64(len(pieces[last].Bytes)) == offset {
+	if last := len(pieces) - 1; last >= 0 &&
+		pieces[last].Offset+uint64(len(pieces[last].Bytes)) == offset {
 		pieces[last].Bytes = append(pieces[last].Bytes, more...)
 		return pieces
 	}

@@ -90,8 +90,8 @@ func (engine *Engine) Link(old, new string, moment uint32) error {
 	defer engine.lock.Unlock()
 	var place C.lt_place
 	from, to := []byte(old), []byte(new)
-	answer := C.hard_link(engine.pointer, start(from), C.size_t(len(from)), start(to), C.size_t(len(to)),
-		C.uint32_t(moment), &place)
+	answer := C.hard_link(engine.pointer, start(from), C.size_t(len(from)),
+		start(to), C.size_t(len(to)), C.uint32_t(moment), &place)
 	if place.kind == C.LT_KIND_HARDLINK {
 		return refused(answer, place, old+" "+new)
 	}

@@ -673,7 +673,8 @@ static void large_trees(void)
         same("a path", are(leaf.path, (const char *)path.at, path.length), 1);
         reads(tree, (uint64_t)i + 2, 0, (const char *)path.at);
     }
-    same("all but the large one's bytes", lt_tree_leaves(tree, MANY_FILES + 2, &leaf, 1, room, 6), 1);
+    same("all but the large one's bytes",
+         lt_tree_leaves(tree, MANY_FILES + 2, &leaf, 1, room, 6), 1);
     same("which is told", (int64_t)leaf.attributes.size, LARGE);
     same("a large file", lt_tree_read(tree, MANY_FILES + 2, 0, room, sizeof room), LARGE);
     same("its bytes", memcmp(room, contents, LARGE), 0);

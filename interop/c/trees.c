@@ -1,5 +1,6 @@
-/* Makes a tree by the functions of lucernetick.h, takes it twice, and prints what came of each call and
- * what the tree has. What is refused for want of memory is told, and called again: for interop/growths. */
+/* Makes a tree by the functions of lucernetick.h, takes it twice, and prints what came of each call
+ * and what the tree has. What is refused for want of memory is told, and called again: for
+ * interop/growths. */
 #include "lucernetick.h"
 
 #include <inttypes.h>
@@ -82,7 +83,8 @@ static void print_contents(size_t length)
         printf("%.*s\n", (int)length, (const char *)room);
 }
 
-/* A leaf, of a file with the first place that has its label: labels differ where a call was made again. */
+/* A leaf, of a file with the first place that has its label: labels differ where a call was made
+ * again. */
 static void print_leaf(const lt_tree *tree, uint64_t at, const lt_leaf *leaf)
 {
     static uint64_t labels[LEAVES];

@@ -1,13 +1,15 @@
-/* That of the steps of a WRITE the first alone takes memory: WRITEs of drawn lengths at drawn places of a file
- * are made turn by turn, and what each turn takes by malloc and realloc, which the linker wraps, is counted.
- * Prints how many later steps there were, and stops at one that took memory. */
+/* That of the steps of a WRITE the first alone takes memory: WRITEs of drawn lengths at drawn
+ * places of a file are made turn by turn, and what each turn takes by malloc and realloc, which the
+ * linker wraps, is counted. Prints how many later steps there were, and stops at one that took
+ * memory. */
 #include "lucernetick.h"
 
 #include <stdio.h>
 #include <stdlib.h>
 #include <string.h>
 
-enum { MOMENT = 100, MOST = 261120, SIZE = 1 << 20, HEAD = 33, WRITES = 2000, VERSION = 71, HANDLE = 21, OK = 28 };
+enum { MOMENT = 100, MOST = 261120, SIZE = 1 << 20, HEAD = 33, WRITES = 2000 };
+enum { VERSION = 71, HANDLE = 21, OK = 28 };
 
 void *__real_malloc(size_t size);
 void *__real_realloc(void *block, size_t size);
@@ -40,7 +42,8 @@ static void stop(const char *why)
 static void same(const char *what, int64_t got, int64_t wanted)
 {
     if (got != wanted) {
-        fprintf(stderr, "writes: %s: wanted %lld, got %lld\n", what, (long long)wanted, (long long)got);
+        fprintf(stderr, "writes: %s: wanted %lld, got %lld\n", what, (long long)wanted,
+                (long long)got);
         exit(1);
     }
 }
@@ -77,7 +80,9 @@ static void ask(const uint8_t *bytes, size_t length, int64_t reply)
 static void open_file(void)
 {
     static const uint8_t init[] = {0, 0, 0, 5, 1, 0, 0, 0, 3};
-    static const uint8_t open[] = {0, 0, 0, 19, 3, 0, 0, 0, 7, 0, 0, 0, 2, '/', 'f', 0, 0, 0, 10, 0, 0, 0, 0};
+    static const uint8_t open[] = {
+        0, 0, 0, 19, 3, 0, 0, 0, 7, 0, 0, 0, 2, '/', 'f', 0, 0, 0, 10, 0, 0, 0, 0,
+    };
     ask(init, sizeof init, VERSION);
     ask(open, sizeof open, HANDLE);
 }

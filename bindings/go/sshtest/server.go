@@ -135,11 +135,15 @@ func (server *Server) Close() {
 
 var errRefused = errors.New("sshtest: who this is may not log in")
 
-func (server *Server) checkPassword(client ssh.ConnMetadata, shown []byte) (*ssh.Permissions, error) {
+func (server *Server) checkPassword(
+	client ssh.ConnMetadata, shown []byte,
+) (*ssh.Permissions, error) {
 	return nil, server.check(client, shown, []byte(server.Password))
 }
 
-func (server *Server) checkKey(client ssh.ConnMetadata, shown ssh.PublicKey) (*ssh.Permissions, error) {
+func (server *Server) checkKey(
+	client ssh.ConnMetadata, shown ssh.PublicKey,
+) (*ssh.Permissions, error) {
 	wanted := signerOf(server.client).PublicKey()
 	return nil, server.check(client, shown.Marshal(), wanted.Marshal())
 }

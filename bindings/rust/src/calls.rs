@@ -162,7 +162,8 @@ pub struct Call {
 }
 
 impl Call {
-    /// SAFETY: the bytes of what was told must still be there: no other call was made on its engine.
+    /// SAFETY: the bytes of what was told must still be there: no other call was made on its
+    /// engine.
     unsafe fn of(told: &sys::Call) -> Self {
         Call {
             number: told.number,

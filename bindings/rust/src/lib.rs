@@ -112,7 +112,8 @@ impl Engine {
         checked(answer).map(Turn::of_number)
     }
 
-    /// Turns until the session is idle or blocked or has ended, or until `most` replies were written.
+    /// Turns until the session is idle or blocked or has ended, or until `most` replies were
+    /// written.
     pub fn settle(&mut self, session: Session, moment: u32, most: u64) -> Result<Turn, Refusal> {
         self.settle_moving(session, moment, most).0
     }
@@ -134,8 +135,8 @@ impl Engine {
     }
 
     /// Rounds, until no call is under way: in each, every session whose call is under way has one
-    /// turn, at the moment 0, by rising session numbers. Tells how many there were. What these calls
-    /// are answered waits for later turns, which write it.
+    /// turn, at the moment 0, by rising session numbers. Tells how many there were. What these
+    /// calls are answered waits for later turns, which write it.
     pub fn run_all(&mut self) -> u64 {
         // SAFETY: the pointer is an engine's, which `drop` alone frees.
         let rounds = unsafe { sys::lt_run_all(self.pointer.as_ptr()) };
@@ -166,8 +167,8 @@ impl Engine {
         Ok(room)
     }
 
-    /// Copies the first bytes that wait to be sent, as `output` tells them, as many as there is room
-    /// for. Answers how many wait.
+    /// Copies the first bytes that wait to be sent, as `output` tells them, as many as there is
+    /// room for. Answers how many wait.
     pub fn look(&self, session: Session, room: &mut [u8]) -> Result<usize, Refusal> {
         // SAFETY: as above, and a slice has as many bytes as its length says.
         let answer = unsafe {

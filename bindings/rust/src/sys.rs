@@ -1,4 +1,5 @@
-//! The library's functions, as include/lucernetick.h declares them, and three of the system's (Linux).
+//! The library's functions, as include/lucernetick.h declares them, and three of the system's
+//! (Linux).
 
 use std::os::raw::{c_char, c_int, c_short, c_ulong};
 

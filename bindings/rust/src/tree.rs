@@ -111,8 +111,8 @@ pub struct Entry {
     /// same pieces.
     pub pieces: Vec<Piece>,
     /// A file's number, which all of its names share and no other one has; none for a directory.
-    /// Numbers are given by each snapshot, from 1 in the order of the tree: a directory comes before
-    /// what is below it, and names in the order of their bytes.
+    /// Numbers are given by each snapshot, from 1 in the order of the tree: a directory comes
+    /// before what is below it, and names in the order of their bytes.
     pub file: Option<u64>,
 }
 
@@ -162,8 +162,8 @@ impl Engine {
         Ok(engine)
     }
 
-    /// Makes or replaces files, given by paths and contents, by requests of sessions of their own at
-    /// this moment. Directories on the way are made where they are missing.
+    /// Makes or replaces files, given by paths and contents, by requests of sessions of their own
+    /// at this moment. Directories on the way are made where they are missing.
     pub fn write_files<P, C, I>(&mut self, files: I, moment: u32) -> Result<(), Error>
     where
         P: AsRef<[u8]>,
@@ -173,8 +173,8 @@ impl Engine {
         for (path, contents) in files {
             let (path, contents) = (told(path.as_ref()), told(contents.as_ref()));
             let engine = self.pointer.as_ptr();
-            // SAFETY: the pointer is an engine's, which `drop` alone frees, and the bytes are of slices
-            // that stay until the call ends.
+            // SAFETY: the pointer is an engine's, which `drop` alone frees, and the bytes are of
+            // slices that stay until the call ends.
             done(unsafe { sys::lt_write_file(engine, path, contents, moment, ptr::null_mut()) })?;
         }
         Ok(())
@@ -188,8 +188,8 @@ impl Engine {
     }
 
     /// Gives the file at the old path the new one too, by a request of a session of its own at this
-    /// moment. Directories on the new path's way are made where they are missing. It is refused where
-    /// the new path is there already.
+    /// moment. Directories on the new path's way are made where they are missing. It is refused
+    /// where the new path is there already.
     pub fn hard_link(
         &mut self,
         old: impl AsRef<[u8]>,
@@ -203,8 +203,8 @@ impl Engine {
     }
 
     /// The whole tree. It is exactly the tree after the calls that took effect so far, also while
-    /// others are under way: none is waited for. Nothing is asked of the engine as a client asks: no
-    /// session opens, no call is recorded, and no time changes. Want of memory alone refuses it.
+    /// others are under way: none is waited for. Nothing is asked of the engine as a client asks:
+    /// no session opens, no call is recorded, and no time changes. Want of memory alone refuses it.
     pub fn snapshot(&self) -> Result<Snapshot, Refusal> {
         Ok(Snapshot { entries: Taken::of(self)?.entries()? })
     }

@@ -276,11 +276,15 @@ fn fifty_sessions_at_once() {
             let mut line = server.connect().unwrap();
             scope.spawn(move || {
                 let path = format!("/d{:02}", number);
-                let mkdir = [b"\0\0\0\x11\x0e\0\0\0\x01\0\0\0\x04", path.as_bytes(), &[0; 4]].concat();
+                let mkdir =
+                    [b"\0\0\0\x11\x0e\0\0\0\x01\0\0\0\x04", path.as_bytes(), &[0; 4]].concat();
                 let stat = [b"\0\0\0\x0d\x11\0\0\0\x02\0\0\0\x04", path.as_bytes()].concat();
                 line.write_all(&[INIT, &mkdir, &stat].concat()).unwrap();
                 let replies = take(&mut line, VERSION + 28 + 41);
-                assert_eq!((replies[VERSION + 12], &replies[VERSION + 28 + 37..]), (0, &[0, 0, 0, 7][..]));
+                assert_eq!(
+                    (replies[VERSION + 12], &replies[VERSION + 28 + 37..]),
+                    (0, &[0, 0, 0, 7][..])
+                );
             });
         }
     });
@@ -362,8 +366,8 @@ fn root_is_held(server: &Server, probe: Session) -> bool {
     settle(server, probe, 1000) == Turn::Blocked
 }
 
-/// A call that is held in `/a` stops one that is on its way there, which stops all others in the root.
-/// When the first one goes on, so do they, in whatever order their threads wake.
+/// A call that is held in `/a` stops one that is on its way there, which stops all others in the
+/// root. When the first one goes on, so do they, in whatever order their threads wake.
 #[test]
 fn blocked_connections_go_on_one_after_the_other() {
     for _ in 0..20 {
@@ -487,8 +491,8 @@ fn a_257th_client_is_refused() {
     assert_eq!(lines.len(), 256);
 }
 
-/// The clients are one that waits for replies, one whose call is blocked, and one that reads none of
-/// the many bytes that it is sent.
+/// The clients are one that waits for replies, one whose call is blocked, and one that reads none
+/// of the many bytes that it is sent.
 #[test]
 fn a_server_that_is_dropped_ends_its_connections() {
     let mut server = Server::new(Engine::from_files([("/f", "1")], 0).unwrap(), || 0);

@@ -46,8 +46,8 @@ fn look(engine: &mut Engine, session: Session) -> Vec<Vec<u8>> {
     told
 }
 
-/// Two files of two names each and one of one, which differ in their names alone: their atimes are 5,
-/// their mtimes 9.
+/// Two files of two names each and one of one, which differ in their names alone: their atimes are
+/// 5, their mtimes 9.
 fn alike() -> Engine {
     let files = [("/a", "same"), ("/b", "same"), ("/d/e", "same")];
     let mut engine = Engine::from_files(files, 77).unwrap();
