@@ -1,5 +1,5 @@
 -- Where no block is, the bytes are zeros.
-use Rattle.std.proofs.Common.{◌≡◌, ◌<◌, ◌≤◌, ◌+◌, ◌-◌, ◌*◌, ◌/◌, ◌%◌, ◌∙◌, ℕ, min, List, [], get_or, take, drop, replicate, refl, sym, ap, arith, None, Option}
+use Rattle.std.proofs.Common.{◌≡◌, ◌<◌, ◌≤◌, ◌+◌, ◌-◌, ◌*◌, ◌/◌, ◌%◌, ◌∙◌, ℕ, min, List, [], get_or, take, drop, replicate, refl, sym, ap, arith}
 use Rattle.std.proofs.lemmas.List.{length-replicate, get_or_past}
 use Rattle.sf_block.specs.Blocks.{byte_in, block_in, bytes_from, FileBlocks}
 use Rattle.sf_block.proofs.Places.{are_bytes, read_is, zero_at}

@@ -4,7 +4,7 @@ use Rattle.std.specs.Prelude.{if◌then◌else◌, IsTrue}
 use Rattle.std.proofs.lemmas.Bool.{cases_lt}
 use Rattle.std.proofs.lemmas.List.{length-append, take-append-le, drop-append-le, length-drop}
 use Rattle.std.proofs.Math.Seq.{drop-append_seam, take-length}
-use Rattle.sf_block.specs.Blocks.{block_in, HasPlace, Puts, Filled, IsHeld, EndsBefore, FileBlocks}
+use Rattle.sf_block.specs.Blocks.{block_in, HasPlace, Puts, Filled, Copies, IsHeld, EndsBefore, FileBlocks}
 
 -- no copies
 pub held_none : (blocks : FileBlocks) (first : ℕ) (bytes : List ℕ) → length bytes ≡ 0 → IsHeld blocks first bytes
@@ -63,12 +63,11 @@ module _ (old new : FileBlocks) (number : ℕ) (block : List ℕ) (put : Puts ol
       }
 
   -- the next one was, and perhaps it is copied too
-  module _ (f g : Filled) (copied : Bool) (ends : EndsBefore f number) (full : IsTrue copied → length block ≡ 4096)
-      (is : g.bytes ≡ (if copied then f.bytes ++ block else f.bytes)) (first : length f.bytes ≡ 0 → g.from ≡ number) (later : 0 < length f.bytes → g.from ≡ f.from) where
+  module _ (f g : Filled) (copied : Bool) (ends : EndsBefore f number) (copy : Copies f g number block copied) where
     at : IsHeld old f.from f.bytes → (g.from + length f.bytes / 4096 ≡ number) × IsHeld old g.from f.bytes
     at held = elim (cases_lt 0 (length f.bytes)) [
-      | inl some ↦ (omega (arith, later some, ends some), subst (λ n. IsHeld old n f.bytes) (sym (later some)) held)
-      | inr none ↦ (omega (arith, none, first (omega (arith, none))), held_none old g.from f.bytes (omega (arith, none)))
+      | inl some ↦ (omega (arith, copy.later some, ends some), subst (λ n. IsHeld old n f.bytes) (sym (copy.later some)) held)
+      | inr none ↦ (omega (arith, none, copy.first (omega (arith, none))), held_none old g.from f.bytes (omega (arith, none)))
     ]
 
     with_copy : (b : Bool) → (IsTrue b → length block ≡ 4096) → HasPlace old number → g.from + length f.bytes / 4096 ≡ number → IsHeld old g.from f.bytes
@@ -77,12 +76,12 @@ module _ (old new : FileBlocks) (number : ℕ) (block : List ℕ) (put : Puts ol
     with_copy false whole place here held = held_other g.from f.bytes (λ some. here) held
 
     pub held_put : HasPlace old number → IsHeld old f.from f.bytes → IsHeld new g.from g.bytes
-    held_put place held = subst (IsHeld new g.from) (sym is) (with_copy copied full place (at held).0 (at held).1)
+    held_put place held = subst (IsHeld new g.from) (sym copy.bytes) (with_copy copied copy.full place (at held).0 (at held).1)
 
     pub ends_put : IsTrue copied → IsHeld old f.from f.bytes → EndsBefore g (number + 1)
     ends_put sure held some =
-        let more : g.bytes ≡ f.bytes ++ block = is ∙ ap (λ b. if b then f.bytes ++ block else f.bytes) sure in
-        omega (arith, ap (λ (x : List ℕ). length x) more, length-append f.bytes block, full sure, (at held).0, held.whole)
+        let more : g.bytes ≡ f.bytes ++ block = copy.bytes ∙ ap (λ b. if b then f.bytes ++ block else f.bytes) sure in
+        omega (arith, ap (λ (x : List ℕ). length x) more, length-append f.bytes block, copy.full sure, (at held).0, held.whole)
 
     end : (b : Bool) → (IsTrue b → length block ≡ 4096) → IsHeld old g.from f.bytes → g.from + length f.bytes / 4096 ≡ number
         → g.from + length (if b then f.bytes ++ block else f.bytes) / 4096 ≤ number + 1
@@ -90,4 +89,4 @@ module _ (old new : FileBlocks) (number : ℕ) (block : List ℕ) (put : Puts ol
     end false whole held here = omega (arith, here)
 
     pub end_put : IsHeld old f.from f.bytes → g.from + length g.bytes / 4096 ≤ number + 1
-    end_put held = subst (λ (x : List ℕ). g.from + length x / 4096 ≤ number + 1) (sym is) (end copied full (at held).1 (at held).0)
+    end_put held = subst (λ (x : List ℕ). g.from + length x / 4096 ≤ number + 1) (sym copy.bytes) (end copied copy.full (at held).1 (at held).0)

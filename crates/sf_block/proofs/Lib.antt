@@ -6,5 +6,5 @@ pub mod Counts
 pub mod Running
 pub mod EqualMaps
 pub mod InRows
-pub mod Firsts
 pub mod Holding
+pub mod Placing

@@ -1,7 +1,7 @@
 -- No public clause cites this module.
 -- Bytes in blocks of 4096, each under its number. A missing block is zeros, and so is what a
 -- shorter one lacks.
-use Rattle.std.specs.Prelude.{◌≡◌, ◌⊎◌, ◌≢◌, ◌<◌, ◌≤◌, ◌+◌, ◌-◌, ◌*◌, ◌/◌, ◌%◌, ℕ, zero, suc, max, min, nat_le, nat_lt, ◌&&◌, if◌then◌else◌, List, [], ◌∷◌, map, length, take, drop, Option, Some, None, slice_index_or}
+use Rattle.std.specs.Prelude.{◌≡◌, ◌⊎◌, ◌≢◌, ◌<◌, ◌≤◌, ◌+◌, ◌-◌, ◌*◌, ◌/◌, ◌%◌, ℕ, zero, suc, max, min, nat_le, nat_lt, ◌&&◌, if◌then◌else◌, Bool, IsTrue, List, [], ◌∷◌, ◌++◌, map, length, take, drop, Option, Some, None, slice_index_or}
 use Rattle.std.specs.Option.{unwrap_or}
 use Rattle.std.specs.List.{range_with_len}
 use Rattle.std.specs.Ordering.{nat_cmp}
@@ -22,31 +22,23 @@ unless_empty (Some (b ∷ bytes)) = Some (b ∷ bytes)
 abbrev pub run_in : List (ℕ × List ℕ) → ℕ → Option (List ℕ)
 run_in runs k = unless_empty (entry_in runs k)
 
--- the row of a number, of eight blocks; a missing one has none
-abbrev pub row_in : List (ℕ × List (List ℕ)) → ℕ → List (List ℕ)
-row_in rows r = unwrap_or (entry_in rows r) []
+-- the first eight blocks, and the others in rows of eight
+pub record FileBlocks : Type 0 where
+  pub near : List (List ℕ)
+  pub far : List (ℕ × List (List ℕ))
+
+-- the row of a number; a missing one has no blocks
+abbrev pub row_in : FileBlocks → ℕ → List (List ℕ)
+row_in blocks zero = blocks.near
+row_in blocks (suc r) = unwrap_or (entry_in blocks.far (suc r)) []
 
 -- the block of a number, in its row
-abbrev pub block_in_rows : List (ℕ × List (List ℕ)) → ℕ → List ℕ
-block_in_rows rows k = slice_index_or (row_in rows (k / 8)) (k % 8) []
+abbrev pub block_in : FileBlocks → ℕ → List ℕ
+block_in blocks k = slice_index_or (row_in blocks (k / 8)) (k % 8) []
 
 -- a block of this number has a place in its row
-abbrev pub HasPlaceInRows : List (ℕ × List (List ℕ)) → ℕ → Type 0
-HasPlaceInRows rows k = k % 8 < length (row_in rows (k / 8))
-
--- the first block, and the others in rows
-pub record FileBlocks : Type 0 where
-  pub first : List ℕ
-  pub rows : List (ℕ × List (List ℕ))
-
--- the block of a number
-abbrev pub block_in : FileBlocks → ℕ → List ℕ
-block_in blocks zero = blocks.first
-block_in blocks (suc k) = block_in_rows blocks.rows (suc k)
-
--- a block of this number has a place, as the first one always has
 abbrev pub HasPlace : FileBlocks → ℕ → Type 0
-HasPlace blocks k = (k ≡ 0) ⊎ HasPlaceInRows blocks.rows k
+HasPlace blocks k = k % 8 < length (row_in blocks (k / 8))
 
 -- the byte at a place
 abbrev pub byte_in : (ℕ → List ℕ) → ℕ → ℕ
@@ -68,13 +60,7 @@ pub record Puts (old new : FileBlocks) (number : ℕ) (block : List ℕ) : Type 
   pub others : (k : ℕ) → k ≢ number → block_in new k ≡ block_in old k
   pub kept : (k : ℕ) → HasPlace old k → HasPlace new k
 
--- the same in rows
-pub record PutsInRows (old new : List (ℕ × List (List ℕ))) (number : ℕ) (block : List ℕ) : Type 0 where
-  pub at : block_in_rows new number ≡ block
-  pub others : (k : ℕ) → k ≢ number → block_in_rows new k ≡ block_in_rows old k
-  pub kept : (k : ℕ) → HasPlaceInRows old k → HasPlaceInRows new k
-
--- the same in one row
+-- the same in a row
 pub record PutsInRow (old new : List (List ℕ)) (i : ℕ) (block : List ℕ) : Type 0 where
   pub at : slice_index_or new i [] ≡ block
   pub others : (j : ℕ) → j ≢ i → slice_index_or new j [] ≡ slice_index_or old j []
@@ -121,6 +107,35 @@ IsNoted old offset bytes k run =
 pub record Filled : Type 0 where
   pub from : ℕ
   pub bytes : List ℕ
+
+-- no copies
+abbrev pub unfilled : Filled
+unfilled = record { from = 0; bytes = [] }
+
+-- the blocks of a write that wait to take their places, and copies of the last ones that took theirs
+pub record WaitingBlocks : Type 0 where
+  pub fresh : List (List ℕ)
+  pub filled : Filled
+
+-- what is left of a write: the number of the first block that waits, too
+pub record PendingWrite : Type 0 where
+  pub first : ℕ
+  pub fresh : List (List ℕ)
+  pub filled : Filled
+
+-- a block that took its place was copied behind the others, or wasn't
+pub record Copies (old new : Filled) (number : ℕ) (block : List ℕ) (copied : Bool) : Type 0 where
+  pub full : IsTrue copied → length block ≡ 4096
+  pub bytes : new.bytes ≡ (if copied then old.bytes ++ block else old.bytes)
+  pub first : length old.bytes ≡ 0 → new.from ≡ number
+  pub later : 0 < length old.bytes → new.from ≡ old.from
+
+-- the first block that waits is taken out, to take its place, and perhaps it is copied
+pub record TakesNext (old new : PendingWrite) (number : ℕ) (block : List ℕ) (copied : Bool) : Type 0 where
+  pub at : number ≡ old.first
+  pub next : new.first ≡ old.first + 1
+  pub is : old.fresh ≡ block ∷ new.fresh
+  pub copies : Copies old.filled new.filled number block copied
 
 -- whole blocks from a number on have these bytes, one behind another, each in its place
 pub record IsHeld (blocks : FileBlocks) (first : ℕ) (bytes : List ℕ) : Type 0 where

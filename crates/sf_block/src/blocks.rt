@@ -1,21 +1,29 @@
 //! Blocks under their numbers.
 
-ghost use Rattle.std.specs.Prelude.{◌≡◌, ◌<◌, ◌≤◌, ◌+◌, ◌*◌, ◌^◌, ℕ, nat_lt, [], length, if◌then◌else◌, IfOk, IfSome, IfNone, OnOk};
-ghost use Rattle.sf_block.specs.Blocks.{block_in, byte_in, HasPlace, Puts};
+ghost use Rattle.std.specs.Prelude.{◌≡◌, ◌≢◌, ◌<◌, ◌≤◌, ◌+◌, ◌*◌, ◌^◌, ℕ, nat_lt, [], length, if◌then◌else◌, take, slice_index_or, None, IsSome, IfOk, IfSome, IfNone, OnOk};
+ghost use Rattle.sf_block.specs.Blocks.{entry_in, row_in, block_in, byte_in, HasPlace, Puts, PutsInRow};
 
-use crate::BLOCK;
-use crate::row::separate;
-use crate::rows::Rows;
+use crate::copies::{TryCopy, copy_of};
+use crate::row::Row;
+use crate::{BLOCK, ROW};
 use sf_field::ByteString;
 use std::alloc::{AllocError, Global};
+use std::collections::BTreeMap;
 use std::marker::Model;
+use std::mem;
 
-/// The blocks of a file. A missing one is zeros. The first one stands by itself, so that a file of
-/// one block has no row.
+/// The blocks of a file, eight in a row. A missing one is zeros.
 #[derive(Debug, Drop)]
 pub(crate) struct Blocks {
-    first: ByteString,
-    rows: Rows,
+    /// The first row, with places for as many blocks as the file has needed: a small file has no
+    /// other.
+    near: Row,
+    /// The other rows, each under its number.
+    far: BTreeMap<u64, Row>,
+    /// Rows of a file that was emptied. One goes for each new one, in order: memory that is given
+    /// back all at once, or from the last row on, goes to the system, which clears it before it
+    /// gives it again.
+    shed: BTreeMap<u64, Row>,
 }
 
 impl Model for Blocks {
@@ -23,17 +31,18 @@ impl Model for Blocks {
 
     ghost Value = { FileBlocks };
 
-    ghost view = { λ blocks. record { first = blocks.first; rows = blocks.rows } };
+    ghost view = { λ blocks. record { near = blocks.near; far = blocks.far.entries } };
 }
 
 impl Blocks {
     /// No blocks, and memory for none.
     pub(crate) fn new(alloc: Global) -> Blocks
-        ensures { result ≡ record { first = []; rows = [] } }
+        ensures { result ≡ record { near = []; far = [] } }
     {
         Blocks {
-            first: ByteString::new(),
-            rows: Rows::new(alloc),
+            near: Row::new(alloc),
+            far: BTreeMap::new(alloc),
+            shed: BTreeMap::new(alloc),
         }
     }
 
@@ -42,8 +51,9 @@ impl Blocks {
         ensures { IfOk result (λ copy. copy ≡ self.now) }
     {
         Ok(Blocks {
-            first: self.first.share()?,
-            rows: self.rows.try_copy(alloc)?,
+            near: self.near.try_copy(alloc)?,
+            far: copy_of(alloc, &self.far)?,
+            shed: BTreeMap::new(alloc),
         })
     }
 
@@ -51,9 +61,13 @@ impl Blocks {
     pub(crate) fn get(&self, number: u64) -> &[u8]
         ensures { result.now ≡ block_in self.now number }
     {
-        match number {
-            0 => self.first.as_slice(),
-            _ => self.rows.get(number),
+        let i = (number % ROW) as usize;
+        match number / ROW {
+            0 => self.near.get(i),
+            row => match self.far.get(&row) {
+                Some(row) => row.get(i),
+                None => &[],
+            },
         }
     }
 
@@ -69,10 +83,53 @@ impl Blocks {
         ensures there { OnOk result ((k : ℕ) → first ≤ k → k < first + count
             → HasPlace self.new k) }
     {
-        if first == 0 && count <= 1 {
-            return Ok(());
+        let end = first + count as u64;
+        for number in first / ROW..end.div_ceil(ROW) {
+            self.make_row(alloc, number, (end - number * ROW).min(ROW) as usize)?;
         }
-        self.rows.make_places(alloc, first, count)
+        Ok(())
+    }
+
+    /// Makes places for a row's first blocks, so many of them.
+    fn make_row(&mut self, alloc: Global, number: u64, count: usize) -> Result<(), AllocError>
+        ensures same { (r j : ℕ) → slice_index_or (row_in self.new r) j []
+            ≡ slice_index_or (row_in self.old r) j [] }
+        ensures kept { (r : ℕ) → length (row_in self.old r) ≤ length (row_in self.new r) }
+        ensures there { OnOk result (count ≤ length (row_in self.new number)) }
+    {
+        if number == 0 {
+            return self.near.fill(count);
+        }
+        self.add_row(alloc, number)?;
+        self.fill_row(number, count)
+    }
+
+    /// Puts a row without blocks where none is there.
+    fn add_row(&mut self, alloc: Global, number: u64) -> Result<(), AllocError>
+        requires { 0 < number }
+        ensures same { (r : ℕ) → row_in self.new r ≡ row_in self.old r }
+        ensures there { OnOk result (IsSome (entry_in self.new.far number)) }
+    {
+        if !self.far.contains_key(&number) {
+            self.far.insert(number, Row::new(alloc))?;
+            self.shed.pop_first();
+        }
+        Ok(())
+    }
+
+    /// Makes a row's places.
+    fn fill_row(&mut self, number: u64, count: usize) -> Result<(), AllocError>
+        requires later { 0 < number }
+        requires there { IsSome (entry_in self.old.far number) }
+        ensures same { (r j : ℕ) → slice_index_or (row_in self.new r) j []
+            ≡ slice_index_or (row_in self.old r) j [] }
+        ensures kept { (r : ℕ) → length (row_in self.old r) ≤ length (row_in self.new r) }
+        ensures there { OnOk result (count ≤ length (row_in self.new number)) }
+    {
+        match self.far.get_mut(&number) {
+            Some(row) => row.fill(count),
+            None => Ok(()),
+        }
     }
 
     /// Puts a block in its place, which is there.
@@ -80,21 +137,83 @@ impl Blocks {
         requires { HasPlace self.old number }
         ensures { Puts self.old self.new number block }
     {
-        match number {
-            0 => self.first = block,
-            _ => self.rows.put(number, block),
+        let i = (number % ROW) as usize;
+        match number / ROW {
+            0 => self.near.put(i, block),
+            row => {
+                if let Some(row) = self.far.get_mut(&row) {
+                    row.put(i, block);
+                }
+            }
         }
     }
 
-    /// Drops the bytes from a place on. It wants no memory.
-    pub(crate) fn cut(&mut self, alloc: Global, n: u64)
+    /// Drops the bytes from a place on. It takes no memory.
+    pub(crate) fn cut(&mut self, n: u64)
         ensures bytes { (i : ℕ) → byte_in (block_in self.new) i
             ≡ (if nat_lt i n then byte_in (block_in self.old) i else 0) }
         ensures less { (k : ℕ) → length (block_in self.new k) ≤ length (block_in self.old k) }
     {
-        self.first.truncate(n.min(BLOCK) as usize);
-        separate(alloc, &mut self.first);
-        self.rows.cut(n);
+        if n == 0 && self.shed.is_empty() {
+            self.near.clear();
+            mem::swap(&mut self.far, &mut self.shed);
+            return;
+        }
+        self.drop_from(n / BLOCK + 1);
+        self.truncate(n / BLOCK, (n % BLOCK) as usize);
+    }
+
+    /// Keeps of a block the first bytes.
+    fn truncate(&mut self, number: u64, n: usize)
+        ensures { Puts self.old self.new number (take n (block_in self.old number)) }
+    {
+        let i = (number % ROW) as usize;
+        match number / ROW {
+            0 => self.near.truncate(i, n),
+            row => {
+                if let Some(row) = self.far.get_mut(&row) {
+                    row.truncate(i, n);
+                }
+            }
+        }
+    }
+
+    /// Takes out the blocks from a number on.
+    fn drop_from(&mut self, end: u64)
+        ensures { (k : ℕ) → block_in self.new k
+            ≡ (if nat_lt k end then block_in self.old k else []) }
+    {
+        self.drop_rows(end / ROW + 1);
+        self.cut_row(end / ROW, (end % ROW) as usize);
+    }
+
+    /// Takes out a row's blocks from one on.
+    fn cut_row(&mut self, number: u64, i: usize)
+        ensures at { (j : ℕ) → slice_index_or (row_in self.new number) j []
+            ≡ (if nat_lt j i then slice_index_or (row_in self.old number) j [] else []) }
+        ensures others { (r : ℕ) → r ≢ number → row_in self.new r ≡ row_in self.old r }
+    {
+        match number {
+            0 => self.near.cut(i),
+            _ => {
+                if let Some(row) = self.far.get_mut(&number) {
+                    row.cut(i);
+                }
+            }
+        }
+    }
+
+    /// The greatest number of a row behind the first.
+    fn last(&self) -> Option<u64>
+        ensures there { IfSome result (λ number. IsSome (entry_in self.now.far number)) }
+        ensures greatest { IfSome result (λ number. (r : ℕ) → number < r
+            → entry_in self.now.far r ≡ None) }
+        ensures none { IfNone result ((r : ℕ) → entry_in self.now.far r ≡ None) }
+    {
+        match self.far.last_key_value() {
+            Some((number, _)) => Some(*number),
+            None => None,
+        }
     }
 
     /// The number of the first row from one on that has a block.
@@ -103,9 +222,35 @@ impl Blocks {
             → block_in self.now k ≡ []) }
         ensures none { IfNone result ((k : ℕ) → from * 8 ≤ k → block_in self.now k ≡ []) }
     {
-        if from == 0 && !self.first.is_empty() {
+        if from == 0 && !self.near.is_empty() {
             return Some(0);
         }
-        self.rows.next_row(from)
+        self.next_far(from)
+    }
+
+    /// The number of the first row from one on, of those behind the first.
+    fn next_far(&self, from: u64) -> Option<u64>
+        ensures some { IfSome result (λ number. (r : ℕ) → from ≤ r → r < number
+            → entry_in self.now.far r ≡ None) }
+        ensures none { IfNone result ((r : ℕ) → from ≤ r → entry_in self.now.far r ≡ None) }
+    {
+        match self.far.range(from..).next() {
+            Some((number, _)) => Some(*number),
+            None => None,
+        }
+    }
+
+    /// Takes out the rows from a number on, behind the first.
+    fn drop_rows(&mut self, end: u64)
+        requires { 0 < end }
+        ensures { (r : ℕ) → row_in self.new r
+            ≡ (if nat_lt r end then row_in self.old r else []) }
+    {
+        while let Some(last) = self.last() {
+            if last < end {
+                return;
+            }
+            self.far.pop_last();
+        }
     }
 }

@@ -6,11 +6,11 @@ ghost use Rattle.sf_block.specs.Blocks.{run_in, block_in, block_written, bytes_f
 
 use crate::blocks::Blocks;
 use crate::filling::Filling;
+use crate::pending::{Next, Pending};
 use crate::runs::Runs;
-use crate::{BLOCK, LEAST_SHARED, MOST_SHARED, ROW, RUN};
+use crate::{BLOCK, MOST_KEPT, MOST_SHARED, ROW, RUN};
 use sf_field::ByteString;
 use std::alloc::{AllocError, Global};
-use std::collections::VecDeque;
 use std::marker::Model;
 
 /// The bytes of a file.
@@ -18,13 +18,9 @@ use std::marker::Model;
 pub struct Contents {
     len: u64,
     blocks: Blocks,
-    /// The number of the first block that waits to take its place.
-    first: u64,
-    /// The blocks that wait, of which the first one goes first. Each has a place.
-    fresh: VecDeque<ByteString>,
-    /// Copies of the last ones that took their places.
-    filling: Filling,
     runs: Runs,
+    /// What is left of a write, each of whose blocks has a place.
+    pending: Pending,
 }
 
 impl Drop for Contents {
@@ -33,10 +29,8 @@ impl Drop for Contents {
         let Self {
             len: _,
             blocks: _blocks,
-            first: _,
-            fresh: _fresh,
-            filling: _filling,
             runs: _runs,
+            pending: _pending,
         } = self;
     }
 }
@@ -49,20 +43,21 @@ impl Model for Contents {
     ghost Value = { FileBytes };
 
     ghost view = { λ c. record {
-      bytes = bytes_from (block_now c.blocks c.first c.fresh.items) 0 c.len;
-      left = length c.fresh.items;
+      bytes = bytes_from (block_now c.blocks c.pending.first c.pending.fresh) 0 c.len;
+      left = length c.pending.fresh;
     } };
 
     ghost invariant = { λ c.
-        ((k : ℕ) → length (block_now c.blocks c.first c.fresh.items k) ≤ 4096)
-        × ((i : ℕ) → c.len ≤ i → byte_in (block_now c.blocks c.first c.fresh.items) i ≡ 0)
-        × ((k : ℕ) → c.first ≤ k → k < c.first + length c.fresh.items
+        ((k : ℕ) → length (block_now c.blocks c.pending.first c.pending.fresh k) ≤ 4096)
+        × ((i : ℕ) → c.len ≤ i
+        → byte_in (block_now c.blocks c.pending.first c.pending.fresh) i ≡ 0)
+        × ((k : ℕ) → c.pending.first ≤ k → k < c.pending.first + length c.pending.fresh
         → HasPlace c.blocks k)
-        × (c.first + length c.fresh.items < 2 ^ 64)
-        × AreRuns c.runs (block_now c.blocks c.first c.fresh.items) c.len
-        × IsHeld c.blocks c.filling.from c.filling.bytes
-        × EndsBefore c.filling c.first
-        × (length c.fresh.items ≡ 0 → length c.filling.bytes ≡ 0) };
+        × (c.pending.first + length c.pending.fresh < 2 ^ 64)
+        × AreRuns c.runs (block_now c.blocks c.pending.first c.pending.fresh) c.len
+        × IsHeld c.blocks c.pending.filled.from c.pending.filled.bytes
+        × EndsBefore c.pending.filled c.pending.first
+        × (length c.pending.fresh ≡ 0 → length c.pending.filled.bytes ≡ 0) };
 }
 
 impl Contents {
@@ -73,10 +68,8 @@ impl Contents {
         Contents {
             len: 0,
             blocks: Blocks::new(alloc),
-            first: 0,
-            fresh: VecDeque::new(alloc),
-            filling: Filling::new(alloc),
             runs: Runs::new(alloc),
+            pending: Pending::new(),
         }
     }
 
@@ -88,10 +81,8 @@ impl Contents {
         Ok(Contents {
             len: self.len,
             blocks: self.blocks.try_copy(alloc)?,
-            first: self.first,
-            fresh: VecDeque::new(alloc),
-            filling: Filling::new(alloc),
             runs: self.runs.try_copy(alloc)?,
+            pending: Pending::new(),
         })
     }
 
@@ -100,14 +91,11 @@ impl Contents {
     pub(crate) fn share(&self, alloc: Global) -> Result<Contents, AllocError>
         ensures { IfOk result (λ copy. copy ≡ self.now) }
     {
-        let fresh = shares(alloc, &self.fresh)?;
         Ok(Contents {
             len: self.len,
             blocks: self.blocks.try_copy(alloc)?,
-            first: self.first,
-            fresh: VecDeque::from_vec(fresh),
-            filling: Filling::new(alloc),
             runs: self.runs.try_copy(alloc)?,
+            pending: self.pending.share(alloc)?,
         })
     }
 
@@ -122,7 +110,7 @@ impl Contents {
     pub fn left(&self) -> usize
         ensures { result ≡ self.now.left }
     {
-        self.fresh.len()
+        self.pending.left()
     }
 
     /// Begins to write: takes all memory that it wants, so that nothing more is refused. The bytes
@@ -141,10 +129,9 @@ impl Contents {
     {
         let fresh = renewed(alloc, &self.blocks, offset, bytes)?;
         let filling = Filling::reserve(alloc, offset, bytes.len())?;
+        let pending = Pending::of(alloc, offset / BLOCK, fresh, filling)?;
         make_places(alloc, &mut self.blocks, &mut self.runs, offset, bytes)?;
-        self.first = offset / BLOCK;
-        self.fresh = VecDeque::from_vec(fresh);
-        self.filling = filling;
+        self.pending = pending;
         self.len = self.len.max(offset + bytes.len() as u64);
         Ok(())
     }
@@ -154,16 +141,20 @@ impl Contents {
         requires { 0 < self.old.left }
         ensures { self.new ≡ record { bytes = self.old.bytes; left = self.old.left - 1 } }
     {
-        if let Some(block) = self.fresh.pop_front() {
-            let number = self.first;
-            let copied = self.filling.push(number, block.as_slice());
+        if let Some(
+            Next {
+                number,
+                block,
+                copied,
+            },
+        ) = self.pending.next()
+        {
             self.blocks.put(number, block);
-            self.first = number + 1;
-            if !copied || self.first % ROW == 0 || self.fresh.is_empty() {
+            if !copied || (number + 1) % ROW == 0 || self.pending.left() == 0 {
                 settle(
                     &mut self.blocks,
                     &mut self.runs,
-                    &mut self.filling,
+                    &mut self.pending,
                     self.len,
                 );
             }
@@ -207,7 +198,7 @@ impl Contents {
             self.len = n;
             return;
         }
-        self.blocks.cut(*self.fresh.allocator(), n);
+        self.blocks.cut(n);
         self.runs.cut(n / RUN);
         self.len = n;
     }
@@ -242,17 +233,6 @@ impl Contents {
         };
         end.saturating_sub(offset)
     }
-}
-
-/// The same blocks, whose bytes are shared.
-fn shares(alloc: Global, blocks: &VecDeque<ByteString>) -> Result<Vec<ByteString>, AllocError>
-    ensures { IfOk result (λ copy. copy.items ≡ blocks.now.items) }
-{
-    let mut copy = Vec::with_capacity(alloc, blocks.len())?;
-    for i in 0..blocks.len() {
-        copy.push(blocks[i].share()?)?;
-    }
-    Ok(copy)
 }
 
 /// Makes places for the blocks of a write, and for the runs that it writes whole.
@@ -346,7 +326,7 @@ fn with_part(
         ≡ written old.now place (take (to - from) (drop from bytes.now))) }
 {
     let n = to - from;
-    if place == 0 && n >= old.len() && n >= LEAST_SHARED && bytes.len() <= MOST_SHARED {
+    if place == 0 && n >= old.len() && n * MOST_KEPT >= bytes.len() && bytes.len() <= MOST_SHARED {
         return bytes.part(from, to);
     }
     spliced(alloc, old, place, &bytes.as_slice()[from..to])
@@ -368,17 +348,19 @@ fn spliced(alloc: Global, old: &[u8], place: usize, bytes: &[u8]) -> Result<Byte
 
 /// Puts blocks that were copied in the places of the same ones, which share a write's bytes, so
 /// that those go. A run is put in. It takes no memory.
-fn settle(blocks: &mut Blocks, runs: &mut Runs, filling: &mut Filling, len: u64)
-    requires held { IsHeld blocks.old filling.old.from filling.old.bytes }
-    requires fits { filling.old.from + length filling.old.bytes / 4096 < 2 ^ 64 }
+fn settle(blocks: &mut Blocks, runs: &mut Runs, pending: &mut Pending, len: u64)
+    requires held { IsHeld blocks.old pending.old.filled.from pending.old.filled.bytes }
+    requires fits { pending.old.filled.from + length pending.old.filled.bytes / 4096 < 2 ^ 64 }
     ensures same { (k : ℕ) → block_in blocks.new k ≡ block_in blocks.old k }
     ensures kept { (k : ℕ) → HasPlace blocks.old k → HasPlace blocks.new k }
-    ensures empty { filling.new.bytes ≡ [] }
+    ensures empty { pending.new.filled.bytes ≡ [] }
+    ensures first { pending.new.first ≡ pending.old.first }
+    ensures fresh { pending.new.fresh ≡ pending.old.fresh }
     ensures runs { (k : ℕ) (run : List ℕ) → run_in runs.new k ≡ Some run
         → (run_in runs.old k ≡ Some run)
-        ⊎ IsRunOf filling.old.from filling.old.bytes len k run }
+        ⊎ IsRunOf pending.old.filled.from pending.old.filled.bytes len k run }
 {
-    if let Some((first, copies)) = filling.take() {
+    if let Some((first, copies)) = pending.take() {
         share(blocks, first, &copies);
         let number = first / ROW;
         if first % ROW == 0 && copies.len() as u64 == RUN && number < len / RUN {

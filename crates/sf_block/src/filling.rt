@@ -1,7 +1,7 @@
 //! Blocks of a long write, on their way to a buffer of their own.
 
 ghost use Rattle.std.specs.Prelude.{◌≡◌, ◌+◌, ◌++◌, ◌^◌, ◌<◌, ◌≤◌, [], length, if◌then◌else◌, IfOk, IfSome, IsTrue};
-ghost use Rattle.sf_block.specs.Blocks.{Filled};
+ghost use Rattle.sf_block.specs.Blocks.{Filled, Copies, unfilled};
 
 use crate::{BLOCK, MOST_SHARED, ROW};
 use sf_field::{ByteBuffer, ByteString};
@@ -32,7 +32,7 @@ impl Model for Filling {
 impl Filling {
     /// No copies, and room for none.
     pub(crate) fn new(alloc: Global) -> Filling
-        ensures { result.bytes ≡ [] }
+        ensures { result ≡ unfilled }
     {
         Filling {
             from: 0,
@@ -65,11 +65,7 @@ impl Filling {
     /// Copies a block that follows, if it is whole and there is room for it, and tells whether it
     /// did. It takes no memory.
     pub(crate) fn push(&mut self, number: u64, block: &[u8]) -> bool
-        ensures full { IsTrue result → length block.now ≡ 4096 }
-        ensures bytes { self.new.bytes
-            ≡ (if result then self.old.bytes ++ block.now else self.old.bytes) }
-        ensures first { length self.old.bytes ≡ 0 → self.new.from ≡ number }
-        ensures later { 0 < length self.old.bytes → self.new.from ≡ self.old.from }
+        ensures { Copies self.old self.new number block.now result }
     {
         if self.bytes.is_empty() {
             self.from = number;

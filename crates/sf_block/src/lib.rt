@@ -14,8 +14,8 @@ mod contents;
 mod copies;
 mod filling;
 mod laws;
+mod pending;
 mod row;
-mod rows;
 mod runs;
 mod whole;
 
@@ -32,8 +32,11 @@ const ROW: u64 = 8;
 /// How many bytes a run has: as many as clients write and ask for at once.
 const RUN: u64 = 32768;
 
-/// Bytes of a block that are fewer than so many have a buffer of their own.
+/// Bytes that are left of a block have a buffer of their own where they are fewer than so many.
 const LEAST_SHARED: usize = 2048;
+
+/// A block keeps at most so many times its own bytes of a write alive.
+const MOST_KEPT: usize = 16;
 
 /// A write's bytes are shared with its blocks up to so many of them: else a block could keep more
 /// alive.

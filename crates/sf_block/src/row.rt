@@ -1,10 +1,10 @@
 //! Blocks in a row.
 
-ghost use Rattle.std.specs.Prelude.{◌≡◌, ◌<◌, ◌≤◌, ℕ, nat_lt, [], length, if◌then◌else◌, take, slice_index_or, IfOk, OnOk};
+ghost use Rattle.std.specs.Prelude.{◌≡◌, ◌<◌, ◌≤◌, ◌↔◌, ℕ, nat_lt, [], length, if◌then◌else◌, take, slice_index_or, IsTrue, IfOk, OnOk};
 ghost use Rattle.sf_block.specs.Blocks.{PutsInRow};
 
+use crate::LEAST_SHARED;
 use crate::copies::TryCopy;
-use crate::{LEAST_SHARED, ROW};
 use sf_field::ByteString;
 use std::alloc::{AllocError, Global};
 use std::marker::Model;
@@ -24,13 +24,20 @@ impl Model for Row {
 }
 
 impl Row {
-    /// No blocks, and memory for eight.
-    pub(crate) fn new(alloc: Global) -> Result<Row, AllocError>
-        ensures { IfOk result (λ row. row ≡ []) }
+    /// No blocks, and memory for none.
+    pub(crate) fn new(alloc: Global) -> Row
+        ensures { result ≡ [] }
     {
-        Ok(Row {
-            list: Vec::with_capacity(alloc, ROW as usize)?,
-        })
+        Row {
+            list: Vec::new(alloc),
+        }
+    }
+
+    /// No place is there.
+    pub(crate) fn is_empty(&self) -> bool
+        ensures { IsTrue result ↔ (self.now ≡ []) }
+    {
+        self.list.is_empty()
     }
 
     /// The bytes of a block: fewer where it ends in zeros, and none where it is missing.
@@ -43,13 +50,17 @@ impl Row {
         }
     }
 
-    /// Makes places for eight blocks: one without bytes, where none is there.
-    pub(crate) fn fill(&mut self) -> Result<(), AllocError>
+    /// Makes places for so many blocks: one without bytes, where none is there. The first ones take
+    /// no more memory than they want.
+    pub(crate) fn fill(&mut self, count: usize) -> Result<(), AllocError>
         ensures same { (j : ℕ) → slice_index_or self.new j [] ≡ slice_index_or self.old j [] }
         ensures kept { length self.old ≤ length self.new }
-        ensures there { OnOk result (8 ≤ length self.new) }
+        ensures there { OnOk result (count ≤ length self.new) }
     {
-        while self.list.len() < ROW as usize {
+        if self.list.is_empty() {
+            self.list = Vec::with_capacity(*self.list.allocator(), count)?;
+        }
+        while self.list.len() < count {
             self.list.push(ByteString::new())?;
         }
         Ok(())
@@ -83,10 +94,17 @@ impl Row {
     {
         self.list.truncate(i);
     }
+
+    /// Takes out all blocks, and gives their memory back.
+    pub(crate) fn clear(&mut self)
+        ensures { self.new ≡ [] }
+    {
+        self.list = Vec::new(*self.list.allocator());
+    }
 }
 
 /// Copies bytes that are too few to be shared, if there is memory.
-pub(crate) fn separate(alloc: Global, block: &mut ByteString)
+fn separate(alloc: Global, block: &mut ByteString)
     ensures { block.new ≡ block.old }
 {
     if block.len() < LEAST_SHARED {
@@ -98,7 +116,7 @@ pub(crate) fn separate(alloc: Global, block: &mut ByteString)
 
 impl TryCopy for Row {
     fn try_copy(&self, alloc: Global) -> Result<Row, AllocError> {
-        let mut list = Vec::with_capacity(alloc, ROW as usize)?;
+        let mut list = Vec::with_capacity(alloc, self.list.len())?;
         for block in &self.list {
             let share = block.share()?;
             list.push(share)?;

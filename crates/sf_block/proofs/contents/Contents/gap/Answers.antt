@@ -11,9 +11,9 @@ pub returns : goal.returns
 returns c =
     let inside = c.self.inside in
     let n : ℕ = c.saturating_sub.result in
-    let none : length inside.fresh.items ≡ 0 = ap (λ (v : FileBytes). v.left) c.self.view_is ∙ c.requires in
+    let none : length inside.pending.fresh ≡ 0 = ap (λ (v : FileBytes). v.left) c.self.view_is ∙ c.requires in
     let all : bytes_from (block_in inside.blocks) 0 inside.len ≡ c.args.self.now.bytes =
-    sym (same_blocks (block_now inside.blocks inside.first inside.fresh.items) (block_in inside.blocks) 0 inside.len (now_none inside.blocks inside.first inside.fresh.items none))
+    sym (same_blocks (block_now inside.blocks inside.pending.first inside.pending.fresh) (block_in inside.blocks) 0 inside.len (now_none inside.blocks inside.pending.first inside.pending.fresh none))
     ∙ ap (λ (v : FileBytes). v.bytes) c.self.view_is in
     ap (λ (x : List ℕ). take n (drop c.args.offset x)) (sym all)
     ∙ elim c.match-next_row.branch [

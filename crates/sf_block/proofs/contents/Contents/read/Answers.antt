@@ -9,9 +9,9 @@ use Rattle.sf_block.proofs.contents.Contents.read.Goals as goal
 pub returns : goal.returns
 returns c =
     let inside = c.self.inside in
-    let none : length inside.fresh.items ≡ 0 = ap (λ (v : FileBytes). v.left) c.self.view_is ∙ c.requires.whole in
+    let none : length inside.pending.fresh ≡ 0 = ap (λ (v : FileBytes). v.left) c.self.view_is ∙ c.requires.whole in
     let all : bytes_from (block_in inside.blocks) 0 inside.len ≡ c.args.self.now.bytes =
-    sym (same_blocks (block_now inside.blocks inside.first inside.fresh.items) (block_in inside.blocks) 0 inside.len (now_none inside.blocks inside.first inside.fresh.items none))
+    sym (same_blocks (block_now inside.blocks inside.pending.first inside.pending.fresh) (block_in inside.blocks) 0 inside.len (now_none inside.blocks inside.pending.first inside.pending.fresh none))
     ∙ ap (λ (v : FileBytes). v.bytes) c.self.view_is in
     let start : c.min-start.result ≡ min c.args.offset inside.len = omega (arith, c.min-start.ensures) in
     let n : c.min-n.result ≡ min c.args.most (inside.len - c.min-start.result) = omega (arith, c.min-n.ensures) in
@@ -24,7 +24,7 @@ returns c =
 pub returns-in-Some : goal.returns-in-Some
 returns-in-Some c =
     let inside = c.self.inside in
-    let block : ℕ → List ℕ = block_now inside.blocks inside.first inside.fresh.items in
+    let block : ℕ → List ℕ = block_now inside.blocks inside.pending.first inside.pending.fresh in
     let from : ℕ = c.min-start.result in
     let start : c.min-start.result ≡ min c.args.offset inside.len = omega (arith, c.min-start.ensures) in
     let n : c.min-n.result ≡ min c.args.most (inside.len - c.min-start.result) = omega (arith, c.min-n.ensures) in

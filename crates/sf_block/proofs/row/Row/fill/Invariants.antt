@@ -8,4 +8,4 @@ invariant-loop-self l = record {
 }
 
 abbrev pub decreases-loop-self : goal.decreases-loop-self
-decreases-loop-self l = 8 - length l.self-inside.list.items
+decreases-loop-self l = l.count - length l.self-inside.list.items
