@@ -1,38 +1,32 @@
 //! What a core is made of, and what each event does to it.
 
-ghost use Rattle.std.specs.Prelude.{◌≡◌, ◌<◌, ◌≤◌, ◌+◌, ◌-◌, ◌^◌, ◌↔◌, ◌&&◌, [], ◌∷◌, ℕ, not, nat_eq, true, false, length, Some, None, is_none, is_some, IsTrue, IsSome, IfOk, OnOk, OnErr, IfSome, IfNone};
-ghost use Rattle.std.specs.Option.{option_and_then, option_copied};
-ghost use Rattle.sf_call.specs.Requests.{target_of};
-ghost use Rattle.std.specs.Vec.{vec_capacity};
+ghost use Rattle.std.specs.Prelude.{◌≡◌, ◌<◌, ◌≤◌, ◌+◌, ◌-◌, ◌^◌, ◌↔◌, [], ◌∷◌, ℕ, true, false, length, Some, None, IsTrue, IsSome, IfOk, OnOk, OnErr, IfSome, IfNone};
+ghost use Rattle.std.specs.Option.{option_and_then};
 ghost use Rattle.sf_call.specs.declared.call.Call.{Call};
-ghost use Rattle.sf_call.specs.Tree.{after_front};
-ghost use Rattle.sf_call.specs.Unanswered.{at_stage};
 ghost use Rattle.sf_inode.specs.Stores.{is_directory_at};
-ghost use Rattle.sf_call.specs.declared.call.Stage.TheVariants as stage;
-ghost use Rattle.sf_inode.specs.Stores.{blocks_left_at};
 ghost use Rattle.sf_inode.specs.Leaves.{AreLeaves};
-ghost use Rattle.sf_walk.specs.Files.{IsSettled, file_handle};
+ghost use Rattle.sf_walk.specs.Files.{IsSettled};
 ghost use Rattle.sf_walk.specs.Ways.{IsLocated};
 ghost use Rattle.sf_walk.specs.Routes.{HoldsWay, route_of, route_in};
 ghost use Rattle.sf_walk.specs.Steps.{Advances, walker};
 ghost use Rattle.sf_core.specs.Cores.{call_at, session_at};
 ghost use Rattle.sf_core.specs.Sound.{IsCore};
-ghost use Rattle.sf_core.specs.Progress.{waiting_reply, has_passed, is_at_once, has_walked, is_write, overtaken, undecided_in, copy_of, old_at, did};
+ghost use Rattle.sf_core.specs.Progress.{is_at_once, is_write, copy_of, did};
 ghost use Rattle.sf_core.specs.declared.parts.WalkOutcome.TheVariants as outcome;
 ghost use Rattle.sf_core.specs.Parts.{PartsView};
-ghost use Rattle.sf_core.specs.Finishing.{AreOnPaths, IsReadyToHelp, IsSettledWhereFree, KeepsRequests, write_finished};
-ghost use Rattle.sf_core.specs.Writing.{CopiedOn, CopiesNow, CopiesOne, EndsCopying, HasBegunWrite, IsCopyingOn, IsReadyToWrite, WritesOn, block_copied, file_held};
-ghost use Rattle.sf_core.specs.Stepping.{IsNewParts, SameButRoom, JoinState, BeginState, FinishState, FetchState, gone, Overtakes, Helps, HelpsAll, LeaveState, AtOnceState, IsUnderWay, IsWalked, WalkState, come_to, is_move, stage_after, freed, set_back, all_set_back, ending};
+ghost use Rattle.sf_core.specs.Finishing.{IsSettledWhereFree};
+ghost use Rattle.sf_core.specs.Stepping.{IsNewParts, SameButRoom, JoinState, BeginState, FinishState, FetchState, LeaveState, AtOnceState, IsUnderWay, IsWalked, WalkState, come_to, stage_after, ending};
+
+mod helping;
+mod writing;
 
 use crate::sessions::Sessions;
 use sf_book::Book;
 use sf_call::{Call, Calls, Leaf, Record, Request, Stage};
 use sf_inode::Store;
-use sf_path::Path;
 use sf_reply::Reply;
 use sf_walk::{
-    Copying, Located, Route, Walk, Ways, Writer, advance, decide, file_holder, holder_by, is_move,
-    left_to_copy, let_go, locate_all, route_of, start, writer_to_finish,
+    Located, Route, Walk, Ways, advance, decide, file_holder, holder_by, let_go, route_of,
 };
 use std::alloc::{AllocError, Global};
 use std::marker::Model;
@@ -311,252 +305,6 @@ impl Parts {
         Some(reply)
     }
 
-    /// The first step of a WRITE. It is decided where nothing is left to be copied then; else its
-    /// record is written, its reply waits, and it holds its file.
-    pub(crate) fn write(&mut self, number: u64) -> Option<Reply>
-        requires there { IsSome (call_at self.old.calls number) }
-        requires write { (c : Call) → call_at self.old.calls number ≡ Some c
-            → IsReadyToWrite self.old c number }
-        requires room { 0 < self.old.book.room }
-        ensures decided { IfSome result (λ given. (c : Call)
-            → call_at self.old.calls number ≡ Some c
-            → FinishState self.old self.new c number given
-            × CopiesOne self.old.store c given) }
-        ensures begun { IfNone result ((c : Call) → call_at self.old.calls number ≡ Some c
-            → HasBegunWrite self.old self.new c number) }
-    {
-        let Some(call) = self.calls.get(number) else {
-            unreachable!();
-        };
-        let (reply, copy) = start(&mut self.store, call);
-        match left_to_copy(&self.store, call) {
-            None => Some(self.answer(number, reply, copy)),
-            Some(into) => {
-                self.hold_file(number, reply, copy, into);
-                None
-            }
-        }
-    }
-
-    /// A call goes, and its record is written.
-    fn answer(&mut self, number: u64, reply: Reply, copy: Reply) -> Reply
-        requires there { IsSome (call_at self.old.calls number) }
-        requires room { 0 < self.old.book.room }
-        ensures copy { result ≡ copy }
-        ensures state { (c : Call) → call_at self.old.calls number ≡ Some c
-            → self.new ≡ gone self.old c number reply }
-    {
-        let Some(call) = self.calls.remove(number) else {
-            unreachable!();
-        };
-        self.sessions.set(call.as_call().session, None);
-        self.book.put(call.into_record(reply));
-        copy
-    }
-
-    /// A WRITE holds its file: its record is written, and its reply waits.
-    fn hold_file(&mut self, number: u64, reply: Reply, copy: Reply, into: Copying)
-        requires { 0 < self.old.book.room }
-        ensures { (c : Call) → call_at self.old.calls number ≡ Some c
-            → c.copy ≡ Some c.request → self.new ≡ file_held self.old c number reply copy into }
-    {
-        let Some(call) = self.calls.get(number) else {
-            return;
-        };
-        let (session, moment) = (call.session, call.moment);
-        let Some(request) = self.calls.set_reply(number, copy) else {
-            return;
-        };
-        self.calls.set_stage(
-            number,
-            Stage::Copies {
-                node: into.node,
-                left: into.left,
-            },
-        );
-        self.store.hold(into.node, number);
-        self.book.put(Record::Did {
-            number,
-            session,
-            moment,
-            request,
-            reply,
-        });
-    }
-
-    /// Copies one block of a WRITE, and tells how many are left: with none left it holds its file
-    /// no more. It needs no memory.
-    pub(crate) fn copy(&mut self, number: u64) -> usize
-        requires { IsCopyingOn self.old number }
-        ensures { (node : ℕ) (left : ℕ) → CopiesNow self.old number node left
-            → (result + 1 ≡ left) × (self.new ≡ block_copied self.old number node result) }
-    {
-        let Some(call) = self.calls.get(number) else {
-            return 0;
-        };
-        let Stage::Copies { node, left } = call.stage else {
-            return 0;
-        };
-        self.store.copy_block(node);
-        if left <= 1 {
-            self.store.free(node);
-            self.calls.set_stage(number, Stage::Fresh);
-            return 0;
-        }
-        let left = left - 1;
-        self.calls.set_stage(number, Stage::Copies { node, left });
-        left
-    }
-
-    /// Steps of a WRITE that copies, so many at most: the one that copies the last block fetches
-    /// its reply.
-    pub(crate) fn copy_on(&mut self, session: u64, number: u64, most: u64) -> Option<Reply>
-        requires { IsCopyingOn self.old number }
-        ensures some { IfSome result (λ given. EndsCopying self.old self.new session number most
-            given) }
-        ensures none { IfNone result (CopiedOn most self.old number self.new) }
-    {
-        for _ in 0..most {
-            if self.copy(number) == 0 {
-                return self.fetch(session, number);
-            }
-        }
-        None
-    }
-
-    /// The first step of a WRITE, and as many more as may be made: its reply, where it is answered.
-    pub(crate) fn write_on(&mut self, session: u64, number: u64, most: u64) -> Option<Reply>
-        requires there { IsSome (call_at self.old.calls number) }
-        requires write { (c : Call) → call_at self.old.calls number ≡ Some c
-            → IsReadyToWrite self.old c number }
-        requires room { 0 < self.old.book.room }
-        requires some { 0 < most }
-        ensures { (c : Call) → call_at self.old.calls number ≡ Some c
-            → WritesOn self.old self.new c session number most result }
-    {
-        match self.write(number) {
-            Some(reply) => Some(reply),
-            None => self.copy_on(session, number, most - 1),
-        }
-    }
-
-    /// Copies what is left of a WRITE: it holds its file no more. It needs no memory.
-    fn finish_write(&mut self, writer: Writer)
-        ensures { self.new ≡ write_finished self.old writer.number writer.node }
-    {
-        self.store.copy_rest(writer.node);
-        self.store.free(writer.node);
-        self.calls.set_stage(writer.number, Stage::Fresh);
-    }
-
-    /// Before a call is decided that moves a path: all calls that it overtakes are set back, and
-    /// then carried out whole, by rising number. Their sessions fetch the replies.
-    pub(crate) fn overtake(&mut self, number: u64, ways: Ways, numbers: &mut Vec<u64>)
-        requires core { IsCore self.old }
-        requires located { (c : Call) → call_at self.old.calls number ≡ Some c
-            → IsLocated self.old.store c.request ways }
-        requires room { undecided_in self.old.calls ≤ self.old.book.room }
-        requires places { undecided_in self.old.calls ≤ vec_capacity numbers.old }
-        ensures helped { (c : Call) → call_at self.old.calls number ≡ Some c → c.number ≡ number
-            → Overtakes self.old self.new c }
-        ensures places { vec_capacity numbers.old ≤ vec_capacity numbers.new }
-    {
-        if let Located::NoWay = ways.new {
-            return;
-        }
-        let Some(call) = self.calls.get(number) else {
-            return;
-        };
-        let Some(old) = old_path(&call.request) else {
-            return;
-        };
-        if !is_move(&self.store, call, ways) {
-            return;
-        }
-        overtaken(&self.calls, number, old, numbers);
-        self.set_back_all(numbers);
-        self.help_all(numbers);
-    }
-
-    fn set_back_all(&mut self, numbers: &[u64])
-        ensures { self.new ≡ all_set_back self.old numbers.now }
-    {
-        for number in numbers {
-            self.set_back(*number);
-        }
-    }
-
-    /// The call of a number frees what it holds, and stands nowhere.
-    fn set_back(&mut self, number: u64)
-        ensures { self.new ≡ set_back self.old number }
-    {
-        let Some(call) = self.calls.get(number) else {
-            return;
-        };
-        let stage = call.stage;
-        let_go(&mut self.store, stage, Stage::Fresh);
-        self.calls.set_stage(number, Stage::Fresh);
-    }
-
-    fn help_all(&mut self, numbers: &[u64])
-        requires room { length numbers.now ≤ self.old.book.room }
-        requires settled { IsSettledWhereFree self.old.store }
-        requires paths { AreOnPaths self.old numbers.now }
-        ensures { HelpsAll self.old numbers.now self.new }
-    {
-        for number in numbers {
-            self.help(*number);
-        }
-    }
-
-    /// Carries a call out whole, for its session to fetch: writes its record, for which the copy of
-    /// the request is there, and lets the reply wait.
-    fn help(&mut self, overtaken: u64)
-        requires room { 0 < self.old.book.room }
-        requires settled { IsSettledWhereFree self.old.store }
-        requires path { (c : Call) → call_at self.old.calls overtaken ≡ Some c
-            → file_handle c.request ≡ None }
-        ensures helps { Helps self.old self.new overtaken }
-        ensures room { self.old.book.room ≤ self.new.book.room + 1 }
-        ensures settled { IsSettledWhereFree self.new.store }
-        ensures requests { KeepsRequests self.old self.new }
-    {
-        let ways = self.ways_to(overtaken);
-        let Some(call) = self.calls.get(overtaken) else {
-            return;
-        };
-        let (number, session, moment) = (call.number, call.session, call.moment);
-        let (reply, waiting) = decide(&mut self.store, call, ways);
-        let Some(request) = self.calls.set_reply(overtaken, waiting) else {
-            return;
-        };
-        self.book.put(Record::Did {
-            number,
-            session,
-            moment,
-            request,
-            reply,
-        });
-    }
-
-    /// Where the paths of a call lead. Where it cuts a file or fills it up that another call holds,
-    /// what that one has left is copied first.
-    fn ways_to(&mut self, number: u64) -> Ways
-        requires { IsSettledWhereFree self.old.store }
-        ensures ready { (c : Call) → call_at self.old.calls number ≡ Some c
-            → IsReadyToHelp self.old self.new c result }
-        ensures none { call_at self.old.calls number ≡ None → self.new ≡ self.old }
-    {
-        let Some(call) = self.calls.get(number) else {
-            return Ways::along(Located::NoWay);
-        };
-        let ways = locate_all(&mut self.store, route_of(&call.request));
-        if let Some(writer) = writer_to_finish(&self.store, &call.request, ways.path) {
-            self.finish_write(writer);
-        }
-        ways
-    }
-
     /// Decides a call, and writes its record.
     pub(crate) fn finish(&mut self, number: u64, ways: Ways) -> Reply
         requires there { IsSome (call_at self.old.calls number) }
@@ -665,81 +413,4 @@ fn is_write(request: &Request) -> bool
     ensures { result ≡ is_write request.now }
 {
     matches!(request, Request::Write { .. })
-}
-
-/// The old path of a request on two paths, which a rename moves.
-fn old_path(request: &Request) -> Option<&Path>
-    ensures { option_copied result ≡ old_at (target_of request.now) }
-{
-    match request {
-        Request::Rename(old, _) | Request::PosixRename(old, _) | Request::Link(old, _) => Some(old),
-        _ => None,
-    }
-}
-
-/// The numbers of the undecided calls, but for one, that have passed a path.
-fn overtaken(calls: &Calls, number: u64, old: &Path, numbers: &mut Vec<u64>)
-    requires { undecided_in calls.now ≤ vec_capacity numbers.old }
-    ensures numbers { numbers.new.items ≡ overtaken calls.now number (Some old.now) }
-    ensures places { vec_capacity numbers.old ≤ vec_capacity numbers.new }
-{
-    numbers.clear();
-    'calls: for (other, call) in calls.iter() {
-        if is_overtaken(call.as_call(), *other, number, old) {
-            numbers.push_reserved(*other);
-        }
-    }
-}
-
-/// Whether a call of this number is another one, undecided, and has passed a path.
-#[tactic(auto, using(crate::proofs::Maps::reply_is))]
-fn is_overtaken(call: &Call, other: u64, number: u64, old: &Path) -> bool
-    ensures { result
-        ≡ (not (nat_eq other number) && is_none (waiting_reply call.now)
-        && has_passed call.now old.now) }
-{
-    other != number && call.reply.is_none() && has_passed(call, old)
-}
-
-/// Whether what a call has walked begins with a path.
-fn has_passed(call: &Call, front: &Path) -> bool
-    ensures { result ≡ has_passed call.now front.now }
-{
-    match route_of(&call.request) {
-        Route::NoPath => false,
-        Route::Along(path) => match call.stage {
-            Stage::Fresh => false,
-            Stage::At { walked, node: _ } => is_past(path, walked, front),
-            Stage::Ends {
-                common,
-                old: _,
-                new: _,
-            } => is_past(path, common.walked, front),
-            Stage::Copies { .. } => false,
-        },
-        Route::Between(from, to) => match call.stage {
-            Stage::Fresh => false,
-            Stage::At { walked, node: _ } => is_past(from, walked, front),
-            Stage::Ends { common, old, new } => {
-                is_past(from, common.walked, front)
-                    || is_past(from, old.walked, front)
-                    || is_past(to, new.walked, front)
-            }
-            Stage::Copies { .. } => false,
-        },
-    }
-}
-
-/// Whether so many names of a path begin with another.
-fn is_past(path: &Path, walked: usize, front: &Path) -> bool
-    ensures { result ≡ has_walked path.now walked front.now }
-{
-    front.len() <= walked && begins(path, front)
-}
-
-/// Whether a path begins with another.
-fn begins(path: &Path, front: &Path) -> bool
-    ensures { result ≡ is_some (after_front front.now path.now) }
-{
-    path.begins_with(front)
 }

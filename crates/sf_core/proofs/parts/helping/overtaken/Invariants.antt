@@ -1,7 +1,7 @@
 use Rattle.std.proofs.Common.{◌≡◌, ◌≤◌, ◌+◌, ◌++◌, Some}
 use Rattle.std.specs.Vec.{vec_len, vec_capacity}
 use Rattle.sf_core.specs.Progress.{overtaken, undecided_in}
-use Rattle.sf_core.proofs.parts.overtaken.Given as goal
+use Rattle.sf_core.proofs.parts.helping.overtaken.Given as goal
 
 abbrev pub invariant-calls : goal.invariant-calls
 invariant-calls l = record {

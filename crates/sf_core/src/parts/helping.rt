@@ -1,0 +1,210 @@
+//! A call that moves a path finishes the calls that it overtakes.
+
+ghost use Rattle.std.specs.Prelude.{◌≡◌, ◌<◌, ◌≤◌, ◌+◌, ◌-◌, ◌&&◌, not, nat_eq, false, length, Some, None, is_none, is_some};
+ghost use Rattle.std.specs.Option.{option_copied};
+ghost use Rattle.sf_call.specs.Requests.{target_of};
+ghost use Rattle.std.specs.Vec.{vec_capacity};
+ghost use Rattle.sf_call.specs.declared.call.Call.{Call};
+ghost use Rattle.sf_call.specs.Tree.{after_front};
+ghost use Rattle.sf_walk.specs.Files.{file_handle};
+ghost use Rattle.sf_walk.specs.Ways.{IsLocated};
+ghost use Rattle.sf_walk.specs.Routes.{route_of};
+ghost use Rattle.sf_core.specs.Cores.{call_at};
+ghost use Rattle.sf_core.specs.Sound.{IsCore};
+ghost use Rattle.sf_core.specs.Progress.{waiting_reply, has_passed, has_walked, overtaken, undecided_in, old_at};
+ghost use Rattle.sf_core.specs.Finishing.{AreOnPaths, IsReadyToHelp, IsSettledWhereFree, KeepsRequests};
+ghost use Rattle.sf_core.specs.Stepping.{Overtakes, Helps, HelpsAll, is_move, set_back, all_set_back};
+
+use super::Parts;
+use sf_call::{Call, Calls, Record, Request, Stage};
+use sf_path::Path;
+use sf_walk::{
+    Located, Route, Ways, decide, is_move, let_go, locate_all, route_of, writer_to_finish,
+};
+
+impl Parts {
+    /// Before a call is decided that moves a path: all calls that it overtakes are set back, and
+    /// then carried out whole, by rising number. Their sessions fetch the replies.
+    pub(crate) fn overtake(&mut self, number: u64, ways: Ways, numbers: &mut Vec<u64>)
+        requires core { IsCore self.old }
+        requires located { (c : Call) → call_at self.old.calls number ≡ Some c
+            → IsLocated self.old.store c.request ways }
+        requires room { undecided_in self.old.calls ≤ self.old.book.room }
+        requires places { undecided_in self.old.calls ≤ vec_capacity numbers.old }
+        ensures helped { (c : Call) → call_at self.old.calls number ≡ Some c → c.number ≡ number
+            → Overtakes self.old self.new c }
+        ensures places { vec_capacity numbers.old ≤ vec_capacity numbers.new }
+    {
+        if let Located::NoWay = ways.new {
+            return;
+        }
+        let Some(call) = self.calls.get(number) else {
+            return;
+        };
+        let Some(old) = old_path(&call.request) else {
+            return;
+        };
+        if !is_move(&self.store, call, ways) {
+            return;
+        }
+        overtaken(&self.calls, number, old, numbers);
+        self.set_back_all(numbers);
+        self.help_all(numbers);
+    }
+
+    fn set_back_all(&mut self, numbers: &[u64])
+        ensures { self.new ≡ all_set_back self.old numbers.now }
+    {
+        for number in numbers {
+            self.set_back(*number);
+        }
+    }
+
+    /// The call of a number frees what it holds, and stands nowhere.
+    fn set_back(&mut self, number: u64)
+        ensures { self.new ≡ set_back self.old number }
+    {
+        let Some(call) = self.calls.get(number) else {
+            return;
+        };
+        let stage = call.stage;
+        let_go(&mut self.store, stage, Stage::Fresh);
+        self.calls.set_stage(number, Stage::Fresh);
+    }
+
+    fn help_all(&mut self, numbers: &[u64])
+        requires room { length numbers.now ≤ self.old.book.room }
+        requires settled { IsSettledWhereFree self.old.store }
+        requires paths { AreOnPaths self.old numbers.now }
+        ensures { HelpsAll self.old numbers.now self.new }
+    {
+        for number in numbers {
+            self.help(*number);
+        }
+    }
+
+    /// Carries a call out whole, for its session to fetch: writes its record, for which the copy of
+    /// the request is there, and lets the reply wait.
+    fn help(&mut self, overtaken: u64)
+        requires room { 0 < self.old.book.room }
+        requires settled { IsSettledWhereFree self.old.store }
+        requires path { (c : Call) → call_at self.old.calls overtaken ≡ Some c
+            → file_handle c.request ≡ None }
+        ensures helps { Helps self.old self.new overtaken }
+        ensures room { self.old.book.room ≤ self.new.book.room + 1 }
+        ensures settled { IsSettledWhereFree self.new.store }
+        ensures requests { KeepsRequests self.old self.new }
+    {
+        let ways = self.ways_to(overtaken);
+        let Some(call) = self.calls.get(overtaken) else {
+            return;
+        };
+        let (number, session, moment) = (call.number, call.session, call.moment);
+        let (reply, waiting) = decide(&mut self.store, call, ways);
+        let Some(request) = self.calls.set_reply(overtaken, waiting) else {
+            return;
+        };
+        self.book.put(Record::Did {
+            number,
+            session,
+            moment,
+            request,
+            reply,
+        });
+    }
+
+    /// Where the paths of a call lead. Where it cuts a file or fills it up that another call holds,
+    /// what that one has left is copied first.
+    fn ways_to(&mut self, number: u64) -> Ways
+        requires { IsSettledWhereFree self.old.store }
+        ensures ready { (c : Call) → call_at self.old.calls number ≡ Some c
+            → IsReadyToHelp self.old self.new c result }
+        ensures none { call_at self.old.calls number ≡ None → self.new ≡ self.old }
+    {
+        let Some(call) = self.calls.get(number) else {
+            return Ways::along(Located::NoWay);
+        };
+        let ways = locate_all(&mut self.store, route_of(&call.request));
+        if let Some(writer) = writer_to_finish(&self.store, &call.request, ways.path) {
+            self.finish_write(writer);
+        }
+        ways
+    }
+}
+
+/// The old path of a request on two paths, which a rename moves.
+fn old_path(request: &Request) -> Option<&Path>
+    ensures { option_copied result ≡ old_at (target_of request.now) }
+{
+    match request {
+        Request::Rename(old, _) | Request::PosixRename(old, _) | Request::Link(old, _) => Some(old),
+        _ => None,
+    }
+}
+
+/// The numbers of the undecided calls, but for one, that have passed a path.
+fn overtaken(calls: &Calls, number: u64, old: &Path, numbers: &mut Vec<u64>)
+    requires { undecided_in calls.now ≤ vec_capacity numbers.old }
+    ensures numbers { numbers.new.items ≡ overtaken calls.now number (Some old.now) }
+    ensures places { vec_capacity numbers.old ≤ vec_capacity numbers.new }
+{
+    numbers.clear();
+    'calls: for (other, call) in calls.iter() {
+        if is_overtaken(call.as_call(), *other, number, old) {
+            numbers.push_reserved(*other);
+        }
+    }
+}
+
+/// Whether a call of this number is another one, undecided, and has passed a path.
+#[tactic(auto, using(crate::proofs::Maps::reply_is))]
+fn is_overtaken(call: &Call, other: u64, number: u64, old: &Path) -> bool
+    ensures { result
+        ≡ (not (nat_eq other number) && is_none (waiting_reply call.now)
+        && has_passed call.now old.now) }
+{
+    other != number && call.reply.is_none() && has_passed(call, old)
+}
+
+/// Whether what a call has walked begins with a path.
+fn has_passed(call: &Call, front: &Path) -> bool
+    ensures { result ≡ has_passed call.now front.now }
+{
+    match route_of(&call.request) {
+        Route::NoPath => false,
+        Route::Along(path) => match call.stage {
+            Stage::Fresh => false,
+            Stage::At { walked, node: _ } => is_past(path, walked, front),
+            Stage::Ends {
+                common,
+                old: _,
+                new: _,
+            } => is_past(path, common.walked, front),
+            Stage::Copies { .. } => false,
+        },
+        Route::Between(from, to) => match call.stage {
+            Stage::Fresh => false,
+            Stage::At { walked, node: _ } => is_past(from, walked, front),
+            Stage::Ends { common, old, new } => {
+                is_past(from, common.walked, front)
+                    || is_past(from, old.walked, front)
+                    || is_past(to, new.walked, front)
+            }
+            Stage::Copies { .. } => false,
+        },
+    }
+}
+
+/// Whether so many names of a path begin with another.
+fn is_past(path: &Path, walked: usize, front: &Path) -> bool
+    ensures { result ≡ has_walked path.now walked front.now }
+{
+    front.len() <= walked && begins(path, front)
+}
+
+/// Whether a path begins with another.
+fn begins(path: &Path, front: &Path) -> bool
+    ensures { result ≡ is_some (after_front front.now path.now) }
+{
+    path.begins_with(front)
+}
