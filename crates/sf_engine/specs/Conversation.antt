@@ -70,4 +70,5 @@ pub record IsWholeConversation (input moments output : List ℕ) (cause : Cause)
   pub talk : IsConversation input moments output
   pub none_due : talk.due ≡ Nothing
   pub all_sent : talk.unsent ≡ []
-  pub end : ((cause ≡ Closed) × IsCut talk.rest cut.More) ⊎ EndsBy (has_begun talk.bodies) talk.rest cause
+  pub end : ((cause ≡ Closed) × IsCut talk.rest cut.More)
+      ⊎ EndsBy (has_begun talk.bodies) talk.rest cause

@@ -51,7 +51,8 @@ HasMoved (stage.Copies node blocks) moves = 0 < moves
 
 -- A session whose call is under way as is told: the core has the call, and so many steps are left
 -- to it at most.
-pub record IsGoing (v : CoreView) (s : ℕ) (x : SessionView) (told : Walking) (p : SeatState) : Type 0 where
+pub record IsGoing (v : CoreView) (s : ℕ) (x : SessionView) (told : Walking)
+    (p : SeatState) : Type 0 where
   pub lane : LaneView
   pub call : Call
   pub session : lane.session ≡ s
@@ -74,7 +75,8 @@ abbrev pub reply_due : ℕ → Reply → DueReply
 reply_due id reply = record { id = id; reply = reply }
 
 -- a session whose answer waits
-pub record HasAnswer (v : CoreView) (s : ℕ) (x : SessionView) (d : DueReply) (p : SeatState) : Type 0 where
+pub record HasAnswer (v : CoreView) (s : ℕ) (x : SessionView) (d : DueReply)
+    (p : SeatState) : Type 0 where
   pub lane : LaneView
   pub answer : Answer
   pub session : lane.session ≡ s
@@ -91,7 +93,8 @@ PlaceAgrees v s x Resting p = HasNoCall v s x p
 PlaceAgrees v s x (UnderWay id number moment request moves) p =
     IsGoing v s x (walking id number moment request moves) p
 PlaceAgrees v s x (Decided id number request reply) p = HasAnswer v s x (reply_due id reply) p
-PlaceAgrees v s x (left cause) p = (p ≡ state.Left cause) × (lane_state v s ≡ Gone) × (x.ended ≢ None)
+PlaceAgrees v s x (left cause) p = (p ≡ state.Left cause) × (lane_state v s ≡ Gone)
+    × (x.ended ≢ None)
 
 pub record SeatAgrees (v : CoreView) (s : ℕ) (t : SessionState) (p : Seat) : Type 0 where
   pub unread : p.session.unread ≡ t.unread
@@ -163,7 +166,8 @@ HasRun (event ∷ events) refused e e' = (mid : EngineView) × (r : Result Happe
 -- both are the transcript of what the session was answered
 abbrev pub IsSentBy : EngineView → ℕ → List ℕ → Type 0
 IsSentBy e session output = (trace : List TraceEntry) → (fits : Fits e trace)
-    → (t : SessionState) × IsSession fits.world session t × (transcript t.answers ≡ t.sent ++ output)
+    → (t : SessionState) × IsSession fits.world session t
+    × (transcript t.answers ≡ t.sent ++ output)
 
 -- what is told of a session that waits for bytes: it rests, and no whole packet is unread
 abbrev pub WantsBytes : SessionState → Type 0
@@ -184,8 +188,10 @@ IsQuiet (left cause) = Unit {0}
 -- whether that is so of all sessions, by each trace that the engine fits
 abbrev pub IsQuietBy : EngineView → Bool → Type 0
 IsQuietBy e quiet = (trace : List TraceEntry) → (fits : Fits e trace)
-    → IsTrue quiet ↔ ((session : ℕ) (t : SessionState) → IsSession fits.world session t → IsQuiet t.phase)
+    → IsTrue quiet
+    ↔ ((session : ℕ) (t : SessionState) → IsSession fits.world session t → IsQuiet t.phase)
 
 -- by each trace that the engine fits there is no such session
 abbrev pub IsUnknownSession : EngineView → ℕ → Type 0
-IsUnknownSession e session = (trace : List TraceEntry) → (fits : Fits e trace) → IsNoSession fits.world session
+IsUnknownSession e session = (trace : List TraceEntry) → (fits : Fits e trace)
+    → IsNoSession fits.world session

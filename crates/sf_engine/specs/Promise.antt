@@ -119,7 +119,8 @@ IsHere front session = IsKnown front session × ¬ HasLeft front session
 -- the call of this number has begun, at a turn of this session at this moment
 abbrev pub HasBegun : List LogEntry → (number session moment : ℕ) → Type 0
 HasBegun front number session moment = (0 < number)
-    × (slice_get (begun_in front) (number - 1) ≡ Some (record { session = session; moment = moment }))
+    × (slice_get (begun_in front) (number - 1)
+    ≡ Some (record { session = session; moment = moment }))
 
 -- ---- one event
 
@@ -174,8 +175,8 @@ MayComeTo front (event.Sent session n) (Ok happened.Sent) = IsKnown front sessio
 MayComeTo front ev (Ok r) = ⊥
 MayComeTo front ev (Err f) = MayBeRefused front ev f
 
--- So a session leaves: a turn of it told its end, or wrote its last reply after it was closed; or it
--- is closed.
+-- So a session leaves: a turn of it told its end, or wrote its last reply after it was closed; or
+-- it is closed.
 abbrev pub Leaves : List LogEntry → ℕ → Event → Happened → Type 0
 Leaves front session (event.Turn s moment) (happened.Ended cause) = s ≡ session
 Leaves front session (event.Turn s moment) happened.Wrote = (s ≡ session) × WasClosed front session
@@ -305,12 +306,14 @@ AreTurns turn result (e ∷ next ∷ entries) = (e.event ≡ turn)
 
 -- a turn of some session at the moment 0, which was not refused
 abbrev pub IsStepAtZero : LogEntry → Type 0
-IsStepAtZero e = (session : ℕ) × (r : Happened) × (e.event ≡ event.Turn session 0) × (e.result ≡ Ok r)
+IsStepAtZero e = (session : ℕ) × (r : Happened) × (e.event ≡ event.Turn session 0)
+    × (e.result ≡ Ok r)
 
 -- no call is under way: what is due to a session has its record
 abbrev pub AreDecided : List LogEntry → Type 0
 AreDecided log = (session : ℕ) → IsKnown log session → (answered : IsAnswered log session)
-    × ((answered.due ≡ Nothing) ⊎ ((id : ℕ) × (call : RepliedCall) × (answered.due ≡ Recorded id call)))
+    × ((answered.due ≡ Nothing)
+    ⊎ ((id : ℕ) × (call : RepliedCall) × (answered.due ≡ Recorded id call)))
 
 -- Nothing is due to a session that is here, and neither a whole packet nor a wrong length is left
 -- of what it was fed.

@@ -178,7 +178,8 @@ StaysAs v x p a = (a.core ≡ v) × (a.added ≡ []) × (a.session ≡ x) × (a.
 
 -- what closing gives
 abbrev pub CloseGives : CoreView → SessionView → SeatState → NewPart → Bool → Type 0
-CloseGives v x (state.Resting lane) a goes_on = RestsOrLeaves (seated v x lane) true a × (goes_on ≡ false)
+CloseGives v x (state.Resting lane) a goes_on = RestsOrLeaves (seated v x lane) true a
+    × (goes_on ≡ false)
 CloseGives v x (state.UnderWay lane) a goes_on =
     StaysAs v x (state.UnderWay lane) a × (goes_on ≡ true)
 CloseGives v x (state.Answered lane given) a goes_on =
@@ -228,7 +229,8 @@ OpenFault v _ = ⊥
 abbrev pub MayRefuseTurn : SeatState → Type 0
 MayRefuseTurn (state.Resting lane) = Unit {0}
 MayRefuseTurn (state.UnderWay lane) = ⊥
-MayRefuseTurn (state.Answered lane a) = (id : ℕ) → reply_room < length (packet (reply_body id a.reply))
+MayRefuseTurn (state.Answered lane a) = (id : ℕ)
+    → reply_room < length (packet (reply_body id a.reply))
 MayRefuseTurn (state.Left cause) = ⊥
 
 -- a core, with a session and its place

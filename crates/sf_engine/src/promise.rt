@@ -65,8 +65,8 @@ pub trait Sftp: Drop {
             × has_log self.new (log ++ entries) };
 
     /// Turns of the sessions whose calls are under way, at the moment 0, until no call is. None is
-    /// refused. Told is the number of rounds: in each, every session whose call is under way has one
-    /// turn.
+    /// refused. Told is the number of rounds: in each, every session whose call is under way has
+    /// one turn.
     fn run_all(&mut self) -> u64
         ensures { (log : List LogEntry) → has_log self.old log → (entries : List LogEntry)
             × AllByRecursion IsStepAtZero entries × has_log self.new (log ++ entries)

@@ -245,8 +245,8 @@ impl Session {
         Ok(Next::Call(request))
     }
 
-    /// Appends the reply of the request that the session waits for: one packet. Room for a short one
-    /// was reserved.
+    /// Appends the reply of the request that the session waits for: one packet. Room for a short
+    /// one was reserved.
     #[inline(always)]
     pub fn answer(&mut self, answer: &Answer) -> Result<(), SessionFault>
         requires { IsSome self.old.waiting }
