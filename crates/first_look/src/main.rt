@@ -1,8 +1,8 @@
 //! A first look at the server, which `./unproved` builds before anything is proved: sessions at a
 //! Unix socket, on one tree, one client after the other.
 //!
-//! A session is served as `sftpd stdio` serves it, by `serve_one` of `sf_serving`. What else `sftpd`
-//! has isn't here, so that this is built in half the time.
+//! A session is served as `sftpd stdio` serves it, by `serve_one` of `sf_serving`. What else
+//! `sftpd` has isn't here, so that this is built in half the time.
 #![tactic(auto)]
 
 use sf_clock::SystemClock;

@@ -89,11 +89,13 @@ IsUnfed session bytes old why new = (new ≡ old) × ((why ≡ fault.OutOfMemory
     ⊎ ((f : EngineFault) × FeedsBy old session bytes (Err f) new × (why ≡ fault_for f)))
 
 -- Bytes were fed, and turns led to a reply; or why not.
-abbrev pub Converses : ℕ → ℕ → List ℕ → EngineView → Result (Unit {0}) TreeFault → EngineView → Type 0
+abbrev pub Converses : ℕ → ℕ → List ℕ → EngineView → Result (Unit {0}) TreeFault → EngineView
+    → Type 0
 Converses session moment bytes old (Ok done) new =
     Turned session moment bytes old (Ok happened.Wrote) new
 Converses session moment bytes old (Err why) new = IsUnfed session bytes old why new
-    ⊎ ((r : Result Happened EngineFault) × Turned session moment bytes old r new × (stuck_by r ≡ Some why))
+    ⊎ ((r : Result Happened EngineFault) × Turned session moment bytes old r new
+    × (stuck_by r ≡ Some why))
 
 -- all that a session is sent was taken
 abbrev pub IsTaken : ℕ → List ℕ → EngineView → EngineView → Type 0
@@ -109,7 +111,8 @@ MayMissReply output why = (why ≡ fault.OutOfMemory) ⊎ ((why ≡ fault.Reply)
 -- There is no such session, or the engine refused that bytes were sent.
 abbrev pub IsUntaken : ℕ → EngineView → TreeFault → EngineView → Type 0
 IsUntaken session old why new = (HasNoSession old session × (why ≡ fault.Reply))
-    ⊎ ((n : ℕ) × (f : EngineFault) × EventLeads old (event.Sent session n) (Err f) new × (why ≡ fault_for f))
+    ⊎ ((n : ℕ) × (f : EngineFault) × EventLeads old (event.Sent session n) (Err f) new
+    × (why ≡ fault_for f))
 
 -- One reply, which is all that the session is sent, was taken; or nothing changed, and why.
 abbrev pub Gets : ℕ → EngineView → Result Reply TreeFault → EngineView → Type 0
@@ -122,7 +125,8 @@ Gets session old (Err why) new = (new ≡ old)
 -- session was sent.
 abbrev pub IsAnswered : ℕ → ℕ → WireRequest → EngineView → Reply → EngineView → Type 0
 IsAnswered session moment q old r new = (wrote : EngineView)
-    × Converses session moment (packet (request_body id q)) old (Ok tt) wrote × Gets session wrote (Ok r) new
+    × Converses session moment (packet (request_body id q)) old (Ok tt) wrote
+    × Gets session wrote (Ok r) new
 
 -- Strings are too long, and nothing was done.
 abbrev pub IsTooLong : WireRequest → EngineView → TreeFault → EngineView → Type 0
@@ -131,7 +135,8 @@ IsTooLong q old why new = (most_strings < strings_of q) × (why ≡ fault.Path) 
 abbrev pub IsUnanswered : ℕ → ℕ → WireRequest → EngineView → TreeFault → EngineView → Type 0
 IsUnanswered session moment q old why new = IsTooLong q old why new
     ⊎ (Converses session moment (packet (request_body id q)) old (Err why) new
-    ⊎ ((wrote : EngineView) × Converses session moment (packet (request_body id q)) old (Ok tt) wrote
+    ⊎ ((wrote : EngineView)
+    × Converses session moment (packet (request_body id q)) old (Ok tt) wrote
     × Gets session wrote (Err why) new))
 
 abbrev pub TakesAll : ℕ → EngineView → Result (Unit {0}) TreeFault → EngineView → Type 0
@@ -141,10 +146,12 @@ TakesAll session old (Err why) new = (new ≡ old) × IsUntaken session old why 
 -- INIT was fed, turns led to its answer, and all that the session was sent was taken.
 abbrev pub GreetsSession : ℕ → ℕ → EngineView → EngineView → Type 0
 GreetsSession session moment old new = (wrote : EngineView)
-    × Converses session moment (packet init_body) old (Ok tt) wrote × TakesAll session wrote (Ok tt) new
+    × Converses session moment (packet init_body) old (Ok tt) wrote
+    × TakesAll session wrote (Ok tt) new
 
 abbrev pub IsUngreeted : ℕ → ℕ → EngineView → TreeFault → EngineView → Type 0
-IsUngreeted session moment old why new = Converses session moment (packet init_body) old (Err why) new
+IsUngreeted session moment old why new =
+    Converses session moment (packet init_body) old (Err why) new
     ⊎ ((wrote : EngineView) × Converses session moment (packet init_body) old (Ok tt) wrote
     × TakesAll session wrote (Err why) new)
 

@@ -11,13 +11,17 @@ pub none_done : (a : AskerView) → Reaches a [] a
 unfolding AreDone
 none_done a = (refl, refl)
 
-done_both : (moment : ℕ) (a b c : EngineView) (first second : List Deed) → AreDone moment first a b → AreDone moment second b c
+done_both : (moment : ℕ) (a b c : EngineView) (first second : List Deed) → AreDone moment first a b
+    → AreDone moment second b c
     → AreDone moment (first ++ second) a c
 unfolding AreDone
-done_both moment a b c [] second one more = subst (λ (e : EngineView). AreDone moment second e c) one more
-done_both moment a b c (d ∷ first) second one more = (one.0, one.1, done_both moment one.0 b c first second one.2 more)
+done_both moment a b c [] second one more =
+    subst (λ (e : EngineView). AreDone moment second e c) one more
+done_both moment a b c (d ∷ first) second one more =
+    (one.0, one.1, done_both moment one.0 b c first second one.2 more)
 
-pub done_on : (a b c : AskerView) (first second : List Deed) → Reaches a first b → Reaches b second c → Reaches a (first ++ second) c
+pub done_on : (a b c : AskerView) (first second : List Deed) → Reaches a first b
+    → Reaches b second c → Reaches a (first ++ second) c
 done_on a b c first second one more = (
   more.0 ∙ one.0,
   done_both a.moment a.engine b.engine c.engine first second one.1

@@ -36,7 +36,8 @@ FeedsBy old session bytes result new =
 -- turns, the last of which came to this
 abbrev pub TurnsLead : ℕ → EngineView → Event → Result Happened EngineFault → EngineView → Type 0
 TurnsLead n old turn result new = ((log : List LogEntry) → ghosts.has_log old log
-    → (entries : List LogEntry) × AreTurns turn result entries × ghosts.has_log new (log ++ entries))
+    → (entries : List LogEntry) × AreTurns turn result entries
+    × ghosts.has_log new (log ++ entries))
     × HasTurns n old turn result new
 
 -- what waits to be sent to a session

@@ -78,7 +78,8 @@ IsFaultOf records t NotInHistory = ¬ AreKept records t
 IsFaultOf records t OutOfOrder =
     AreKept records t × ¬ IsWithin (rest records t) (call_records t.session records)
 IsFaultOf records t Missing =
-    IsWithin (rest records t) (call_records t.session records) × (rest records t ≢ call_records t.session records)
+    IsWithin (rest records t) (call_records t.session records)
+    × (rest records t ≢ call_records t.session records)
 IsFaultOf records t FoldedCount = ⊥
 
 -- the first transcript that doesn't follow the records has this fault

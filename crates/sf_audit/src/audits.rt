@@ -115,7 +115,8 @@ fn are_told(records: &[Record], session: u64, calls: &[AnsweredCall]) -> bool
     true
 }
 
-/// The calls that are left where the record comes, if it is another session's or tells of the first.
+/// The calls that are left where the record comes, if it is another session's or tells of the
+/// first.
 fn after_record<'a>(
     entry: &Record,
     session: u64,
@@ -167,7 +168,8 @@ fn past_record<'a>(entry: &Record, session: u64, calls: &'a [AnsweredCall]) -> &
 
 /// Whether the calls are among those of the session's records, in their order.
 fn are_in_order(records: &[Record], session: u64, calls: &[AnsweredCall]) -> bool
-    ensures { IsTrue result ↔ IsWithin (map call_record calls.now) (call_records session records.now) }
+    ensures { IsTrue result
+        ↔ IsWithin (map call_record calls.now) (call_records session records.now) }
 {
     let mut left = calls;
     for entry in records {
@@ -241,8 +243,8 @@ fn compare(records: &[Record], folded: u64, transcripts: &[Transcript]) -> Resul
 
 /// Compares what sessions were told with the history that a core keeps. Takes no memory.
 ///
-/// A transcript begins with calls whose records went, if any did. These are counted alone; what they say isn't
-/// compared.
+/// A transcript begins with calls whose records went, if any did. These are counted alone; what
+/// they say isn't compared.
 pub fn audit(core: &Core, transcripts: &[Transcript]) -> Result<(), AuditFault>
     ensures ok { IsOk result ↔ AgreesWith core.now.records core.now.folded transcripts.now }
     ensures fault { IfErr result

@@ -18,12 +18,14 @@ use Rattle.sf_c.specs.Numbers.{IsNumber, IsFresh, leads_on, replies_of}
 
 -- ---- an engine and its refusals go on
 
-abbrev pub GoesOn : (List Act → List Act → Type 0) → EngineView → Refusals → EngineView → Refusals → Type 0
+abbrev pub GoesOn : (List Act → List Act → Type 0) → EngineView → Refusals → EngineView → Refusals
+    → Type 0
 GoesOn AreActs old r new r' = (journal : List Act) → Have ghosts.has_log old r journal
     → (acts : List Act) × AreActs journal acts × Have ghosts.has_log new r' (journal ++ acts)
 
 -- so of those that C has
-abbrev pub InBoth : Option EngineView → Option Refusals → (EngineView → Refusals → EngineView → Refusals → Type 0)
+abbrev pub InBoth : Option EngineView → Option Refusals
+    → (EngineView → Refusals → EngineView → Refusals → Type 0)
     → Option EngineView → Option Refusals → Type 0
 InBoth before rules Leads after rules' =
     (old : EngineView) × (r : Refusals) × (new : EngineView) × (r' : Refusals)
@@ -83,8 +85,8 @@ HaveReplied (suc replies) session moment journal acts = (front : List Act) × (b
     × (acts ≡ front ++ back) × HaveReplied replies session moment journal front
     × AreTurnsOf session moment (Ok happened.Wrote) (journal ++ front) back
 
--- Turns were made, up to one that wrote no reply and led to no other, and fewer replies were written
--- before it than may be; or as many were.
+-- Turns were made, up to one that wrote no reply and led to no other, and fewer replies were
+-- written before it than may be; or as many were.
 abbrev pub TurnsTo : ℕ → ℕ → ℕ → Option (Result Happened EngineFault) → List Act → List Act → Type 0
 TurnsTo most session moment None journal acts = HaveReplied most session moment journal acts
 TurnsTo most session moment (Some result) journal acts = (replies : ℕ) × (replies < most)
@@ -93,13 +95,15 @@ TurnsTo most session moment (Some result) journal acts = (replies : ℕ) × (rep
     × AreTurnsOf session moment result (journal ++ front) back
 
 -- the turns behind a first one, which may have led to them
-abbrev pub FollowsFirst : Bool → Result Happened EngineFault → ℕ → ℕ → ℕ → Settled → List Act → List Act → Type 0
+abbrev pub FollowsFirst : Bool → Result Happened EngineFault → ℕ → ℕ → ℕ → Settled → List Act
+    → List Act → Type 0
 FollowsFirst false first most session moment settled journal acts =
     (settled ≡ record { last = Some first; moved = false }) × (acts ≡ [])
 FollowsFirst true first most session moment settled journal acts = (settled.moved ≡ true)
     × TurnsTo (most - replies_of first) session moment settled.last journal acts
 
--- A session was settled: no turn was to be made; or there was a first one, and those that it led to.
+-- A session was settled: no turn was to be made; or there was a first one, and those that it led
+-- to.
 abbrev pub AreSettled : ℕ → ℕ → ℕ → Settled → List Act → List Act → Type 0
 AreSettled zero session moment settled journal acts =
     (settled ≡ record { last = None; moved = false }) × (acts ≡ [])
@@ -124,7 +128,8 @@ Settles most session moment n moved old r new r' = (settled : Settled)
 abbrev pub WantsBytes : EngineView → Refusals → ℕ → Bool → Type 0
 WantsBytes engine r session wants = (journal : List Act) → Have ghosts.has_log engine r journal
     → IsOwn session journal → IsTrue wants ↔ (WaitsForBytes (log_of journal) session
-    × ((held : List ℕ) → came_in session journal ≡ taken_in session journal ++ held → IsCut held cut.More))
+    × ((held : List ℕ) → came_in session journal ≡ taken_in session journal ++ held
+    → IsCut held cut.More))
 
 -- what waits to be sent next to a session
 abbrev pub HasNext : EngineView → Refusals → ℕ → List ℕ → Type 0

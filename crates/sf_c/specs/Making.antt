@@ -27,11 +27,13 @@ TellsMade (Err r) n at = (n ≡ tree_fault_number r.fault)
     × (at ≡ record { length = r.place.length; kind = r.place.kind })
 
 -- Deeds led from an engine to another, and came to this.
-abbrev pub DoesIn : {R : Type 0} → ℕ → (List Deed → R → Type 0) → EngineView → R → EngineView → Type 0
+abbrev pub DoesIn : {R : Type 0} → ℕ → (List Deed → R → Type 0) → EngineView → R → EngineView
+    → Type 0
 DoesIn moment P old r new = (deeds : List Deed) × AreDone moment deeds old new × P deeds r
 
 -- so of the engines that C has, and it is told so
-abbrev pub AnswersMade : Option EngineView → ℕ → (List Deed → Result (Unit {0}) Refused → Type 0) → ℤ
+abbrev pub AnswersMade : Option EngineView → ℕ → (List Deed → Result (Unit {0}) Refused → Type 0)
+    → ℤ
     → At → Option EngineView → Type 0
 AnswersMade before moment P n at after = (old : EngineView) × (new : EngineView)
     × (r : Result (Unit {0}) Refused) × (before ≡ Some old) × (after ≡ Some new)

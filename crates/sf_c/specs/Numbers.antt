@@ -109,7 +109,8 @@ RunsAll before rounds after =
 
 -- a new engine keeps so many records, or all for 0
 abbrev pub IsFresh : ℕ → EngineView → Type 0
-IsFresh keep engine = ghosts.has_log engine [] × Fits engine [] × (keep ≡ 0 → engine.core.keep ≡ None)
+IsFresh keep engine = ghosts.has_log engine [] × Fits engine []
+    × (keep ≡ 0 → engine.core.keep ≡ None)
     × (0 < keep → engine.core.keep ≡ Some keep)
 
 -- a new engine was made, with refusals that have no journal yet; or there is none

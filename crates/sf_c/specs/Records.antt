@@ -202,6 +202,8 @@ KeepsLastRecords engine = (log : List LogEntry) → ghosts.has_log engine log
 -- how many records are kept; the one at a place was told, or there is none there, or no memory to
 -- tell it
 abbrev pub TellsRecord : EngineView → ℕ → RecordParts → List ℕ → ℤ → RecordParts → List ℕ → Type 0
-TellsRecord engine at before old n told new = ((n ≡ pos (length engine.core.records)) × TellsParts engine at old told new)
-    ⊎ (((n ≡ negsuc 0) ⊎ ((n ≡ pos (length engine.core.records)) × (slice_get engine.core.records at ≡ None)))
+TellsRecord engine at before old n told new =
+    ((n ≡ pos (length engine.core.records)) × TellsParts engine at old told new)
+    ⊎ (((n ≡ negsuc 0)
+    ⊎ ((n ≡ pos (length engine.core.records)) × (slice_get engine.core.records at ≡ None)))
     × (told ≡ before) × (new ≡ old))

@@ -71,7 +71,8 @@ rule_fault_number fault.Path = negsuc 13
 
 -- The rule was given, and has this number; or it wasn't, and the journals are as before.
 abbrev pub GivesRule : RuleParts → List ℕ → Refusals → ℤ → Refusals → Type 0
-GivesRule parts text r n r' = ((rule : Rule) × (number : ℕ) × IsRuleOf parts text rule × (n ≡ pos number)
+GivesRule parts text r n r' =
+    ((rule : Rule) × (number : ℕ) × IsRuleOf parts text rule × (n ≡ pos number)
     × ((journal : List Act) → HasJournal r journal → HasJournal r' (journal ++ Ruled rule ∷ [])
     × (since_given (journal ++ Ruled rule ∷ []) number ≡ Some (rule, []))))
     ⊎ ((why : RuleFault) × IsFaulty parts text why × (n ≡ rule_fault_number why)
@@ -87,4 +88,5 @@ abbrev pub TellsRefused : Refusals → ℕ → ℤ → Type 0
 TellsRefused r number n = ((count : ℕ) × (count < 2 ^ 63 → n ≡ pos count)
     × ((journal : List Act) → HasJournal r journal → (rule : Rule) × (since : List Act)
     × (since_given journal number ≡ Some (rule, since)) × (count ≡ refused_in number since)))
-    ⊎ ((n ≡ negsuc 14) × ((journal : List Act) → HasJournal r journal → since_given journal number ≡ None))
+    ⊎ ((n ≡ negsuc 14)
+    × ((journal : List Act) → HasJournal r journal → since_given journal number ≡ None))

@@ -30,7 +30,8 @@ TellsPath leaves at old told new = (leaf : Leaf) × (slice_get leaves at ≡ Som
 -- how many leaves there are; the one at a place was told, or there is none there, or no memory to
 -- tell it
 abbrev pub TellsLeaf : List Leaf → ℕ → LeafParts → List ℕ → ℤ → LeafParts → List ℕ → Type 0
-TellsLeaf leaves at before old n told new = ((n ≡ pos (length leaves)) × TellsPath leaves at old told new)
+TellsLeaf leaves at before old n told new =
+    ((n ≡ pos (length leaves)) × TellsPath leaves at old told new)
     ⊎ (((n ≡ negsuc 0) ⊎ ((n ≡ pos (length leaves)) × (slice_get leaves at ≡ None)))
     × (told ≡ before) × (new ≡ old))
 
@@ -54,7 +55,8 @@ IsFilled bytes n old new = new ≡ take n bytes ++ drop n old
 -- there was no memory, after some of them.
 abbrev pub ReadsBytes : List ℕ → List ℕ → ℤ → List ℕ → Type 0
 ReadsBytes bytes old n new =
-    ((count : ℕ) × (count ≡ min (length old) (length bytes)) × (n ≡ pos count) × IsFilled bytes count old new)
+    ((count : ℕ) × (count ≡ min (length old) (length bytes)) × (n ≡ pos count)
+    × IsFilled bytes count old new)
     ⊎ ((n ≡ negsuc 0) × ((count : ℕ) × IsFilled bytes count old new))
 
 abbrev pub ReadsLeaf : List Leaf → ℕ → ℕ → List ℕ → ℤ → List ℕ → Type 0

@@ -124,7 +124,8 @@ fn read_run(
 ) -> Result<usize, AllocError>
     requires more { offset < length contents.now }
     requires some { 0 < length room.old }
-    ensures ok { IfOk result (λ n. (0 < n) × (n ≤ length room.old) × (offset + n ≤ length contents.now)
+    ensures ok { IfOk result (λ n. (0 < n) × (n ≤ length room.old)
+        × (offset + n ≤ length contents.now)
         × IsFilled (drop offset contents.now) n room.old room.new) }
     ensures err { IfErr result (λ e. room.new ≡ room.old) }
 {
@@ -146,7 +147,8 @@ fn read_runs(
     requires small { length contents.now < 2 ^ 64 }
     requires fits { count ≤ length room.old }
     ensures ok { IfOk result (λ done. IsFilled (drop offset contents.now) count room.old room.new) }
-    ensures err { IfErr result (λ e. (n : ℕ) × IsFilled (drop offset contents.now) n room.old room.new) }
+    ensures err { IfErr result (λ e. (n : ℕ)
+        × IsFilled (drop offset contents.now) n room.old room.new) }
 {
     let mut done = 0;
     'runs: while done < count {

@@ -37,7 +37,8 @@ DoesCall Script v (Err fault.Failed) w = (v.failed ≡ true) × (w ≡ v)
 -- The last request ended the call by this fault; or it wasn't sent, for want of memory.
 abbrev pub EndsAtLast : WireRequest → List Exchange → ClientFault → Type 0
 EndsAtLast q last f =
-    ((last ≡ []) × (f ≡ fault.OutOfMemory)) ⊎ ((r : Reply) × (last ≡ asked q r ∷ []) × EndsCallBy r f)
+    ((last ≡ []) × (f ≡ fault.OutOfMemory))
+    ⊎ ((r : Reply) × (last ≡ asked q r ∷ []) × EndsCallBy r f)
 
 -- What is done by a handle, and then CLOSE. Where that was well, CLOSE may end the call by a fault.
 abbrev pub Closes : {X : Type 0} → (List Exchange → Result X ClientFault → Type 0) → ℕ
@@ -158,7 +159,8 @@ IsSuccess x = x.reply ≡ reply.Status Success
 abbrev pub EndsAtRefusal : List Exchange → ClientFault → Type 0
 EndsAtRefusal xs fault.Stream = ⊥
 EndsAtRefusal xs fault.Protocol = ⊥
-EndsAtRefusal xs (fault.Status code) = (before : List Exchange) × (x : Exchange) × (after : List Exchange)
+EndsAtRefusal xs (fault.Status code) = (before : List Exchange) × (x : Exchange)
+    × (after : List Exchange)
     × AllByRecursion IsSuccess before × Refuses x.reply code × (xs ≡ before ++ x ∷ after)
 EndsAtRefusal xs fault.OutOfMemory = Unit {0}
 EndsAtRefusal xs (fault.TooLarge size) = ⊥

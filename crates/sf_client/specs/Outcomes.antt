@@ -38,7 +38,8 @@ Comes told v q (Err (fault.TooLarge size)) w = ⊥
 Comes told v q (Err fault.Failed) w = (v.failed ≡ true) × (w ≡ v)
 
 -- The same of a request that was sent without memory: its one reply was taken in any case.
-abbrev pub SettlesRequest : {X : Type 0} → (X → Reply) → ClientView → WireRequest → Result X ClientFault
+abbrev pub SettlesRequest : {X : Type 0} → (X → Reply) → ClientView → WireRequest
+    → Result X ClientFault
     → ClientView → Type 0
 SettlesRequest told v q (Ok x) w = Exchanged v (asked q (told x) ∷ []) w
 SettlesRequest told v q (Err fault.Stream) w = Broke v w

@@ -121,7 +121,8 @@ request_text (request.Open path flags attrs) =
     by_path (codes "open") path ++ flags_text flags ++ attrs_text attrs
 request_text (request.Close handle) = by_handle (codes "close") handle
 request_text (request.FStat handle) = by_handle (codes "fstat") handle
-request_text (request.FSetStat handle attrs) = by_handle (codes "fsetstat") handle ++ attrs_text attrs
+request_text (request.FSetStat handle attrs) = by_handle (codes "fsetstat") handle
+    ++ attrs_text attrs
 request_text (request.Read handle offset len) =
     by_handle (codes "read") handle ++ range_text offset len
 request_text (request.Write handle offset bytes) =

@@ -78,7 +78,8 @@ attempts_told t = flat_map answer_attempts t.answers ++ phase_attempts t.phase
 
 -- The desk was asked to begin these calls, and no others, each at the moment that the clock told
 -- for it.
-abbrev pub BeginsCalls : Option (List ℕ) → Option (List ℕ) → Option (List Begin) → Option (List Begin)
+abbrev pub BeginsCalls : Option (List ℕ) → Option (List ℕ) → Option (List Begin)
+    → Option (List Begin)
     → List Attempt → Type 0
 BeginsCalls told told' begins begins' attempts =
     (more : List Begin) × Notes begins begins' more × Appends told told' (map (λ b. b.moment) more)

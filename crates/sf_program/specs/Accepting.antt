@@ -31,7 +31,8 @@ TakesThese {L = L} most stopped.Ended asked lines =
 TakesThese {L = L} most stopped.NoneLeft asked lines = (length lines < most)
     × (lines_in asked ≡ lines) × ((before : List (Option L)) × (asked ≡ before ++ nothing tries))
 
-abbrev pub TakesLines : {L : Type 0} → (most : ℕ) → Stopped → (given given' : Option (List (Option L)))
+abbrev pub TakesLines : {L : Type 0} → (most : ℕ) → Stopped
+    → (given given' : Option (List (Option L)))
     → (taken taken' : Option (List L)) → Type 0
 TakesLines {L = L} most why given given' taken taken' =
     (asked : List (Option L)) × (lines : List L) × Notes given given' asked

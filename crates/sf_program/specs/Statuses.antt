@@ -46,7 +46,8 @@ line_of (Err fault.Stranger) = codes "sftpd: stream" ++ 10 ∷ []
 line_of (Err fault.NumbersSpent) = codes "sftpd: stream" ++ 10 ∷ []
 
 -- serving a line on an engine came to this
-abbrev pub ServingComesTo : (start now : IoState) → (failed failed' : ℕ) → Result Cause ServeFault → Type 0
+abbrev pub ServingComesTo : (start now : IoState) → (failed failed' : ℕ) → Result Cause ServeFault
+    → Type 0
 ServingComesTo start now failed failed' (Ok cause) = ServesLine start now cause
 ServingComesTo start now failed failed' (Err fault) =
     StopsEarly start now fault × IsServeFault fault failed failed'

@@ -24,9 +24,9 @@ struct LogState {
     failed: bool,
 }
 
-/// Has a line for each client's session that joined or left, and for each of its calls. Those of one
-/// session stand in the order of what they tell. A line is written as a whole, by one thread at a
-/// time.
+/// Has a line for each client's session that joined or left, and for each of its calls. Those of
+/// one session stand in the order of what they tell. A line is written as a whole, by one thread at
+/// a time.
 #[derive(Drop)]
 pub struct Log<'a, T> {
     rt: &'a HostRuntime,

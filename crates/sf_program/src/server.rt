@@ -33,8 +33,8 @@ pub enum ServerFault {
     OutOfMemory,
     /// What is to be told can't be written.
     Stream,
-    /// What was told doesn't agree with the history. It does, as is proved; that it is compared is a
-    /// check of what was built.
+    /// What was told doesn't agree with the history. It does, as is proved; that it is compared is
+    /// a check of what was built.
     Audit,
 }
 
@@ -207,10 +207,10 @@ fn serve_to_end<T: Threads + Wait + Sync, G: StepObserver + Sync>(
     Ok(serve_on_core(threads, alloc, core, &lines, clocks, observer, keeps)?)
 }
 
-/// Serves the connections to a listener, or without one to that at the socket's path, which it makes
-/// once the tree is made; and writes what they came to where it was asked for a number of sessions.
-/// The session that makes the tree counts for none of them; its calls are among the calls. The
-/// observer is told of all sessions, and of their calls.
+/// Serves the connections to a listener, or without one to that at the socket's path, which it
+/// makes once the tree is made; and writes what they came to where it was asked for a number of
+/// sessions. The session that makes the tree counts for none of them; its calls are among the
+/// calls. The observer is told of all sessions, and of their calls.
 pub fn serve_on<T: Threads + Wait + Sync, G: StepObserver + Sync, W: Write>(
     rt: &HostRuntime,
     threads: &T,

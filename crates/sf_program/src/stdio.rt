@@ -49,8 +49,8 @@ pub fn run_stdio<L: Line, C: Clock, G: CallObserver, E: Line>(
     status(outcome)
 }
 
-/// Serves one session over a line, on an engine that has served others, as `run_stdio` does on a new
-/// one.
+/// Serves one session over a line, on an engine that has served others, as `run_stdio` does on a
+/// new one.
 pub fn run_stdio_on<L: Line, C: Clock, G: CallObserver, E: Line>(
     alloc: Global,
     engine: &mut Engine,

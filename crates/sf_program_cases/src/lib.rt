@@ -2,8 +2,8 @@
 //!
 //! `pool.rt` compares what sessions at desks were told with the history, right and wrong;
 //! `pool/serving.rt` serves them over lines, `pool/serving/failing.rt` over lines that fail. In
-//! `workers.rt` threads serve lines that a channel gives, on one core: two tests hold a call half way
-//! by an observer. In `program.rt` are the statuses and the clock, the client's commands, what
+//! `workers.rt` threads serve lines that a channel gives, on one core: two tests hold a call half
+//! way by an observer. In `program.rt` are the statuses and the clock, the client's commands, what
 //! `connect` carries, and a server at a socket.
 #![tactic(auto)]
 

@@ -18,11 +18,11 @@ pub record Packet : Type 0 where
   pub body : List ℕ
   pub asked : Asked
 
--- What happens. A rule is given; bytes come for a session; so many bytes of what it is sent are gone.
--- The engine makes an event; or it made one apart from all this. A packet is passed on, by an event
--- of the engine. Or it is refused: the rule with this number refuses the request under this id, and
--- by an event the engine is told that all that it had for the session was sent, since it waits here
--- now, before the status.
+-- What happens. A rule is given; bytes come for a session; so many bytes of what it is sent are
+-- gone. The engine makes an event; or it made one apart from all this. A packet is passed on, by an
+-- event of the engine. Or it is refused: the rule with this number refuses the request under this
+-- id, and by an event the engine is told that all that it had for the session was sent, since it
+-- waits here now, before the status.
 pub data Act : Type 0 where
   Ruled : (rule : Rule) → Act
   Came : (session : ℕ) → (bytes : List ℕ) → Act

@@ -47,9 +47,10 @@ pub record MayPass (front : List Act) (p : Packet) (e : LogEntry) : Type 0 where
   pub fed : IsFed p.session (packet p.body) e
   pub passes : (number : ℕ) → refuses front number p ≡ false
 
--- A request is refused: it isn't what its session begins with, all that came before it was answered,
--- and this rule is the first one that refuses it.
-pub record MayRefuse (front : List Act) (p : Packet) (id number : ℕ) (code : StatusCode) (e : LogEntry) : Type 0 where
+-- A request is refused: it isn't what its session begins with, all that came before it was
+-- answered, and this rule is the first one that refuses it.
+pub record MayRefuse (front : List Act) (p : Packet) (id number : ℕ) (code : StatusCode)
+    (e : LogEntry) : Type 0 where
   pub request : WireRequest
   pub asked : p.asked ≡ Request id request
   pub is_body : IsBody p.body
@@ -103,7 +104,8 @@ pub record IsServed (journal : List Act) (session : ℕ) (held output : List ℕ
   pub waits : sent_in session journal ≡ gone ++ output ++ unsent
 
 -- So it is, if its bytes come and go here alone.
-pub record Serves (journal : List Act) (session : ℕ) (held output : List ℕ) (begun : Bool) : Type 0 where
+pub record Serves (journal : List Act) (session : ℕ) (held output : List ℕ)
+    (begun : Bool) : Type 0 where
   pub begun_is : begun ≡ nat_lt 0 (length (taken_in session journal))
   pub served : IsOwn session journal → IsServed journal session held output
 
@@ -115,7 +117,8 @@ pub record IsGiven (journal : List Act) (number : ℕ) (given : GivenRule) : Typ
   pub since : List Act
   pub is : since_given journal number ≡ Some (given.rule, since)
   pub passed : given.passed ≡ min given.rule.pass (counted number given.rule since)
-  pub refused : given.refused ≡ min given.rule.refuse (counted number given.rule since - given.rule.pass)
+  pub refused : given.refused
+      ≡ min given.rule.refuse (counted number given.rule since - given.rule.pass)
   pub told : given.refused ≡ refused_in number since
 
 -- so it is with each rule
@@ -174,7 +177,8 @@ MovesOn journal session (Err f) acts =
 
 -- What a turn of a session was: a refusal; or the engine's turns, after a packet was passed on; or
 -- nothing, since there was no memory to take a packet.
-abbrev pub IsTurn : List Act → ℕ → (List LogEntry → Type 0) → Result Happened EngineFault → List Act → Type 0
+abbrev pub IsTurn : List Act → ℕ → (List LogEntry → Type 0) → Result Happened EngineFault → List Act
+    → Type 0
 IsTurn journal session AreMade r acts = ((r ≡ Ok happened.Wrote) × IsRefusal session acts)
     ⊎ (((passed : List Act) × (entries : List LogEntry) × PassesOn journal session passed
     × AreMade entries × (acts ≡ passed ++ map Did entries))
@@ -188,8 +192,8 @@ pub record IsNextOutput (journal : List Act) (session : ℕ) (output : List ℕ)
   pub waits : sent_in session journal ≡ gone ++ output ++ later
   pub last : output ≡ [] → later ≡ []
 
--- Why bytes for a session are refused: as the engine refuses to be fed; but memory may be wanting for
--- any session that there is.
+-- Why bytes for a session are refused: as the engine refuses to be fed; but memory may be wanting
+-- for any session that there is.
 abbrev pub MayRefuseFeed : List LogEntry → ℕ → EngineFault → Type 0
 MayRefuseFeed log session fault.OutOfMemory = IsKnown log session
 MayRefuseFeed log session fault.NoSuchSession = ¬ IsKnown log session

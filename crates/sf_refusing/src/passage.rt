@@ -54,7 +54,8 @@ impl Passage {
         ensures fed { OnOk result ((fed : Vec ℕ) → fed.items ≡ take len self.old.held.items
             → (log : List LogEntry) → E.has_log engine.old log
             → (happened : Happened) × (added : List Record) × (wrote : List Response)
-            × E.has_log engine.new (log ++ log_entry (event.Feed session fed) (Ok happened) added wrote ∷ [])) }
+            × E.has_log engine.new (log
+            ++ log_entry (event.Feed session fed) (Ok happened) added wrote ∷ [])) }
         ensures err { OnErr result ((self.new ≡ self.old) × (engine.new ≡ engine.old)) }
         ensures fault { IfErr result (λ fault. (fed : Vec ℕ)
             → fed.items ≡ take len self.old.held.items

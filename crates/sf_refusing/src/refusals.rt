@@ -84,7 +84,8 @@ impl Refusals {
     /// Makes passages, up to that of a session.
     fn passage_of(&mut self, session: u64) -> Result<usize, AllocError>
         requires { 0 < session }
-        ensures at { IfOk result (λ at. (at + 1 ≡ session) × (at < length self.new.passages.items)) }
+        ensures at { IfOk result (λ at. (at + 1 ≡ session)
+            × (at < length self.new.passages.items)) }
         ensures has { (journal : List Act) → HasJournal self.old journal
             → HasJournal self.new journal }
     {
@@ -94,8 +95,8 @@ impl Refusals {
         Ok((session - 1) as usize)
     }
 
-    /// Bytes come for a session. What is told is as the engine's event `Feed` tells; a packet that is
-    /// whole is looked at when its turn comes. Refused, it changes nothing.
+    /// Bytes come for a session. What is told is as the engine's event `Feed` tells; a packet that
+    /// is whole is looked at when its turn comes. Refused, it changes nothing.
     pub fn feed<E: Sftp>(
         &mut self,
         engine: &mut E,
@@ -131,8 +132,8 @@ impl Refusals {
         Ok(fed)
     }
 
-    /// Where a session waits for bytes, what is held for it goes on. Whether a request was refused is
-    /// told. For who knows more of an engine's turns than `turn` and `turns` tell.
+    /// Where a session waits for bytes, what is held for it goes on. Whether a request was refused
+    /// is told. For who knows more of an engine's turns than `turn` and `turns` tell.
     pub fn move_on<E: Sftp>(&mut self, engine: &mut E, session: u64) -> Result<bool, EngineFault>
         ensures { (journal : List Act) → Have E.has_log engine.old self.old journal
             → (acts : List Act) × MovesOn journal session result acts

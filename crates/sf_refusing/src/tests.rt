@@ -159,8 +159,8 @@ fn puts_init(rt: &impl Abort, out: &mut BytesMut) {
     assert!(rt; out.extend_from_slice(&init_packet()).is_ok());
 }
 
-/// INIT and two STATs of the root, under the ids 0 and 1, and before the STAT with the number `at` a
-/// request of this kind, under the id 9.
+/// INIT and two STATs of the root, under the ids 0 and 1, and before the STAT with the number `at`
+/// a request of this kind, under the id 9.
 fn batch(rt: &impl Abort, alloc: Global, kind: Option<RequestKind>, at: u32) -> BytesMut {
     let mut out = BytesMut::new(alloc);
     puts_init(rt, &mut out);

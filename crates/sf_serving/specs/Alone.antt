@@ -73,7 +73,8 @@ HadMemoryAt (Refused id request fault) = fault ≢ core.OutOfMemory
 -- Memory was never wanting: no record tells it, and no call was refused for it. An event that was
 -- refused for it changed nothing.
 abbrev pub HadMemoryThroughout : List TraceEntry → SessionState → Type 0
-HadMemoryThroughout trace t = AllByRecursion HadMemoryFor (order trace) × AllByRecursion HadMemoryAt t.answers
+HadMemoryThroughout trace t = AllByRecursion HadMemoryFor (order trace)
+    × AllByRecursion HadMemoryAt t.answers
 
 -- all entries are of session 1
 abbrev pub IsAlone : List TraceEntry → Type 0
@@ -97,7 +98,8 @@ supply input moments = record { input = input; moments = moments }
 
 -- Of the input so much was fed that the session has left for this cause: all of it where the
 -- session was closed. Its calls began at these moments.
-pub record EndsAlone (trace : List TraceEntry) (w : World) (t : SessionState) (s : Supply) (cause : Cause) : Type 0 where
+pub record EndsAlone (trace : List TraceEntry) (w : World) (t : SessionState) (s : Supply)
+    (cause : Cause) : Type 0 where
   pub tells : TellsAlone trace w t
   pub begun : moments_begun trace ≡ s.moments
   pub whole : IsWhole t cause
@@ -106,7 +108,8 @@ pub record EndsAlone (trace : List TraceEntry) (w : World) (t : SessionState) (s
 
 -- A new engine served a line whose bytes are this input, and nothing else, until the session left
 -- for this cause. Its calls began at these moments, and memory was never wanting for them.
-pub record ServesAlone (start now : IoState) (s : Supply) (cause : Cause) (p : Progress) : Type 0 where
+pub record ServesAlone (start now : IoState) (s : Supply) (cause : Cause)
+    (p : Progress) : Type 0 where
   pub fits : Fits start.engine []
   pub session : ℕ
   pub tells : IsTold (since_at start [] fits) session now.engine now.told p.told

@@ -11,11 +11,13 @@ use Rattle.sf_engine.specs.Worlds.{ask_behind, Gone, SessionState}
 use Rattle.sf_engine.specs.Traces.{has_begun}
 use Rattle.sf_engine.specs.Laws.{AreAsked}
 
--- The end of what was read: less than a packet is left, or what is left begins with a wrong length or an ending packet.
+-- The end of what was read: less than a packet is left, or what is left begins with a wrong length
+-- or an ending packet.
 abbrev pub IsEnd : Bool → List ℕ → Cause → Type 0
 IsEnd begun rest cause = ((cause ≡ Closed) × IsCut rest cut.More) ⊎ EndsBy begun rest cause
 
--- The session has left for this cause. Its stream is packets, each answered as it asks for, and a rest that is the end.
+-- The session has left for this cause. Its stream is packets, each answered as it asks for, and a
+-- rest that is the end.
 pub record IsWhole (t : SessionState) (cause : Cause) : Type 0 where
   pub left : t.phase ≡ Gone cause
   pub rest : List ℕ

@@ -95,7 +95,8 @@ pub record Since : Type 0 where
   pub fits : Fits engine trace
   pub told : Option (List ℕ)
 
-abbrev pub since : (engine : EngineView) (trace : List TraceEntry) → Fits engine trace → Option (List ℕ)
+abbrev pub since : (engine : EngineView) (trace : List TraceEntry) → Fits engine trace
+    → Option (List ℕ)
     → Since
 since engine trace fits told =
     record { engine = engine; trace = trace; fits = fits; told = told }

@@ -23,8 +23,8 @@ pub record Passes (start now : TalkView) (read moments written : List ℕ) : Typ
   pub was_told : Appends start.told now.told moments
   pub was_written : Appends start.outgoing now.outgoing written
 
--- Serving came to its end, and all that passed is a whole conversation, which goes to the end of the
--- input where nothing else ended it; or it stopped, and what passed is a conversation.
+-- Serving came to its end, and all that passed is a whole conversation, which goes to the end of
+-- the input where nothing else ended it; or it stopped, and what passed is a conversation.
 abbrev pub ConversesTo : TalkView → TalkView → Result Cause ServeFault → Type 0
 ConversesTo start now (Ok cause) = (read moments written : List ℕ)
     × Passes start now read moments written × IsWholeConversation read moments written cause

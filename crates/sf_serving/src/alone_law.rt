@@ -10,16 +10,19 @@ ghost use Rattle.sf_serving.specs.Serving.{Progress};
 ghost use Rattle.sf_serving.specs.OnEngine.{IoState, IsTold, since_at, ServesLine};
 ghost use Rattle.sf_serving.specs.Alone.{answers_alone, moments_begun, HadMemoryThroughout, TellsAlone, EndsAlone, ServesAlone, supply};
 
-/// For one session alone, without want of memory, two served sessions of the same input and moments have
-/// equal output. One tree answers its calls, one after the other, however its bytes came in pieces and however
-/// its turns fell. So neither what it asked for, nor what it was answered, nor why it left, nor what was
-/// written depends on these. A line that is served by a new engine is such a session.
+/// For one session alone, without want of memory, two served sessions of the same input and moments
+/// have equal output. One tree answers its calls, one after the other, however its bytes came in
+/// pieces and however its turns fell. So neither what it asked for, nor what it was answered, nor
+/// why it left, nor what was written depends on these. A line that is served by a new engine is
+/// such a session.
 pub fn one_session_alone()
-    ensures answers { (trace : List TraceEntry) (w : World) (t : SessionState) → TellsAlone trace w t
+    ensures answers { (trace : List TraceEntry) (w : World) (t : SessionState)
+        → TellsAlone trace w t
         → t.answers ≡ answers_alone (moments_begun trace) (map ask_behind t.answers) }
     ensures whole { (input moments : List ℕ) → AreBytes input
         → (trace trace' : List TraceEntry) (w w' : World) (t t' : SessionState) (cause cause' : Cause)
-        → EndsAlone trace w t (supply input moments) cause → EndsAlone trace' w' t' (supply input moments) cause'
+        → EndsAlone trace w t (supply input moments) cause
+        → EndsAlone trace' w' t' (supply input moments) cause'
         → (t.bodies ≡ t'.bodies) × (t.answers ≡ t'.answers) × (cause ≡ cause') }
     ensures output { (input moments : List ℕ) → AreBytes input
         → (trace trace' : List TraceEntry) (e e' : EngineView) (fits : Fits e trace)

@@ -76,7 +76,8 @@ pub trait Host<P> {
     /// What waits to be sent.
     fn output<'a>(&'a self, place: &'a P) -> &'a [u8]
         ensures { (start : Start) (told : Option (List ℕ)) (t : SessionState)
-            → serves start self.now place.now told t → transcript t.answers ≡ t.sent ++ result.now };
+            → serves start self.now place.now told t
+            → transcript t.answers ≡ t.sent ++ result.now };
 
     /// All that waits was sent.
     fn sent(&mut self, place: &mut P)
@@ -93,7 +94,8 @@ pub trait Host<P> {
         requires { sound self.old place.old }
         ensures left { OnOk result (left self.new place.new None) }
         ensures ended { (start : Start) (told : Option (List ℕ)) (t : SessionState)
-            → serves start self.old place.old told t → serves start self.new place.new told (ended t) }
+            → serves start self.old place.old told t
+            → serves start self.new place.new told (ended t) }
         ensures fault { IfErr result (λ fault. (fault ≡ Stranger) × strange self.new place.new
             × left self.new place.new (Some fault)) }
         ensures work { work self.new place.new ≡ work self.old place.old }

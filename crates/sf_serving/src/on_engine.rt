@@ -148,8 +148,8 @@ fn last_call(records: &[Record], session: u64) -> Option<ObservedCall<'_>> {
     None
 }
 
-/// Tells the observer of the session's last call, unless that has this number, and so it was told of
-/// it. Gives the number of the last one that it was told of.
+/// Tells the observer of the session's last call, unless that has this number, and so it was told
+/// of it. Gives the number of the last one that it was told of.
 fn tell_call<G: CallObserver>(observer: &G, engine: &Engine, session: u64, told: u64) -> u64 {
     if !observer.hears_calls() {
         return told;

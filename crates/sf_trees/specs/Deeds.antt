@@ -66,7 +66,8 @@ ContinuesWith Q (Err why) deeds result = (deeds ≡ []) × (result ≡ Err why)
 
 -- one thing after another, unless the first one is refused
 pub record Then {A : Type 0} {R : Type 0} {E : Type 0} (P : List Deed → Result A E → Type 0)
-    (Q : A → List Deed → Result R E → Type 0) (deeds : List Deed) (result : Result R E) : Type 0 where
+    (Q : A → List Deed → Result R E → Type 0) (deeds : List Deed)
+    (result : Result R E) : Type 0 where
   pub first : List Deed
   pub second : List Deed
   pub came : Result A E

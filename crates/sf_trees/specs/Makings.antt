@@ -26,7 +26,8 @@ goes_on_by whole None = whole
 -- Whether the byte at this place is the last one of a name, before a slash or, if the last name
 -- counts, at the end.
 abbrev pub ends_name : Bool → List ℕ → ℕ → Bool
-ends_name whole path at = is_of_name (slice_get path at) && goes_on_by whole (slice_get path (at + 1))
+ends_name whole path at = is_of_name (slice_get path at)
+    && goes_on_by whole (slice_get path (at + 1))
 
 -- the kind of an object is the permissions' upper bits
 abbrev pub is_directory_mode : Option ℕ → Bool
@@ -96,7 +97,8 @@ WritesPiece session handle place contents n deeds result =
     (done_by place) deeds result
 
 -- So many pieces of these contents are written, in order.
-unfoldable pub WritesTo : ℕ → ℕ → Place → List ℕ → ℕ → List Deed → Result (Unit {0}) Refused → Type 0
+unfoldable pub WritesTo : ℕ → ℕ → Place → List ℕ → ℕ → List Deed → Result (Unit {0}) Refused
+    → Type 0
 WritesTo session handle place contents zero deeds result = IsNothing deeds result
 WritesTo session handle place contents (suc n) deeds result =
     Then (WritesTo session handle place contents n)

@@ -157,7 +157,8 @@ fn client_words<'a>(alloc: Global) -> Result<Command<'a>, AllocError> {
         .value_name("COMMAND")
         .required(true)
         .help(
-            "stat, list, get, put, mkdir, rmdir or remove with one path; rename, posix-rename or hardlink with two",
+            "stat, list, get, put, mkdir, rmdir or remove with one path; rename, posix-rename or \
+            hardlink with two",
         );
     let paths = Arg::new(alloc, "paths")
         .value_name("PATHS")

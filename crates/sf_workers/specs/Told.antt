@@ -38,8 +38,8 @@ IsSpentBy fault.NumbersSpent steps p =
     (most_counted ≤ length p.told.stream) ⊎ (most_counted ≤ steps)
 IsSpentBy _ steps p = Unit {0}
 
--- Why serving ended: it came to the session's end, whose whole transcript was written; or it stopped
--- for this fault, and what was answered was written, unless the line failed.
+-- Why serving ended: it came to the session's end, whose whole transcript was written; or it
+-- stopped for this fault, and what was answered was written, unless the line failed.
 abbrev pub EndsServing : Result Unit ServeFault → (incoming : Option (List ℕ))
     → (failed failed' steps : ℕ) → Progress → Type 0
 EndsServing (Ok _) incoming failed failed' steps p = (cause : Cause) × IsServed incoming cause p

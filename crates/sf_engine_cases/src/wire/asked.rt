@@ -78,12 +78,18 @@ fn open(rt: HostRuntime) {
     let alloc = rt.alloc();
     let sent = "00000013 03 00000001 00000002 2f66 0000000b 00000000";
     let want =
-        "Request(1, Open { filename: ByteStr { bytes: [47, 102] }, flags: OpenFlags { read: true, write: true, append: false, create: true, truncate: false, exclusive: false }, attrs: Attrs { size: None, owner: None, permissions: None, times: None } })";
+        "Request(1, Open { filename: ByteStr { bytes: [47, 102] }, flags: OpenFlags { read: true, \
+        write: true, append: false, create: true, truncate: false, exclusive: false }, attrs: \
+        Attrs { size: None, owner: None, permissions: None, times: None } })";
     asks(&rt, alloc, sent, 19, want, "BadFields(1)");
     let fields =
-        "00000001 61 0000007f 8000000f 0000000000000000 00000000 00000000 000041ed 00000064 00000064 00000001 00000001 6b 00000001 76";
+        "00000001 61 0000007f 8000000f 0000000000000000 00000000 00000000 000041ed 00000064 \
+        00000064 00000001 00000001 6b 00000001 76";
     let want =
-        "Open { filename: ByteStr { bytes: [97] }, flags: OpenFlags { read: true, write: true, append: true, create: true, truncate: true, exclusive: true }, attrs: Attrs { size: Some(0), owner: Some(Owner { uid: 0, gid: 0 }), permissions: Some(16877), times: Some(Times { atime: 100, mtime: 100 }) } }";
+        "Open { filename: ByteStr { bytes: [97] }, flags: OpenFlags { read: true, write: true, \
+        append: true, create: true, truncate: true, exclusive: true }, attrs: Attrs { size: \
+        Some(0), owner: Some(Owner { uid: 0, gid: 0 }), permissions: Some(16877), times: \
+        Some(Times { atime: 100, mtime: 100 }) } }";
     is_asked(&rt, alloc, 3, fields, want);
 }
 
@@ -99,14 +105,16 @@ fn read_and_write(rt: HostRuntime) {
     let alloc = rt.alloc();
     let sent = "0000001d 05 00000003 00000008 0000000000000001 0000000000000000 0003fc01";
     let want =
-        "Request(3, Read { handle: ByteStr { bytes: [0, 0, 0, 0, 0, 0, 0, 1] }, offset: 0, len: 261121 })";
+        "Request(3, Read { handle: ByteStr { bytes: [0, 0, 0, 0, 0, 0, 0, 1] }, offset: 0, len: \
+        261121 })";
     asks(&rt, alloc, sent, 29, want, "BadFields(3)");
     let fields = "00000001 02 0102030405060708 0a0b0c0d";
     let want = "Read { handle: ByteStr { bytes: [2] }, offset: 72623859790382856, len: 168496141 }";
     is_asked(&rt, alloc, 5, fields, want);
     let sent = "0000001e 06 00000002 00000008 0000000000000001 0000000000000005 00000001 78";
     let want =
-        "Request(2, Write { handle: ByteStr { bytes: [0, 0, 0, 0, 0, 0, 0, 1] }, offset: 5, data: ByteStr { bytes: [120] } })";
+        "Request(2, Write { handle: ByteStr { bytes: [0, 0, 0, 0, 0, 0, 0, 1] }, offset: 5, data: \
+        ByteStr { bytes: [120] } })";
     asks(&rt, alloc, sent, 30, want, "BadFields(2)");
 }
 
@@ -136,15 +144,22 @@ fn one_string(rt: HostRuntime) {
 fn attributes(rt: HostRuntime) {
     let alloc = rt.alloc();
     let fields =
-        "00000001 61 8000001f 0102030405060708 00000009 0000000a 000081a4 0000000b 0000000c 00000001 00000001 6b 00000001 76";
+        "00000001 61 8000001f 0102030405060708 00000009 0000000a 000081a4 0000000b 0000000c \
+        00000001 00000001 6b 00000001 76";
     let want =
-        "SetStat { path: ByteStr { bytes: [97] }, attrs: Attrs { size: Some(72623859790382856), owner: Some(Owner { uid: 9, gid: 10 }), permissions: Some(33188), times: Some(Times { atime: 11, mtime: 12 }) } }";
+        "SetStat { path: ByteStr { bytes: [97] }, attrs: Attrs { size: Some(72623859790382856), \
+        owner: Some(Owner { uid: 9, gid: 10 }), permissions: Some(33188), times: Some(Times { \
+        atime: 11, mtime: 12 }) } }";
     is_asked(&rt, alloc, 9, fields, want);
     let want =
-        "FSetStat { handle: ByteStr { bytes: [97] }, attrs: Attrs { size: Some(72623859790382856), owner: Some(Owner { uid: 9, gid: 10 }), permissions: Some(33188), times: Some(Times { atime: 11, mtime: 12 }) } }";
+        "FSetStat { handle: ByteStr { bytes: [97] }, attrs: Attrs { size: Some(72623859790382856), \
+        owner: Some(Owner { uid: 9, gid: 10 }), permissions: Some(33188), times: Some(Times { \
+        atime: 11, mtime: 12 }) } }";
     is_asked(&rt, alloc, 10, fields, want);
     let want =
-        "Mkdir { path: ByteStr { bytes: [97] }, attrs: Attrs { size: Some(72623859790382856), owner: Some(Owner { uid: 9, gid: 10 }), permissions: Some(33188), times: Some(Times { atime: 11, mtime: 12 }) } }";
+        "Mkdir { path: ByteStr { bytes: [97] }, attrs: Attrs { size: Some(72623859790382856), \
+        owner: Some(Owner { uid: 9, gid: 10 }), permissions: Some(33188), times: Some(Times { \
+        atime: 11, mtime: 12 }) } }";
     is_asked(&rt, alloc, 14, fields, want);
 }
 
@@ -165,7 +180,8 @@ fn renames(rt: HostRuntime) {
 fn links(rt: HostRuntime) {
     let alloc = rt.alloc();
     let sent =
-        "00000029 c8 00000004 00000014 686172646c696e6b406f70656e7373682e636f6d 00000002 2f66 00000002 2f67";
+        "00000029 c8 00000004 00000014 686172646c696e6b406f70656e7373682e636f6d 00000002 2f66 \
+        00000002 2f67";
     let want =
         "Request(4, Link { old: ByteStr { bytes: [47, 102] }, new: ByteStr { bytes: [47, 103] } })";
     asks(&rt, alloc, sent, 41, want, "BadFields(4)");

@@ -77,7 +77,8 @@ fn write_fields(out: &mut BytesMut) -> Result<(), Fail> {
 
 /// A number, a long number, a string and attributes.
 const FIELDS: &str =
-    "01020304 0000000000000005 00000002 2f61 0000000f 0000000000000000 00000000 00000000 000041ed 00000064 00000064";
+    "01020304 0000000000000005 00000002 2f61 0000000f 0000000000000000 00000000 00000000 000041ed \
+    00000064 00000064";
 
 #[test]
 fn fields_are_written(rt: HostRuntime) -> Result<(), Fail> {
@@ -132,7 +133,8 @@ fn fields_in_taken_room(rt: HostRuntime) -> Result<(), Fail> {
     put_string(&mut out, b"/a");
     put_attrs(&mut out, &DIRECTORY);
     let want =
-        "01020304 00000002 2f61 0000000f 0000000000000000 00000000 00000000 000041ed 00000064 00000064";
+        "01020304 00000002 2f61 0000000f 0000000000000000 00000000 00000000 000041ed 00000064 \
+        00000064";
     are_hex(&rt, alloc, out.as_slice(), want);
     Ok(())
 }

@@ -43,7 +43,8 @@ fn version_reply(rt: HostRuntime) -> Result<(), Fail> {
     let mut out = BytesMut::new(alloc);
     write_version(&mut out)?;
     let want =
-        "00000043 02 00000003 00000018 706f7369782d72656e616d65406f70656e7373682e636f6d 00000001 31 00000014 686172646c696e6b406f70656e7373682e636f6d 00000001 31";
+        "00000043 02 00000003 00000018 706f7369782d72656e616d65406f70656e7373682e636f6d 00000001 \
+        31 00000014 686172646c696e6b406f70656e7373682e636f6d 00000001 31";
     are_hex(&rt, alloc, out.as_slice(), want);
     is_one_packet(&rt, out.as_slice());
     Ok(())
@@ -54,7 +55,8 @@ fn mkdir(rt: HostRuntime) {
     let alloc = rt.alloc();
     let sent = "0000000f 0e 00000007 00000002 2f61 00000000";
     let want =
-        "Request(7, Mkdir { path: ByteStr { bytes: [47, 97] }, attrs: Attrs { size: None, owner: None, permissions: None, times: None } })";
+        "Request(7, Mkdir { path: ByteStr { bytes: [47, 97] }, attrs: Attrs { size: None, owner: \
+        None, permissions: None, times: None } })";
     asks(&rt, alloc, sent, 15, want, "BadFields(7)");
     let done = Reply::Status(StatusCode::Success);
     let packet = "00000018 65 00000007 00000000 00000007 53756363657373 00000000";
@@ -71,7 +73,8 @@ fn stat(rt: HostRuntime) {
     let want = "Request(8, Stat { path: ByteStr { bytes: [47, 97] } })";
     asks(&rt, alloc, sent, 11, want, "BadFields(8)");
     let packet =
-        "00000025 69 00000008 0000000f 0000000000000000 00000000 00000000 000041ed 00000064 00000064";
+        "00000025 69 00000008 0000000f 0000000000000000 00000000 00000000 000041ed 00000064 \
+        00000064";
     is_written(&rt, alloc, 8, &Reply::Attrs(DIRECTORY), packet);
 }
 
@@ -128,7 +131,8 @@ fn pairs_are_ignored(rt: HostRuntime) {
     asks(&rt, alloc, without, 20, "BadFields(7)", "BadFields(7)");
     let with_one = "0000001b 0e 00000007 00000002 2f61 80000000 00000001 00000000 00000000";
     let want =
-        "Request(7, Mkdir { path: ByteStr { bytes: [47, 97] }, attrs: Attrs { size: None, owner: None, permissions: None, times: None } })";
+        "Request(7, Mkdir { path: ByteStr { bytes: [47, 97] }, attrs: Attrs { size: None, owner: \
+        None, permissions: None, times: None } })";
     asks(&rt, alloc, with_one, 27, want, "BadFields(7)");
 }
 
@@ -136,9 +140,12 @@ fn pairs_are_ignored(rt: HostRuntime) {
 #[test]
 fn all_attributes(rt: HostRuntime) {
     let sent =
-        "00000038 0e 00000001 00000001 61 8000001f 0000000000000000 00000000 00000000 000041ed 00000064 00000064 00000001 00000001 6b 00000001 76";
+        "00000038 0e 00000001 00000001 61 8000001f 0000000000000000 00000000 00000000 000041ed \
+        00000064 00000064 00000001 00000001 6b 00000001 76";
     let want =
-        "Request(1, Mkdir { path: ByteStr { bytes: [97] }, attrs: Attrs { size: Some(0), owner: Some(Owner { uid: 0, gid: 0 }), permissions: Some(16877), times: Some(Times { atime: 100, mtime: 100 }) } })";
+        "Request(1, Mkdir { path: ByteStr { bytes: [97] }, attrs: Attrs { size: Some(0), owner: \
+        Some(Owner { uid: 0, gid: 0 }), permissions: Some(16877), times: Some(Times { atime: 100, \
+        mtime: 100 }) } })";
     asks(&rt, rt.alloc(), sent, 56, want, "BadFields(1)");
 }
 
@@ -193,7 +200,8 @@ fn statuses(rt: HostRuntime) {
         (
             9,
             StatusCode::OpUnsupported,
-            "00000026 65 00000009 00000008 00000015 4f7065726174696f6e20756e737570706f72746564 00000000",
+            "00000026 65 00000009 00000008 00000015 4f7065726174696f6e20756e737570706f72746564 \
+            00000000",
         ),
     ] {
         longest = is_written(&rt, alloc, id, &Reply::Status(code), want).max(longest);

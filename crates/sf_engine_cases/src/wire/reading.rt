@@ -63,7 +63,8 @@ fn handles_data_and_attributes(rt: HostRuntime) {
         &rt,
         alloc,
         body,
-        "8 Attrs(Attrs { size: Some(0), owner: Some(Owner { uid: 0, gid: 0 }), permissions: Some(16877), times: Some(Times { atime: 100, mtime: 101 }) })",
+        "8 Attrs(Attrs { size: Some(0), owner: Some(Owner { uid: 0, gid: 0 }), permissions: \
+        Some(16877), times: Some(Times { atime: 100, mtime: 101 }) })",
     );
 }
 
@@ -106,8 +107,8 @@ fn is_version_body(rt: &impl Abort, alloc: Global, body: &str, want: bool) {
 #[test]
 fn versions(rt: HostRuntime) -> Result<(), Fail> {
     let alloc = rt.alloc();
-    let sent =
-        "02 00000003 00000018 706f7369782d72656e616d65406f70656e7373682e636f6d 00000001 31 00000014 686172646c696e6b406f70656e7373682e636f6d 00000001 31";
+    let sent = "02 00000003 00000018 706f7369782d72656e616d65406f70656e7373682e636f6d 00000001 31 \
+        00000014 686172646c696e6b406f70656e7373682e636f6d 00000001 31";
     is_version_body(&rt, alloc, sent, true);
     let early = "02 00000003 00000018 706f7369782d72656e616d65406f70656e7373682e636f6d 00000001 31";
     is_version_body(&rt, alloc, early, false);

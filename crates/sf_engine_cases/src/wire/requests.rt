@@ -70,13 +70,15 @@ fn by_two_paths(rt: HostRuntime) {
     let new = bytes("/b/");
     let request = WireRequest::PosixRename { old, new };
     let packet =
-        "0000002e c8 00000005 00000018 706f7369782d72656e616d65406f70656e7373682e636f6d 00000002 2f61 00000003 2f622f";
+        "0000002e c8 00000005 00000018 706f7369782d72656e616d65406f70656e7373682e636f6d 00000002 \
+        2f61 00000003 2f622f";
     is_written(&rt, alloc, &request, packet);
     let old = bytes("/a");
     let new = bytes("/b/");
     let request = WireRequest::Link { old, new };
     let packet =
-        "0000002a c8 00000005 00000014 686172646c696e6b406f70656e7373682e636f6d 00000002 2f61 00000003 2f622f";
+        "0000002a c8 00000005 00000014 686172646c696e6b406f70656e7373682e636f6d 00000002 2f61 \
+        00000003 2f622f";
     is_written(&rt, alloc, &request, packet);
 }
 
@@ -128,7 +130,8 @@ fn with_attributes(rt: HostRuntime) {
     let path = bytes("a");
     let request = WireRequest::SetStat { path, attrs: WHOLE };
     let packet =
-        "0000002a 09 00000005 00000001 61 0000000f 0102030405060708 00000009 0000000a 000081a4 0000000b 0000000c";
+        "0000002a 09 00000005 00000001 61 0000000f 0102030405060708 00000009 0000000a 000081a4 \
+        0000000b 0000000c";
     is_written(&rt, alloc, &request, packet);
     let handle = bytes("h");
     let request = WireRequest::FSetStat {
@@ -136,7 +139,8 @@ fn with_attributes(rt: HostRuntime) {
         attrs: WHOLE,
     };
     let packet =
-        "0000002a 0a 00000005 00000001 68 0000000f 0102030405060708 00000009 0000000a 000081a4 0000000b 0000000c";
+        "0000002a 0a 00000005 00000001 68 0000000f 0102030405060708 00000009 0000000a 000081a4 \
+        0000000b 0000000c";
     is_written(&rt, alloc, &request, packet);
     let path = bytes("a");
     let request = WireRequest::Mkdir {

@@ -86,7 +86,8 @@ fn directories_2047_deep(rt: HostRuntime) -> Result<(), Fail> {
     put_hex(
         alloc,
         &mut want,
-        "00000025 69 00000002 0000000f 0000000000000000 00000000 00000000 000041ed 00000064 00000064",
+        "00000025 69 00000002 0000000f 0000000000000000 00000000 00000000 000041ed 00000064 \
+        00000064",
     )?;
     let all = Pieces::new(usize::MAX, usize::MAX);
     is_sent(&rt, alloc, &input, all, &want, Cause::Closed)

@@ -1,4 +1,5 @@
-//! `sftpd serve`: sessions at a socket, both ends in one process, and what the server tells at its end.
+//! `sftpd serve`: sessions at a socket, both ends in one process, and what the server tells at its
+//! end.
 
 ghost use Rattle.std.specs.Prelude.{◌<◌};
 
@@ -30,7 +31,8 @@ const MKDIR_B: &str = "0000000f 0e 00000007 00000002 2f62 00000000";
 const STAT_A: &str = "0000000b 11 00000008 00000002 2f61";
 
 const VERSION: &str =
-    "00000043 02 00000003 00000018 706f7369782d72656e616d65406f70656e7373682e636f6d 00000001 31 00000014 686172646c696e6b406f70656e7373682e636f6d 00000001 31";
+    "00000043 02 00000003 00000018 706f7369782d72656e616d65406f70656e7373682e636f6d 00000001 31 \
+    00000014 686172646c696e6b406f70656e7373682e636f6d 00000001 31";
 
 /// STATUS OK, under the id 7.
 const OK: &str = "00000018 65 00000007 00000000 00000007 53756363657373 00000000";

@@ -185,8 +185,8 @@ fn a_decision_wakes(rt: HostRuntime) -> Result<(), Fail> {
     is_woken(&rt, alloc, script, (&one, &two, None), 2)
 }
 
-/// The second step of a STAT lets the root go. A MKDIR waits for the root, and is answered while the
-/// STAT is held further down.
+/// The second step of a STAT lets the root go. A MKDIR waits for the root, and is answered while
+/// the STAT is held further down.
 #[test]
 fn a_move_wakes(rt: HostRuntime) -> Result<(), Fail> {
     let alloc = rt.alloc();

@@ -18,7 +18,8 @@ const OPEN_B_F: &str = "00000015 03 00000005 00000004 2f622f66 0000000b 00000000
 
 const SIZE_B_F: &str = "00000019 09 00000009 00000004 2f622f66 00000001 0000000000001388";
 
-/// The step at which a call sleeps that waits for a file in a directory: two steps come to the file.
+/// The step at which a call sleeps that waits for a file in a directory: two steps come to the
+/// file.
 const SLEEPS: u64 = TRIES + 2;
 
 /// How long a thread sleeps after each look whether what it waits for came, in milliseconds.
@@ -42,9 +43,9 @@ enum Sign {
 }
 
 /// The WRITEs of two sessions, calls 3 and 6, are held half way. The SETSTATs of two more, calls 7
-/// and 8, wait for them: 7 for 3, and 8 for 6. 7 is held before it sleeps until 8 sleeps, so nothing
-/// happens from then on until both do. Then `waker` goes on, for which `woken` waits. The other one
-/// goes on sleeping meanwhile.
+/// and 8, wait for them: 7 for 3, and 8 for 6. 7 is held before it sleeps until 8 sleeps, so
+/// nothing happens from then on until both do. Then `waker` goes on, for which `woken` waits. The
+/// other one goes on sleeping meanwhile.
 #[derive(Drop)]
 struct TwoSleepers<'a, R> {
     rt: &'a R,
