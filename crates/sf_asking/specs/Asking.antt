@@ -75,8 +75,8 @@ stuck_by (Ok happened.Sent) = Some fault.Reply
 stuck_by (Err f) = Some (fault_for f)
 
 -- bytes were fed, and then turns of the session, at the moment, came to this
-pub record Turned (session moment : ℕ) (bytes : List ℕ) (old : EngineView) (r : Result Happened EngineFault)
-    (new : EngineView) : Type 0 where
+pub record Turned (session moment : ℕ) (bytes : List ℕ) (old : EngineView)
+    (r : Result Happened EngineFault) (new : EngineView) : Type 0 where
   pub fed : EngineView
   pub happened : Happened
   pub turns : ℕ

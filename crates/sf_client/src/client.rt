@@ -284,7 +284,8 @@ impl<L: Line + Drop> Client<L> {
     /// Closes a handle. It takes no memory to send CLOSE.
     pub(crate) fn close(&mut self, handle: u64) -> Result<(), ClientFault>
         requires { self.old.failed ≡ false }
-        ensures { SettlesRequest (λ _. Status Success) self.old (Close (be64 handle)) result self.new }
+        ensures { SettlesRequest (λ _. Status Success) self.old (Close (be64 handle))
+            result self.new }
     {
         let packet = close_packet(self.next, handle);
         match self.settle(&packet, Due::Success) {

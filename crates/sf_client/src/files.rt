@@ -396,8 +396,8 @@ impl<L: Line + Drop> Client<L> {
 
     fn get_all(&mut self, path: &[u8]) -> Result<Gathered<u8>, ClientFault>
         requires { length path.now < 2 ^ 31 }
-        ensures { DoesCall (ByHandle (request.Open path.now to_read no_attrs) ReadsAll) self.old result
-            self.new }
+        ensures { DoesCall (ByHandle (request.Open path.now to_read no_attrs) ReadsAll)
+            self.old result self.new }
     {
         let handle = match self.open_file(path, TO_READ) {
             Ok(handle) => handle,
@@ -434,7 +434,8 @@ impl<L: Line + Drop> Client<L> {
     /// Makes a file of these bytes, or empties the one that is there and writes them.
     pub fn put(&mut self, path: &[u8], bytes: &[u8]) -> Result<(), ClientFault>
         requires { length path.now < 2 ^ 31 }
-        ensures { DoesCall (ByHandle (request.Open path.now to_write no_attrs) (WritesAll bytes.now))
+        ensures { DoesCall
+            (ByHandle (request.Open path.now to_write no_attrs) (WritesAll bytes.now))
             self.old result self.new }
     {
         let handle = match self.open_file(path, TO_WRITE) {

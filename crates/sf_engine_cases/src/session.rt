@@ -33,8 +33,8 @@ const READLINK: &[u8] = b"\0\0\0\x0b\x13\0\0\0\x09\0\0\0\x02/a";
 const UNSUPPORTED: &[u8] =
     b"\0\0\0\x26\x65\0\0\0\x09\0\0\0\x08\0\0\0\x15Operation unsupported\0\0\0\0";
 
-const VERSION: &[u8] =
-    b"\0\0\0\x43\x02\0\0\0\x03\0\0\0\x18posix-rename@openssh.com\0\0\0\x011\0\0\0\x14hardlink@openssh.com\0\0\0\x011";
+const VERSION: &[u8] = b"\0\0\0\x43\x02\0\0\0\x03\0\0\0\x18posix-rename@openssh.com\0\0\0\x011\
+    \0\0\0\x14hardlink@openssh.com\0\0\0\x011";
 
 fn feeds(rt: &impl Abort, session: &mut Session, bytes: &[u8])
     ensures { session.new.waiting ≡ session.old.waiting }

@@ -28,8 +28,12 @@ sent_on a b c first second one more all =
     let p = one (front_answered first second all) in
     let q = more (rest_answered first second all) in
     record {
-      sent = subst (λ (bytes : List ℕ). Appends a.outgoing c.outgoing bytes) (sym (flat_map-append sent_by first second))
-          (Appends-trans a.outgoing b.outgoing c.outgoing (flat_map sent_by first) (flat_map sent_by second) p.sent q.sent);
-      taken = subst (λ (bytes : List ℕ). Consumes a.incoming c.incoming bytes) (sym (flat_map-append taken_by first second))
-          (Consumes-trans a.incoming b.incoming c.incoming (flat_map taken_by first) (flat_map taken_by second) p.taken q.taken);
+      sent = subst (λ (bytes : List ℕ). Appends a.outgoing c.outgoing bytes)
+          (sym (flat_map-append sent_by first second))
+          (Appends-trans a.outgoing b.outgoing c.outgoing (flat_map sent_by first)
+          (flat_map sent_by second) p.sent q.sent);
+      taken = subst (λ (bytes : List ℕ). Consumes a.incoming c.incoming bytes)
+          (sym (flat_map-append taken_by first second))
+          (Consumes-trans a.incoming b.incoming c.incoming (flat_map taken_by first)
+          (flat_map taken_by second) p.taken q.taken);
     }

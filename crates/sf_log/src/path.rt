@@ -51,7 +51,8 @@ fn write_bytes<W: fmt::Write>(f: &mut fmt::Formatter<W>, bytes: &[u8]) -> fmt::R
 
 /// A name, and the slash before it.
 fn write_name<W: fmt::Write>(f: &mut fmt::Formatter<W>, name: &[u8]) -> fmt::Result
-    ensures { WritesOnOk W.write_str_gives f.old result (flat_map escaped (slashed name.now)) f.new }
+    ensures { WritesOnOk W.write_str_gives f.old result
+        (flat_map escaped (slashed name.now)) f.new }
 {
     f.write_str("/")?;
     write_bytes(f, name)
@@ -59,7 +60,8 @@ fn write_name<W: fmt::Write>(f: &mut fmt::Formatter<W>, name: &[u8]) -> fmt::Res
 
 /// The text of a path.
 fn write_path<W: fmt::Write>(f: &mut fmt::Formatter<W>, path: &Path) -> fmt::Result
-    ensures { WritesOnOk W.write_str_gives f.old result (flat_map escaped (text_of path.now)) f.new }
+    ensures { WritesOnOk W.write_str_gives f.old result
+        (flat_map escaped (text_of path.now)) f.new }
 {
     if path.is_root() {
         return f.write_str("/");

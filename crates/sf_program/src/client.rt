@@ -76,7 +76,8 @@ fn printed<L: Line + Drop>(
     bytes: &[u8],
 ) -> Result<Vec<u8>, ClientFault>
     requires { paths_len command < 2 ^ 31 }
-    ensures { IfOk result (λ out. RunsCommand command.entry bytes.now out.items client.old client.new) }
+    ensures { IfOk result (λ out.
+        RunsCommand command.entry bytes.now out.items client.old client.new) }
 {
     match command {
         ClientCommand::Stat(path) => stat(alloc, client, path),

@@ -51,8 +51,8 @@ fn decide<E: Sftp>(
     ensures { (journal : List Act)
         → Stands E.has_log engine.old journal session passage.old rules.old.items
         → (acts : List Act) × MovesOn journal session result acts
-        × Leaves E.has_log engine.new journal session passage.new rules.new.items (journal
-        ++ acts) }
+        × Leaves E.has_log engine.new journal session passage.new rules.new.items
+        (journal ++ acts) }
 {
     let Ok(found) = subject_of(alloc, session, &passage.held.as_slice()[4..len]) else {
         return Err(EngineFault::OutOfMemory);
@@ -93,8 +93,8 @@ pub(crate) fn take_front<E: Sftp>(
     ensures { (journal : List Act)
         → Stands E.has_log engine.old journal session passage.old rules.old.items
         → (acts : List Act) × MovesOn journal session result acts
-        × Leaves E.has_log engine.new journal session passage.new rules.new.items (journal
-        ++ acts) }
+        × Leaves E.has_log engine.new journal session passage.new rules.new.items
+        (journal ++ acts) }
 {
     let len = match cut(passage.held.as_slice()) {
         Cut::More => return Ok(false),

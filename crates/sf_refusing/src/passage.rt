@@ -54,8 +54,8 @@ impl Passage {
         ensures fed { OnOk result ((fed : Vec ℕ) → fed.items ≡ take len self.old.held.items
             → (log : List LogEntry) → E.has_log engine.old log
             → (happened : Happened) × (added : List Record) × (wrote : List Response)
-            × E.has_log engine.new (log
-            ++ log_entry (event.Feed session fed) (Ok happened) added wrote ∷ [])) }
+            × E.has_log engine.new (log ++ log_entry (event.Feed session fed) (Ok happened)
+            added wrote ∷ [])) }
         ensures err { OnErr result ((self.new ≡ self.old) × (engine.new ≡ engine.old)) }
         ensures fault { IfErr result (λ fault. (fed : Vec ℕ)
             → fed.items ≡ take len self.old.held.items
@@ -79,7 +79,8 @@ impl Passage {
             → (unsent : List ℕ) × IsUnsent log session unsent
             × (self.new.output.items ≡ self.old.output.items ++ unsent)
             × ((happened : Happened) × (added : List Record) × (wrote : List Response)
-            × E.has_log engine.new (log ++ log_entry (event.Sent session (length unsent)) (Ok happened) added wrote ∷ []))) }
+            × E.has_log engine.new (log ++ log_entry (event.Sent session (length unsent))
+            (Ok happened) added wrote ∷ []))) }
         ensures err { OnErr result ((self.new.output.items ≡ self.old.output.items)
             × (engine.new ≡ engine.old)) }
         ensures fault { IfErr result (λ fault. (log : List LogEntry) → E.has_log engine.old log
@@ -119,7 +120,8 @@ impl Passage {
             × (self.new.output.items
             ≡ self.old.output.items ++ unsent ++ packet (reply_body id (Status code)))
             × ((happened : Happened) × (added : List Record) × (wrote : List Response)
-            × E.has_log engine.new (log ++ log_entry (event.Sent session (length unsent)) (Ok happened) added wrote ∷ []))) }
+            × E.has_log engine.new (log ++ log_entry (event.Sent session (length unsent))
+            (Ok happened) added wrote ∷ []))) }
         ensures err { OnErr result ((self.new.held.items ≡ self.old.held.items)
             × (self.new.output.items ≡ self.old.output.items) × (engine.new ≡ engine.old)) }
         ensures fault { IfErr result (λ fault. (log : List LogEntry) → E.has_log engine.old log

@@ -20,7 +20,8 @@ pub fn one_session_alone()
         → TellsAlone trace w t
         → t.answers ≡ answers_alone (moments_begun trace) (map ask_behind t.answers) }
     ensures whole { (input moments : List ℕ) → AreBytes input
-        → (trace trace' : List TraceEntry) (w w' : World) (t t' : SessionState) (cause cause' : Cause)
+        → (trace trace' : List TraceEntry) (w w' : World) (t t' : SessionState)
+        (cause cause' : Cause)
         → EndsAlone trace w t (supply input moments) cause
         → EndsAlone trace' w' t' (supply input moments) cause'
         → (t.bodies ≡ t'.bodies) × (t.answers ≡ t'.answers) × (cause ≡ cause') }

@@ -46,7 +46,8 @@ fn send<P, H: Host<P>, L: Line>(host: &mut H, place: &mut P, line: &mut L) -> Re
     requires { H.sound host.old place.old }
     ensures sound { H.sound host.new place.new }
     ensures sent { OnOk result ((start : H.Start) (told : Option (List ℕ))
-        → SendsAll H.held (H.serves start host.old place.old told) (H.serves start host.new place.new told)
+        → SendsAll H.held (H.serves start host.old place.old told)
+        (H.serves start host.new place.new told)
         (line_view (L.incoming line.old) (L.outgoing line.old) (L.calls line.old))
         (line_view (L.incoming line.new) (L.outgoing line.new) (L.calls line.new))) }
     ensures some { OnErr result ((start : H.Start) (told : Option (List ℕ))

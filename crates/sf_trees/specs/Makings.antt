@@ -46,7 +46,8 @@ finds_by place (Err why) = Err (refused_at place why)
 
 abbrev pub Mkdirs : ℕ → List ℕ → List Deed → Result (Unit {0}) Refused → Type 0
 Mkdirs session path deeds result =
-    IsAsked session (request.Mkdir path no_attrs) (done_by (request_place 14 (length path))) deeds result
+    IsAsked session (request.Mkdir path no_attrs) (done_by (request_place 14 (length path)))
+    deeds result
 
 -- a directory is made, unless it was found
 abbrev pub MakesUnless : ℕ → List ℕ → Bool → List Deed → Result (Unit {0}) Refused → Type 0
@@ -106,7 +107,8 @@ WritesTo session handle place contents (suc n) deeds result =
 
 abbrev pub WritesPieces : ℕ → ℕ → ℕ → List ℕ → List Deed → Result (Unit {0}) Refused → Type 0
 WritesPieces session handle len contents deeds result =
-    WritesTo session handle (request_place 6 len) contents (pieces_in (length contents)) deeds result
+    WritesTo session handle (request_place 6 len) contents (pieces_in (length contents))
+    deeds result
 
 abbrev pub ClosesHandle : ℕ → ℕ → ℕ → List Deed → Result (Unit {0}) Refused → Type 0
 ClosesHandle session handle len deeds result =
@@ -115,7 +117,8 @@ ClosesHandle session handle len deeds result =
 -- All of these contents are written, and the handle is closed.
 abbrev pub WritesContents : ℕ → ℕ → List ℕ → ℕ → List Deed → Result (Unit {0}) Refused → Type 0
 WritesContents session len contents handle deeds result =
-    Then (WritesPieces session handle len contents) (λ done. ClosesHandle session handle len) deeds result
+    Then (WritesPieces session handle len contents) (λ done. ClosesHandle session handle len)
+    deeds result
 
 -- WRITE, CREAT and TRUNC
 abbrev pub to_write : OpenFlags
@@ -130,7 +133,8 @@ to_write = record {
 
 abbrev pub OpensFile : ℕ → List ℕ → OpenFlags → ℕ → List Deed → Result ℕ Refused → Type 0
 OpensFile session path flags len deeds result =
-    IsAsked session (request.Open path flags no_attrs) (handle_by (request_place 3 len)) deeds result
+    IsAsked session (request.Open path flags no_attrs) (handle_by (request_place 3 len))
+    deeds result
 
 -- A file is opened to be written anew, written and closed.
 abbrev pub Fills : ℕ → List ℕ → List ℕ → List Deed → Result (Unit {0}) Refused → Type 0

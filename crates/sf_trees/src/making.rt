@@ -84,7 +84,8 @@ fn finds_by(place: Place, came: &Result<Reply, TreeFault>) -> Result<bool, Refus
 /// Looks for a directory at a path.
 fn finds<S: Server>(server: &mut S, session: u64, path: &[u8]) -> Result<bool, Refused>
     ensures { Does S.reaches server.old server.new
-        (IsAsked session (request.Stat path.now) (finds_by (request_place 17 (length path.now)))) result }
+        (IsAsked session (request.Stat path.now) (finds_by (request_place 17 (length path.now))))
+        result }
 {
     let length = path.len();
     let came = server.ask(
@@ -303,7 +304,8 @@ fn write_on<S: Server>(
     contents: &[u8],
 ) -> Result<(), Refused>
     requires { length contents.now < 2 ^ 63 }
-    ensures { Does S.reaches server.old server.new (WritesMore path.now contents.now session) result }
+    ensures { Does S.reaches server.old server.new
+        (WritesMore path.now contents.now session) result }
 {
     make_way(server, session, false, path)?;
     fill(server, session, path, contents)

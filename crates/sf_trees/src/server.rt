@@ -106,7 +106,8 @@ pub(crate) fn open<S: Server>(
 
 /// A session begins.
 pub(crate) fn begin<S: Server>(server: &mut S) -> Result<u64, Refused>
-    ensures ok { IfOk result (λ session. S.reaches server.old (Begins (Ok session) ∷ []) server.new) }
+    ensures ok { IfOk result (λ session.
+        S.reaches server.old (Begins (Ok session) ∷ []) server.new) }
     ensures err { IfErr result (λ r. (why : TreeFault)
         × S.reaches server.old (Begins (Err why) ∷ []) server.new
         × (r ≡ refused_at (request_place 1 0) why)) }
