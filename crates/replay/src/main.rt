@@ -1,15 +1,22 @@
 //! Replays a schedule of an engine's events, and prints what came of each:
 //!
 //! ```text
-//! open a session opens feed 1 000000050100000003 session 1 is fed these bytes turn 1 100 it takes
-//! a turn, at the moment 100 close 1 it is closed sent 1 9 9 bytes of its output are dropped run
-//! open | turn 1 100 these events, and how many of them were refused turns 1 100 turns as long as
-//! the call is on its way, and what the last came to feed_slice 1 000000050100000003 as feed,
-//! without an event run_all rounds, until no call is under way, and how many there were keep 2 a
-//! new engine, which keeps 2 records, in the place of this one state what each session was sent,
-//! and the records of all calls output 1 9 what session 1 was sent, behind the first 9 bytes wants
-//! 1 whether session 1 wants bytes look_ups how many names were looked up tree every path, with
-//! what it names
+//! open                            a session opens
+//! feed 1 000000050100000003       session 1 is fed these bytes
+//! turn 1 100                      it takes a turn, at the moment 100
+//! close 1                         it is closed
+//! sent 1 9                        9 bytes of its output are dropped
+//! run open | turn 1 100           these events, and how many of them were refused
+//! turns 1 100                     turns as long as the call is on its way, and what the last came
+//!                                 to
+//! feed_slice 1 000000050100000003 as feed, without an event
+//! run_all                         rounds, until no call is under way, and how many there were
+//! keep 2                          a new engine, which keeps 2 records, in the place of this one
+//! state                           what each session was sent, and the records of all calls
+//! output 1 9                      what session 1 was sent, behind the first 9 bytes
+//! wants 1                         whether session 1 wants bytes
+//! look_ups                        how many names were looked up
+//! tree                            every path, with what it names
 //! ```
 //!
 //! Before the engine is made it prints `read`, and `begun` when it is. An event that is refused for
