@@ -7,6 +7,7 @@ ghost use Rattle.sf_block.specs.Blocks.{run_in, block_in, block_written, bytes_f
 use crate::blocks::Blocks;
 use crate::filling::Filling;
 use crate::pending::{Next, Pending};
+use crate::queue::BlockQueue;
 use crate::runs::Runs;
 use crate::{BLOCK, MOST_KEPT, MOST_SHARED, ROW, RUN};
 use sf_field::ByteString;
@@ -266,19 +267,20 @@ fn renewed(
     blocks: &Blocks,
     offset: u64,
     bytes: &ByteString,
-) -> Result<Vec<ByteString>, AllocError>
+) -> Result<BlockQueue, AllocError>
     requires some { 0 < length bytes.now }
     requires fits { offset + length bytes.now < 2 ^ 64 }
     requires small { (k : ℕ) → length (block_in blocks.now k) ≤ 4096 }
-    ensures count { IfOk result (λ fresh. length fresh.items ≡ blocks_of offset bytes.now) }
-    ensures blocks { IfOk result (λ fresh. (j : ℕ) → j < length fresh.items
-        → slice_index_or fresh.items j []
+    ensures count { IfOk result (λ fresh. length fresh ≡ blocks_of offset bytes.now) }
+    ensures blocks { IfOk result (λ fresh. (j : ℕ) → j < length fresh
+        → slice_index_or fresh j []
         ≡ block_written (block_in blocks.now) offset bytes.now (offset / 4096 + j)) }
 {
     let end = offset + bytes.len() as u64;
     let first = offset / BLOCK;
-    let mut fresh = Vec::new(alloc);
-    for number in first..(end - 1) / BLOCK + 1 {
+    let last = (end - 1) / BLOCK;
+    let mut fresh = BlockQueue::with_capacity(alloc, (last + 1 - first) as usize)?;
+    for number in first..last + 1 {
         fresh.push(block_with(alloc, blocks, number, offset, bytes)?)?;
     }
     Ok(fresh)

@@ -15,6 +15,7 @@ mod copies;
 mod filling;
 mod laws;
 mod pending;
+mod queue;
 mod row;
 mod runs;
 mod whole;

@@ -4,10 +4,10 @@ ghost use Rattle.std.specs.Prelude.{◌≡◌, ◌+◌, ◌∷◌, ◌<◌, ◌^
 ghost use Rattle.sf_block.specs.Blocks.{unfilled, Copies, TakesNext};
 
 use crate::filling::Filling;
+use crate::queue::BlockQueue;
 use sf_field::ByteString;
 use std::alloc::{AllocError, Global};
 use std::boxed::Box;
-use std::collections::VecDeque;
 use std::marker::Model;
 
 /// What is left of a write. Few files are being written, so most of it stands behind a pointer.
@@ -56,16 +56,13 @@ impl Pending {
     pub(crate) fn of(
         alloc: Global,
         first: u64,
-        fresh: Vec<ByteString>,
+        fresh: BlockQueue,
         filling: Filling,
     ) -> Result<Pending, AllocError>
         ensures { IfOk result (λ pending. pending
-            ≡ record { first = first; fresh = fresh.items; filled = filling }) }
+            ≡ record { first = first; fresh = fresh; filled = filling }) }
     {
-        let write = Write {
-            fresh: VecDeque::from_vec(fresh),
-            filling,
-        };
+        let write = Write { fresh, filling };
         Ok(Pending {
             first,
             write: Some(Box::new(alloc, write)?),
@@ -137,8 +134,7 @@ impl Pending {
 /// The blocks that wait, and copies of the last ones that took their places.
 #[derive(Debug, Drop)]
 struct Write {
-    /// The first one goes first.
-    fresh: VecDeque<ByteString>,
+    fresh: BlockQueue,
     filling: Filling,
 }
 
@@ -147,7 +143,7 @@ impl Model for Write {
 
     ghost Value = { WaitingBlocks };
 
-    ghost view = { λ w. record { fresh = w.fresh.items; filled = w.filling } };
+    ghost view = { λ w. record { fresh = w.fresh; filled = w.filling } };
 }
 
 impl Write {
@@ -157,7 +153,7 @@ impl Write {
             ≡ record { fresh = self.now.fresh; filled = unfilled }) }
     {
         Ok(Write {
-            fresh: VecDeque::from_vec(shares(alloc, &self.fresh)?),
+            fresh: self.fresh.share(alloc)?,
             filling: Filling::new(alloc),
         })
     }
@@ -175,7 +171,7 @@ impl Write {
             × Copies self.old.filled self.new.filled number next.block next.copied) }
         ensures none { IfNone result ((self.old.fresh ≡ []) × (self.new ≡ self.old)) }
     {
-        let block = self.fresh.pop_front()?;
+        let block = self.fresh.pop()?;
         let copied = self.filling.push(number, block.as_slice());
         Some(Next {
             number,
@@ -192,15 +188,4 @@ impl Write {
     {
         self.filling.take()
     }
-}
-
-/// The same blocks, whose bytes are shared.
-fn shares(alloc: Global, blocks: &VecDeque<ByteString>) -> Result<Vec<ByteString>, AllocError>
-    ensures { IfOk result (λ copy. copy.items ≡ blocks.now.items) }
-{
-    let mut copy = Vec::with_capacity(alloc, blocks.len())?;
-    for i in 0..blocks.len() {
-        copy.push(blocks[i].share()?)?;
-    }
-    Ok(copy)
 }

@@ -6,10 +6,10 @@ use Rattle.sf_block.proofs.contents.renewed.Goals as goal
 
 pub loop-number-preserved : goal.loop-number-preserved
 loop-number-preserved c =
-    let fresh : List (List ℕ) = c.loop-number.fresh.items in
+    let fresh : List (List ℕ) = c.loop-number.fresh in
     let block : List ℕ = c.in_ok-block_with.field-0 in
-    let put : c.push.new.self.items ≡ fresh ++ block ∷ [] = c.in_ok-push.ensures.items in
-    let count : length c.push.new.self.items ≡ length fresh + 1 = ap (λ (x : List (List ℕ)). length x) put ∙ length_push fresh block in
+    let put : c.push.new.self ≡ fresh ++ block ∷ [] = c.in_ok-push.ensures.ok in
+    let count : length c.push.new.self ≡ length fresh + 1 = ap (λ (x : List (List ℕ)). length x) put ∙ length_push fresh block in
     record {
       count = omega (arith, count, c.loop-number.invariant.count);
       blocks = λ j lt. ap (λ (x : List (List ℕ)). get_or x j []) put ∙ elim (cases_lt j (length fresh)) [
