@@ -112,7 +112,8 @@ pub record Filled : Type 0 where
 abbrev pub unfilled : Filled
 unfilled = record { from = 0; bytes = [] }
 
--- the blocks of a write that wait to take their places, and copies of the last ones that took theirs
+-- the blocks of a write that wait to take their places, and copies of the last ones that took
+-- theirs
 pub record WaitingBlocks : Type 0 where
   pub fresh : List (List ℕ)
   pub filled : Filled
@@ -131,7 +132,8 @@ pub record Copies (old new : Filled) (number : ℕ) (block : List ℕ) (copied :
   pub later : 0 < length old.bytes → new.from ≡ old.from
 
 -- the first block that waits is taken out, to take its place, and perhaps it is copied
-pub record TakesNext (old new : PendingWrite) (number : ℕ) (block : List ℕ) (copied : Bool) : Type 0 where
+pub record TakesNext (old new : PendingWrite) (number : ℕ) (block : List ℕ) (copied : Bool)
+    : Type 0 where
   pub at : number ≡ old.first
   pub next : new.first ≡ old.first + 1
   pub is : old.fresh ≡ block ∷ new.fresh

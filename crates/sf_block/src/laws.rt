@@ -16,5 +16,6 @@ pub fn few_blocks()
 #[tactic(auto, using(crate::proofs::Counts::copied_all, crate::proofs::Counts::copied_rest))]
 pub fn copied_whole()
     ensures all { (file : FileBytes) → copied file.left file ≡ complete file.bytes }
-    ensures rest { (n : ℕ) (file : FileBytes) → complete (copied n file).bytes ≡ complete file.bytes }
+    ensures rest { (n : ℕ) (file : FileBytes)
+        → complete (copied n file).bytes ≡ complete file.bytes }
 {}

@@ -163,7 +163,8 @@ open_present tree session call flags Nothing = refuses NoSuchFile
 open_present tree session call flags (DirectoryAt label m) = refuses Failure
 open_present tree session call flags (FileAt label m contents) =
     if has_all_handles tree session then refuses Failure
-    else if flags.truncate && flags.write then opens call.number (new_file_handle session label flags)
+    else if flags.truncate && flags.write then
+    opens call.number (new_file_handle session label flags)
     (SetObject label (File (modified_at call.moment m) []) ∷ [])
     else opens call.number (new_file_handle session label flags) []
 

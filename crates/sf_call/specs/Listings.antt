@@ -34,7 +34,8 @@ entry_of name count object = record {
 
 abbrev pub listed_entry : Tree → Path → Option Name → Path × ℕ → Option Entry
 listed_entry tree directory last e =
-    option_and_then (λ name. option_map (entry_of name (links tree.names e.1)) (object_of tree.objects e.1))
+    option_and_then (λ name. option_map (entry_of name (links tree.names e.1))
+    (object_of tree.objects e.1))
     (name_past directory last e.0)
 
 -- the first 32 entries of a directory, in the order of their names, after the last one that was

@@ -104,7 +104,8 @@ pub fn limit_cases()
     // and by a byte that is written.
     ensures written { (moment byte : ℕ) (handle : Handle) (m : Metadata) (contents : List ℕ)
         → handle.write ≡ true → handle.append ≡ false
-        → ((write moment 1099511627775 (byte ∷ []) (OpenFile handle m contents)).reply ≡ Status Success)
+        → ((write moment 1099511627775 (byte ∷ []) (OpenFile handle m contents)).reply
+        ≡ Status Success)
         × (write moment 1099511627776 (byte ∷ []) (OpenFile handle m contents) ≡ refuses Failure) }
     // One READ gives at most 261120 bytes.
     ensures read { (len : ℕ) (handle : Handle) (m : Metadata) (contents : List ℕ)

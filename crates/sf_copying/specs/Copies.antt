@@ -22,7 +22,8 @@ pub record AreCopies (s : Copiers) : Type 0 where
   pub some : (n : ℕ) (c : Copying) → s.copying_of n ≡ Some c → 0 < c.left
   pub left : (n : ℕ) (c : Copying) → s.copying_of n ≡ Some c → s.left c.file ≡ c.left
   pub holds : (n : ℕ) (c : Copying) → s.copying_of n ≡ Some c → s.writer c.file ≡ Some n
-  pub held : (f n : ℕ) → s.writer f ≡ Some n → (c : Copying) × (s.copying_of n ≡ Some c) × (c.file ≡ f)
+  pub held : (f n : ℕ) → s.writer f ≡ Some n
+      → (c : Copying) × (s.copying_of n ≡ Some c) × (c.file ≡ f)
   pub settled : (f : ℕ) → s.writer f ≡ None → s.left f ≡ 0
 
 -- Of one call something changed, which is about one file: the others copy and hold as before.

@@ -333,7 +333,8 @@ came s w lane = record { step = s; core = w; lane = lane }
 -- so many steps, one after the other, each of which moved
 unfoldable pub TakesMoves : ℕ → CoreView → LaneView → CoreView → Type 0
 TakesMoves zero v lane w = w ≡ v
-TakesMoves (suc n) v lane w = (mid : CoreView) × TakesMoves n v lane mid × StepsOn mid lane Moved w lane
+TakesMoves (suc n) v lane w =
+    (mid : CoreView) × TakesMoves n v lane mid × StepsOn mid lane Moved w lane
 
 -- Walking on, by so many steps at most: all moved but the last, and this one too only where no more
 -- were to be made.
@@ -365,7 +366,8 @@ RefusesJoin v fault.NumbersSpent = (joined v < most_sessions) × (v.joins ≡ la
 RefusesJoin v fault.Stranger = ⊥
 
 -- the call begins, under the next number; it has walked nothing
-pub record CallBegins (v w : CoreView) (lane : LaneView) (request : Request) (moment : ℕ) : Type 0 where
+pub record CallBegins (v w : CoreView) (lane : LaneView) (request : Request) (moment : ℕ)
+    : Type 0 where
   pub idle : lane_state v lane.session ≡ Idle
   pub unspent : v.drawn < last_number
   pub own : lane_state w lane.session ≡ Busy (new_call (v.drawn + 1) lane.session moment request)
@@ -394,7 +396,8 @@ pub record AnswersAtOnce (v : CoreView) (lane : LaneView) (request : Request) (m
 abbrev pub RefusesBegin : CoreView → LaneView → CoreFault → Type 0
 RefusesBegin v lane fault.OutOfMemory = (lane_state v lane.session ≡ Idle) × (v.drawn < last_number)
 RefusesBegin v lane fault.Sessions = ⊥
-RefusesBegin v lane fault.NumbersSpent = (lane_state v lane.session ≡ Idle) × (v.drawn ≡ last_number)
+RefusesBegin v lane fault.NumbersSpent =
+    (lane_state v lane.session ≡ Idle) × (v.drawn ≡ last_number)
 RefusesBegin v lane fault.Stranger = lane_state v lane.session ≢ Idle
 
 -- the session leaves

@@ -106,17 +106,20 @@ pub record Walked (p q : PartsView) (c : Call) (number : ℕ) (step : Walk) : Ty
 abbrev pub WalkComesTo : PartsView → PartsView → ℕ → ℕ → WalkOutcome → Type 0
 WalkComesTo p q session number outcome.Foreign =
     (q ≡ p) × ((c : Call) → call_at p.calls number ≡ Some c → c.session ≡ session → ⊥)
-WalkComesTo p q session number outcome.Waits = (q ≡ p) × (c : Call) × (call_at p.calls number ≡ Some c)
-    × (c.session ≡ session) × IsSome c.reply × (c.stage ≡ stage.Fresh)
-WalkComesTo p q session number outcome.Copies = (q ≡ p) × (c : Call) × (call_at p.calls number ≡ Some c)
-    × (c.session ≡ session) × IsCopying c.stage
+WalkComesTo p q session number outcome.Waits = (q ≡ p) × (c : Call)
+    × (call_at p.calls number ≡ Some c) × (c.session ≡ session) × IsSome c.reply
+    × (c.stage ≡ stage.Fresh)
+WalkComesTo p q session number outcome.Copies = (q ≡ p) × (c : Call)
+    × (call_at p.calls number ≡ Some c) × (c.session ≡ session) × IsCopying c.stage
 WalkComesTo p q session number (outcome.FileHeld holder) = (q ≡ p) × (c : Call)
     × (call_at p.calls number ≡ Some c) × (c.session ≡ session) × (c.reply ≡ None)
     × WaitsForFile p.store c holder
-WalkComesTo p q session number outcome.Writes = (q ≡ p) × (c : Call) × (call_at p.calls number ≡ Some c)
-    × (c.session ≡ session) × (c.reply ≡ None) × IsFileFree p.store c × (is_write c.request ≡ true)
-WalkComesTo p q session number (outcome.Walked step) = (c : Call) × (call_at p.calls number ≡ Some c)
-    × (c.session ≡ session) × (c.reply ≡ None) × IsFileFree p.store c × Walked p q c number step
+WalkComesTo p q session number outcome.Writes = (q ≡ p) × (c : Call)
+    × (call_at p.calls number ≡ Some c) × (c.session ≡ session) × (c.reply ≡ None)
+    × IsFileFree p.store c × (is_write c.request ≡ true)
+WalkComesTo p q session number (outcome.Walked step) = (c : Call)
+    × (call_at p.calls number ≡ Some c) × (c.session ≡ session) × (c.reply ≡ None)
+    × IsFileFree p.store c × Walked p q c number step
 
 -- the stage after a step
 abbrev pub stage_after : Walk → Stage → Stage
@@ -248,7 +251,8 @@ pub record HelpState (p q : PartsView) (c : Call) (number : ℕ) (given : Reply)
 abbrev pub Helps : PartsView → PartsView → ℕ → Type 0
 Helps p q number = (c : Call) → call_at p.calls number ≡ Some c → c.stage ≡ stage.Fresh
     → c.copy ≡ Some c.request
-    → (mid : PartsView) × FinishesWriter p mid c × ((given : Reply) × HelpState mid q c number given)
+    → (mid : PartsView) × FinishesWriter p mid c
+    × ((given : Reply) × HelpState mid q c number given)
 
 -- so were the calls of all these numbers, one after the other
 abbrev pub HelpsAll : PartsView → List ℕ → PartsView → Type 0

@@ -128,11 +128,13 @@ pub record EndsCopying (p q : PartsView) (session number most : ℕ) (given : Re
 abbrev pub CopiesOne : StoreState → Call → Reply → Type 0
 CopiesOne s c given = (number offset : ℕ) (bytes : List ℕ) (h : OpenHandle)
     → c.request ≡ request.Write number offset bytes → open_handle_at s c.session number ≡ Some h
-    → is_nil bytes ≡ false → given ≡ reply.Status Success → blocks_of (start_by s h offset) bytes ≡ 1
+    → is_nil bytes ≡ false → given ≡ reply.Status Success
+    → blocks_of (start_by s h offset) bytes ≡ 1
 
 -- A WRITE made its first step, and as many more as it might: it was decided with the first one; or
 -- it copied on, and ended, or has more to copy.
-pub data WritesOn (p q : PartsView) (c : Call) (session number most : ℕ) : Option Reply → Type 0 where
+pub data WritesOn (p q : PartsView) (c : Call) (session number most : ℕ)
+    : Option Reply → Type 0 where
   AtOnce : (given : Reply) → FinishState p q c number given → CopiesOne p.store c given
       → WritesOn p q c session number most (Some given)
   ToTheEnd : (given : Reply) (mid : PartsView) → HasBegunWrite p mid c number

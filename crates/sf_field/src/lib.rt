@@ -3,10 +3,10 @@
 //!
 //! Start with `specs/Fields.antt` and `specs/Attributes.antt`: how a number, a string and
 //! attributes are spelled. `fields.rt` reads them from the front of bytes (`u32_at`, `bytes_at`,
-//! `attrs_of`), as
-//! `specs/Reading.antt` says; `writing.rt` writes them, by `put_..` into room that was reserved and by
-//! `write_..` where room is still to be got. That a field which is written is read again, and the other way
-//! round, are the laws of `field_laws.rt`; what crates above cite of proofs is in `proofs/Laws.antt`.
+//! `attrs_of`), as `specs/Reading.antt` says; `writing.rt` writes them, by `put_..` into room that
+//! was reserved and by `write_..` where room is still to be got. That a field which is written is
+//! read again, and the other way round, are the laws of `field_laws.rt`; what crates above cite of
+//! proofs is in `proofs/Laws.antt`.
 #![tactic(auto)]
 
 /// The most bytes of a packet's body, the project's own choice.

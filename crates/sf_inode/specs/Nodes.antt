@@ -18,8 +18,8 @@ use Rattle.sf_inode.specs.declared.node.Content.{Content}
 use Rattle.sf_inode.specs.declared.node.Content.TheVariants as content
 
 -- ---- what a node has
--- A directory's entries are the list of its names with the nodes that they lead to, in the order of the names and each once.
--- A file has none.
+-- A directory's entries are the list of its names with the nodes that they lead to, in the order
+-- of the names and each once. A file has none.
 abbrev pub entries_in : Content → List (Name × ℕ)
 entries_in (content.Directory entries) = entries
 entries_in (content.File contents) = []

@@ -39,7 +39,8 @@ holder_of nodes id = option_and_then (λ node. node.holder) (node_in nodes id)
 
 -- a session's handle of a number
 abbrev pub open_handle_at : StoreState → ℕ → ℕ → Option OpenHandle
-open_handle_at s session number = option_and_then (λ handles. lookup (is_at (nat_cmp number)) handles)
+open_handle_at s session number =
+    option_and_then (λ handles. lookup (is_at (nat_cmp number)) handles)
     (lookup (is_at (nat_cmp session)) s.sessions)
 
 abbrev pub shown_handle : ℕ → OpenHandle → Handle
@@ -234,7 +235,8 @@ closed_by s (Some h) = after_close s h.node
 -- a handle is closed, and its node goes if nothing else names it
 abbrev pub closed : StoreState → ℕ → ℕ → StoreState
 closed s session number =
-    closed_by (handle_dropped s session number (handles_of s session)) (open_handle_at s session number)
+    closed_by (handle_dropped s session number (handles_of s session))
+    (open_handle_at s session number)
 
 -- the nodes of handles are let go of
 abbrev pub each_let_go : StoreState → List (ℕ × OpenHandle) → StoreState

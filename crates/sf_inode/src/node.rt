@@ -232,7 +232,8 @@ impl Node {
     /// Copies one block of a file that is being written. It needs no memory.
     pub(crate) fn copy_block(&mut self)
         requires { 0 < blocks_left_in self.old.content }
-        ensures { self.new ≡ with_content (with_left (blocks_left_in self.old.content - 1)) self.old }
+        ensures { self.new
+            ≡ with_content (with_left (blocks_left_in self.old.content - 1)) self.old }
     {
         if let Content::File(contents) = &mut self.content {
             contents.copy_block();

@@ -571,10 +571,10 @@ impl Store {
         last: Option<&Name>,
         most: usize,
     ) -> Result<Vec<(Name, NodeId)>, AllocError>
-        ensures ok { IfOk result (λ found. found.items
-            ≡ take most (entries_past (option_copied last.entry) (node_entries self.now.nodes dir))) }
-        ensures none_left { entries_past (option_copied last.entry) (node_entries self.now.nodes dir)
-            ≡ [] → IsOk result }
+        ensures ok { IfOk result (λ found. found.items ≡ take most
+            (entries_past (option_copied last.entry) (node_entries self.now.nodes dir))) }
+        ensures none_left { entries_past (option_copied last.entry)
+            (node_entries self.now.nodes dir) ≡ [] → IsOk result }
     {
         match self.nodes.get(dir) {
             Some(it) => it.first_past(self.alloc, last, most),

@@ -16,7 +16,8 @@ allowing read write append = record { read = read; write = write; append = appen
 
 -- the session has a handle with this number, to what the path names, that allows this, and nothing
 -- is listed by it yet
-pub record IsJustOpened (tree : Tree) (session number : ℕ) (path : Path) (marks : Allowing) : Type 0 where
+pub record IsJustOpened (tree : Tree) (session number : ℕ) (path : Path) (marks : Allowing)
+    : Type 0 where
   pub handle : Handle
   pub is_open : handle_in tree session number ≡ Some handle
   pub of_session : handle.session ≡ session

@@ -46,7 +46,8 @@ pub fn stat_cases()
     ensures file { call tree_with_file (Stat (a ∷ []))
         ≡ tells_attrs tree_with_file (all_attrs 3 (by_owner 5 6) 0o100644 (at_times 100 200)) }
     ensures absent { call with_directory (Stat (b ∷ [])) ≡ refuses_by with_directory NoSuchFile }
-    ensures below_file { call tree_with_file (Stat (a ∷ b ∷ [])) ≡ refuses_by tree_with_file NoSuchFile }
+    ensures below_file { call tree_with_file (Stat (a ∷ b ∷ []))
+        ≡ refuses_by tree_with_file NoSuchFile }
 {}
 
 /// Histories.
@@ -91,7 +92,8 @@ pub fn file_cases()
 
 /// 33 files are listed while names go.
 pub fn listing_cases()
-    ensures { map names_in_reply (drop 33 (replies (map (λ k. new_file (numbered k)) (up_to_32 ++ 33 ∷ [])
+    ensures { map names_in_reply (drop 33 (replies
+        (map (λ k. new_file (numbered k)) (up_to_32 ++ 33 ∷ [])
         ++ OpenDir [] ∷ ReadDir 34 ∷ Remove (numbered 1 ∷ []) ∷ ReadDir 34
         ∷ Remove (numbered 33 ∷ []) ∷ ReadDir 34 ∷ [])))
         ≡ [] ∷ map numbered up_to_32 ∷ [] ∷ (numbered 33 ∷ []) ∷ [] ∷ [] ∷ [] }
@@ -103,7 +105,8 @@ pub fn rmdir_cases()
         ≡ record { reply = ok; tree = touched_root } }
     ensures root { call with_directory (Rmdir []) ≡ refuses_by with_directory Failure }
     ensures absent { call with_directory (Rmdir (b ∷ [])) ≡ refuses_by with_directory NoSuchFile }
-    ensures below_file { call tree_with_file (Rmdir (a ∷ b ∷ [])) ≡ refuses_by tree_with_file NoSuchFile }
+    ensures below_file { call tree_with_file (Rmdir (a ∷ b ∷ []))
+        ≡ refuses_by tree_with_file NoSuchFile }
     ensures file { call tree_with_file (Rmdir (a ∷ [])) ≡ refuses_by tree_with_file Failure }
     ensures full { replies (Mkdir (a ∷ []) no_attrs ∷ Mkdir (a ∷ b ∷ []) no_attrs ∷ Rmdir (a ∷ [])
         ∷ Rmdir (a ∷ b ∷ []) ∷ Rmdir (a ∷ []) ∷ [])
@@ -234,7 +237,8 @@ pub fn move_cases()
         ≡ reply.Handle 1 ∷ ok ∷ reply.Handle 3 ∷ ok ∷ ok ∷ reply.Data (codes "abc")
         ∷ reply.Data (codes "x") ∷ reply.Attrs (file_attrs 1) ∷ absent ∷ [] }
     // An open directory that is moved lists what it holds.
-    ensures listed { map names_in_reply (replies (Mkdir (a ∷ []) no_attrs ∷ Mkdir (a ∷ f ∷ []) no_attrs
+    ensures listed { map names_in_reply (replies (Mkdir (a ∷ []) no_attrs
+        ∷ Mkdir (a ∷ f ∷ []) no_attrs
         ∷ OpenDir (a ∷ []) ∷ Rename (a ∷ []) (b ∷ []) ∷ ReadDir 3 ∷ []))
         ≡ [] ∷ [] ∷ [] ∷ [] ∷ (f ∷ []) ∷ [] }
 {}

@@ -38,5 +38,6 @@ pub fn listed_all()
         → AllByRecursion (λ entry. (label : ℕ) × (object : Object)
         × (label_at tree.names (directory ++ entry.filename ∷ []) ≡ Some label)
         × (object_of tree.objects label ≡ Some object)
-        × (entry ≡ entry_of entry.filename (links tree.names label) object)) (listing tree last directory) }
+        × (entry ≡ entry_of entry.filename (links tree.names label) object))
+        (listing tree last directory) }
 {}

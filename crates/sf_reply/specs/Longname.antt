@@ -39,8 +39,8 @@ mode_text p =
 -- the numbers, with single spaces between them and at both ends
 abbrev pub columns_text : ℕ → Owner → ℕ → ℕ → List ℕ
 columns_text links owner size mtime =
-    spaces 1 ++ right_in 3 (decimal links) ++ spaces 1 ++ left_justified 8 (decimal owner.uid) ++ spaces 1
-    ++ left_justified 8 (decimal owner.gid)
+    spaces 1 ++ right_in 3 (decimal links) ++ spaces 1 ++ left_justified 8 (decimal owner.uid)
+    ++ spaces 1 ++ left_justified 8 (decimal owner.gid)
     ++ spaces 1 ++ right_in 8 (decimal size) ++ spaces 1 ++ right_in 12 (decimal mtime) ++ spaces 1
 
 -- Attributes of which a part is missing have no line.

@@ -255,5 +255,5 @@ pub fn is_version(body: &[u8]) -> bool
 }
 
 /// The body of VERSION: its type, version 3, and each extension with its version `1`.
-const VERSION_BODY: &[u8] =
-    b"\x02\0\0\0\x03\0\0\0\x18posix-rename@openssh.com\0\0\0\x011\0\0\0\x14hardlink@openssh.com\0\0\0\x011";
+const VERSION_BODY: &[u8] = b"\x02\0\0\0\x03\0\0\0\x18posix-rename@openssh.com\0\0\0\x011\
+    \0\0\0\x14hardlink@openssh.com\0\0\0\x011";

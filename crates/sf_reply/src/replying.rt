@@ -56,8 +56,8 @@ fn put_entry(out: &mut BytesMut, entry: &Entry)
 }
 
 /// Appends the packet VERSION whole, or nothing: version 3, with the extensions
-/// `posix-rename@openssh.com` and `hardlink@openssh.com`, each of version `1`. A buffer with the packet's
-/// room takes no memory.
+/// `posix-rename@openssh.com` and `hardlink@openssh.com`, each of version `1`. A buffer with the
+/// packet's room takes no memory.
 pub fn write_version(out: &mut BytesMut) -> Result<(), AllocError>
     ensures ok { OnOk result (out.new.items ≡ out.old.items ++ packet version_body) }
     ensures err { OnErr result (out.new.items ≡ out.old.items) }

@@ -151,7 +151,8 @@ fields_text (request.Rmdir path) = string path
 fields_text (request.RealPath path) = string path
 fields_text (request.Stat path) = string path
 fields_text (request.Rename old new) = string old ++ string new
-fields_text (request.PosixRename old new) = string posix_rename_extension ++ string old ++ string new
+fields_text (request.PosixRename old new) =
+    string posix_rename_extension ++ string old ++ string new
 fields_text (request.Link old new) = string hardlink ++ string old ++ string new
 
 -- the body of a request: its type, its id, and its fields

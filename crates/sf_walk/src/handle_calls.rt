@@ -133,7 +133,8 @@ pub(crate) fn write(
     requires { (h : OpenHandle) → open_handle_at store.old session number ≡ Some h
         → blocks_left_at store.old.nodes h.node ≡ 0 }
     ensures served { (t : Tree) → Keeps store.old t
-        → ServesOutcome store.new t (write moment offset bytes.now (opened t session number)) result }
+        → ServesOutcome store.new t (write moment offset bytes.now (opened t session number))
+        result }
     ensures sure { is_nil bytes.now ≡ true → IsOk result }
     ensures err { OnErr result (store.new ≡ store.old) }
     ensures plain { IfOk result IsPlain }
@@ -174,7 +175,8 @@ pub(crate) fn start_write(
     requires { (h : OpenHandle) → open_handle_at store.old session number ≡ Some h
         → blocks_left_at store.old.nodes h.node ≡ 0 }
     ensures served { (t : Tree) → Keeps store.old t
-        → ServesOutcome store.new t (write moment offset bytes.now (opened t session number)) result }
+        → ServesOutcome store.new t (write moment offset bytes.now (opened t session number))
+        result }
     ensures sure { is_nil bytes.now ≡ true → IsOk result }
     ensures err { OnErr result (store.new ≡ store.old) }
     ensures plain { IfOk result IsPlain }
@@ -263,7 +265,8 @@ fn start_bytes(
         → shown_of store.old.nodes node ≡ Some (label, File m contents)
         → OnOk result (Keeps store.new (changed t
         (SetObject label (File (modified_at moment m) (written contents start bytes.now))))) }
-    ensures left { OnOk result (blocks_left_at store.new.nodes node + 1 ≡ blocks_of start bytes.now) }
+    ensures left { OnOk result (blocks_left_at store.new.nodes node + 1
+        ≡ blocks_of start bytes.now) }
     ensures others { (i : ℕ) → i ≢ node → node_in store.new.nodes i ≡ node_in store.old.nodes i }
     ensures holder { holder_of store.new.nodes node ≡ holder_of store.old.nodes node }
     ensures label { node_label store.new.nodes node ≡ node_label store.old.nodes node }

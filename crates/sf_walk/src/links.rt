@@ -108,7 +108,8 @@ fn name_anew(
 ) -> Result<Reply, AllocError>
     requires { IsNamed new.now course }
     ensures served { (t : Tree) (answer : Outcome) → Keeps store.old t
-        → IsLinking store.old t moment new.now answer course → ServesOutcome store.new t answer result }
+        → IsLinking store.old t moment new.now answer course
+        → ServesOutcome store.new t answer result }
     ensures err { OnErr result (IsAlike store.old store.new) }
     ensures plain { IfOk result IsPlain }
     ensures look_ups { store.new.look_ups ≡ store.old.look_ups }

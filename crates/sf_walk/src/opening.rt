@@ -151,8 +151,8 @@ fn open_present(
     requires { (flags.truncate && flags.write) ≡ true → blocks_left_at store.old.nodes node ≡ 0 }
     ensures served { (t : Tree) (it : Node) → Keeps store.old t → IsUnused t number
         → node_in store.old.nodes node ≡ Some it
-        → ServesOutcome store.new t (open_present t session (stamp number moment) flags (found_node it))
-        result }
+        → ServesOutcome store.new t
+        (open_present t session (stamp number moment) flags (found_node it)) result }
     ensures err { OnErr result (store.new ≡ store.old) }
     ensures plain { IfOk result IsPlain }
     ensures look_ups { store.new.look_ups ≡ store.old.look_ups }
