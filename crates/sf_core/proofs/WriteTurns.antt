@@ -3,7 +3,7 @@ use Rattle.std.specs.Prelude.{◌≡◌, ◌<◌, ◌+◌, ℕ, List, [], ◌∷
 use Rattle.std.proofs.Common.{sym, ap, subst, ◌∙◌, inl, inr, arith}
 use Rattle.sf_reply.specs.declared.reply.Reply.{Reply}
 use Rattle.sf_block.specs.Contents.{blocks_of}
-use Rattle.sf_block.proofs.Counts.{blocks_few}
+use Rattle.sf_block.proofs.Laws.{blocks_few}
 use Rattle.sf_book.specs.Books.{BookView}
 use Rattle.sf_call.specs.declared.call.Call.{Call}
 use Rattle.sf_call.specs.declared.call.Stage.TheVariants as stage
