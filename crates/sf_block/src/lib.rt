@@ -9,19 +9,19 @@
 //! copied, too.
 #![tactic(auto)]
 
+mod block_laws;
 mod blocks;
 mod contents;
 mod copies;
 mod filling;
-mod laws;
 mod pending;
 mod queue;
 mod row;
 mod runs;
 mod whole;
 
+pub use block_laws::{copied_whole, few_blocks};
 pub use contents::Contents;
-pub use laws::{copied_whole, few_blocks};
 pub use whole::WholeContents;
 
 /// How many bytes a whole block has.
