@@ -15,8 +15,7 @@ use Rattle.sf_inode.specs.declared.node.Content.TheVariants as content
 use Rattle.sf_inode.specs.Nodes.{child_in, is_directory_content, is_file_content, blocks_left_in, with_content, with_left, with_holder}
 use Rattle.sf_inode.specs.Stores.{StoreState, node_in, child_of, holder_of, is_directory_at, is_file_at, left_set, edited}
 use Rattle.sf_keeps.specs.Keeps.{Keeps}
-use Rattle.sf_keeps.proofs.Laws.{keeps_held, keeps_left, edited_apart, edited_itself}
-use Rattle.sf_keeps.proofs.Copied.{left_there, left_holders}
+use Rattle.sf_keeps.proofs.Laws.{keeps_held, keeps_left, edited_apart, edited_itself, left_there, left_holders}
 use Rattle.sf_coupling.specs.Walks.{Spot, walkers_at, AreWalks}
 use Rattle.sf_coupling.proofs.Laws.{same_or_not}
 use Rattle.sf_copying.specs.Copies.{copying, AreCopies, Changes}

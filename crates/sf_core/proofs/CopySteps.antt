@@ -17,8 +17,7 @@ use Rattle.sf_inode.specs.declared.node.Content.TheVariants as content
 use Rattle.sf_inode.specs.declared.handle.OpenHandle.{OpenHandle}
 use Rattle.sf_inode.specs.Nodes.{blocks_left_in, is_file_content, with_holder}
 use Rattle.sf_inode.specs.Stores.{StoreState, node_in, open_handle_at, is_file_at, blocks_left_at}
-use Rattle.sf_keeps.proofs.Copied.{left_there}
-use Rattle.sf_keeps.proofs.Laws.{edited_itself}
+use Rattle.sf_keeps.proofs.Laws.{edited_itself, left_there}
 use Rattle.sf_coupling.proofs.Laws.{same_or_not}
 use Rattle.sf_walk.specs.declared.files.Copying.{Copying}
 use Rattle.sf_walk.specs.declared.finding.Located.TheVariants.{NoWay}

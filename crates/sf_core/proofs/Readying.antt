@@ -7,8 +7,7 @@ use Rattle.sf_call.specs.declared.call.Call.{Call}
 use Rattle.sf_inode.specs.declared.node.Node.{Node}
 use Rattle.sf_inode.specs.Nodes.{blocks_left_in, with_content, with_left, with_holder}
 use Rattle.sf_inode.specs.Stores.{StoreState, node_in, holder_of, is_file_at, blocks_left_at, left_set, edited}
-use Rattle.sf_keeps.proofs.Laws.{edited_apart}
-use Rattle.sf_keeps.proofs.Copied.{left_there}
+use Rattle.sf_keeps.proofs.Laws.{edited_apart, left_there}
 use Rattle.sf_coupling.proofs.Laws.{same_or_not}
 use Rattle.sf_walk.specs.declared.files.Writer.{Writer}
 use Rattle.sf_walk.specs.declared.finding.Ways.{Ways}

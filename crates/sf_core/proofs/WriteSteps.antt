@@ -19,8 +19,7 @@ use Rattle.sf_inode.specs.Nodes.{blocks_left_in, with_content, with_left, with_h
 use Rattle.sf_inode.specs.Stores.{StoreState, node_in, open_handle_at, is_file_at, blocks_left_at, left_set, edited}
 use Rattle.sf_keeps.specs.Keeps.{view_of, Keeps}
 use Rattle.sf_call.proofs.Laws.{after_told, replay-push}
-use Rattle.sf_keeps.proofs.Laws.{shows_one, keeps_held, keeps_left, edited_apart, edited_itself}
-use Rattle.sf_keeps.proofs.Copied.{left_there, left_holders}
+use Rattle.sf_keeps.proofs.Laws.{shows_one, keeps_held, keeps_left, edited_apart, edited_itself, left_there, left_holders}
 use Rattle.sf_copying.specs.Copies.{copying}
 use Rattle.sf_copying.proofs.Laws.{starts_keeps}
 use Rattle.sf_walk.specs.declared.files.Copying.{Copying as Into}

@@ -18,6 +18,8 @@ pub use Rattle.sf_keeps.proofs.StoreLaws.{node_in-set}
 pub use Rattle.sf_keeps.proofs.Untouched.{edited_apart, edited_itself, inserted_alike, unlinked_alike, relinked_alike}
 -- the same tree: a look-up, a holder, blocks that are still to be copied
 pub use Rattle.sf_keeps.proofs.KeepsEdited.{keeps_looked, keeps_held, keeps_left}
+-- blocks of a file that are still to be copied: how many, and who holds what meanwhile
+pub use Rattle.sf_keeps.proofs.Copied.{left_there, left_holders}
 -- another object under a label
 pub use Rattle.sf_keeps.proofs.KeepsEdited.{keeps_metadata, keeps_bytes}
 pub use Rattle.sf_keeps.proofs.KeepsShown.{keeps_directory, keeps_file, keeps_contents, object_again}
