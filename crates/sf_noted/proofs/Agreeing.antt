@@ -16,7 +16,7 @@ use Rattle.sf_core.specs.Histories.{IsHistory}
 use Rattle.sf_core.specs.Owners.{OwnsCalls}
 use Rattle.sf_core.specs.Events.{Before, After, Fetches, Decides, Joins, CallBegins, Leaves, TakesStep}
 use Rattle.sf_audit.specs.Audits.{call_records}
-use Rattle.sf_roll.proofs.Moves.{get_set, get_set_else}
+use Rattle.sf_roll.proofs.Laws.{get_set, get_set_else}
 use Rattle.sf_noted.specs.Pages.{Page}
 use Rattle.sf_noted.specs.Pages.Presence.{Resting, UnderWay, Departed}
 use Rattle.sf_noted.specs.PageChanges.{page, fresh_page}
