@@ -1,14 +1,15 @@
 //! A first look at the server, which `./unproved` builds before anything is proved: sessions at a
 //! Unix socket, on one tree, one client after the other.
 //!
-//! A session is served as `sftpd stdio` serves it, by `serve_one` of `sf_serving`. What else
+//! A session is served as `sftpd stdio` serves it, by `serve_one` of `sf_alone`. What else
 //! `sftpd` has isn't here, so that this is built in half the time.
 #![tactic(auto)]
 
+use sf_alone::serve_one;
 use sf_clock::SystemClock;
 use sf_engine::Engine;
 use sf_line::StreamLine;
-use sf_serving::{NoObserver, serve_one};
+use sf_serving::NoObserver;
 use std::env;
 use std::io::{self, ErrorKind};
 use std::os::unix::net::UnixListener;

@@ -9,7 +9,7 @@ use Rattle.sf_engine.specs.declared.event.Event.{Event}
 use Rattle.sf_engine.specs.declared.event.Event.TheVariants as event
 use Rattle.sf_engine.specs.declared.event.Happened.{Happened}
 use Rattle.sf_engine.specs.declared.event.EngineFault.{EngineFault}
-use Rattle.sf_engine.specs.Responses.{Response}
+use Rattle.sf_session.specs.Responses.{Response}
 use Rattle.sf_engine.specs.Promise.{LogEntry, log_entry, linearization, IsKnown, IsUnsent, AreTurns, WaitsForBytes}
 use Rattle.sf_engine.specs.Worlds.{TraceEntry}
 use Rattle.sf_engine.specs.Traces.{order}

@@ -13,8 +13,10 @@ use Rattle.sf_engine.specs.declared.event.Event.TheVariants as event
 use Rattle.sf_engine.specs.declared.event.Happened.{Happened}
 use Rattle.sf_engine.specs.declared.event.Happened.TheVariants as happened
 use Rattle.sf_engine.specs.declared.event.EngineFault.{EngineFault}
-use Rattle.sf_engine.specs.Worlds.{with_phase, TraceEntry, Phase, Resting, UnderWay, Decided, Gone, ByCall, SessionState, new_state, World, start, with_state}
-use Rattle.sf_engine.specs.Traces.{Turn, Walking, walking, StepLeads, TurnLeads, RestLeads, IsCallUnderWay, IsHelpedRecord, DecidesCall, Happens, LeadsBy, Leads, Runs, ReachesWorld, order, IsSession, calls_begun, with_answer, left_if_closed, leaving, left_by_close, closed_now, fed, sent_more}
+use Rattle.sf_session.specs.SessionStates.{with_phase, Phase, Resting, UnderWay, Decided, Gone, SessionState, new_state, with_answer, left_if_closed, closed_now, fed, sent_more}
+use Rattle.sf_engine.specs.Worlds.{TraceEntry, World, start, with_state}
+use Rattle.sf_session.specs.Responses.{ByCall}
+use Rattle.sf_engine.specs.Traces.{Turn, Walking, walking, StepLeads, TurnLeads, RestLeads, IsCallUnderWay, IsHelpedRecord, DecidesCall, Happens, LeadsBy, Leads, Runs, ReachesWorld, order, IsSession, calls_begun, leaving, left_by_close}
 use Rattle.sf_engine.specs.Fits.{trace_entry}
 use Rattle.sf_engine.specs.Laws.{Began, begins_at, FollowsBeginning}
 use Rattle.sf_engine.proofs.Seats.{CallTold, record_of, turn_in, under_way_as}

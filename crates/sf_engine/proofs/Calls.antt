@@ -17,13 +17,14 @@ use Rattle.sf_engine.specs.declared.event.Event.TheVariants as event
 use Rattle.sf_engine.specs.declared.event.Happened.{Happened}
 use Rattle.sf_engine.specs.declared.event.Happened.TheVariants as happened
 use Rattle.sf_engine.specs.declared.event.EngineFault.{EngineFault}
-use Rattle.sf_engine.specs.Worlds.{TraceEntry, Response, Version, Locally, ByCall, Refused, Phase, Resting, UnderWay, Decided, Gone, SessionState, new_state, World, start, with_state}
-use Rattle.sf_engine.specs.Traces.{Turn, Walking, walking, IsSession, IsCallUnderWay, IsHelpedRecord, IsAtOnce, DecidesCall, CarriesOut, RestLeads, StepLeads, TurnLeads, Happens, LeadsBy, Leads, Runs, ReachesWorld, order, calls_begun, left_if_closed, with_answer, leaving, left_by_close, closed_now, fed, sent_more}
-use Rattle.sf_engine.specs.Responses.{if_so, RepliedCall, recorded_by, recorded_in, answered_by, answered_in, Due, Nothing, Unrecorded, Recorded, recorded_due}
+use Rattle.sf_engine.specs.Worlds.{TraceEntry, World, start, with_state}
+use Rattle.sf_session.specs.Responses.{Response, Version, Locally, ByCall, Refused, if_so, RepliedCall, recorded_by, recorded_in, answered_by, answered_in, Due, Nothing, Unrecorded, Recorded, recorded_due}
+use Rattle.sf_session.specs.SessionStates.{Phase, Resting, UnderWay, Decided, Gone, SessionState, new_state, left_if_closed, with_answer, closed_now, fed, sent_more}
+use Rattle.sf_engine.specs.Traces.{Turn, Walking, walking, IsSession, IsCallUnderWay, IsHelpedRecord, IsAtOnce, DecidesCall, CarriesOut, RestLeads, StepLeads, TurnLeads, Happens, LeadsBy, Leads, Runs, ReachesWorld, order, calls_begun, leaving, left_by_close}
 use Rattle.sf_engine.specs.Promised.{replied, IsAbove, HasCalls, HaveCalls, CallsIn}
 use Rattle.sf_engine.proofs.Seats.{CallTold, record_of, under_way_as}
 use Rattle.sf_engine.proofs.Moving.{get_set_same, get_set_other}
-use Rattle.sf_engine.proofs.Asked.{all_push}
+use Rattle.sf_session.proofs.Laws.{all_push}
 use Rattle.sf_engine.proofs.Orders.{leads_records}
 use Rattle.sf_engine.proofs.Reading.{all_map, decided_among}
 use Rattle.sf_engine.proofs.Beginning.{IsCallIn}

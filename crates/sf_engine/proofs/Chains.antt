@@ -22,7 +22,8 @@ use Rattle.sf_engine.specs.declared.event.Happened.{Happened}
 use Rattle.sf_engine.specs.declared.event.Happened.TheVariants as happened
 use Rattle.sf_engine.specs.declared.event.EngineFault.{EngineFault}
 use Rattle.sf_engine.specs.declared.event.EngineFault.TheVariants as fault
-use Rattle.sf_engine.specs.Worlds.{Phase, Resting, UnderWay, Decided, Gone, World}
+use Rattle.sf_session.specs.SessionStates.{Phase, Resting, UnderWay, Decided, Gone}
+use Rattle.sf_engine.specs.Worlds.{World}
 use Rattle.sf_engine.specs.Traces.{goes_on, goes_on_at}
 use Rattle.sf_engine.specs.Turns.{AddsRecords, Seated, NewPart, part, new_part, seated, ReadGives, RestsOrLeaves, IsLaneOf, PlaceGives, IsSeatState, MayRefuseTurn, is_resting, is_under_way, is_busy, Stand, stand, IsReady, TurnGives, TurnsGive, GoesFar, Finding, finding}
 use Rattle.sf_engine.specs.Views.{EngineView}

@@ -15,7 +15,9 @@ use Rattle.sf_session.specs.declared.asking.Ask.TheVariants as ask
 use Rattle.sf_session.specs.Asking.{AsksFor}
 use Rattle.sf_core.specs.Progress.{bound_of}
 use Rattle.sf_engine.specs.Deciding.{AreSure}
-use Rattle.sf_engine.specs.Worlds.{Version, ByCall, transcript, Resting, UnderWay, Decided, TraceEntry, SessionState, new_state, World, start, with_phase}
+use Rattle.sf_session.specs.Responses.{Version, ByCall, transcript}
+use Rattle.sf_session.specs.SessionStates.{Resting, UnderWay, Decided, SessionState, new_state, with_phase}
+use Rattle.sf_engine.specs.Worlds.{TraceEntry, World, start}
 use Rattle.sf_engine.specs.Traces.{Leads, Runs, ReachesWorld, IsSession, AnswersBodyAtOnce, BeginsCall, CarriesOut, IsOthersCall, other_call}
 use Rattle.sf_engine.specs.Examples.{init_packet, mkdir_packet, stat_packet, mkdir, stat_a, made, found, example, version_packet, ok_packet, attrs_packet}
 

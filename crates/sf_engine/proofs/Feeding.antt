@@ -8,8 +8,9 @@ use Rattle.sf_engine.specs.declared.event.Event.TheVariants as event
 use Rattle.sf_engine.specs.declared.event.Happened.{Happened}
 use Rattle.sf_engine.specs.declared.event.EngineFault.{EngineFault}
 use Rattle.sf_engine.specs.declared.event.EngineFault.TheVariants as fault
-use Rattle.sf_engine.specs.Worlds.{Phase, Resting, UnderWay, Decided, Gone, SessionState, World, with_state, is_here_in}
-use Rattle.sf_engine.specs.Traces.{IsSession, MayRefuse, fed}
+use Rattle.sf_session.specs.SessionStates.{Phase, Resting, UnderWay, Decided, Gone, SessionState, is_here_in, fed}
+use Rattle.sf_engine.specs.Worlds.{World, with_state}
+use Rattle.sf_engine.specs.Traces.{IsSession, MayRefuse}
 use Rattle.sf_engine.specs.Turns.{FeedGives, FeedFault}
 use Rattle.sf_engine.specs.Fits.{PlaceAgrees, SeatAgrees, Agrees}
 use Rattle.sf_engine.proofs.Tracing.{Steps}

@@ -9,8 +9,9 @@ use Rattle.sf_call.specs.Leaves.{Leaf, leaves_of}
 use Rattle.sf_engine.specs.declared.event.Event.{Event}
 use Rattle.sf_engine.specs.declared.event.Happened.{Happened}
 use Rattle.sf_engine.specs.declared.event.EngineFault.{EngineFault}
-use Rattle.sf_engine.specs.Responses.{Response}
-use Rattle.sf_engine.specs.Worlds.{TraceEntry, SessionState, World, start}
+use Rattle.sf_session.specs.Responses.{Response}
+use Rattle.sf_engine.specs.Worlds.{TraceEntry, World, start}
+use Rattle.sf_session.specs.SessionStates.{SessionState}
 use Rattle.sf_engine.specs.Traces.{ReachesWorld, order}
 use Rattle.sf_engine.specs.Laws.{AreOfBytes}
 use Rattle.sf_engine.specs.Views.{EngineView}

@@ -4,7 +4,8 @@ use Rattle.std.proofs.lemmas.List.Elements.{All-cons, All-nil, All-contains}
 use Rattle.sf_path.specs.Names.{slash, IsName, IsPath}
 use Rattle.sf_call.specs.Histories.{replay, IsLegal, IsLegalAfter, MayFollow}
 use Rattle.sf_laws.specs.Examples.{a}
-use Rattle.sf_engine.specs.Worlds.{TraceEntry, transcript}
+use Rattle.sf_engine.specs.Worlds.{TraceEntry}
+use Rattle.sf_session.specs.Responses.{transcript}
 use Rattle.sf_engine.specs.Examples.{init_packet, mkdir_packet, stat_packet, made, found, example, version_packet, ok_packet, attrs_packet}
 use Rattle.sf_engine.specs.Promise.{LogEntry, written_in, IsKept}
 use Rattle.sf_engine.specs.Promised.{traced}

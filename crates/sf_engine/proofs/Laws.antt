@@ -5,12 +5,8 @@
 pub use Rattle.sf_engine.proofs.Reading.{told_sessions}
 -- each packet that a session is sent is short, and so is the answer to one body
 pub use Rattle.sf_engine.proofs.ShortPackets.{answers_are_short, answer_is_short}
--- a body more that was read, and what it asks for; the bytes of a body, and those behind its packet
-pub use Rattle.sf_engine.proofs.Asked.{all_push, begun_after, begun_is, begun_stays, begun_push, asked_push, asked_each, map_push, whole_bytes, rest_bytes}
 -- a number has no session, or one
 pub use Rattle.sf_engine.proofs.Waiting.{told_of_none}
--- no packet closes a session
-pub use Rattle.sf_engine.proofs.Causes.{not_closed}
 -- one session alone: what it was fed and is sent is a conversation
 pub use Rattle.sf_engine.proofs.Lone.{IsOnly, begun_times, Talk, told_talk, none_due}
 -- what holds of all follows from what does

@@ -4,7 +4,6 @@ pub mod Seats
 pub mod Moving
 pub mod Deciding
 pub mod Working
-pub mod Asked
 pub mod ReplyRooms
 pub mod Resting
 pub mod TurnsUnderWay
@@ -24,7 +23,6 @@ pub mod ShortPackets
 pub mod Laws
 pub mod Beginning
 pub mod Calls
-pub mod Causes
 pub mod Logging
 pub mod Promising
 pub mod Lone

@@ -28,15 +28,16 @@ use Rattle.sf_engine.specs.declared.event.Happened.{Happened}
 use Rattle.sf_engine.specs.declared.event.Happened.TheVariants as happened
 use Rattle.sf_engine.specs.declared.event.EngineFault.{EngineFault}
 use Rattle.sf_engine.specs.declared.event.EngineFault.TheVariants as fault
-use Rattle.sf_engine.specs.Worlds.{Response, Version, Locally, ByCall, Refused, Phase, Resting, UnderWay, Decided, Gone, SessionState, new_state, World, with_state, transcript, unsent, is_here_in, is_here}
-use Rattle.sf_engine.specs.Traces.{has_begun, Walking, walking, IsSession, IsNoSession, TakesNone, TakesBytes, MayWantMemory, MayRefuse, IsCallUnderWay, IsOthersCall, other_call, IsHelpedRecord, IsAtOnce, DecidesCall, CarriesOut, RestLeads, StepLeads, TurnLeads, Happens, LeadsBy, Leads, ReachesWorld, calls_begun, left_if_closed, with_answer, leaving, left_by_close, closed_now, fed, sent_more}
+use Rattle.sf_session.specs.Responses.{Response, Version, Locally, ByCall, Refused, transcript, has_begun, most_calls, if_so, RepliedCall, recorded_in, answered_by, answered_in, Due, recorded_due}
+use Rattle.sf_session.specs.SessionStates.{Phase, Resting, UnderWay, Decided, Gone, SessionState, new_state, unsent, is_here_in, is_here, TakesNone, TakesBytes, left_if_closed, with_answer, closed_now, fed, sent_more}
+use Rattle.sf_engine.specs.Worlds.{World, with_state}
+use Rattle.sf_engine.specs.Traces.{Walking, walking, IsSession, IsNoSession, MayWantMemory, MayRefuse, IsCallUnderWay, IsOthersCall, other_call, IsHelpedRecord, IsAtOnce, DecidesCall, CarriesOut, RestLeads, StepLeads, TurnLeads, Happens, LeadsBy, Leads, ReachesWorld, calls_begun, leaving, left_by_close}
 use Rattle.sf_engine.specs.Laws.{IsPhaseRecorded, sent_in}
-use Rattle.sf_engine.specs.Responses.{most_calls, if_so, RepliedCall, recorded_in, answered_by, answered_in, Due, recorded_due}
 use Rattle.sf_engine.specs.Promise.{LogEntry, log_entry, linearization, fed_by, fed_in, written_by, written_in, closed_by, closed_in, WasClosed, HasLeft, IsHere, HasBegun, opened_by, opened_in, Beginning, begun_by, begun_in, begun_for, sent_at, sent_of, IsKnown, MayBeRefused, IsInTheWay, MayComeTo, Leaves, MayAdd, MayWrite, Writes, IsLawful, EndsIn}
 use Rattle.sf_engine.specs.Promised.{replied, IsDue, IsAbove, HasCalls, IsNobody, traced_entry, traced, HasItsTurn, calls_due, calls_had, LeavesPhase, HasLeftFor, IsLogged, Stands}
 use Rattle.sf_engine.proofs.Seats.{CallTold, record_of, under_way_as}
 use Rattle.sf_engine.proofs.Moving.{get_set_same, get_set_other}
-use Rattle.sf_engine.proofs.Asked.{all_push}
+use Rattle.sf_session.proofs.Laws.{all_push, not_closed}
 use Rattle.sf_engine.proofs.ReplyRooms.{any_id}
 use Rattle.sf_engine.proofs.Orders.{leads_records}
 use Rattle.sf_engine.proofs.OneWorld.{last_same}
@@ -44,7 +45,6 @@ use Rattle.sf_engine.proofs.Reading.{all_map, among_front, told_sessions}
 use Rattle.sf_engine.proofs.Beginning.{IsCallIn}
 use Rattle.sf_engine.proofs.SentBytes.{told_sent_bytes}
 use Rattle.sf_engine.proofs.Calls.{leads_calls, new_at, answered_push, at_once_other}
-use Rattle.sf_engine.proofs.Causes.{not_closed}
 
 -- ---- what a log with one entry more tells
 

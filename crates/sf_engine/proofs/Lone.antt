@@ -16,13 +16,13 @@ use Rattle.sf_engine.specs.declared.event.Event.TheVariants as event
 use Rattle.sf_engine.specs.declared.event.Happened.{Happened}
 use Rattle.sf_engine.specs.declared.event.Happened.TheVariants as happened
 use Rattle.sf_engine.specs.declared.event.EngineFault.{EngineFault}
-use Rattle.sf_engine.specs.Responses.{Response, Version, Locally, ByCall, Refused, ask_behind, transcript, AreAsked, if_so, recorded_in, answered_in, Due, Nothing, Unrecorded, Recorded, asked_due}
-use Rattle.sf_engine.specs.Worlds.{TraceEntry, SessionState, World}
+use Rattle.sf_session.specs.Responses.{Response, Version, Locally, ByCall, Refused, ask_behind, transcript, AreAsked, if_so, recorded_in, answered_in, Due, Nothing, Unrecorded, Recorded, asked_due}
+use Rattle.sf_engine.specs.Worlds.{TraceEntry, World}
+use Rattle.sf_session.specs.SessionStates.{SessionState, pending}
 use Rattle.sf_engine.specs.Traces.{IsSession, ReachesWorld, order}
-use Rattle.sf_engine.specs.Laws.{pending}
 use Rattle.sf_engine.specs.Promise.{LogEntry, linearization, written_by, written_in, Beginning, begun_by, begun_in, begun_for, Leaves, MayAdd, MayWrite, Writes}
 use Rattle.sf_engine.specs.Promised.{traced, HasCalls, LawfulFrom}
-use Rattle.sf_engine.specs.Conversation.{IsBy, IsFair, IsAtItsTime, IsSubsequence, IsConversation}
+use Rattle.sf_session.specs.Conversation.{IsBy, IsFair, IsAtItsTime, IsSubsequence, IsConversation}
 use Rattle.sf_engine.proofs.Reading.{all_map}
 use Rattle.sf_engine.proofs.Logging.{get_front, of_session}
 use Rattle.sf_engine.proofs.Promising.{logged, lawful_from, pending_due, due_count}

@@ -13,7 +13,8 @@ use Rattle.sf_core.specs.Progress.{left_of, SameCall}
 use Rattle.sf_core.specs.Histories.{IsHistory}
 use Rattle.sf_engine.specs.declared.seat.Seat.{Seat}
 use Rattle.sf_engine.specs.declared.seat.SeatState.{SeatState}
-use Rattle.sf_engine.specs.Worlds.{Phase, Resting, UnderWay, Decided, Gone, SessionState, World, with_state, is_here}
+use Rattle.sf_session.specs.SessionStates.{Phase, Resting, UnderWay, Decided, Gone, SessionState, is_here}
+use Rattle.sf_engine.specs.Worlds.{World, with_state}
 use Rattle.sf_engine.specs.Fits.{IsStillWalking, PlaceAgrees, SeatAgrees, Agrees}
 use Rattle.sf_engine.proofs.Seats.{SeatChange, SeatEvent, IsTold, number, changed}
 

@@ -23,8 +23,10 @@ use Rattle.sf_engine.specs.declared.event.Event.TheVariants as event
 use Rattle.sf_engine.specs.declared.event.Happened.{Happened}
 use Rattle.sf_engine.specs.declared.event.Happened.TheVariants as happened
 use Rattle.sf_engine.specs.declared.event.EngineFault.{EngineFault}
-use Rattle.sf_engine.specs.Worlds.{TraceEntry, Response, Version, Locally, ByCall, Refused, ask_behind, transcript, Phase, Resting, UnderWay, Decided, Gone, SessionState, new_state, World, start, with_state, with_phase}
-use Rattle.sf_engine.specs.Traces.{has_begun, IsSession, IsAtOnce, DecidesCall, TurnLeads, RestLeads, Happens, LeadsBy, Runs, ReachesWorld, order, left_if_closed, with_answer, closed_now, fed, sent_more, calls_begun}
+use Rattle.sf_engine.specs.Worlds.{TraceEntry, World, start, with_state}
+use Rattle.sf_session.specs.Responses.{Response, Version, Locally, ByCall, Refused, ask_behind, transcript, has_begun}
+use Rattle.sf_session.specs.SessionStates.{Phase, Resting, UnderWay, Decided, Gone, SessionState, new_state, with_phase, left_if_closed, with_answer, closed_now, fed, sent_more}
+use Rattle.sf_engine.specs.Traces.{IsSession, IsAtOnce, DecidesCall, TurnLeads, RestLeads, Happens, LeadsBy, Runs, ReachesWorld, order, calls_begun}
 use Rattle.sf_engine.specs.Laws.{IsOfBytes, AreOfBytes}
 use Rattle.sf_engine.specs.Views.{EngineView}
 use Rattle.sf_engine.specs.Fits.{Fits, IsSentBy}
@@ -32,7 +34,7 @@ use Rattle.sf_engine.proofs.Seats.{CallTold, record_of}
 use Rattle.sf_engine.proofs.Moving.{get_set_same, get_set_other}
 use Rattle.sf_engine.proofs.Orders.{leads_records}
 use Rattle.sf_engine.proofs.Reading.{new_get}
-use Rattle.sf_engine.proofs.Asked.{whole_bytes, rest_bytes}
+use Rattle.sf_session.proofs.Laws.{whole_bytes, rest_bytes}
 
 -- ---- one reading of a body
 

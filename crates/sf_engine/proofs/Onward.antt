@@ -11,10 +11,11 @@ use Rattle.sf_engine.specs.declared.event.Event.{Event}
 use Rattle.sf_engine.specs.declared.event.Event.TheVariants as event
 use Rattle.sf_engine.specs.declared.event.Happened.{Happened}
 use Rattle.sf_engine.specs.declared.event.EngineFault.{EngineFault}
-use Rattle.sf_engine.specs.Responses.{ask_behind, RepliedCall, Due, Nothing, Recorded, asked_due}
-use Rattle.sf_engine.specs.Worlds.{TraceEntry, Phase, Resting, UnderWay, Decided, Gone, SessionState, World, is_here_in}
-use Rattle.sf_engine.specs.Traces.{has_begun, IsSession, goes_on, ReachesWorld}
-use Rattle.sf_engine.specs.Laws.{IsRest, AreOfBytes}
+use Rattle.sf_session.specs.Responses.{ask_behind, RepliedCall, Due, Nothing, Recorded, asked_due, has_begun}
+use Rattle.sf_engine.specs.Worlds.{TraceEntry, World}
+use Rattle.sf_session.specs.SessionStates.{Phase, Resting, UnderWay, Decided, Gone, SessionState, is_here_in, IsRest}
+use Rattle.sf_engine.specs.Traces.{IsSession, goes_on, ReachesWorld}
+use Rattle.sf_engine.specs.Laws.{AreOfBytes}
 use Rattle.sf_engine.specs.Views.{EngineView}
 use Rattle.sf_engine.specs.Fits.{GoesOnTrace, HasTurns, HasRun, WantsBytes, WantsBytesBy}
 use Rattle.sf_engine.specs.Rounds.{is_unanswered, under_way_from, AreUnderWay, HasSteps, IsRound, HasRounds}
@@ -23,7 +24,7 @@ use Rattle.sf_engine.specs.Promised.{replied, traced_entry, traced, IsDue, calls
 use Rattle.sf_engine.proofs.OneWorld.{one_world}
 use Rattle.sf_engine.proofs.Logging.{of_session, is_here_as}
 use Rattle.sf_engine.proofs.Promising.{session_at, due_count, answered, answered_due, answered_rest}
-use Rattle.sf_engine.proofs.Asked.{asked_each}
+use Rattle.sf_session.proofs.Laws.{asked_each}
 use Rattle.sf_engine.proofs.Having.{goes_on_log}
 
 -- ---- turns

@@ -16,7 +16,9 @@ use Rattle.sf_engine.specs.declared.event.Happened.{Happened}
 use Rattle.sf_engine.specs.declared.event.Happened.TheVariants as happened
 use Rattle.sf_engine.specs.declared.event.EngineFault.{EngineFault}
 use Rattle.sf_engine.specs.declared.event.EngineFault.TheVariants as fault
-use Rattle.sf_engine.specs.Worlds.{SessionState, World, new_state, start, transcript}
+use Rattle.sf_session.specs.SessionStates.{SessionState, new_state}
+use Rattle.sf_engine.specs.Worlds.{World, start}
+use Rattle.sf_session.specs.Responses.{transcript}
 use Rattle.sf_engine.specs.Traces.{MayRefuse, MayOpen}
 use Rattle.sf_engine.specs.Turns.{OpenGives, OpenFault}
 use Rattle.sf_engine.specs.Views.{EngineView}

@@ -9,7 +9,8 @@ use Rattle.sf_engine.specs.declared.event.Happened.{Happened}
 use Rattle.sf_engine.specs.declared.event.Happened.TheVariants as happened
 use Rattle.sf_engine.specs.declared.event.EngineFault.{EngineFault}
 use Rattle.sf_engine.specs.Deciding.{IsSure, AreSure}
-use Rattle.sf_engine.specs.Worlds.{TraceEntry, Phase, Resting, UnderWay, Decided, Gone, SessionState, World, start}
+use Rattle.sf_engine.specs.Worlds.{TraceEntry, World, start}
+use Rattle.sf_session.specs.SessionStates.{Phase, Resting, UnderWay, Decided, Gone, SessionState}
 use Rattle.sf_engine.specs.Traces.{TurnLeads, RestLeads, DecidesCall, Happens, LeadsBy, Leads, Runs, ReachesWorld, order, left_by_close, leaving}
 
 happens_records : (w w' : World) (e : Event) (r : Happened) (added : List Record) → Happens w e r added w' → w'.records ≡ w.records ++ added

@@ -16,7 +16,9 @@ use Rattle.sf_core.specs.Progress.{bound_of}
 use Rattle.sf_path.specs.Names.{IsName, IsPath}
 use Rattle.std.proofs.lemmas.List.Elements.{All-cons, All-nil}
 use Rattle.sf_engine.specs.Deciding.{AreSure}
-use Rattle.sf_engine.specs.Worlds.{Version, ByCall, Resting, UnderWay, Decided, TraceEntry, SessionState, new_state, World, start, with_phase}
+use Rattle.sf_session.specs.Responses.{Version, ByCall}
+use Rattle.sf_session.specs.SessionStates.{Resting, UnderWay, Decided, SessionState, new_state, with_phase}
+use Rattle.sf_engine.specs.Worlds.{TraceEntry, World, start}
 use Rattle.sf_engine.specs.Traces.{ReachesWorld, AnswersBodyAtOnce, BeginsCall, CarriesOut, IsOthersCall, other_call}
 use Rattle.sf_engine.specs.Examples.{mkdir_packet, mkdir, made}
 use Rattle.sf_engine.specs.Promise.{LogEntry, written_in, IsKept}

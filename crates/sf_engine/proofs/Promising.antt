@@ -13,12 +13,13 @@ use Rattle.sf_engine.specs.declared.event.Event.{Event}
 use Rattle.sf_engine.specs.declared.event.Happened.{Happened}
 use Rattle.sf_engine.specs.declared.event.Happened.TheVariants as happened
 use Rattle.sf_engine.specs.declared.event.EngineFault.{EngineFault}
-use Rattle.sf_engine.specs.Worlds.{TraceEntry, Response, ask_behind, transcript, Phase, Resting, UnderWay, Decided, Gone, SessionState, new_state, World, start, is_here_in}
-use Rattle.sf_engine.specs.Traces.{has_begun, IsSession, LeadsBy, Runs, ReachesWorld, order}
-use Rattle.sf_engine.specs.Laws.{AreAsked, IsRest, pending, sent_in}
+use Rattle.sf_engine.specs.Worlds.{TraceEntry, World, start}
+use Rattle.sf_session.specs.Responses.{Response, ask_behind, transcript, has_begun, AreAsked, recorded_in, answered_in, Due, Nothing, Recorded, asked_due, recorded_due}
+use Rattle.sf_session.specs.SessionStates.{Phase, Resting, UnderWay, Decided, Gone, SessionState, new_state, is_here_in, IsRest, pending}
+use Rattle.sf_engine.specs.Traces.{IsSession, LeadsBy, Runs, ReachesWorld, order}
+use Rattle.sf_engine.specs.Laws.{sent_in}
 use Rattle.sf_engine.specs.Views.{EngineView}
 use Rattle.sf_engine.specs.Fits.{Fits, trace_entry, GoesOnTrace, IsSentBy, IsUnknownSession}
-use Rattle.sf_engine.specs.Responses.{recorded_in, answered_in, Due, Nothing, Recorded, asked_due, recorded_due}
 use Rattle.sf_engine.specs.Promise.{LogEntry, log_entry, linearization, sent_at, sent_of, IsKnown, WasClosed, HasLeft, IsLawful, LeavesDue, IsAnswered, IsUnsent, IsKept}
 use Rattle.sf_engine.specs.Promised.{replied, traced_entry, traced, IsDue, calls_due, LeavesPhase, IsLogged, HasCalls, Stands, LawfulFrom, HasLog}
 use Rattle.sf_engine.proofs.Orders.{leads_records}

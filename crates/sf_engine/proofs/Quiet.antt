@@ -6,7 +6,7 @@ use Rattle.sf_session.specs.Sessions.{SessionView}
 use Rattle.sf_core.specs.Cores.{CoreView}
 use Rattle.sf_engine.specs.declared.seat.Seat.{Seat}
 use Rattle.sf_engine.specs.declared.seat.SeatState.{SeatState}
-use Rattle.sf_engine.specs.Worlds.{Phase, Resting, UnderWay, Decided, Gone}
+use Rattle.sf_session.specs.SessionStates.{Phase, Resting, UnderWay, Decided, Gone}
 use Rattle.sf_engine.specs.Traces.{IsSession}
 use Rattle.sf_engine.specs.Turns.{is_busy}
 use Rattle.sf_engine.specs.Views.{EngineView}

@@ -22,13 +22,15 @@ use Rattle.sf_engine.specs.declared.seat.Seat.{Seat}
 use Rattle.sf_engine.specs.declared.seat.SeatState.{SeatState}
 use Rattle.sf_engine.specs.declared.event.Happened.{Happened}
 use Rattle.sf_engine.specs.declared.event.Happened.TheVariants as happened
-use Rattle.sf_engine.specs.Worlds.{Response, Version, Locally, Refused, ask_behind, packet_for, transcript, Resting, UnderWay, SessionState, World, with_phase}
-use Rattle.sf_engine.specs.Traces.{IsAtOnce, RestLeads, left_for, calls_begun}
+use Rattle.sf_session.specs.Responses.{Response, Version, Locally, Refused, ask_behind, packet_for, transcript}
+use Rattle.sf_session.specs.SessionStates.{Resting, UnderWay, SessionState, with_phase, left_for}
+use Rattle.sf_engine.specs.Worlds.{World}
+use Rattle.sf_engine.specs.Traces.{IsAtOnce, RestLeads, calls_begun}
 use Rattle.sf_engine.specs.Turns.{seated, ReadGives}
 use Rattle.sf_engine.specs.Fits.{HasNoCall, SeatAgrees}
 use Rattle.sf_engine.proofs.Seats.{SeatEvent, IsTold, IsUnmoved, seat, number, in_phase, turn_to, left_by}
 use Rattle.sf_engine.proofs.Moving.{Moves, Turned, moves_none, here_in}
-use Rattle.sf_engine.proofs.Asked.{begun_push}
+use Rattle.sf_session.proofs.Laws.{begun_push}
 
 pub transcript_push : (answers : List Response) (a : Response) → transcript answers ++ packet_for a ≡ transcript (answers ++ a ∷ [])
 unfolding transcript

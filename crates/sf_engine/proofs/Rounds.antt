@@ -21,7 +21,8 @@ use Rattle.sf_engine.specs.declared.event.Happened.{Happened}
 use Rattle.sf_engine.specs.declared.event.Happened.TheVariants as happened
 use Rattle.sf_engine.specs.declared.event.EngineFault.{EngineFault}
 use Rattle.sf_engine.specs.declared.event.EngineFault.TheVariants as fault
-use Rattle.sf_engine.specs.Worlds.{TraceEntry, Phase, Resting, UnderWay, Decided, Gone, SessionState, World}
+use Rattle.sf_engine.specs.Worlds.{TraceEntry, World}
+use Rattle.sf_session.specs.SessionStates.{Phase, Resting, UnderWay, Decided, Gone, SessionState}
 use Rattle.sf_engine.specs.Traces.{IsSession, Turn, Walking, walking, StepLeads, TurnLeads, MayRefuse, MayWantMemory}
 use Rattle.sf_engine.specs.Turns.{is_under_way}
 use Rattle.sf_engine.specs.Works.{Passage, IsStep}

@@ -8,7 +8,7 @@ use Rattle.sf_engine.specs.declared.event.Event.TheVariants as event
 use Rattle.sf_engine.specs.declared.event.Happened.{Happened}
 use Rattle.sf_engine.specs.declared.event.Happened.TheVariants as happened
 use Rattle.sf_engine.specs.declared.event.EngineFault.{EngineFault}
-use Rattle.sf_engine.specs.Responses.{Response}
+use Rattle.sf_session.specs.Responses.{Response}
 use Rattle.sf_engine.specs.Worlds.{TraceEntry}
 use Rattle.sf_engine.specs.Promise.{LogEntry, log_entry, written_by, written_in, MayComeTo, Writes, IsKept}
 use Rattle.sf_engine.specs.Promised.{traced_entry, traced, LawfulFrom}

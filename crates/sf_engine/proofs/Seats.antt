@@ -8,7 +8,8 @@ use Rattle.sf_session.specs.Sessions.{SessionView}
 use Rattle.sf_core.specs.Cores.{CoreView}
 use Rattle.sf_engine.specs.declared.seat.Seat.{Seat}
 use Rattle.sf_engine.specs.declared.seat.SeatState.{SeatState}
-use Rattle.sf_engine.specs.Worlds.{Phase, UnderWay, SessionState, World, with_phase}
+use Rattle.sf_session.specs.SessionStates.{Phase, UnderWay, SessionState, with_phase}
+use Rattle.sf_engine.specs.Worlds.{World}
 use Rattle.sf_engine.specs.Traces.{IsSession, Turn, Walking}
 use Rattle.sf_engine.specs.Turns.{Part, NewPart, part, new_part}
 use Rattle.sf_engine.specs.Views.{EngineView}

@@ -8,8 +8,10 @@ use Rattle.sf_engine.specs.declared.event.Event.TheVariants as event
 use Rattle.sf_engine.specs.declared.event.Happened.{Happened}
 use Rattle.sf_engine.specs.declared.event.EngineFault.{EngineFault}
 use Rattle.sf_engine.specs.declared.event.EngineFault.TheVariants as fault
-use Rattle.sf_engine.specs.Worlds.{transcript, unsent, SessionState, World, with_state}
-use Rattle.sf_engine.specs.Traces.{IsSession, MayRefuse, sent_more}
+use Rattle.sf_session.specs.Responses.{transcript}
+use Rattle.sf_session.specs.SessionStates.{unsent, SessionState, sent_more}
+use Rattle.sf_engine.specs.Worlds.{World, with_state}
+use Rattle.sf_engine.specs.Traces.{IsSession, MayRefuse}
 use Rattle.sf_engine.specs.Turns.{SentGives, SentFault}
 use Rattle.sf_engine.specs.Fits.{SeatAgrees, Agrees}
 use Rattle.sf_engine.proofs.Tracing.{Steps}

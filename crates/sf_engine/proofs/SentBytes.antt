@@ -11,8 +11,10 @@ use Rattle.sf_engine.specs.declared.event.Event.TheVariants as event
 use Rattle.sf_engine.specs.declared.event.Happened.{Happened}
 use Rattle.sf_engine.specs.declared.event.Happened.TheVariants as happened
 use Rattle.sf_engine.specs.declared.event.EngineFault.{EngineFault}
-use Rattle.sf_engine.specs.Worlds.{TraceEntry, Response, ByCall, packet_for, transcript, unsent, Phase, Resting, UnderWay, Decided, Gone, SessionState, new_state, World, start, with_state}
-use Rattle.sf_engine.specs.Traces.{TurnLeads, RestLeads, Happens, LeadsBy, Runs, ReachesWorld, IsSession, calls_begun, left_if_closed, with_answer, closed_now, fed, sent_more}
+use Rattle.sf_engine.specs.Worlds.{TraceEntry, World, start, with_state}
+use Rattle.sf_session.specs.Responses.{Response, ByCall, packet_for, transcript}
+use Rattle.sf_session.specs.SessionStates.{unsent, Phase, Resting, UnderWay, Decided, Gone, SessionState, new_state, left_if_closed, with_answer, closed_now, fed, sent_more}
+use Rattle.sf_engine.specs.Traces.{TurnLeads, RestLeads, Happens, LeadsBy, Runs, ReachesWorld, IsSession, calls_begun}
 use Rattle.sf_engine.specs.Promise.{sent_at}
 use Rattle.sf_engine.specs.Laws.{sent_in, IsSentAs}
 use Rattle.sf_engine.proofs.Moving.{get_set_same, get_set_other}

@@ -22,9 +22,10 @@ use Rattle.sf_session.specs.declared.cause.Cause.TheVariants.{OldVersion}
 use Rattle.sf_session.specs.Asking.{path_unless, path_at, handle_number, call_of, call_ask, real_path_at, request_ask, ask_in, AsksFor}
 use Rattle.sf_request.specs.Requests.{SpellsFields, Asks}
 use Rattle.sf_core.specs.Progress.{bound_of, blocks_in}
-use Rattle.sf_engine.specs.Worlds.{TraceEntry, Phase, Resting, UnderWay, Decided, Gone, SessionState, ask_behind, is_here, is_here_in}
+use Rattle.sf_engine.specs.Worlds.{TraceEntry}
+use Rattle.sf_session.specs.SessionStates.{Phase, Resting, UnderWay, Decided, Gone, SessionState, is_here, is_here_in, asks_of}
+use Rattle.sf_session.specs.Responses.{ask_behind, AreAsked}
 use Rattle.sf_engine.specs.Traces.{IsSession}
-use Rattle.sf_engine.specs.Laws.{AreAsked, asks_of}
 use Rattle.sf_engine.specs.Views.{EngineView}
 use Rattle.sf_engine.specs.Fits.{Fits}
 use Rattle.sf_engine.specs.Rounds.{bound_at, bounds}

@@ -8,11 +8,13 @@ use Rattle.sf_call.proofs.Laws.{given_before, packet_short}
 use Rattle.sf_session.specs.declared.asking.Ask.{Ask}
 use Rattle.sf_session.specs.Asking.{AsksFor}
 use Rattle.sf_session.proofs.Laws.{version_short, local_short, refusal_short}
-use Rattle.sf_engine.specs.Worlds.{TraceEntry, Response, Version, Locally, ByCall, Refused, ask_behind, SessionState}
+use Rattle.sf_engine.specs.Worlds.{TraceEntry}
+use Rattle.sf_session.specs.Responses.{Response, Version, Locally, ByCall, Refused, ask_behind, AreAsked}
+use Rattle.sf_session.specs.SessionStates.{SessionState, HasShortPacket, pending}
 use Rattle.sf_engine.specs.Traces.{IsSession}
 use Rattle.sf_engine.specs.Views.{EngineView}
 use Rattle.sf_engine.specs.Fits.{Fits}
-use Rattle.sf_engine.specs.Laws.{AreAsked, IsRecorded, HasShortPacket, pending}
+use Rattle.sf_engine.specs.Laws.{IsRecorded}
 use Rattle.sf_engine.proofs.Reading.{told_sessions}
 
 among_these : (r : Record) (before after : List Record) → IsAmong r (before ++ r ∷ after)

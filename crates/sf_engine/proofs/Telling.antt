@@ -5,7 +5,7 @@ use Rattle.sf_call.specs.declared.record.Record.{Record}
 use Rattle.sf_engine.specs.declared.event.Event.{Event}
 use Rattle.sf_engine.specs.declared.event.Happened.{Happened}
 use Rattle.sf_engine.specs.declared.event.EngineFault.{EngineFault}
-use Rattle.sf_engine.specs.Responses.{Response}
+use Rattle.sf_session.specs.Responses.{Response}
 use Rattle.sf_engine.specs.Promise.{LogEntry, log_entry, opened_by, opened_in}
 use Rattle.sf_engine.proofs.Logging.{more_of}
 

@@ -13,12 +13,13 @@ use Rattle.sf_engine.specs.declared.event.Happened.{Happened}
 use Rattle.sf_engine.specs.declared.event.Happened.TheVariants as happened
 use Rattle.sf_engine.specs.declared.event.EngineFault.{EngineFault}
 use Rattle.sf_engine.specs.declared.event.EngineFault.TheVariants as fault
-use Rattle.sf_engine.specs.Worlds.{Phase, Resting, UnderWay, Decided, Gone, SessionState, World, with_state}
+use Rattle.sf_session.specs.SessionStates.{Phase, Resting, UnderWay, Decided, Gone, SessionState, closed_now}
+use Rattle.sf_engine.specs.Worlds.{World, with_state}
 use Rattle.sf_field.specs.Fields.{packet}
 use Rattle.sf_reply.specs.declared.reply.Reply.{Reply}
 use Rattle.sf_reply.specs.Replies.{reply_body}
 use Rattle.sf_session.specs.Sessions.{reply_room}
-use Rattle.sf_engine.specs.Traces.{TurnLeads, walking, calls_begun, IsSession, IsNoSession, MayRefuse, MayWantMemory, closed_now}
+use Rattle.sf_engine.specs.Traces.{TurnLeads, walking, calls_begun, IsSession, IsNoSession, MayRefuse, MayWantMemory}
 use Rattle.sf_engine.specs.Turns.{AddsRecords, part, new_part, PlaceGives, CloseGives, IsSeatState, MayRefuseTurn}
 use Rattle.sf_engine.specs.Works.{Passage, IsStep, IsWork}
 use Rattle.sf_engine.specs.Views.{EngineView}

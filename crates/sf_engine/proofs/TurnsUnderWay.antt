@@ -28,7 +28,8 @@ use Rattle.sf_engine.specs.declared.seat.SeatState.{SeatState}
 use Rattle.sf_engine.specs.declared.seat.SeatState.TheVariants as state
 use Rattle.sf_engine.specs.declared.event.Happened.{Happened}
 use Rattle.sf_engine.specs.declared.event.Happened.TheVariants as happened
-use Rattle.sf_engine.specs.Worlds.{Phase, Resting, UnderWay, Decided, Gone, SessionState, World, with_phase}
+use Rattle.sf_session.specs.SessionStates.{Phase, Resting, UnderWay, Decided, Gone, SessionState, with_phase}
+use Rattle.sf_engine.specs.Worlds.{World}
 use Rattle.sf_engine.specs.Traces.{IsCallUnderWay, IsOthersCall, IsHelpedRecord, MoveAdds, DecidesCall, StepLeads, Walking, calls_begun, other_call}
 use Rattle.sf_engine.specs.Turns.{StepGives, before, after_turn}
 use Rattle.sf_engine.specs.Deciding.{WalkHasStopped, WalkStops}

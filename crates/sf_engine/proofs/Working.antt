@@ -17,7 +17,7 @@ use Rattle.sf_engine.specs.declared.seat.SeatState.TheVariants as state
 use Rattle.sf_engine.specs.declared.event.Event.TheVariants as event
 use Rattle.sf_engine.specs.declared.event.Happened.{Happened}
 use Rattle.sf_engine.specs.declared.event.Happened.TheVariants as happened
-use Rattle.sf_engine.specs.Worlds.{Phase, Resting, UnderWay, Decided as IsDecided, Gone}
+use Rattle.sf_session.specs.SessionStates.{Phase, Resting, UnderWay, Decided as IsDecided, Gone}
 use Rattle.sf_engine.specs.Works.{Passage, is_of_other, names_helped, IsWork, IsStep}
 use Rattle.sf_engine.specs.Turns.{Part, NewPart, Seated, ReadGives, RestsOrLeaves, StepGives, PlaceGives, CloseGives, before, after_turn, seated}
 use Rattle.sf_engine.specs.Traces.{walking}

@@ -13,7 +13,7 @@ use Rattle.sf_call.specs.declared.record.Record.TheVariants.{Did}
 use Rattle.sf_call.specs.Histories.{IsAmong}
 use Rattle.sf_engine.specs.declared.event.Event.TheVariants as event
 use Rattle.sf_engine.specs.declared.event.Happened.TheVariants as happened
-use Rattle.sf_engine.specs.Responses.{Response, ByCall, AreAsked, RepliedCall, Due, asked_due}
+use Rattle.sf_session.specs.Responses.{Response, ByCall, AreAsked, RepliedCall, Due, asked_due}
 use Rattle.sf_engine.specs.Promise.{LogEntry, opened_in, MayWrite, EndsIn, IsAnswered, IsKept}
 use Rattle.sf_engine.specs.Examples.{init_packet, mkdir, made}
 use Rattle.sf_engine.specs.Overtaking.{came}

@@ -21,8 +21,10 @@ use Rattle.sf_engine.specs.declared.seat.SeatState.TheVariants as state
 use Rattle.sf_engine.specs.declared.event.Event.{Event}
 use Rattle.sf_engine.specs.declared.event.Happened.{Happened}
 use Rattle.sf_engine.specs.declared.event.EngineFault.{EngineFault}
-use Rattle.sf_engine.specs.Worlds.{TraceEntry, Phase, Resting, UnderWay, Decided, Gone as left, SessionState, World, transcript, here}
-use Rattle.sf_engine.specs.Traces.{has_begun, goes_on, ReachesWorld, order, IsSession, IsNoSession, Leads, Walking, walking}
+use Rattle.sf_engine.specs.Worlds.{TraceEntry, World, here}
+use Rattle.sf_session.specs.SessionStates.{Phase, Resting, UnderWay, Decided, Gone as left, SessionState}
+use Rattle.sf_session.specs.Responses.{transcript, has_begun}
+use Rattle.sf_engine.specs.Traces.{goes_on, ReachesWorld, order, IsSession, IsNoSession, Leads, Walking, walking}
 use Rattle.sf_engine.specs.Works.{Passage, IsStep, IsWork}
 use Rattle.sf_engine.specs.Promise.{refusals}
 use Rattle.sf_engine.specs.Views.{EngineView}

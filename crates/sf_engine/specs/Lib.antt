@@ -1,4 +1,3 @@
-pub mod Responses
 pub mod Promise
 pub mod Worlds
 pub mod Deciding
@@ -10,7 +9,6 @@ pub mod Turns
 pub mod Laws
 pub mod Examples
 pub mod Promised
-pub mod Conversation
 pub mod Overtaking
 pub mod Wrong
 pub mod Rounds

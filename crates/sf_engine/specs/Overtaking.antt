@@ -17,7 +17,7 @@ use Rattle.sf_engine.specs.declared.event.Event.{Event}
 use Rattle.sf_engine.specs.declared.event.Event.TheVariants as event
 use Rattle.sf_engine.specs.declared.event.Happened.{Happened}
 use Rattle.sf_engine.specs.declared.event.Happened.TheVariants as happened
-use Rattle.sf_engine.specs.Responses.{Response, Version, ByCall}
+use Rattle.sf_session.specs.Responses.{Response, Version, ByCall}
 use Rattle.sf_engine.specs.Promise.{LogEntry, log_entry}
 use Rattle.sf_engine.specs.Examples.{init_packet, mkdir_packet, mkdir, made}
 

@@ -21,7 +21,7 @@ use Rattle.sf_engine.specs.declared.event.Happened.{Happened}
 use Rattle.sf_engine.specs.declared.event.Happened.TheVariants as happened
 use Rattle.sf_engine.specs.declared.event.EngineFault.{EngineFault}
 use Rattle.sf_engine.specs.declared.event.EngineFault.TheVariants as fault
-use Rattle.sf_engine.specs.Responses.{Response, Version, Locally, ByCall, Refused, ask_behind, transcript, has_begun, AreAsked, if_so, RepliedCall, recorded_in, answered_in, Due, Nothing, Recorded, asked_due, recorded_due, most_calls}
+use Rattle.sf_session.specs.Responses.{Response, Version, Locally, ByCall, Refused, ask_behind, transcript, has_begun, AreAsked, if_so, RepliedCall, recorded_in, answered_in, Due, Nothing, Recorded, asked_due, recorded_due, most_calls}
 
 -- The entry of one event: what the caller was told of it, the records that it added to the order of
 -- all calls, and the reply that it wrote. The caller sees the first two alone.

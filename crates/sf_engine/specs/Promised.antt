@@ -12,11 +12,12 @@ use Rattle.sf_session.specs.declared.cause.Cause.{Cause}
 use Rattle.sf_session.specs.declared.cause.Cause.TheVariants.{Closed}
 use Rattle.sf_engine.specs.declared.event.Happened.{Happened}
 use Rattle.sf_engine.specs.declared.event.Happened.TheVariants as happened
-use Rattle.sf_engine.specs.Worlds.{TraceEntry, Response, Phase, Resting, UnderWay, Decided, Gone, SessionState, World, is_here}
-use Rattle.sf_engine.specs.Traces.{TakesNone, ReachesWorld}
+use Rattle.sf_engine.specs.Worlds.{TraceEntry, World}
+use Rattle.sf_session.specs.Responses.{Response, RepliedCall, recorded_in, answered_in, Due, Nothing, Unrecorded, Recorded, recorded_due}
+use Rattle.sf_session.specs.SessionStates.{Phase, Resting, UnderWay, Decided, Gone, SessionState, is_here, TakesNone}
+use Rattle.sf_engine.specs.Traces.{ReachesWorld}
 use Rattle.sf_engine.specs.Views.{EngineView}
 use Rattle.sf_engine.specs.Fits.{Fits}
-use Rattle.sf_engine.specs.Responses.{RepliedCall, recorded_in, answered_in, Due, Nothing, Unrecorded, Recorded, recorded_due}
 use Rattle.sf_engine.specs.Promise.{LogEntry, linearization, fed_in, written_in, WasClosed, HasLeft, opened_in, Beginning, begun_in, begun_for, EndsIn, IsLawful, IsKept, IsOfBytes}
 
 abbrev pub replied : ℕ → Request → Reply → RepliedCall

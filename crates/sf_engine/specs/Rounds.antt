@@ -5,7 +5,8 @@ use Rattle.sf_core.specs.Progress.{bound_of}
 use Rattle.sf_core.specs.Stuck.{left_below}
 use Rattle.sf_engine.specs.declared.event.Event.TheVariants as event
 use Rattle.sf_engine.specs.declared.event.Happened.{Happened}
-use Rattle.sf_engine.specs.Worlds.{TraceEntry, Phase, Resting, UnderWay, Decided, Gone, SessionState, World}
+use Rattle.sf_engine.specs.Worlds.{TraceEntry, World}
+use Rattle.sf_session.specs.SessionStates.{Phase, Resting, UnderWay, Decided, Gone, SessionState}
 use Rattle.sf_engine.specs.Views.{EngineView}
 use Rattle.sf_engine.specs.Fits.{Fits, GoesOnTrace}
 

@@ -8,7 +8,7 @@ use Rattle.sf_call.specs.declared.record.Record.{Record}
 use Rattle.sf_engine.specs.declared.event.Event.TheVariants as event
 use Rattle.sf_engine.specs.declared.event.Happened.{Happened}
 use Rattle.sf_engine.specs.declared.event.Happened.TheVariants as happened
-use Rattle.sf_engine.specs.Responses.{Response, Version, ByCall}
+use Rattle.sf_session.specs.Responses.{Response, Version, ByCall}
 use Rattle.sf_engine.specs.Promise.{LogEntry}
 use Rattle.sf_engine.specs.Examples.{mkdir, made}
 use Rattle.sf_engine.specs.Overtaking.{ok, came}

@@ -4,7 +4,7 @@ ghost use Rattle.std.specs.Prelude.{◌≡◌, ◌<◌, ◌≤◌, ◌^◌, ◌+
 ghost use Rattle.std.specs.Global.{Vec};
 ghost use Rattle.std.specs.List.{AllByRecursion, sum_by};
 ghost use Rattle.sf_call.specs.declared.record.Record.{Record};
-ghost use Rattle.sf_engine.specs.Worlds.{Response};
+ghost use Rattle.sf_session.specs.Responses.{Response};
 ghost use Rattle.sf_engine.specs.Promise.{LogEntry, log_entry, opened_by, IsKnown, IsUnsent, IsKept, IsOfBytes, refusals, AreTurns, IsStepAtZero, AreDecided, WaitsForBytes, IsOutcome};
 
 use crate::engine::Engine;

@@ -2,13 +2,14 @@
 //! it is first given the requests that the client should send, and the client then its replies.
 //! What the client sent is compared with what the server was given.
 
+use sf_alone::serve_one;
 use sf_cases::{StillClock, hex_packets, whole};
 use sf_client::{Client, ClientFault};
 use sf_engine::Engine;
 use sf_field::Attrs;
 use sf_line::{MemoryLine, Pieces};
 use sf_reply::{Entry, StatusCode};
-use sf_serving::{NoObserver, serve_one};
+use sf_serving::NoObserver;
 use sf_session::Cause;
 use std::alloc::Global;
 use std::process::Abort;

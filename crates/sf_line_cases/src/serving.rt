@@ -1,9 +1,10 @@
 //! Sessions from bytes to bytes, at the moment 100, fed whole, byte by byte and cut at each place.
 
+use sf_alone::serve_one;
 use sf_cases::{RisingClock, StillClock, hex_bytes, hex_packets};
 use sf_engine::Engine;
 use sf_line::{Line, MemoryLine, Pieces};
-use sf_serving::{NoObserver, serve_one};
+use sf_serving::NoObserver;
 use sf_session::{Cause, Clock, ServeFault};
 use std::alloc::Global;
 use std::process::Abort;

@@ -14,8 +14,8 @@ use Rattle.sf_session.specs.declared.asking.Ask.TheVariants as ask
 use Rattle.sf_session.specs.declared.session.SessionFault.{SessionFault}
 use Rattle.sf_session.specs.Sessions.{SessionView, refusal_of, reply_room}
 use Rattle.sf_session.proofs.Laws.{refusal_short}
-use Rattle.sf_engine.specs.Worlds.{Response, ByCall, Refused, ask_behind, packet_for}
-use Rattle.sf_engine.specs.Laws.{HasShortPacket}
+use Rattle.sf_session.specs.Responses.{Response, ByCall, Refused, ask_behind, packet_for}
+use Rattle.sf_session.specs.SessionStates.{HasShortPacket}
 use Rattle.sf_audit.specs.Audits.{CallRecord}
 use Rattle.sf_noted.specs.Pages.Presence.{UnderWay}
 use Rattle.sf_pool.specs.declared.desk.Begin.{Begin}

@@ -6,7 +6,7 @@ use Rattle.sf_session.specs.declared.cause.Cause.{Cause}
 use Rattle.sf_session.specs.declared.fault.ServeFault.{ServeFault}
 use Rattle.sf_session.specs.declared.fault.ServeFault.TheVariants as fault
 use Rattle.sf_session.specs.Sessions.{SessionView}
-use Rattle.sf_engine.specs.Worlds.{Phase, UnderWay as InCall, Gone as Left, SessionState}
+use Rattle.sf_session.specs.SessionStates.{Phase, UnderWay as InCall, Gone as Left, SessionState}
 use Rattle.sf_serving.specs.Ends.{IsWhole}
 use Rattle.sf_serving.specs.Hosts.{IsLeftFor}
 use Rattle.sf_serving.specs.Serving.{LineView, Progress, Serves, IsServed, HasWrittenFor, IsStopped, IsStop}

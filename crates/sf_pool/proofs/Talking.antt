@@ -17,14 +17,13 @@ use Rattle.sf_session.specs.declared.fault.ServeFault.{ServeFault}
 use Rattle.sf_session.specs.declared.session.Next.TheVariants as next
 use Rattle.sf_session.specs.Asking.{AsksFor}
 use Rattle.sf_session.specs.Sessions.{SessionView, Begins, NextGives, LocalPacket, EndsBy, new_session}
-use Rattle.sf_engine.specs.Worlds.{Response, Version, Locally, ask_behind, packet_for, transcript, Phase, Resting as AtRest, UnderWay as InCall, Decided, Gone as Left, SessionState, new_state}
-use Rattle.sf_engine.specs.Traces.{has_begun, fed, closed_now}
-use Rattle.sf_engine.specs.Laws.{pending, asks_of, AreAsked, IsRest, IsRead, HasShortPacket}
-use Rattle.sf_engine.proofs.Laws.{all_push, begun_is, begun_push, asked_push}
+use Rattle.sf_session.specs.Responses.{Response, Version, Locally, ask_behind, packet_for, transcript, has_begun, AreAsked}
+use Rattle.sf_session.specs.SessionStates.{Phase, Resting as AtRest, UnderWay as InCall, Decided, Gone as Left, SessionState, new_state, fed, closed_now, pending, asks_of, IsRest, IsRead, HasShortPacket}
+use Rattle.sf_session.proofs.Laws.{all_push, begun_is, begun_push, asked_push, not_closed}
 use Rattle.sf_serving.specs.declared.host.Went.{Went}
 use Rattle.sf_serving.specs.declared.host.Went.TheVariants as went
 use Rattle.sf_serving.specs.Hosts.{IsOpen, HasSent, IsBatch, IsFurther, WentTo, with_sent, ended}
-use Rattle.sf_serving.proofs.Laws.{transcript_append, none_written, one_packet, front_all, rest_asked, rest_stream, ended_same, not_closed, batch_none, batch_one}
+use Rattle.sf_serving.proofs.Laws.{transcript_append, none_written, one_packet, front_all, rest_asked, rest_stream, ended_same, batch_none, batch_one}
 use Rattle.sf_audit.specs.Audits.{CallRecord}
 use Rattle.sf_pool.specs.declared.calling.Stop.{Stop}
 use Rattle.sf_pool.specs.declared.calling.Stop.TheVariants as stop

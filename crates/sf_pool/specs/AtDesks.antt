@@ -9,9 +9,8 @@ use Rattle.sf_session.specs.declared.asking.Ask.TheVariants as ask
 use Rattle.sf_session.specs.declared.fault.ServeFault.{ServeFault}
 use Rattle.sf_session.specs.declared.fault.ServeFault.TheVariants as fault
 use Rattle.sf_session.specs.Sessions.{SessionView, reply_room}
-use Rattle.sf_engine.specs.Worlds.{Response, ask_behind, packet_for, transcript, Resting as AtRest, SessionState}
-use Rattle.sf_engine.specs.Traces.{has_begun}
-use Rattle.sf_engine.specs.Laws.{HasShortPacket}
+use Rattle.sf_session.specs.Responses.{Response, ask_behind, packet_for, transcript, has_begun}
+use Rattle.sf_session.specs.SessionStates.{Resting as AtRest, SessionState, HasShortPacket}
 use Rattle.sf_serving.specs.Hosts.{most_counted}
 use Rattle.sf_audit.specs.Audits.{CallRecord}
 use Rattle.sf_noted.specs.Pages.Presence.{UnderWay, Departed}

@@ -9,7 +9,8 @@ use Rattle.sf_call.specs.declared.fault.CoreFault.TheVariants as refused
 use Rattle.sf_session.specs.declared.cause.Cause.{Cause}
 use Rattle.sf_session.specs.declared.fault.ServeFault.{ServeFault}
 use Rattle.sf_session.specs.declared.fault.ServeFault.TheVariants as fault
-use Rattle.sf_engine.specs.Worlds.{Response, Version, Locally, ByCall, Refused as NotBegun, Phase, Resting as AtRest, UnderWay as InCall, Decided, Gone as Left, SessionState}
+use Rattle.sf_session.specs.Responses.{Response, Version, Locally, ByCall, Refused as NotBegun}
+use Rattle.sf_session.specs.SessionStates.{Phase, Resting as AtRest, UnderWay as InCall, Decided, Gone as Left, SessionState}
 use Rattle.sf_serving.specs.Hosts.{most_counted}
 use Rattle.sf_serving.specs.Serving.{LineView, Progress, Serves, IsServed, HasWrittenFor}
 use Rattle.sf_audit.specs.Audits.{CallRecord}

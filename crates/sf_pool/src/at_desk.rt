@@ -4,9 +4,8 @@ ghost use Rattle.std.specs.Prelude.{◌≡◌, ◌≤◌, ℕ, List, length, tak
 ghost use Rattle.sf_session.specs.declared.fault.ServeFault.{ServeFault};
 ghost use Rattle.sf_session.specs.declared.fault.ServeFault.TheVariants.{Stranger};
 ghost use Rattle.sf_session.specs.Sessions.{new_session};
-ghost use Rattle.sf_engine.specs.Worlds.{SessionState, transcript};
-ghost use Rattle.sf_engine.specs.Traces.{fed};
-ghost use Rattle.sf_engine.specs.Laws.{IsRead};
+ghost use Rattle.sf_session.specs.SessionStates.{SessionState, fed, IsRead};
+ghost use Rattle.sf_session.specs.Responses.{transcript};
 ghost use Rattle.sf_serving.specs.Hosts.{IsOpen, HasSent, IsFurther, WentTo, with_sent, ended, IsHostFault};
 ghost use Rattle.sf_pool.specs.AtDesks.{standing_fault, standing_after, stop_fault, IsAdded};
 

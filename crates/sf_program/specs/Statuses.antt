@@ -7,7 +7,7 @@ use Rattle.sf_session.specs.declared.fault.ServeFault.{ServeFault}
 use Rattle.sf_session.specs.declared.fault.ServeFault.TheVariants as fault
 use Rattle.sf_engine.specs.Views.{EngineView}
 use Rattle.sf_engine.specs.Fits.{Fits}
-use Rattle.sf_serving.specs.OnEngine.{IoState, ServesLine, StopsEarly, IsServeFault}
+use Rattle.sf_alone.specs.OnEngine.{IoState, ServesLine, StopsEarly, IsServeFault}
 
 -- the end of the input is no fault
 abbrev pub status_of_cause : Cause → ℕ

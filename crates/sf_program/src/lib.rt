@@ -9,7 +9,7 @@
 //! runs one command on it. `descriptors.rt` asks the system's streams whether they would wait, for
 //! lines that read ahead, and `output.rt` writes to them; both are told bytes by whatever tells
 //! them, and what the system's descriptors do with bytes is tested. All else is in the crates
-//! below; the promises are those of `serve_one` of `sf_serving` and of `serve` of `sf_pool`.
+//! below; the promises are those of `serve_one` of `sf_alone` and of `serve` of `sf_pool`.
 #![tactic(auto)]
 
 pub mod accepting;

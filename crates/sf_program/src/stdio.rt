@@ -7,13 +7,14 @@ ghost use Rattle.sf_session.specs.declared.cause.Cause.{Cause};
 ghost use Rattle.sf_session.specs.declared.fault.ServeFault.{ServeFault};
 ghost use Rattle.sf_engine.specs.Views.{EngineView};
 ghost use Rattle.sf_serving.specs.Serving.{line_view};
-ghost use Rattle.sf_serving.specs.OnEngine.{io_state};
-ghost use Rattle.sf_serving.specs.Talks.{talk_view, ConversesTo};
+ghost use Rattle.sf_alone.specs.OnEngine.{io_state};
+ghost use Rattle.sf_alone.specs.Talks.{talk_view, ConversesTo};
 ghost use Rattle.sf_program.specs.Statuses.{exit_status, line_of_cause, line_of, ServingComesTo, SessionEnds};
 
+use sf_alone::serve_one;
 use sf_engine::Engine;
 use sf_line::{Line, LineFault, write_all};
-use sf_serving::{CallObserver, serve_one};
+use sf_serving::CallObserver;
 use sf_session::{Cause, Clock, ServeFault};
 use std::alloc::Global;
 

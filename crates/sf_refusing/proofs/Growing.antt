@@ -10,7 +10,7 @@ use Rattle.std.proofs.lemmas.List.Sums.{sum_by_push}
 use Rattle.sf_engine.specs.declared.event.Event.{Event}
 use Rattle.sf_engine.specs.declared.event.Happened.{Happened}
 use Rattle.sf_engine.specs.declared.event.EngineFault.{EngineFault}
-use Rattle.sf_engine.specs.Responses.{Response, packet_for, transcript, if_so}
+use Rattle.sf_session.specs.Responses.{Response, packet_for, transcript, if_so}
 use Rattle.sf_engine.specs.Promise.{LogEntry, fed_by, written_by, written_in, sent_at, sent_of, IsUnsent}
 use Rattle.sf_refusing.specs.declared.rule.Rule.{Rule}
 use Rattle.sf_refusing.specs.Journal.{Act, Ruled, Came, Went, Did, Apart, Passed, Refused, Packet, logged, log_of, came_by, came_in, taken_by, taken_in, sent_by, sent_in, went_by, went_in, rules_in, since_given, counts, counted, refused_by, refused_in}

@@ -7,7 +7,7 @@ use Rattle.sf_engine.specs.declared.event.Event.{Event}
 use Rattle.sf_engine.specs.declared.event.Event.TheVariants as event
 use Rattle.sf_engine.specs.declared.event.Happened.{Happened}
 use Rattle.sf_engine.specs.declared.event.EngineFault.{EngineFault}
-use Rattle.sf_engine.specs.Responses.{transcript, if_so}
+use Rattle.sf_session.specs.Responses.{transcript, if_so}
 use Rattle.sf_engine.specs.Promise.{LogEntry, fed_by, fed_in, written_by, written_in, sent_at}
 use Rattle.sf_refusing.specs.declared.rule.Rule.{Rule}
 use Rattle.sf_refusing.specs.declared.refusals.Refusals.{Refusals}

@@ -13,7 +13,7 @@ use Rattle.sf_engine.specs.declared.event.Event.TheVariants as event
 use Rattle.sf_engine.specs.declared.event.Happened.{Happened}
 use Rattle.sf_engine.specs.declared.event.Happened.TheVariants as happened
 use Rattle.sf_engine.specs.declared.event.EngineFault.{EngineFault}
-use Rattle.sf_engine.specs.Responses.{Response, transcript}
+use Rattle.sf_session.specs.Responses.{Response, transcript}
 use Rattle.sf_engine.specs.Promise.{LogEntry, log_entry, fed_by, written_by, written_in, sent_at, sent_of, IsUnsent, IsKnown, WaitsForBytes, MayComeTo, AreTurns}
 use Rattle.sf_refusing.specs.declared.given.GivenRule.{GivenRule}
 use Rattle.sf_refusing.specs.declared.passage.Passage.{Passage}

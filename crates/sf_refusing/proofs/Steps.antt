@@ -17,7 +17,7 @@ use Rattle.sf_engine.specs.declared.event.Event.{Event}
 use Rattle.sf_engine.specs.declared.event.Event.TheVariants as event
 use Rattle.sf_engine.specs.declared.event.Happened.{Happened}
 use Rattle.sf_engine.specs.declared.event.EngineFault.{EngineFault}
-use Rattle.sf_engine.specs.Responses.{Response, transcript, if_so}
+use Rattle.sf_session.specs.Responses.{Response, transcript, if_so}
 use Rattle.sf_engine.specs.Promise.{LogEntry, fed_by, written_by, sent_at, IsUnsent, WaitsForBytes, AreTurns, goes_on}
 use Rattle.sf_refusing.specs.declared.rule.Rule.{Rule}
 use Rattle.sf_refusing.specs.declared.given.GivenRule.{GivenRule}

@@ -7,7 +7,7 @@ use Rattle.sf_request.specs.declared.request.Asked.TheVariants.{Request}
 use Rattle.sf_reply.specs.declared.reply.StatusCode.{StatusCode}
 use Rattle.sf_reply.specs.declared.reply.Reply.TheVariants.{Status}
 use Rattle.sf_reply.specs.Replies.{reply_body}
-use Rattle.sf_engine.specs.Responses.{transcript, if_so}
+use Rattle.sf_session.specs.Responses.{transcript, if_so}
 use Rattle.sf_engine.specs.Promise.{LogEntry, fed_by, written_by}
 use Rattle.sf_refusing.specs.declared.rule.Rule.{Rule}
 use Rattle.sf_refusing.specs.Rules.{is_for}

@@ -9,7 +9,7 @@ ghost use Rattle.sf_call.specs.declared.record.Record.{Record};
 ghost use Rattle.sf_engine.specs.declared.event.Event.TheVariants as event;
 ghost use Rattle.sf_engine.specs.declared.event.Happened.{Happened};
 ghost use Rattle.sf_engine.specs.Promise.{LogEntry, log_entry, IsKnown, IsUnsent, MayBeRefused};
-ghost use Rattle.sf_engine.specs.Responses.{Response};
+ghost use Rattle.sf_session.specs.Responses.{Response};
 
 use bytes::BytesMut;
 use sf_engine::{EngineFault, Event, Sftp};

@@ -1,7 +1,7 @@
 //! Laws of journals, which no call needs.
 
 ghost use Rattle.std.specs.Prelude.{◌≡◌, ◌++◌, ℕ, List, [], map};
-ghost use Rattle.sf_engine.specs.Responses.{transcript};
+ghost use Rattle.sf_session.specs.Responses.{transcript};
 ghost use Rattle.sf_engine.specs.Promise.{LogEntry, fed_in, written_in};
 ghost use Rattle.sf_refusing.specs.declared.refusals.Refusals.{Refusals};
 ghost use Rattle.sf_refusing.specs.Journal.{Act, Apart, log_of, rules_in, sent_in, taken_in};

@@ -7,9 +7,9 @@ use Rattle.sf_line.specs.declared.line_call.LineCall.{LineCall}
 use Rattle.sf_line.specs.declared.line_call.LineCall.TheVariants.{Read, Write}
 use Rattle.sf_line.specs.Lines.{given, taken, bytes_given, bytes_taken}
 use Rattle.sf_call.specs.ReplyKinds.{longest_packet}
-use Rattle.sf_engine.specs.Worlds.{Response, Version, Locally, ByCall, Refused, packet_for, transcript}
-use Rattle.sf_engine.proofs.Laws.{all_push}
-use Rattle.sf_engine.specs.Laws.{HasShortPacket}
+use Rattle.sf_session.specs.Responses.{Response, Version, Locally, ByCall, Refused, packet_for, transcript}
+use Rattle.sf_session.proofs.Laws.{all_push}
+use Rattle.sf_session.specs.SessionStates.{HasShortPacket}
 use Rattle.sf_serving.specs.Hosts.{IsFront, IsBatch}
 use Rattle.sf_serving.specs.Serving.{Progress, IsPromptAt, IsPrompt, IsPiece, Batch, IsWritten, AreBatched}
 use Rattle.sf_serving.specs.Rounds.{IsPieceWritten}

@@ -1,13 +1,5 @@
-pub mod Alone
-pub mod Following
 pub mod Fronts
-pub mod Hosting
 pub mod Laws
-pub mod OneStream
 pub mod Outcomes
-pub mod Reaching
 pub mod Rounds
 pub mod Sessions
-pub mod Standing
-pub mod Talking
-pub mod Turning

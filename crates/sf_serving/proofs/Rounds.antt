@@ -12,9 +12,8 @@ use Rattle.sf_session.specs.declared.cause.Cause.{Cause}
 use Rattle.sf_session.specs.declared.cause.Cause.TheVariants.{Closed}
 use Rattle.sf_session.specs.declared.fault.ServeFault.{ServeFault}
 use Rattle.sf_session.specs.declared.fault.ServeFault.TheVariants as serve
-use Rattle.sf_engine.specs.Worlds.{transcript, SessionState, new_state}
-use Rattle.sf_engine.specs.Traces.{fed}
-use Rattle.sf_engine.specs.Laws.{IsRead}
+use Rattle.sf_session.specs.Responses.{transcript}
+use Rattle.sf_session.specs.SessionStates.{SessionState, new_state, fed, IsRead}
 use Rattle.sf_serving.specs.declared.host.Went.{Went}
 use Rattle.sf_serving.specs.declared.host.Went.TheVariants as went
 use Rattle.sf_serving.specs.Ends.{IsWhole}

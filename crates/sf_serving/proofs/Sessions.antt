@@ -14,10 +14,9 @@ use Rattle.sf_line.proofs.Laws.{logs_none, logs_more}
 use Rattle.sf_session.specs.declared.asking.Ask.{Ask}
 use Rattle.sf_session.specs.declared.cause.Cause.{Cause}
 use Rattle.sf_session.specs.declared.cause.Cause.TheVariants.{Closed}
-use Rattle.sf_engine.specs.Worlds.{Response, ask_behind, transcript, Phase, Resting, Gone, SessionState, new_state, is_here}
-use Rattle.sf_engine.specs.Traces.{TakesNone, has_begun, fed, closed_now, left_for}
-use Rattle.sf_engine.specs.Laws.{pending, asks_of, AreAsked, IsRest, IsRead}
-use Rattle.sf_engine.proofs.Laws.{asked_each}
+use Rattle.sf_session.specs.Responses.{Response, ask_behind, transcript, has_begun, AreAsked}
+use Rattle.sf_session.specs.SessionStates.{Phase, Resting, Gone, SessionState, new_state, is_here, TakesNone, fed, closed_now, left_for, pending, asks_of, IsRest, IsRead}
+use Rattle.sf_session.proofs.Laws.{asked_each}
 use Rattle.sf_serving.specs.Ends.{IsEnd, IsWhole}
 use Rattle.sf_serving.specs.Hosts.{IsFront, IsOpen, HasSent, Waits, IsFurther, with_sent, ended}
 use Rattle.sf_serving.specs.Serving.{LineView, Progress, progress, IsPromptAt, AreBatched, ServedSoFar, IsInStep, Rests}

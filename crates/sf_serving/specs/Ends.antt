@@ -7,9 +7,8 @@ use Rattle.sf_wire.specs.Packets.{IsBody, IsCut}
 use Rattle.sf_session.specs.declared.cause.Cause.{Cause}
 use Rattle.sf_session.specs.declared.cause.Cause.TheVariants.{Closed}
 use Rattle.sf_session.specs.Sessions.{EndsBy}
-use Rattle.sf_engine.specs.Worlds.{ask_behind, Gone, SessionState}
-use Rattle.sf_engine.specs.Traces.{has_begun}
-use Rattle.sf_engine.specs.Laws.{AreAsked}
+use Rattle.sf_session.specs.Responses.{ask_behind, has_begun, AreAsked}
+use Rattle.sf_session.specs.SessionStates.{Gone, SessionState}
 
 -- The end of what was read: less than a packet is left, or what is left begins with a wrong length
 -- or an ending packet.

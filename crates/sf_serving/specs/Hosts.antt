@@ -5,9 +5,8 @@ use Rattle.sf_wire.specs.Packets.{IsCut}
 use Rattle.sf_session.specs.declared.cause.Cause.TheVariants.{Closed}
 use Rattle.sf_session.specs.declared.fault.ServeFault.{ServeFault}
 use Rattle.sf_session.specs.declared.fault.ServeFault.TheVariants as fault
-use Rattle.sf_engine.specs.Worlds.{Response, transcript, Resting, SessionState}
-use Rattle.sf_engine.specs.Traces.{closed_now}
-use Rattle.sf_engine.specs.Laws.{IsRead, HasShortPacket}
+use Rattle.sf_session.specs.Responses.{Response, transcript}
+use Rattle.sf_session.specs.SessionStates.{Resting, SessionState, closed_now, IsRead, HasShortPacket}
 use Rattle.sf_serving.specs.declared.host.Went.{Went}
 use Rattle.sf_serving.specs.declared.host.Went.TheVariants as went
 use Rattle.sf_serving.specs.Ends.{IsWhole}

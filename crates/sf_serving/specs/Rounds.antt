@@ -10,7 +10,7 @@ use Rattle.sf_session.specs.declared.cause.Cause.{Cause}
 use Rattle.sf_session.specs.declared.cause.Cause.TheVariants.{Closed}
 use Rattle.sf_session.specs.declared.fault.ServeFault.{ServeFault}
 use Rattle.sf_session.specs.declared.fault.ServeFault.TheVariants as fault
-use Rattle.sf_engine.specs.Worlds.{SessionState}
+use Rattle.sf_session.specs.SessionStates.{SessionState}
 use Rattle.sf_serving.specs.Ends.{IsWhole}
 use Rattle.sf_serving.specs.Hosts.{HasSent, with_sent, ended}
 use Rattle.sf_serving.specs.Serving.{LineView, Progress, progress, ServedSoFar, IsInStep, Rests, HasWritten, IsSpentFor}

@@ -10,9 +10,8 @@ use Rattle.sf_session.specs.declared.cause.Cause.{Cause}
 use Rattle.sf_session.specs.declared.cause.Cause.TheVariants.{Closed}
 use Rattle.sf_session.specs.declared.fault.ServeFault.{ServeFault}
 use Rattle.sf_session.specs.declared.fault.ServeFault.TheVariants as fault
-use Rattle.sf_engine.specs.Worlds.{Response, transcript, SessionState}
-use Rattle.sf_engine.specs.Traces.{TakesNone}
-use Rattle.sf_engine.specs.Laws.{IsRead}
+use Rattle.sf_session.specs.Responses.{Response, transcript}
+use Rattle.sf_session.specs.SessionStates.{SessionState, TakesNone, IsRead}
 use Rattle.sf_serving.specs.Ends.{IsWhole}
 use Rattle.sf_serving.specs.Hosts.{IsFront, IsOpen, Waits, HasSent, IsBatch, most_counted}
 

@@ -2,7 +2,7 @@
 
 ghost use Rattle.std.specs.Prelude.{◌≤◌, ◌+◌, ℕ, List, length};
 ghost use Rattle.sf_call.specs.ReplyKinds.{longest_packet};
-ghost use Rattle.sf_engine.specs.Worlds.{Response, transcript};
+ghost use Rattle.sf_session.specs.Responses.{Response, transcript};
 ghost use Rattle.sf_serving.specs.Hosts.{IsBatch};
 
 /// No more bytes wait than those that a host holds and one longest packet. Where it holds none, one

@@ -3,9 +3,8 @@
 ghost use Rattle.std.specs.Prelude.{◌≡◌, ◌<◌, ◌≤◌, ◌++◌, ◌^◌, ℕ, List, Option, Some, None, length, take, vec_len, IfOk, IfErr, OnOk, OnErr};
 ghost use Rattle.sf_session.specs.declared.fault.ServeFault.{ServeFault};
 ghost use Rattle.sf_session.specs.declared.fault.ServeFault.TheVariants.{Stranger};
-ghost use Rattle.sf_engine.specs.Worlds.{SessionState, transcript};
-ghost use Rattle.sf_engine.specs.Traces.{fed};
-ghost use Rattle.sf_engine.specs.Laws.{IsRead};
+ghost use Rattle.sf_session.specs.SessionStates.{SessionState, fed, IsRead};
+ghost use Rattle.sf_session.specs.Responses.{transcript};
 ghost use Rattle.sf_serving.specs.Hosts.{IsOpen, HasSent, IsFurther, WentTo, with_sent, ended, IsHostFault};
 
 use sf_session::{Cause, Clock, ServeFault};

@@ -2,7 +2,7 @@
 
 ghost use Rattle.std.specs.Prelude.{◌≡◌, ◌<◌, ◌≤◌, ◌+◌, ◌∷◌, ℕ, List, [], length, take, Option, None, Result, Ok, IfOk, IfErr, OnOk, OnErr, vec_len};
 ghost use Rattle.sf_line.specs.Lines.{Rose};
-ghost use Rattle.sf_engine.specs.Worlds.{SessionState};
+ghost use Rattle.sf_session.specs.SessionStates.{SessionState};
 ghost use Rattle.sf_serving.specs.Hosts.{IsLeftFor};
 ghost use Rattle.sf_serving.specs.Serving.{LineView, line_view, Progress, ServedSoFar, Serves, GoesOn, Rests, IsServed, IsStopped, IsStop};
 ghost use Rattle.sf_serving.specs.Rounds.{WritesByPieces, WritesFront, SendsAll, SendsSome, IsRounded, EndsByCause, Stops, HasStopped};

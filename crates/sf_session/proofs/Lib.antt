@@ -1,2 +1,4 @@
+pub mod Asked
+pub mod Causes
 pub mod ShortPackets
 pub mod Laws

@@ -1,3 +1,6 @@
 pub mod Causes
 pub mod Asking
 pub mod Sessions
+pub mod Responses
+pub mod SessionStates
+pub mod Conversation

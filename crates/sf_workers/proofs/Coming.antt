@@ -6,7 +6,7 @@ use Rattle.sf_session.specs.declared.fault.ServeFault.TheVariants as fault
 use Rattle.sf_noted.specs.Pages.{Page}
 use Rattle.sf_noted.specs.Pages.{Presence}
 use Rattle.sf_noted.specs.Pages.Presence.{UnderWay, Departed}
-use Rattle.sf_engine.specs.Worlds.{SessionState}
+use Rattle.sf_session.specs.SessionStates.{SessionState}
 use Rattle.sf_serving.specs.Serving.{LineView, Progress}
 use Rattle.sf_pool.specs.Desks.{DeskState, Refused, Joined, DeskView}
 use Rattle.sf_pool.specs.Scenes.{DeskScene, IsInCall, ServesDesk, NeverJoins, HasLeft, LeavesFor, StopsDesk, IsDeskFault}

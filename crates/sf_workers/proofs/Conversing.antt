@@ -9,9 +9,8 @@ use Rattle.sf_call.specs.declared.fault.CoreFault.{CoreFault}
 use Rattle.sf_call.specs.declared.record.Record.{Record}
 use Rattle.sf_call.specs.declared.record.Record.TheVariants.{Did, Left}
 use Rattle.sf_session.specs.declared.asking.Ask.{Ask}
-use Rattle.sf_engine.specs.Responses.{RepliedCall, Response, Version, Locally, ByCall, Refused, ask_behind, AreAsked, if_so, recorded_in, answered_in, Due, Nothing, Unrecorded, Recorded, asked_due, recorded_due}
-use Rattle.sf_engine.specs.Worlds.{Phase, Resting as AtRest, UnderWay as InCall, Decided, Gone}
-use Rattle.sf_engine.specs.Laws.{pending}
+use Rattle.sf_session.specs.Responses.{RepliedCall, Response, Version, Locally, ByCall, Refused, ask_behind, AreAsked, if_so, recorded_in, answered_in, Due, Nothing, Unrecorded, Recorded, asked_due, recorded_due}
+use Rattle.sf_session.specs.SessionStates.{Phase, Resting as AtRest, UnderWay as InCall, Decided, Gone, pending}
 use Rattle.sf_audit.specs.Audits.{CallRecord, call_records}
 use Rattle.sf_noted.specs.Pages.{Page}
 use Rattle.sf_noted.specs.Pages.{Presence}

@@ -1,7 +1,7 @@
 -- The promises of an engine and of a session alone, as conversations in a history.
 use Rattle.std.proofs.Common.{ℕ, List, [], append-nil, sym}
 use Rattle.sf_engine.specs.Promise.{LogEntry, linearization, fed_in, written_in, IsKnown, IsUnsent, IsKept}
-use Rattle.sf_engine.specs.Conversation.{IsConversation}
+use Rattle.sf_session.specs.Conversation.{IsConversation}
 use Rattle.sf_workers.specs.Conversations.{IsConversationIn}
 
 pub of_engine : (log : List LogEntry) → IsKept log → (session : ℕ) → IsKnown log session

@@ -5,7 +5,7 @@ use Rattle.std.specs.Io.KnownBytes.{Appends, Consumes}
 use Rattle.sf_field.specs.Fields.{packet}
 use Rattle.sf_wire.specs.Packets.{IsBody}
 use Rattle.sf_call.specs.declared.record.Record.{Record}
-use Rattle.sf_engine.specs.Responses.{Response, ask_behind, transcript, AreAsked, recorded_in, answered_in, Due, asked_due, recorded_due}
+use Rattle.sf_session.specs.Responses.{Response, ask_behind, transcript, AreAsked, recorded_in, answered_in, Due, asked_due, recorded_due}
 use Rattle.sf_serving.specs.Serving.{LineView}
 
 -- The input is packets and a rest. Each packet's body was answered what it asks for, in order, but

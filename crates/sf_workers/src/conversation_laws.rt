@@ -2,7 +2,7 @@
 
 ghost use Rattle.std.specs.Prelude.{ℕ, List};
 ghost use Rattle.sf_engine.specs.Promise.{LogEntry, linearization, fed_in, IsKnown, IsUnsent, IsKept};
-ghost use Rattle.sf_engine.specs.Conversation.{IsConversation};
+ghost use Rattle.sf_session.specs.Conversation.{IsConversation};
 ghost use Rattle.sf_workers.specs.Conversations.{IsConversationIn};
 
 /// What an engine promises, and what is promised of a session alone, is of each session what is

@@ -1,8 +1,8 @@
 use Rattle.std.proofs.Common.{inr, refl}
 use Rattle.sf_serving.specs.Serving.{line_view}
-use Rattle.sf_serving.specs.OnEngine.{io_state}
-use Rattle.sf_serving.specs.Talks.{talk_view}
-use Rattle.sf_serving.proofs.Laws.{says_nothing}
+use Rattle.sf_alone.specs.OnEngine.{io_state}
+use Rattle.sf_alone.specs.Talks.{talk_view}
+use Rattle.sf_alone.proofs.Laws.{says_nothing}
 use Rattle.sf_program.proofs.Talks.{comes_talked}
 use Rattle.sf_program.proofs.stdio.serve.Goals as goal
 

@@ -1,5 +1,5 @@
 use Rattle.std.proofs.Common.{false, ◌≡◌, ℕ, List, [], Some, refl, sym, ap, ◌∙◌, length, arith, slice_get, subst}
-use Rattle.sf_engine.specs.Responses.{transcript}
+use Rattle.sf_session.specs.Responses.{transcript}
 use Rattle.sf_refusing.specs.declared.given.GivenRule.{GivenRule}
 use Rattle.sf_refusing.specs.declared.passage.Passage.{Passage}
 use Rattle.sf_refusing.specs.Refusing.{AllMayHappen, Serves, AreGiven}

@@ -1,0 +1,9 @@
+pub mod Alone
+pub mod Following
+pub mod Hosting
+pub mod Laws
+pub mod OneStream
+pub mod Reaching
+pub mod Standing
+pub mod Talking
+pub mod Turning

@@ -1,0 +1,3 @@
+pub mod OnEngine
+pub mod Alone
+pub mod Talks

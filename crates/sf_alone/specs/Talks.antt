@@ -1,0 +1,33 @@
+-- What a line gave and took, and what a clock told, when one session alone was served over it.
+use Rattle.std.specs.Prelude.{◌≡◌, ℕ, List, Option, Result, Ok, Err}
+use Rattle.std.specs.Io.KnownBytes.{Appends, Consumes, IsAtEnd}
+use Rattle.sf_session.specs.declared.cause.Cause.{Cause}
+use Rattle.sf_session.specs.declared.cause.Cause.TheVariants.{Closed}
+use Rattle.sf_session.specs.declared.fault.ServeFault.{ServeFault}
+use Rattle.sf_session.specs.Conversation.{IsConversation, IsWholeConversation}
+
+-- what a line has still to give, the moments that a clock told, and what the line has taken, where
+-- they tell them
+pub record TalkView : Type 0 where
+  pub incoming : Option (List ℕ)
+  pub told : Option (List ℕ)
+  pub outgoing : Option (List ℕ)
+
+abbrev pub talk_view : Option (List ℕ) → Option (List ℕ) → Option (List ℕ) → TalkView
+talk_view incoming told outgoing =
+    record { incoming = incoming; told = told; outgoing = outgoing }
+
+-- so much was read, told and written
+pub record Passes (start now : TalkView) (read moments written : List ℕ) : Type 0 where
+  pub was_read : Consumes start.incoming now.incoming read
+  pub was_told : Appends start.told now.told moments
+  pub was_written : Appends start.outgoing now.outgoing written
+
+-- Serving came to its end, and all that passed is a whole conversation, which goes to the end of
+-- the input where nothing else ended it; or it stopped, and what passed is a conversation.
+abbrev pub ConversesTo : TalkView → TalkView → Result Cause ServeFault → Type 0
+ConversesTo start now (Ok cause) = (read moments written : List ℕ)
+    × Passes start now read moments written × IsWholeConversation read moments written cause
+    × (cause ≡ Closed → IsAtEnd now.incoming)
+ConversesTo start now (Err fault) = (read moments written : List ℕ)
+    × Passes start now read moments written × IsConversation read moments written

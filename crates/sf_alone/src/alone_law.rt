@@ -1,0 +1,51 @@
+//! The law of one session alone, which no call needs.
+
+ghost use Rattle.std.specs.Prelude.{◌≡◌, ◌++◌, ℕ, List, [], map, Some};
+ghost use Rattle.sf_field.specs.Fields.{AreBytes};
+ghost use Rattle.sf_session.specs.declared.cause.Cause.{Cause};
+ghost use Rattle.sf_engine.specs.Worlds.{TraceEntry, World};
+ghost use Rattle.sf_session.specs.SessionStates.{SessionState};
+ghost use Rattle.sf_session.specs.Responses.{ask_behind};
+ghost use Rattle.sf_engine.specs.Views.{EngineView};
+ghost use Rattle.sf_engine.specs.Fits.{Fits, IsSentBy};
+ghost use Rattle.sf_serving.specs.Serving.{Progress};
+ghost use Rattle.sf_alone.specs.OnEngine.{IoState, IsTold, since_at, ServesLine};
+ghost use Rattle.sf_alone.specs.Alone.{answers_alone, moments_begun, HadMemoryThroughout, TellsAlone, EndsAlone, ServesAlone, supply};
+
+/// For one session alone, without want of memory, two served sessions of the same input and moments
+/// have equal output. One tree answers its calls, one after the other, however its bytes came in
+/// pieces and however its turns fell. So neither what it asked for, nor what it was answered, nor
+/// why it left, nor what was written depends on these. A line that is served by a new engine is
+/// such a session.
+pub fn one_session_alone()
+    ensures answers { (trace : List TraceEntry) (w : World) (t : SessionState)
+        → TellsAlone trace w t
+        → t.answers ≡ answers_alone (moments_begun trace) (map ask_behind t.answers) }
+    ensures whole { (input moments : List ℕ) → AreBytes input
+        → (trace trace' : List TraceEntry) (w w' : World) (t t' : SessionState)
+        (cause cause' : Cause)
+        → EndsAlone trace w t (supply input moments) cause
+        → EndsAlone trace' w' t' (supply input moments) cause'
+        → (t.bodies ≡ t'.bodies) × (t.answers ≡ t'.answers) × (cause ≡ cause') }
+    ensures output { (input moments : List ℕ) → AreBytes input
+        → (trace trace' : List TraceEntry) (e e' : EngineView) (fits : Fits e trace)
+        (fits' : Fits e' trace')
+        → (t t' : SessionState) (cause cause' : Cause)
+        → EndsAlone trace fits.world t (supply input moments) cause
+        → EndsAlone trace' fits'.world t' (supply input moments) cause'
+        → (a b : List ℕ) → IsSentBy e 1 a → IsSentBy e' 1 b → t.sent ++ a ≡ t'.sent ++ b }
+    ensures served { (input moments : List ℕ) → AreBytes input
+        → (start now start' now' : IoState) (p p' : Progress) (cause cause' : Cause)
+        → ServesAlone start now (supply input moments) cause p
+        → ServesAlone start' now' (supply input moments) cause' p'
+        → (p.written ≡ p'.written) × (cause ≡ cause')
+        × ((before : List ℕ) → start.line.outgoing ≡ Some before
+        → start'.line.outgoing ≡ Some before → now.line.outgoing ≡ now'.line.outgoing) }
+    ensures line { (start now : IoState) (input : List ℕ) (cause : Cause)
+        → (fits : Fits start.engine [])
+        → start.line.incoming ≡ Some input → ServesLine start now cause
+        → (session : ℕ) × (p : Progress)
+        × (tells : IsTold (since_at start [] fits) session now.engine now.told p.told)
+        × (HadMemoryThroughout tells.entries p.told
+        → ServesAlone start now (supply input (moments_begun tells.entries)) cause p) }
+{}

@@ -1,0 +1,273 @@
+//! A session that an engine serves.
+
+ghost use Rattle.std.specs.Prelude.{◌≡◌, ◌<◌, ◌≤◌, ◌∷◌, ℕ, List, [], length, take, Bool, Option, Result, Ok, IfOk, IfErr, OnOk, OnErr, vec_len};
+ghost use Rattle.std.specs.Io.KnownBytes.{Appends};
+ghost use Rattle.sf_session.specs.declared.fault.ServeFault.{ServeFault};
+ghost use Rattle.sf_engine.specs.declared.event.Event.TheVariants.{Open};
+ghost use Rattle.sf_engine.specs.declared.event.Happened.TheVariants.{Opened};
+ghost use Rattle.sf_session.specs.SessionStates.{SessionState, fed, IsRead};
+ghost use Rattle.sf_session.specs.Responses.{transcript};
+ghost use Rattle.sf_engine.specs.Fits.{GoesOnTrace};
+ghost use Rattle.sf_serving.specs.Hosts.{IsOpen, HasSent, IsFurther, WentTo, with_sent, ended, IsHostFault};
+ghost use Rattle.sf_serving.specs.Serving.{line_view};
+ghost use Rattle.sf_alone.specs.OnEngine.{Since, IsToldBy, io_state, may_begin_after, Turns, Feeds, Applies, HasOutput, ServesLine, StopsEarly, IsUnchanged, open_refusal, IsOpenFault, IsServeFault};
+
+use sf_call::Record;
+use sf_engine::{Engine, EngineFault, Event, Happened};
+use sf_line::Line;
+use sf_serving::{CallObserver, Host, ObservedCall, Went, new_piece, serve_session};
+use sf_session::{Cause, Clock, ServeFault};
+use std::alloc::{AllocError, Global};
+
+/// How many bytes of replies wait, while whole packets are unread.
+const BATCH: usize = 65536;
+
+/// Why no session opened.
+fn open_refusal(fault: EngineFault) -> ServeFault
+    ensures { result ≡ open_refusal fault }
+{
+    match fault {
+        EngineFault::Sessions => ServeFault::Sessions,
+        EngineFault::NumbersSpent => ServeFault::NumbersSpent,
+        _ => ServeFault::OutOfMemory,
+    }
+}
+
+/// A session opens for the line.
+fn open(engine: &mut Engine) -> Result<u64, ServeFault>
+    ensures opened { IfOk result (λ session. GoesOnTrace engine.old Open
+        (Ok (Opened session)) engine.new) }
+    ensures unchanged { OnErr result (IsUnchanged engine.old engine.new) }
+    ensures fault { IfErr result (λ fault. IsOpenFault engine.old fault) }
+{
+    let happened = match engine.apply(&Event::Open) {
+        Ok(happened) => happened,
+        Err(fault) => return Err(open_refusal(fault)),
+    };
+    match happened {
+        Happened::Opened(session) => Ok(session),
+        _ => Err(ServeFault::OutOfMemory),
+    }
+}
+
+/// The session is fed the first bytes of a piece.
+fn feed(engine: &mut Engine, session: u64, piece: &Vec<u8>, n: usize) -> Result<(), AllocError>
+    requires { n ≤ vec_len piece.now }
+    ensures fed { OnOk result (Feeds engine.old session (take n piece.now.items) engine.new) }
+    ensures err { OnErr result (engine.new ≡ engine.old) }
+{
+    if engine.feed(session, &piece[..n]).is_err() {
+        return Err(AllocError);
+    }
+    Ok(())
+}
+
+/// Turns of the session, of which all but the last go on. Where no call may begin, their moment has
+/// no effect, and the clock isn't asked.
+fn turns<C: Clock>(
+    engine: &mut Engine,
+    clock: &mut C,
+    session: u64,
+    may_begin: bool,
+) -> Result<Happened, EngineFault>
+    ensures { Turns session may_begin (C.told clock.old) (C.told clock.new) engine.old result
+        engine.new }
+{
+    if !may_begin {
+        return engine.turns(session, 0);
+    }
+    let moment = clock.now();
+    engine.turns(session, moment)
+}
+
+/// Whether the session's next turn may begin a call.
+fn may_begin_after(happened: Happened) -> bool
+    ensures { result ≡ may_begin_after happened }
+{
+    match happened {
+        Happened::Begun | Happened::Moved | Happened::Blocked(_) | Happened::Decided => false,
+        _ => true,
+    }
+}
+
+/// The session is closed.
+fn close(engine: &mut Engine, session: u64)
+    ensures { Applies engine.old (Event.Close session) engine.new }
+{
+    let _ = engine.apply(&Event::Close(session));
+}
+
+/// The engine is told how much of the session's output was sent.
+fn tell_sent(engine: &mut Engine, session: u64, n: usize)
+    ensures { Applies engine.old (Event.Sent session n) engine.new }
+{
+    let _ = engine.apply(&Event::Sent(session, n));
+}
+
+/// What waits to be sent.
+fn waiting(engine: &Engine, session: u64) -> &[u8]
+    ensures { HasOutput engine.now session result.now }
+{
+    match engine.output(session) {
+        Some(output) => output,
+        None => &[],
+    }
+}
+
+/// The record as a call of the session, if it is one.
+fn observed(record: &Record, session: u64) -> Option<ObservedCall<'_>> {
+    match record {
+        Record::Did {
+            number,
+            session: by,
+            moment,
+            request,
+            reply,
+        } if *by == session => Some(ObservedCall {
+            session,
+            number: *number,
+            moment: *moment,
+            request,
+            reply,
+        }),
+        _ => None,
+    }
+}
+
+/// The last call of the session among the records.
+fn last_call(records: &[Record], session: u64) -> Option<ObservedCall<'_>> {
+    for record in records.iter().rev() {
+        let call = observed(record, session);
+        if call.is_some() {
+            return call;
+        }
+    }
+    None
+}
+
+/// Tells the observer of the session's last call, unless that has this number, and so it was told
+/// of it. Gives the number of the last one that it was told of.
+fn tell_call<G: CallObserver>(observer: &G, engine: &Engine, session: u64, told: u64) -> u64 {
+    if !observer.hears_calls() {
+        return told;
+    }
+    match last_call(engine.core().history(), session) {
+        Some(call) if call.number != told => {
+            observer.called(call);
+            call.number
+        }
+        _ => told,
+    }
+}
+
+/// A session of an engine, how often it was given turns, and who is told of its calls.
+#[derive(Drop)]
+struct EngineHost<'a, G> {
+    session: u64,
+    turns: u64,
+    observer: &'a G,
+    // The number of the last call that the observer was told of, 0 before the first.
+    told: u64,
+}
+
+impl<G: CallObserver> Host<Engine> for EngineHost<'_, G> {
+    ghost use Rattle.sf_alone.specs.OnEngine.{Since, IsToldBy, engine_held};
+
+    ghost Start = { Since };
+
+    ghost serves = { λ start h engine told t. IsToldBy h.turns start h.session engine told t };
+
+    ghost held = { engine_held };
+
+    ghost sound = { λ h engine. Unit {0} };
+
+    ghost work = { λ h engine. h.turns };
+
+    ghost strange = { λ h engine. ⊥ };
+
+    ghost left = { λ h engine fault. Unit {0} };
+
+    fn feed(&mut self, engine: &mut Engine, piece: &Vec<u8>, n: usize) -> Result<(), AllocError> {
+        feed(engine, self.session, piece, n)
+    }
+
+    fn go_on<C: Clock>(&mut self, engine: &mut Engine, clock: &mut C) -> Result<Went, ServeFault> {
+        let mut may_begin = true;
+        while self.turns < u64::MAX {
+            self.turns += 1;
+            let happened = match turns(engine, clock, self.session, may_begin) {
+                Ok(happened) => happened,
+                Err(_) => {
+                    tell_call(self.observer, engine, self.session, self.told);
+                    return Err(ServeFault::OutOfMemory);
+                }
+            };
+            self.told = tell_call(self.observer, engine, self.session, self.told);
+            match happened {
+                Happened::Idle => return Ok(Went::Waits),
+                Happened::Ended(cause) => return Ok(Went::Ended(cause)),
+                Happened::Wrote => {
+                    if engine.wants_bytes(self.session) {
+                        return Ok(Went::Waits);
+                    }
+                    if waiting(engine, self.session).len() >= BATCH {
+                        return Ok(Went::Answered);
+                    }
+                }
+                _ => {}
+            }
+            may_begin = may_begin_after(happened);
+        }
+        Err(ServeFault::NumbersSpent)
+    }
+
+    fn output<'a>(&'a self, engine: &'a Engine) -> &'a [u8] {
+        waiting(engine, self.session)
+    }
+
+    fn sent(&mut self, engine: &mut Engine) {
+        let n = waiting(engine, self.session).len();
+        tell_sent(engine, self.session, n);
+    }
+
+    fn end(&mut self, engine: &mut Engine) -> Result<(), ServeFault> {
+        close(engine, self.session);
+        Ok(())
+    }
+}
+
+/// Serves one session over a line, on an engine that may have others, to the end of the input or of
+/// the session. The observer is told of it, and of its calls.
+pub fn serve_one<L: Line, C: Clock, G: CallObserver>(
+    alloc: Global,
+    engine: &mut Engine,
+    line: &mut L,
+    clock: &mut C,
+    observer: &G,
+) -> Result<Cause, ServeFault>
+    ensures served { IfOk result (λ cause. ServesLine
+        (io_state (line_view (L.incoming line.old) (L.outgoing line.old) (L.calls line.old))
+        (C.told clock.old) engine.old)
+        (io_state (line_view (L.incoming line.new) (L.outgoing line.new) (L.calls line.new))
+        (C.told clock.new) engine.new) cause) }
+    ensures stopped { IfErr result (λ fault. StopsEarly
+        (io_state (line_view (L.incoming line.old) (L.outgoing line.old) (L.calls line.old))
+        (C.told clock.old) engine.old)
+        (io_state (line_view (L.incoming line.new) (L.outgoing line.new) (L.calls line.new))
+        (C.told clock.new) engine.new) fault) }
+    ensures fault { IfErr result (λ fault. IsServeFault fault (L.failed line.old)
+        (L.failed line.new)) }
+{
+    let mut piece = new_piece(alloc)?;
+    let session = open(engine)?;
+    observer.joined(session);
+    let mut host = EngineHost {
+        session,
+        turns: 0,
+        observer,
+        told: 0,
+    };
+    let outcome = serve_session(&mut host, engine, line, clock, &mut piece);
+    observer.left(session, outcome);
+    outcome
+}

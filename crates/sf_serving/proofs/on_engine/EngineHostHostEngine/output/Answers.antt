@@ -1,5 +1,0 @@
-use Rattle.sf_serving.proofs.Hosting.{output_here}
-use Rattle.sf_serving.proofs.on_engine.EngineHostHostEngine.output.Goals as goal
-
-pub returns : goal.returns
-returns g c = λ start told t tells. output_here _ tells c.waiting.ensures

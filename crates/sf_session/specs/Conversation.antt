@@ -1,0 +1,74 @@
+-- A conversation: what one session alone was fed and is sent, by bytes and moments alone.
+use Rattle.std.specs.Prelude.{◌≡◌, ◌<◌, ◌≤◌, ◌+◌, ◌-◌, ◌⊎◌, ℕ, List, [], ◌∷◌, ◌++◌, length, map, false, Some, slice_get}
+use Rattle.std.specs.List.{AllByRecursion, flat_map}
+use Rattle.sf_field.specs.Fields.{packet}
+use Rattle.sf_wire.specs.declared.cutting.Cut.TheVariants as cut
+use Rattle.sf_wire.specs.Packets.{IsBody, IsCut}
+use Rattle.sf_call.specs.declared.record.Record.{Record}
+use Rattle.sf_call.specs.declared.record.Record.TheVariants.{Did, Left}
+use Rattle.sf_call.specs.declared.fault.CoreFault.TheVariants as core
+use Rattle.sf_call.specs.Histories.{IsLegal}
+use Rattle.sf_session.specs.declared.cause.Cause.{Cause}
+use Rattle.sf_session.specs.declared.cause.Cause.TheVariants.{Closed}
+use Rattle.sf_session.specs.Sessions.{EndsBy}
+use Rattle.sf_session.specs.Responses.{most_calls, Response, Version, Locally, ByCall, Refused, ask_behind, transcript, has_begun, AreAsked, recorded_in, answered_in, Due, Nothing, asked_due, recorded_due}
+
+-- the record is of this session
+abbrev pub IsBy : ℕ → Record → Type 0
+IsBy session (Did number s moment request reply) = s ≡ session
+IsBy session (Left s) = s ≡ session
+
+-- a call is refused where memory is wanting, or so many have begun as may
+abbrev pub IsFair : (begun : ℕ) → Response → Type 0
+IsFair begun Version = Unit {0}
+IsFair begun (Locally id reply) = Unit {0}
+IsFair begun (ByCall id number request reply) = Unit {0}
+IsFair begun (Refused id request core.OutOfMemory) = Unit {0}
+IsFair begun (Refused id request core.NumbersSpent) = most_calls ≤ begun
+IsFair begun (Refused id request core.Sessions) = ⊥
+IsFair begun (Refused id request core.Stranger) = ⊥
+
+-- the n-th call has the n-th of these moments
+abbrev pub IsAtItsTime : (times : List ℕ) → Record → Type 0
+IsAtItsTime times (Did number s moment request reply) =
+    (0 < number) × (slice_get times (number - 1) ≡ Some moment)
+IsAtItsTime times (Left s) = Unit {0}
+
+-- some of the numbers, in their order
+unfoldable pub IsSubsequence : (some all : List ℕ) → Type 0
+IsSubsequence [] all = Unit {0}
+IsSubsequence (x ∷ some) all =
+    (before after : List ℕ) × (all ≡ before ++ x ∷ after) × IsSubsequence some after
+
+-- The input is packets and a rest. Each packet's body was answered what it asks for, in order, but
+-- for one at most, whose reply is due. The output is the answers' packets, but for those that are
+-- not sent. The replies to calls are those of one legal history of this session's calls, which has
+-- them one for one, in order. Calls began at some of the moments, one after the other.
+pub record IsConversation (input moments output : List ℕ) : Type 0 where
+  pub session : ℕ
+  pub history : List Record
+  pub bodies : List (List ℕ)
+  pub rest : List ℕ
+  pub answers : List Response
+  pub due : Due
+  pub unsent : List ℕ
+  pub are_bodies : AllByRecursion IsBody bodies
+  pub read : input ≡ flat_map packet bodies ++ rest
+  pub asked : AreAsked false bodies (map ask_behind answers ++ asked_due due)
+  pub written : transcript answers ≡ output ++ unsent
+  pub legal : IsLegal history
+  pub alone : AllByRecursion (IsBy session) history
+  pub calls : recorded_in session history ≡ answered_in answers ++ recorded_due due
+  pub times : List ℕ
+  pub told : IsSubsequence times moments
+  pub timed : AllByRecursion (IsAtItsTime times) history
+  pub fair : AllByRecursion (IsFair (length (answered_in answers) + length (asked_due due))) answers
+
+-- It has come to its end: nothing is due, all was sent, and what is left of the input is why. It is
+-- less than a packet where the input has ended, and else begins with what ends a session.
+pub record IsWholeConversation (input moments output : List ℕ) (cause : Cause) : Type 0 where
+  pub talk : IsConversation input moments output
+  pub none_due : talk.due ≡ Nothing
+  pub all_sent : talk.unsent ≡ []
+  pub end : ((cause ≡ Closed) × IsCut talk.rest cut.More)
+      ⊎ EndsBy (has_begun talk.bodies) talk.rest cause
