@@ -101,7 +101,7 @@ fn close(engine: &mut Engine, session: u64)
 fn tell_sent(engine: &mut Engine, session: u64, n: usize)
     ensures { Applies engine.old (Event.Sent session n) engine.new }
 {
-    let _ = engine.apply(&Event::Sent(session, n));
+    let _ = engine.sent(session, n);
 }
 
 /// What waits to be sent.

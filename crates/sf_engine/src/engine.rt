@@ -138,16 +138,6 @@ impl Engine {
         Ok(Happened::Closed)
     }
 
-    fn send(&mut self, session: u64, n: usize) -> Result<Happened, EngineFault>
-        ensures fits { GoesOnTrace self.old (Event.Sent session n) result self.new }
-        ensures err { OnErr result (self.new ≡ self.old) }
-    {
-        let Some(at) = index_of(session, self.seats.len()) else {
-            return Err(EngineFault::NoSuchSession);
-        };
-        send_seat(&mut self.seats[at], n)
-    }
-
     /// One event. Refused, it changes nothing.
     pub fn apply(&mut self, event: &Event) -> Result<Happened, EngineFault>
         ensures fits { GoesOnTrace self.old event.now result self.new }
@@ -158,7 +148,7 @@ impl Engine {
             Event::Feed(session, bytes) => self.feed(*session, bytes),
             Event::Turn(session, moment) => self.turn(*session, *moment),
             Event::Close(session) => self.close(*session),
-            Event::Sent(session, n) => self.send(*session, *n),
+            Event::Sent(session, n) => self.sent(*session, *n),
         }
     }
 
@@ -174,6 +164,18 @@ impl Engine {
             return Err(EngineFault::NoSuchSession);
         };
         feed_seat(&mut self.seats[at], bytes)
+    }
+
+    /// Tells that so many bytes of a session's output were sent, as the event `Sent` does, without an
+    /// event.
+    pub fn sent(&mut self, session: u64, n: usize) -> Result<Happened, EngineFault>
+        ensures fits { GoesOnTrace self.old (Event.Sent session n) result self.new }
+        ensures err { OnErr result (self.new ≡ self.old) }
+    {
+        let Some(at) = index_of(session, self.seats.len()) else {
+            return Err(EngineFault::NoSuchSession);
+        };
+        send_seat(&mut self.seats[at], n)
     }
 
     /// Turns of a session at a moment, as long as its call is on its way to its reply. What came of

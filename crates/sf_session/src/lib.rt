@@ -6,6 +6,10 @@
 //! call, make that call and `answer` it, or `refuse` it. `asking.rt` decides what a body asks for,
 //! and `calling.rt` makes the paths and the data of a call, copied out of what was sent. A session
 //! knows no tree and no clock; `Clock` stands here for those who number the calls.
+//!
+//! The words of those who serve sessions stand here too: what a body was answered
+//! (`specs/Responses.antt`), how far a session is (`SessionState`, `specs/SessionStates.antt`), and
+//! what one session alone was fed and is sent (`specs/Conversation.antt`).
 #![tactic(auto)]
 
 mod asking;

@@ -8,7 +8,7 @@ use Rattle.sf_engine.proofs.Tracing.{goes_on_trace, stays_engine}
 use Rattle.sf_engine.proofs.Seats.{SeatChange, engine, changed}
 use Rattle.sf_engine.proofs.Turning.{no_session, refused_steps}
 use Rattle.sf_engine.proofs.Sending.{any_send_steps}
-use Rattle.sf_engine.proofs.engine.Engine.send.Goals as goal
+use Rattle.sf_engine.proofs.engine.Engine.sent.Goals as goal
 
 pub returns-in_default-clause-fits : goal.returns-in_default-clause-fits
 returns-in_default-clause-fits c =
