@@ -14,21 +14,21 @@ use Rattle.sf_session.specs.SessionStates.{Resting, SessionState, new_state}
 use Rattle.sf_engine.specs.Traces.{IsSession, Happens, LeadsBy, Runs, ReachesWorld, order}
 use Rattle.sf_alone.specs.OnEngine.{IsOf, IsEntryOf}
 use Rattle.sf_alone.specs.Alone.{answers_alone, moment_begun, moments_begun, HadMemoryFor, HadMemoryAt, HadMemoryThroughout, TellsAlone}
-use Rattle.sf_alone.proofs.Standing.{Follows, Spot, onward, lone, Stands, stands_alone, leads_on}
+use Rattle.sf_alone.proofs.Standing.{Follows, LoneSession, onward, lone, Stands, stands_alone, leads_on}
 
 all_front : {A : Type 0} (P : A → Type 0) (xs ys : List A) → AllByRecursion P (xs ++ ys) → AllByRecursion P xs × AllByRecursion P ys
 all_front P [] ys h = (tt, h)
 all_front P (x ∷ xs) ys h = let rest = all_front P xs ys h.1 in ((h.0, rest.0), rest.1)
 
 -- from there session 1 alone goes on by these entries, lawfully, and with memory for all of them
-record GoesAlone (s : Spot) (t : SessionState) (entries : List TraceEntry) (w' : World) : Type 0 where
+record GoesAlone (s : LoneSession) (t : SessionState) (entries : List TraceEntry) (w' : World) : Type 0 where
   pub runs : Runs (lone s.records s.begun t) entries w'
   pub own : AllByRecursion (IsEntryOf 1) entries
   pub legal : IsLegal (s.records ++ order entries)
   pub heard : AllByRecursion HadMemoryFor (order entries)
 
 -- where the session is there, one tree answers it to the end
-reaches : (entries : List TraceEntry) {s : Spot} {t : SessionState} {w' : World} {t' : SessionState} → Stands t.phase s t.answers → GoesAlone s t entries w' → IsSession w' 1 t' → AllByRecursion HadMemoryAt t'.answers
+reaches : (entries : List TraceEntry) {s : LoneSession} {t : SessionState} {w' : World} {t' : SessionState} → Stands t.phase s t.answers → GoesAlone s t entries w' → IsSession w' 1 t' → AllByRecursion HadMemoryAt t'.answers
     → t'.answers ≡ answers_alone (s.moments ++ moments_begun entries) (map ask_behind t'.answers)
 unfolding Runs
 reaches [] {s = s} {t = t} {t' = t'} stands goes is had =
@@ -50,7 +50,7 @@ reaches (e ∷ entries) {s = s} {t = t} {w' = w'} {t' = t'} stands goes is had =
     reaches entries on.stands later is had
     ∙ ap (λ (ms : List ℕ). answers_alone ms (map ask_behind t'.answers)) (append_assoc s.moments now (moments_begun entries))
 
-abbrev beginning : Spot
+abbrev beginning : LoneSession
 beginning = record { records = []; begun = 0; moments = [] }
 
 stands_new : Stands Resting beginning []

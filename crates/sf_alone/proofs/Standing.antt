@@ -175,21 +175,21 @@ next_legal h rs r legal = may_follow [] h rs r legal
 -- ---- how it stands
 
 -- the records so far, how many calls began, and at which moments
-pub record Spot : Type 0 where
+pub record LoneSession : Type 0 where
   pub records : List Record
   pub begun : ℕ
   pub moments : List ℕ
 
 -- the tree that its records leave
-abbrev pub tree_of : Spot → TreeAt
+abbrev pub tree_of : LoneSession → TreeAt
 tree_of s = tree_at (replay s.records) s.begun
 
 -- after an event that added these records, and at which so many calls began at these moments
-abbrev pub onward : Spot → List Record → ℕ → List ℕ → Spot
+abbrev pub onward : LoneSession → List Record → ℕ → List ℕ → LoneSession
 onward s added more now = record { records = s.records ++ added; begun = s.begun + more; moments = s.moments ++ now }
 
 -- its call has no record yet: all before it was answered
-pub record Waits (s : Spot) (answers : List Response) (m : ℕ) : Type 0 where
+pub record Waits (s : LoneSession) (answers : List Response) (m : ℕ) : Type 0 where
   pub before : List ℕ
   pub count : ℕ
   pub moments_are : s.moments ≡ before ++ m ∷ []
@@ -199,14 +199,14 @@ pub record Waits (s : Spot) (answers : List Response) (m : ℕ) : Type 0 where
   pub follows : Follows at_first before answers (tree_at (replay s.records) count)
 
 -- its call has its record, the last one
-pub record IsTold (s : Spot) (answers : List Response) (id n m : ℕ) (q : Request) : Type 0 where
+pub record IsTold (s : LoneSession) (answers : List Response) (id n m : ℕ) (q : Request) : Type 0 where
   pub given : Reply
   pub before : List Record
   pub last : s.records ≡ before ++ Did n 1 m q given ∷ []
   pub below : AreBelow s.begun before
   pub follows : Follows at_first s.moments (answers ++ ByCall id n q given ∷ []) (tree_of s)
 
-abbrev pub Stands : Phase → Spot → List Response → Type 0
+abbrev pub Stands : Phase → LoneSession → List Response → Type 0
 Stands Resting s answers = AreBelow (s.begun + 1) s.records × Follows at_first s.moments answers (tree_of s)
 Stands (UnderWay id n m q moves) s answers = (n ≡ s.begun) × (Waits s answers m ⊎ IsTold s answers id n m q)
 Stands (Decided id n q given) s answers = AreBelow (s.begun + 1) s.records × Follows at_first s.moments (answers ++ ByCall id n q given ∷ []) (tree_of s)
@@ -220,7 +220,7 @@ whole_of : (x : TreeAt) (moments : List ℕ) (answers : List Response) → AllBy
 whole_of x moments answers had h = front_of x moments answers [] had (subst (λ (xs : List Response). Follows at_first moments xs x) (sym (append-nil answers)) h)
 
 -- so one tree answers it
-pub stands_alone : (f : Phase) (s : Spot) (answers : List Response) → AllByRecursion HadMemoryAt answers → Stands f s answers → answers ≡ answers_alone s.moments (map ask_behind answers)
+pub stands_alone : (f : Phase) (s : LoneSession) (answers : List Response) → AllByRecursion HadMemoryAt answers → Stands f s answers → answers ≡ answers_alone s.moments (map ask_behind answers)
 stands_alone Resting s answers had k = whole_of (tree_of s) s.moments answers had k.1
 stands_alone (UnderWay id n m q moves) s answers had (same, inl w) =
     let now = tree_at (replay s.records) w.count in
@@ -231,34 +231,34 @@ stands_alone (Decided id n q given) s answers had k = front_of (tree_of s) s.mom
 stands_alone (Gone cause) s answers had (x, k) = whole_of x s.moments answers had k
 
 -- nothing is added, and no call begins
-still_there : (s : Spot) (added : List Record) → added ≡ [] → s ≡ onward s added 0 []
+still_there : (s : LoneSession) (added : List Record) → added ≡ [] → s ≡ onward s added 0 []
 still_there s added none =
     let same : s.begun + 0 ≡ s.begun = omega arith in
     let records : s.records ++ added ≡ s.records = ap (λ (xs : List Record). s.records ++ xs) none ∙ append-nil s.records in
     ap (λ (x : List Record). record { records = x; begun = s.begun; moments = s.moments }) (sym records) ∙ ap (λ (x : ℕ). record { records = s.records ++ added; begun = x; moments = s.moments }) (sym same)
     ∙ ap (λ (x : List ℕ). record { records = s.records ++ added; begun = s.begun + 0; moments = x }) (sym (append-nil s.moments))
 
-still : (f : Phase) (s : Spot) (added : List Record) (answers : List Response) → added ≡ [] → Stands f s answers → Stands f (onward s added 0 []) answers
-still f s added answers none k = subst (λ (x : Spot). Stands f x answers) (still_there s added none) k
+still : (f : Phase) (s : LoneSession) (added : List Record) (answers : List Response) → added ≡ [] → Stands f s answers → Stands f (onward s added 0 []) answers
+still f s added answers none k = subst (λ (x : LoneSession). Stands f x answers) (still_there s added none) k
 
 -- ---- its turns
 
 -- how the session stands after an event
-abbrev After : Spot → List Record → ℕ → List ℕ → SessionState → Type 0
+abbrev After : LoneSession → List Record → ℕ → List ℕ → SessionState → Type 0
 After s added more now t' = Stands t'.phase (onward s added more now) t'.answers
 
-after_by : (s : Spot) (added : List Record) (more : ℕ) (now : List ℕ) (t' u : SessionState) → t' ≡ u → After s added more now u → After s added more now t'
+after_by : (s : LoneSession) (added : List Record) (more : ℕ) (now : List ℕ) (t' u : SessionState) → t' ≡ u → After s added more now u → After s added more now t'
 after_by s added more now t' u e k = subst (λ (z : SessionState). After s added more now z) (sym e) k
 
 -- it leaves
-gone_after : (s : Spot) (added : List Record) (cause : Cause) (answers : List Response) → Follows at_first s.moments answers (tree_of s) → Stands (Gone cause) (onward s added 0 []) answers
+gone_after : (s : LoneSession) (added : List Record) (cause : Cause) (answers : List Response) → Follows at_first s.moments answers (tree_of s) → Stands (Gone cause) (onward s added 0 []) answers
 gone_after s added cause answers h = (tree_of s, subst (λ (ms : List ℕ). Follows at_first ms answers (tree_of s)) (sym (append-nil s.moments)) h)
 
 -- a turn of the session alone
-abbrev turn_at : Spot → List Record → (t t' : SessionState) → Turn
+abbrev turn_at : LoneSession → List Record → (t t' : SessionState) → Turn
 turn_at s added t t' = record { world = lone s.records s.begun t; session = 1; told = t; added = added; now = t' }
 
-rest_goes : (s : Spot) (added : List Record) (m : ℕ) (t t' : SessionState) (r : Happened) → Stands Resting s t.answers → RestLeads m (turn_at s added (with_phase t Resting) t') r → After s added (calls_begun r) (moment_begun (event.Turn 1 m) (Ok r)) t'
+rest_goes : (s : LoneSession) (added : List Record) (m : ℕ) (t t' : SessionState) (r : Happened) → Stands Resting s t.answers → RestLeads m (turn_at s added (with_phase t Resting) t') r → After s added (calls_begun r) (moment_begun (event.Turn 1 m) (Ok r)) t'
 rest_goes s added m t t' happened.Idle k g = after_by s added 0 [] t' _ g.2 (still Resting s added t.answers g.1 k)
 rest_goes s added m t t' happened.Wrote k g =
     let a = g.0.answer in
@@ -275,14 +275,14 @@ rest_goes s added m t t' (happened.Ended cause) k g = after_by s added 0 [] t' _
 rest_goes s added m t t' r k g = absurd g
 
 -- what an event adds, and what is added later
-pub record Added (s : Spot) : Type 0 where
+pub record Added (s : LoneSession) : Type 0 where
   pub now : List Record
   pub later : List Record
   pub legal : IsLegal (s.records ++ (now ++ later))
   pub heard : AllByRecursion HadMemoryFor now
 
 -- the call's record is added: its reply is the tree's
-module _ (s : Spot) (x : Added s) (u : SessionState) (answers : List Response) (call : Walking) (given : Reply) (same : call.number ≡ s.begun)
+module _ (s : LoneSession) (x : Added s) (u : SessionState) (answers : List Response) (call : Walking) (given : Reply) (same : call.number ≡ s.begun)
     (d : CarriesOut (lone s.records s.begun u) 1 call.moves (Did call.number 1 call.moment call.request given) x.now) where
   own_alone : x.now ≡ Did call.number 1 call.moment call.request given ∷ []
   own_alone = d.records ∙ ap (λ (xs : List Record). xs ++ Did call.number 1 call.moment call.request given ∷ []) (no_helped s.records s.begun u d.helped d.of_others)
@@ -326,7 +326,7 @@ not_below : (limit : ℕ) (call : Walking) (given : Reply) → call.number ≡ l
 not_below limit call given same low = let less : call.number < limit = low in omega (arith, same, less)
 
 -- the call is decided as its record tells
-decided_as : (s : Spot) (answers : List Response) (call : Walking) (given : Reply) → call.number ≡ s.begun → IsAmong (Did call.number 1 call.moment call.request given) s.records → IsTold s answers call.id call.number call.moment call.request
+decided_as : (s : LoneSession) (answers : List Response) (call : Walking) (given : Reply) → call.number ≡ s.begun → IsAmong (Did call.number 1 call.moment call.request given) s.records → IsTold s answers call.id call.number call.moment call.request
     → Stands (Decided call.id call.number call.request given) s answers
 decided_as s answers call given same among told =
     let own = Did call.number 1 call.moment call.request told.given in
@@ -344,7 +344,7 @@ among_last r (x ∷ h) = inr (among_last r h)
 abbrev under_way : Walking → Phase
 under_way call = UnderWay call.id call.number call.moment call.request call.moves
 
-decided_goes : (s : Spot) (x : Added s) (u : SessionState) (answers : List Response) (call : Walking) (given : Reply) → Stands (under_way call) s answers
+decided_goes : (s : LoneSession) (x : Added s) (u : SessionState) (answers : List Response) (call : Walking) (given : Reply) → Stands (under_way call) s answers
     → DecidesCall (lone s.records s.begun u) 1 call.moves (Did call.number 1 call.moment call.request given) x.now → Stands (Decided call.id call.number call.request given) (onward s x.now 0 []) answers
 decided_goes s x u answers call given (same, inl w) (inl there) = absurd (not_among s.begun _ s.records (not_below s.begun call given same) w.below there.1)
 decided_goes s x u answers call given (same, inr told) (inl there) =
@@ -354,7 +354,7 @@ decided_goes s x u answers call given k (inr d) =
     decided_as (onward s x.now 0 []) answers call given (omega (arith, k.0)) among (told_now s x u answers call given k.0 d k.1)
 
 -- a turn of a session whose call is under way
-step_goes : (s : Spot) (x : Added s) (turn : ℕ) (t t' : SessionState) (call : Walking) (r : Happened) → Stands (under_way call) s t.answers → StepLeads (turn_at s x.now (with_phase t (under_way call)) t') call r
+step_goes : (s : LoneSession) (x : Added s) (turn : ℕ) (t t' : SessionState) (call : Walking) (r : Happened) → Stands (under_way call) s t.answers → StepLeads (turn_at s x.now (with_phase t (under_way call)) t') call r
     → After s x.now (calls_begun r) (moment_begun (event.Turn 1 turn) (Ok r)) t'
 step_goes s x turn t t' call happened.Moved k (few, inl none, now) = after_by s x.now 0 [] t' _ now (still (under_way (record call { moves = call.moves + 1 })) s x.now t.answers none.0 k)
 step_goes s x turn t t' call happened.Moved k (few, inr first, now) =
@@ -365,11 +365,11 @@ step_goes s x turn t t' call happened.Decided k g = after_by s x.now 0 [] t' _ g
 step_goes s x turn t t' call r k g = absurd g
 
 -- the reply is written; a session that was closed leaves then
-answer_goes : (closed : Bool) (s : Spot) (added : List Record) (t : SessionState) (a : Response) → Stands Resting s (t.answers ++ a ∷ []) → added ≡ leaving closed 1 → After s added 0 [] (left_if_closed closed (with_answer t a))
+answer_goes : (closed : Bool) (s : LoneSession) (added : List Record) (t : SessionState) (a : Response) → Stands Resting s (t.answers ++ a ∷ []) → added ≡ leaving closed 1 → After s added 0 [] (left_if_closed closed (with_answer t a))
 answer_goes true s added t a k e = gone_after s added Closed (t.answers ++ a ∷ []) k.1
 answer_goes false s added t a k e = still Resting s added (t.answers ++ a ∷ []) e k
 
-turn_goes : (f : Phase) (s : Spot) (x : Added s) (turn : ℕ) (t t' : SessionState) (r : Happened) → Stands f s t.answers → TurnLeads turn (turn_at s x.now (with_phase t f) t') f r → After s x.now (calls_begun r) (moment_begun (event.Turn 1 turn) (Ok r)) t'
+turn_goes : (f : Phase) (s : LoneSession) (x : Added s) (turn : ℕ) (t t' : SessionState) (r : Happened) → Stands f s t.answers → TurnLeads turn (turn_at s x.now (with_phase t f) t') f r → After s x.now (calls_begun r) (moment_begun (event.Turn 1 turn) (Ok r)) t'
 turn_goes Resting s x turn t t' r k g = rest_goes s x.now turn t t' r k g
 turn_goes (UnderWay id n m q moves) s x turn t t' r k g = step_goes s x turn t t' (walking id n m q moves) r k g
 turn_goes (Decided id n q given) s x turn t t' r k g =
@@ -377,14 +377,14 @@ turn_goes (Decided id n q given) s x turn t t' r k g =
 turn_goes (Gone cause) s x turn t t' r k g =
     subst (λ (z : Happened). After s x.now (calls_begun z) (moment_begun (event.Turn 1 turn) (Ok z)) t') (sym g.0) (after_by s x.now 0 [] t' _ g.2 (still (Gone cause) s x.now t.answers g.1 k))
 
-close_goes : (f : Phase) (s : Spot) (added : List Record) (t : SessionState) → Stands f s t.answers → added ≡ left_by_close f 1 → After s added 0 [] (closed_now (with_phase t f) f)
+close_goes : (f : Phase) (s : LoneSession) (added : List Record) (t : SessionState) → Stands f s t.answers → added ≡ left_by_close f 1 → After s added 0 [] (closed_now (with_phase t f) f)
 close_goes Resting s added t k e = gone_after s added Closed t.answers k.1
 close_goes f s added t k e = still f s added t.answers e k
 
 -- ---- one entry more
 
 -- the entry leads to a world with this session, which stands so
-pub record LeadsOn (s : Spot) (added : List Record) (now : List ℕ) (w' : World) : Type 0 where
+pub record LeadsOn (s : LoneSession) (added : List Record) (now : List ℕ) (w' : World) : Type 0 where
   pub told : SessionState
   pub more : ℕ
   pub world : w' ≡ lone (s.records ++ added) (s.begun + more) told
@@ -394,7 +394,7 @@ same_told : (h : List Record) (begun : ℕ) (t u : SessionState) → IsSession (
 same_told h begun t u is = let e : Some t ≡ Some u = is.1 in cc
 
 -- an event that adds nothing, and answers nothing
-stays_on : {s : Spot} {added : List Record} (t t' : SessionState) {now : List ℕ} {w' : World} → now ≡ [] → added ≡ [] → t'.phase ≡ t.phase → t'.answers ≡ t.answers → w' ≡ lone (s.records ++ []) (s.begun + 0) t' → Stands t.phase s t.answers → LeadsOn s added now w'
+stays_on : {s : LoneSession} {added : List Record} (t t' : SessionState) {now : List ℕ} {w' : World} → now ≡ [] → added ≡ [] → t'.phase ≡ t.phase → t'.answers ≡ t.answers → w' ≡ lone (s.records ++ []) (s.begun + 0) t' → Stands t.phase s t.answers → LeadsOn s added now w'
 stays_on {s = s} {added = added} t t' none nothing phase answers world k = record {
   told = t';
   more = 0;
@@ -404,7 +404,7 @@ stays_on {s = s} {added = added} t t' none nothing phase answers world k = recor
       subst (λ (ms : List ℕ). After s added 0 ms t') (sym none) (still t'.phase s added t'.answers nothing here);
 }
 
-happens_on : (s : Spot) (x : Added s) (t : SessionState) (w' : World) (ev : Event) (r : Happened) → Stands t.phase s t.answers → IsOf 1 ev (Ok r) → Happens (lone s.records s.begun t) ev r x.now w' → LeadsOn s x.now (moment_begun ev (Ok r)) w'
+happens_on : (s : LoneSession) (x : Added s) (t : SessionState) (w' : World) (ev : Event) (r : Happened) → Stands t.phase s t.answers → IsOf 1 ev (Ok r) → Happens (lone s.records s.begun t) ev r x.now w' → LeadsOn s x.now (moment_begun ev (Ok r)) w'
 happens_on s x t w' event.Open r k own g =
     let mine : Ok r ≡ Ok (happened.Opened 1) = own in
     let first : r ≡ happened.Opened 1 = cc in
@@ -429,8 +429,8 @@ happens_on s x t w' (event.Sent n count) r k own g =
     let same = same_told s.records s.begun t u session in
     stays_on t (sent_more u count) (ap (λ (y : Happened). moment_begun (event.Sent n count) (Ok y)) is) none (ap (λ (z : SessionState). z.phase) same) (ap (λ (z : SessionState). z.answers) same) now k
 
-pub leads_on : (s : Spot) (x : Added s) (t : SessionState) (w' : World) (ev : Event) (r : Result Happened EngineFault) → Stands t.phase s t.answers → IsOf 1 ev r → LeadsBy (lone s.records s.begun t) ev r x.now w' → LeadsOn s x.now (moment_begun ev r) w'
+pub leads_on : (s : LoneSession) (x : Added s) (t : SessionState) (w' : World) (ev : Event) (r : Result Happened EngineFault) → Stands t.phase s t.answers → IsOf 1 ev r → LeadsBy (lone s.records s.begun t) ev r x.now w' → LeadsOn s x.now (moment_begun ev r) w'
 leads_on s x t w' ev (Ok r) k own g = happens_on s x t w' ev r k own g
 leads_on s x t w' ev (Err fault) k own g =
-    let same : lone s.records s.begun t ≡ lone (s.records ++ []) (s.begun + 0) t = ap (λ (z : Spot). lone z.records z.begun t) (still_there s [] refl) in
+    let same : lone s.records s.begun t ≡ lone (s.records ++ []) (s.begun + 0) t = ap (λ (z : LoneSession). lone z.records z.begun t) (still_there s [] refl) in
     stays_on t t refl g.1 refl refl (g.2 ∙ same) k

@@ -16,7 +16,7 @@ use Rattle.sf_engine.specs.declared.event.EngineFault.TheVariants as engine
 use Rattle.sf_engine.specs.Views.{EngineView}
 use Rattle.sf_trees.specs.declared.fault.TreeFault.{TreeFault}
 use Rattle.sf_trees.specs.declared.fault.TreeFault.TheVariants as fault
-use Rattle.sf_trees.specs.Deeds.{Deed, Begins, Asks, Ends}
+use Rattle.sf_trees.specs.Operations.{Operation, Begins, Asks, Ends}
 use Rattle.sf_asking.specs.Askers.{AskerView}
 use Rattle.sf_asking.specs.Logs.{EventLeads, FeedsBy, TurnsLead, HasUnsent, HasNoSession}
 
@@ -190,18 +190,19 @@ HasBegun moment old (Err why) new = Opens old (Err why) new
     ⊎ ((session : ℕ) × (opened : EngineView) × Opens old (Ok session) opened
     × Welcomes session moment opened (Err why) new)
 
--- what each deed is on an engine
-abbrev pub IsDone : ℕ → Deed → EngineView → EngineView → Type 0
+-- what each operation is on an engine
+abbrev pub IsDone : ℕ → Operation → EngineView → EngineView → Type 0
 IsDone moment (Begins came) old new = HasBegun moment old came new
 IsDone moment (Asks session q (Ok r)) old new = IsAnswered session moment q old r new
 IsDone moment (Asks session q (Err why)) old new = IsUnanswered session moment q old why new
 IsDone moment (Ends session) old new = IsClosed session moment old new
 
--- all deeds, one after the other
-unfoldable pub AreDone : ℕ → List Deed → EngineView → EngineView → Type 0
+-- all operations, one after the other
+unfoldable pub AreDone : ℕ → List Operation → EngineView → EngineView → Type 0
 AreDone moment [] old new = new ≡ old
-AreDone moment (deed ∷ deeds) old new = (mid : EngineView) × IsDone moment deed old mid
-    × AreDone moment deeds mid new
+AreDone moment (operation ∷ operations) old new = (mid : EngineView)
+    × IsDone moment operation old mid × AreDone moment operations mid new
 
-abbrev pub Reaches : AskerView → List Deed → AskerView → Type 0
-Reaches old deeds new = (new.moment ≡ old.moment) × AreDone old.moment deeds old.engine new.engine
+abbrev pub Reaches : AskerView → List Operation → AskerView → Type 0
+Reaches old operations new = (new.moment ≡ old.moment)
+    × AreDone old.moment operations old.engine new.engine

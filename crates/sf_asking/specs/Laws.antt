@@ -1,9 +1,9 @@
 -- No public clause cites this module.
--- Deeds that are done one after the other.
+-- Operations that are done one after the other.
 use Rattle.std.specs.Prelude.{◌≡◌, ℕ, List, [], ◌∷◌, ◌++◌, refl}
 use Rattle.std.proofs.Common.{◌∙◌, sym, subst}
 use Rattle.sf_engine.specs.Views.{EngineView}
-use Rattle.sf_trees.specs.Deeds.{Deed}
+use Rattle.sf_trees.specs.Operations.{Operation}
 use Rattle.sf_asking.specs.Askers.{AskerView}
 use Rattle.sf_asking.specs.Asking.{AreDone, Reaches}
 
@@ -11,8 +11,8 @@ pub none_done : (a : AskerView) → Reaches a [] a
 unfolding AreDone
 none_done a = (refl, refl)
 
-done_both : (moment : ℕ) (a b c : EngineView) (first second : List Deed) → AreDone moment first a b
-    → AreDone moment second b c
+done_both : (moment : ℕ) (a b c : EngineView) (first second : List Operation)
+    → AreDone moment first a b → AreDone moment second b c
     → AreDone moment (first ++ second) a c
 unfolding AreDone
 done_both moment a b c [] second one more =
@@ -20,7 +20,7 @@ done_both moment a b c [] second one more =
 done_both moment a b c (d ∷ first) second one more =
     (one.0, one.1, done_both moment one.0 b c first second one.2 more)
 
-pub done_on : (a b c : AskerView) (first second : List Deed) → Reaches a first b
+pub done_on : (a b c : AskerView) (first second : List Operation) → Reaches a first b
     → Reaches b second c → Reaches a (first ++ second) c
 done_on a b c first second one more = (
   more.0 ∙ one.0,

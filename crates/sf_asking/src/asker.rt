@@ -2,7 +2,7 @@
 
 ghost use Rattle.std.specs.Prelude.{◌≡◌, ◌<◌, ◌≤◌, ◌-◌, ◌^◌, min, length, true, false};
 ghost use Rattle.sf_request.specs.Requests.{request_body};
-ghost use Rattle.sf_trees.specs.Deeds.{Asks};
+ghost use Rattle.sf_trees.specs.Operations.{Asks};
 ghost use Rattle.sf_asking.specs.Asking.{id, IsDone, HasBegun, strings_of, most_strings};
 
 use crate::conversing::{close, open, say, take, welcome};

@@ -7,7 +7,7 @@ use Rattle.sf_audit.specs.declared.transcript.Transcript.{Transcript}
 use Rattle.sf_audit.specs.declared.audits.AuditFault.{AuditFault}
 use Rattle.sf_audit.specs.declared.audits.AuditFault.TheVariants.{NotInHistory, OutOfOrder, Missing, FoldedCount}
 use Rattle.sf_audit.specs.Audits.{CallRecord, IsIn, IsWithin, Follows, IsFaultOf, IsFirstFault, call_records}
-use Rattle.sf_audit.proofs.Deeds.{in_itself, within_itself}
+use Rattle.sf_audit.proofs.ToldCalls.{in_itself, within_itself}
 
 all_with : {X : Type 0} (P : X → Type 0) (xs : List X) (x : X) → AllByRecursion P xs → P x → AllByRecursion P (xs ++ x ∷ [])
 all_with P [] x all last = (last, tt)

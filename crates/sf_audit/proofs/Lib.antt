@@ -1,4 +1,4 @@
 pub mod Exact
-pub mod Deeds
+pub mod ToldCalls
 pub mod Faults
 pub mod Counted

@@ -60,7 +60,7 @@ fn front_len(records: &[Record], calls: &[AnsweredCall]) -> usize
 }
 
 /// Whether the record is of a call of the session.
-fn is_deed(entry: &Record, session: u64) -> bool
+fn is_session_call(entry: &Record, session: u64) -> bool
     ensures { result ≡ is_some (call_record_of session entry.now) }
 {
     match entry {
@@ -127,7 +127,7 @@ fn after_record<'a>(
         (λ left. (map call_record calls.now ≡ call_records session (entry.now ∷ later))
         ↔ (map call_record left.now ≡ call_records session later)) }
 {
-    if !is_deed(entry, session) {
+    if !is_session_call(entry, session) {
         return Some(calls);
     }
     let (call, left) = calls.split_first()?;
@@ -138,7 +138,7 @@ fn after_record<'a>(
 }
 
 /// Whether the calls are those of the session's records, in their order.
-fn are_deeds(records: &[Record], session: u64, calls: &[AnsweredCall]) -> bool
+fn are_same_calls(records: &[Record], session: u64, calls: &[AnsweredCall]) -> bool
     ensures { IsTrue result ↔ (map call_record calls.now ≡ call_records session records.now) }
 {
     let mut left = calls;
@@ -186,7 +186,7 @@ fn fault_of(records: &[Record], transcript: &Transcript) -> Option<AuditFault>
     let calls = transcript.calls.as_slice();
     let rest = &calls[front_len(records, calls)..];
     let session = transcript.session;
-    if are_deeds(records, session, rest) {
+    if are_same_calls(records, session, rest) {
         return None;
     }
     if !are_told(records, session, rest) {

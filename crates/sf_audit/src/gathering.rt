@@ -42,19 +42,19 @@ fn are_all(calls: u64, shares: &[Share]) -> bool
 }
 
 /// Whether the record is of a call.
-fn is_deed(entry: &Record) -> bool
+fn is_of_call(entry: &Record) -> bool
     ensures { result ≡ is_call entry.now }
 {
     matches!(entry, Record::Did { .. })
 }
 
 /// How many of the records are of calls.
-fn deeds(records: &[Record]) -> usize
+fn call_count(records: &[Record]) -> usize
     ensures { result ≡ count_by is_call records.now }
 {
     let mut count = 0;
     for entry in records {
-        if is_deed(entry) {
+        if is_of_call(entry) {
             count += 1;
         }
     }
@@ -67,7 +67,7 @@ fn recorded(core: &Core, calls: u64) -> u64
     ensures all { (h : List Record) → IsHistory core.now h → result ≡ count_by is_call h }
     ensures most { result ≤ calls }
 {
-    let kept = deeds(core.history());
+    let kept = call_count(core.history());
     core.folded() + kept as u64
 }
 

@@ -8,15 +8,15 @@ use Rattle.std.proofs.lemmas.List.Sums.{sum_by-take-drop, sum_by-append}
 use Rattle.sf_call.specs.declared.record.Record.{Record}
 use Rattle.sf_book.specs.Books.{is_call, excess, kept_of, gone_of}
 
-abbrev deeds : List Record → ℕ
-deeds records = count_by is_call records
+abbrev call_count : List Record → ℕ
+call_count records = count_by is_call records
 
 -- the calls among the records of two lists, of a beginning and of the rest
-pub deeds-append : (xs ys : List Record) → count_by is_call (xs ++ ys) ≡ count_by is_call xs + count_by is_call ys
-deeds-append xs ys = sum_by-append (λ (r : Record). cond (is_call r) 1 0) xs ys
+pub call_count-append : (xs ys : List Record) → count_by is_call (xs ++ ys) ≡ count_by is_call xs + count_by is_call ys
+call_count-append xs ys = sum_by-append (λ (r : Record). cond (is_call r) 1 0) xs ys
 
-pub deeds-split : (xs : List Record) (n : ℕ) → count_by is_call (take n xs) + count_by is_call (drop n xs) ≡ count_by is_call xs
-deeds-split xs n = sum_by-take-drop (λ (r : Record). cond (is_call r) 1 0) xs n
+pub call_count-split : (xs : List Record) (n : ℕ) → count_by is_call (take n xs) + count_by is_call (drop n xs) ≡ count_by is_call xs
+call_count-split xs n = sum_by-take-drop (λ (r : Record). cond (is_call r) 1 0) xs n
 
 within : (keep : Option ℕ) (h : List Record) → excess keep h ≤ length h
 within None h = omega arith
@@ -40,10 +40,10 @@ gone-put keep h r = by_split (h ++ r ∷ []) (excess keep h) (excess keep (kept_
     by_split : (xs : List Record) (a b n : ℕ) → a + b ≡ n → (front rest : List Record) → front ≡ take a xs → rest ≡ drop a xs
         → count_by is_call front + count_by is_call (take b rest) ≡ count_by is_call (take n xs)
     by_split xs a b n e front rest f g =
-        let whole = deeds-split xs a in
-        let later = deeds-split (drop a xs) b in
-        let all = deeds-split xs n in
-        let same : count_by is_call (drop b (drop a xs)) ≡ count_by is_call (drop n xs) = ap deeds (drop-drop b a xs ∙ ap (λ k. drop k xs) e) in
-        let x : count_by is_call front ≡ count_by is_call (take a xs) = ap deeds f in
-        let y : count_by is_call (take b rest) ≡ count_by is_call (take b (drop a xs)) = ap (λ (l : List Record). deeds (take b l)) g in
+        let whole = call_count-split xs a in
+        let later = call_count-split (drop a xs) b in
+        let all = call_count-split xs n in
+        let same : count_by is_call (drop b (drop a xs)) ≡ count_by is_call (drop n xs) = ap call_count (drop-drop b a xs ∙ ap (λ k. drop k xs) e) in
+        let x : count_by is_call front ≡ count_by is_call (take a xs) = ap call_count f in
+        let y : count_by is_call (take b rest) ≡ count_by is_call (take b (drop a xs)) = ap (λ (l : List Record). call_count (take b l)) g in
         omega (arith, whole, later, all, same, x, y)

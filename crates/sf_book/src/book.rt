@@ -129,7 +129,7 @@ impl Book {
         ensures room { self.new.room ≡ self.old.room }
         ensures keep { self.new.keep ≡ self.old.keep }
     {
-        let told = deeds(&self.entries[self.gone]);
+        let told = call_count(&self.entries[self.gone]);
         self.entries[self.gone] = Record::Left { session: 0 };
         self.folded = self.folded.saturating_add(told);
         self.gone += 1;
@@ -162,7 +162,7 @@ fn move_to_front(entries: &mut [Record], gone: usize)
 }
 
 /// How many calls a record that goes told of: a leaving of none.
-fn deeds(gone: &Record) -> u64
+fn call_count(gone: &Record) -> u64
     ensures { result ≡ count_by is_call (gone.now ∷ []) }
 {
     match gone {

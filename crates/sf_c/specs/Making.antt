@@ -5,7 +5,7 @@ use Rattle.sf_engine.specs.Views.{EngineView}
 use Rattle.sf_trees.specs.declared.fault.TreeFault.{TreeFault}
 use Rattle.sf_trees.specs.declared.fault.TreeFault.TheVariants as fault
 use Rattle.sf_trees.specs.declared.fault.Refused.{Refused}
-use Rattle.sf_trees.specs.Deeds.{Deed}
+use Rattle.sf_trees.specs.Operations.{Operation}
 use Rattle.sf_asking.specs.Asking.{AreDone}
 use Rattle.sf_c.specs.declared.making.At.{At}
 
@@ -26,14 +26,15 @@ TellsMade (Ok done) n at = (n ≡ pos 0) × (at ≡ record { length = 0; kind = 
 TellsMade (Err r) n at = (n ≡ tree_fault_number r.fault)
     × (at ≡ record { length = r.place.length; kind = r.place.kind })
 
--- Deeds led from an engine to another, and came to this.
-abbrev pub DoesIn : {R : Type 0} → ℕ → (List Deed → R → Type 0) → EngineView → R → EngineView
+-- Operations led from an engine to another, and came to this.
+abbrev pub DoesIn : {R : Type 0} → ℕ → (List Operation → R → Type 0) → EngineView → R → EngineView
     → Type 0
-DoesIn moment P old r new = (deeds : List Deed) × AreDone moment deeds old new × P deeds r
+DoesIn moment P old r new = (operations : List Operation) × AreDone moment operations old new
+    × P operations r
 
 -- so of the engines that C has, and it is told so
-abbrev pub AnswersMade : Option EngineView → ℕ → (List Deed → Result (Unit {0}) Refused → Type 0)
-    → ℤ
+abbrev pub AnswersMade : Option EngineView → ℕ
+    → (List Operation → Result (Unit {0}) Refused → Type 0) → ℤ
     → At → Option EngineView → Type 0
 AnswersMade before moment P n at after = (old : EngineView) × (new : EngineView)
     × (r : Result (Unit {0}) Refused) × (before ≡ Some old) × (after ≡ Some new)

@@ -34,13 +34,13 @@ use Rattle.sf_inode.specs.Stores.{StoreState, node_in, child_of, holder_of, is_d
 use Rattle.sf_keeps.specs.Steps.{walk}
 use Rattle.sf_keeps.specs.Keeps.{Keeps}
 use Rattle.sf_keeps.proofs.Laws.{reached_node, label_found, walk_on, one_way}
-use Rattle.sf_coupling.specs.Walks.{Spot, Holds, IsNodeOf, IsOnWayTo, Between as IsBetween, IsFree}
+use Rattle.sf_coupling.specs.Walks.{HeldPath, Holds, IsNodeOf, IsOnWayTo, Between as IsBetween, IsFree}
 use Rattle.sf_coupling.specs.Fronts.{IsPrefix}
 use Rattle.sf_coupling.proofs.Laws.{begins_trans, same_or_not}
 use Rattle.sf_walk.specs.declared.finding.Ways.{Ways}
 use Rattle.sf_walk.specs.declared.finding.Located.{Located}
 use Rattle.sf_walk.specs.declared.finding.Located.TheVariants as located
-use Rattle.sf_walk.specs.Routes.{Route, PartAt, AreEnds, IsPosition, is_rooted, are_nested, route_at, route_of, reached_at, paths_on, spot_on, spots_of}
+use Rattle.sf_walk.specs.Routes.{Route, PartAt, AreEnds, IsPosition, is_rooted, are_nested, route_at, route_of, reached_at, paths_on, held_path_on, held_paths_of}
 use Rattle.sf_walk.specs.Routes.Route.{NoPath, Along, Between}
 use Rattle.sf_walk.specs.Routes.IsPosition.{Starts, IsOn, IsBefore, IsApart}
 use Rattle.sf_walk.specs.Ways.{way_from, missing, IsThere, AreWays, IsLocated}
@@ -53,7 +53,7 @@ use Rattle.sf_core.specs.Progress.{waiting_reply, did, has_walked, are_past, has
 use Rattle.sf_core.specs.Sure.{AreSure}
 use Rattle.sf_core.specs.Events.{AreRecordsOf, HasCut}
 use Rattle.sf_core.specs.Parts.{PartsView}
-use Rattle.sf_core.specs.Sound.{walker_of, spots_at, spots_in, Sound}
+use Rattle.sf_core.specs.Sound.{walker_of, held_paths_at, held_paths_in, Sound}
 use Rattle.sf_core.specs.Stepping.{all_set_back, HelpsAll, Overtakes}
 use Rattle.sf_core.proofs.Maps.{some_eq, none_some, reply_is}
 use Rattle.sf_core.proofs.Walkers.{walker_holds, rests_none}
@@ -361,11 +361,11 @@ module _ (p : PartsView) (h : List Record) (sound : Sound p h) (fits : p.store.l
       ends_are old new at_parent.0 at_parent.1 at_parent.2
       (subst (λ (r : Route). IsPosition r (stage.Ends at_parent.0 at_parent.1 at_parent.2)) route_is (subst (λ (g : Stage). IsPosition (route_of c.request) g) at_parent.3 (sound.coupled.positions c.number c at undecided)))
 
-  own_spots : spots_in p.calls c.number ≡ spots_of (Between old new) (stage.Ends at_parent.0 at_parent.1 at_parent.2)
-  own_spots = ap (λ (o : Option Call). option_map_or spots_at o []) at ∙ (λ i. spots_of (route_is i) (at_parent.3 i))
+  own_held_paths : held_paths_in p.calls c.number ≡ held_paths_of (Between old new) (stage.Ends at_parent.0 at_parent.1 at_parent.2)
+  own_held_paths = ap (λ (o : Option Call). option_map_or held_paths_at o []) at ∙ (λ i. held_paths_of (route_is i) (at_parent.3 i))
 
-  holds_parent : Holds (spots_in p.calls c.number) (spot_on old at_parent.1)
-  holds_parent = subst (λ (x : List Spot). Holds x (spot_on old at_parent.1)) (sym own_spots) (inr (inl refl))
+  holds_parent : Holds (held_paths_in p.calls c.number) (held_path_on old at_parent.1)
+  holds_parent = subst (λ (x : List HeldPath). Holds x (held_path_on old at_parent.1)) (sym own_held_paths) (inr (inl refl))
 
   -- it has not passed its own old path
   own_behind : has_passed c old ≡ false
@@ -402,23 +402,23 @@ module _ (p : PartsView) (h : List Record) (sound : Sound p h) (fits : p.store.l
   is_back : (k : ℕ) (d : Call) → call_at p.calls k ≡ Some d → test (k, d) ≡ true → call_at b.calls k ≡ Some (at_stage stage.Fresh d)
   is_back k d is e = in_b k d is ∙ ap (λ x. back_if x (Some d)) e
 
-  in_p : (k : ℕ) (s : Spot) → Holds (spots_in b.calls k) s → Holds (spots_in p.calls k) s
-  in_p k s hold = stood (is_one_of k numbers) (call_at p.calls k) s (subst (λ (o : Option Call). Holds (option_map_or spots_at o []) s) (calls_back numbers p k) hold)
+  in_p : (k : ℕ) (s : HeldPath) → Holds (held_paths_in b.calls k) s → Holds (held_paths_in p.calls k) s
+  in_p k s hold = stood (is_one_of k numbers) (call_at p.calls k) s (subst (λ (o : Option Call). Holds (option_map_or held_paths_at o []) s) (calls_back numbers p k) hold)
 
   -- ---- who has passed the old path lies below it
   -- Where another call has passed it with an end, so has its common directory: that lies on the way of the end, and this call
   -- holds the directory above the old path.
-  module _ (k : ℕ) (other : k ≢ c.number) (from to : Path) (common e1 e2 : Reached) (is : spots_in p.calls k ≡ spots_of (Between from to) (stage.Ends common e1 e2)) (ends : AreEnds from to common e1 e2) where
+  module _ (k : ℕ) (other : k ≢ c.number) (from to : Path) (common e1 e2 : Reached) (is : held_paths_in p.calls k ≡ held_paths_of (Between from to) (stage.Ends common e1 e2)) (ends : AreEnds from to common e1 e2) where
     common_past : (path : Path) (w : ℕ) → w < length path → IsPrefix (take common.walked from) (take w path) → has_walked path w old ≡ true
-        → ((q : Path) → IsPrefix q (take w path) → IsOnWayTo (spot_on from e1 ∷ spot_on to e2 ∷ []) q) → length old ≤ common.walked
+        → ((q : Path) → IsPrefix q (take w path) → IsOnWayTo (held_path_on from e1 ∷ held_path_on to e2 ∷ []) q) → length old ≤ common.walked
     common_past path w less below past at_end =
         let front = past_front old path w past (omega (arith, less)) in
         let parent = at_parent.1.walked in
         let up : IsPrefix (take parent old) old = record { rest = drop parent old; is = sym (take-append-drop parent old) } in
         let parent_below = begins_trans (take parent old) old (take w path) up (record { rest = front.0; is = front.1 }) in
         let longer = longer_front (take common.walked from) (take parent old) (take w path) below parent_below
-        (λ b. let between = sound.coupled.walks.apart k c.number (spot_on old at_parent.1) other holds_parent in
-        subst (λ (x : List Spot). IsBetween x (take parent old) → ⊥) is between (b, at_end (take parent old) parent_below)) in
+        (λ b. let between = sound.coupled.walks.apart k c.number (held_path_on old at_parent.1) other holds_parent in
+        subst (λ (x : List HeldPath). IsBetween x (take parent old) → ⊥) is between (b, at_end (take parent old) parent_below)) in
         let last = at_parent.4 in
         let short = ends.part.short in
         omega (arith, longer, last, length-take parent old, length-take common.walked from, short)
@@ -437,7 +437,7 @@ module _ (p : PartsView) (h : List Record) (sound : Sound p h) (fits : p.store.l
         let front = past_front old to common.walked back_past (omega (arith, short)) in
         both_below old from to common.walked common.walked ends.part (omega arith) (front_past old from common.walked front.0 (ends.part.alike ∙ front.1))
 
-  lies_by : (k : ℕ) → k ≢ c.number → (r : Route) (g : Stage) → IsPosition r g → spots_in p.calls k ≡ spots_of r g → are_past (reached_at g) (paths_on r) old ≡ true → LiesBelow old r
+  lies_by : (k : ℕ) → k ≢ c.number → (r : Route) (g : Stage) → IsPosition r g → held_paths_in p.calls k ≡ held_paths_of r g → are_past (reached_at g) (paths_on r) old ≡ true → LiesBelow old r
   lies_by k other r g (Starts o is) own passed = let z : ⊥ = cc in absurd z
   lies_by k other r g (IsOn path w node less) own passed = passed_below old path w (alone (has_walked path w old) passed) less
   lies_by k other r g (IsBefore from to w node count part less) own passed = both_below old from to count w part (omega (arith, less)) (alone (has_walked from w old) passed)
@@ -459,28 +459,28 @@ module _ (p : PartsView) (h : List Record) (sound : Sound p h) (fits : p.store.l
         at = is_back k d.0 d.1 d.2;
         undecided = reply_is (at_stage stage.Fresh d.0) ∙ sym (reply_is d.0) ∙ t.1;
         fresh = refl;
-        below = lies_by k t.0 (route_of d.0.request) d.0.stage (sound.coupled.positions k d.0 d.1 t.1) (ap (λ (o : Option Call). option_map_or spots_at o []) d.1) t.2;
+        below = lies_by k t.0 (route_of d.0.request) d.0.stage (sound.coupled.positions k d.0 d.1 t.1) (ap (λ (o : Option Call). option_map_or held_paths_at o []) d.1) t.2;
       }
 
   -- ---- nobody is left at the old path or below it
   -- a call that holds a directory, and is not overtaken, has not passed the old path
-  behind_by : (k : ℕ) (d : Call) → call_at p.calls k ≡ Some d → test (k, d) ≡ false → (s : Spot) → Holds (spots_at d) s → has_passed d old ≡ false
+  behind_by : (k : ℕ) (d : Call) → call_at p.calls k ≡ Some d → test (k, d) ≡ false → (s : HeldPath) → Holds (held_paths_at d) s → has_passed d old ≡ false
   behind_by k d is e s hold = elim (same_or_not k c.number) [
     | inl same ↦ ap (λ (x : Call). has_passed x old) (some_eq d c (sym is ∙ ap (call_at p.calls) same ∙ at)) ∙ own_behind
     | inr ne ↦
         let waits : is_none (waiting_reply d) ≡ true =
         elim (waiting_reply d) as (λ x. waiting_reply d ≡ x → is_none x ≡ true) [
           | None ↦ λ r. refl
-          | Some given ↦ λ r. absurd (subst (λ (x : List Spot). Holds x s) (rests_none (route_of d.request) d.stage (sound.coupled.waiting k d given is r)) hold)
+          | Some given ↦ λ r. absurd (subst (λ (x : List HeldPath). Holds x s) (rests_none (route_of d.request) d.stage (sound.coupled.waiting k d given is r)) hold)
         ] refl in
         three_false (not (nat_eq k c.number)) (is_none (waiting_reply d)) (has_passed d old) e (apart_test k c.number ne) waits
   ]
 
   clear : IsClear b old
-  clear k s hold = elim (call_at p.calls k) as (λ o. call_at p.calls k ≡ o → Holds (option_map_or spots_at o []) s → after_front old s.path ≡ None) [
+  clear k s hold = elim (call_at p.calls k) as (λ o. call_at p.calls k ≡ o → Holds (option_map_or held_paths_at o []) s → after_front old s.path ≡ None) [
     | None ↦ λ e held. absurd held
     | Some d ↦ λ e held. elim (test (k, d)) as (λ y. test (k, d) ≡ y → after_front old s.path ≡ None) [
-      | true ↦ λ y. absurd (subst (λ (o : Option Call). Holds (option_map_or spots_at o []) s) (is_back k d e y) hold)
+      | true ↦ λ y. absurd (subst (λ (o : Option Call). Holds (option_map_or held_paths_at o []) s) (is_back k d e y) hold)
       | false ↦ λ y. held_aside old (reached_at d.stage) (paths_on (route_of d.request)) (behind_by k d e y s held) s held
     ] refl
   ] refl (in_p k s hold)
@@ -508,23 +508,23 @@ module _ (p : PartsView) (h : List Record) (sound : Sound p h) (fits : p.store.l
       (served : IsRefused m.store mid (replay (h ++ all.helped)) given ⊎ IsCarriedOut mid (replay (h ++ all.helped)) (answer_to (replay (h ++ all.helped)) c.session c.number c.moment c.request) given)
       (stays : NodesStay c.number m.store mid)
       (path : Path) (l holder : ℕ) (leads : walk (child_of m.store.nodes) m.store.root path ≡ Some l) (held : walker_of m.store.nodes l ≡ Some holder) (other : c.number ≢ holder) where
-    the : IsNodeOf (spots_in m.calls holder) l
+    the : IsNodeOf (held_paths_in m.calls holder) l
     the = now.coupled.walks.holds l holder held
 
-    same_path : the.spot.path ≡ path
+    same_path : the.held_path.path ≡ path
     same_path =
-        let w = now.coupled.walks.leads holder the.spot the.holds in
-        one_way m.store (replay (h ++ all.helped)) now.history.tree the.spot.path path l (w.names ∙ ap Some the.node) leads (ap (is_directory_at m.store.nodes) (sym the.node) ∙ w.directory)
+        let w = now.coupled.walks.leads holder the.held_path the.holds in
+        one_way m.store (replay (h ++ all.helped)) now.history.tree the.held_path.path path l (w.names ∙ ap Some the.node) leads (ap (is_directory_at m.store.nodes) (sym the.node) ∙ w.directory)
 
-    held_in_b : Holds (spots_in b.calls holder) the.spot
-    held_in_b = all.led.stood holder the.spot the.holds
+    held_in_b : Holds (held_paths_in b.calls holder) the.held_path
+    held_in_b = all.led.stood holder the.held_path the.holds
 
     not_new : path ≡ new → ⊥
     not_new same =
-        let held_in_p = in_p holder the.spot held_in_b in
-        let way = located_at p.store.nodes new p.store.root p.store.root the.spot.node (ap (walk (child_of p.store.nodes) p.store.root) (sym (same_path ∙ same)) ∙ (sound.coupled.walks.leads holder the.spot held_in_p).names) in
-        let free_at : IsFree (holder_of p.store.nodes) c.number the.spot.node = subst (λ (f : Located). IsFreeThere (holder_of p.store.nodes) c.number f) (new_is ∙ way.1) free_new in
-        other (free_at holder (walker_holds p.store.nodes the.spot.node holder (sound.coupled.walks.held holder the.spot held_in_p)).1)
+        let held_in_p = in_p holder the.held_path held_in_b in
+        let way = located_at p.store.nodes new p.store.root p.store.root the.held_path.node (ap (walk (child_of p.store.nodes) p.store.root) (sym (same_path ∙ same)) ∙ (sound.coupled.walks.leads holder the.held_path held_in_p).names) in
+        let free_at : IsFree (holder_of p.store.nodes) c.number the.held_path.node = subst (λ (f : Located). IsFreeThere (holder_of p.store.nodes) c.number f) (new_is ∙ way.1) free_new in
+        other (free_at holder (walker_holds p.store.nodes the.held_path.node holder (sound.coupled.walks.held holder the.held_path held_in_p)).1)
 
     label_some : IsSome (label_at (replay (h ++ all.helped)).names path)
     label_some =
@@ -537,7 +537,7 @@ module _ (p : PartsView) (h : List Record) (sound : Sound p h) (fits : p.store.l
         let above = (now.ledger.calls c.number c at_m).above in
         let fresh = now.history.undecided c.number c at_m undecided in
         label_after m.store mid (h ++ all.helped) c.number c.session c.moment c.request given now.history.legal above fresh now.history.tree served stays path
-        (spared_labels (record { history = h ++ all.helped; session = c.session; number = c.number; moment = c.moment; request = c.request; legal = now.history.legal; above = above; fresh = fresh }) old new path paths label_some (ap (after_front old) (sym same_path) ∙ clear holder the.spot held_in_b) not_new)
+        (spared_labels (record { history = h ++ all.helped; session = c.session; number = c.number; moment = c.moment; request = c.request; legal = now.history.legal; above = above; fresh = fresh }) old new path paths label_some (ap (after_front old) (sym same_path) ∙ clear holder the.held_path held_in_b) not_new)
 
   -- ---- both paths lead where they led
   aside_old : (q r : Path) → q ++ r ≡ old → IsAside old q

@@ -16,16 +16,16 @@ use Rattle.sf_inode.specs.Nodes.{child_in, is_directory_content, is_file_content
 use Rattle.sf_inode.specs.Stores.{StoreState, node_in, child_of, holder_of, is_directory_at, is_file_at, left_set, edited}
 use Rattle.sf_keeps.specs.Keeps.{Keeps}
 use Rattle.sf_keeps.proofs.Laws.{keeps_held, keeps_left, edited_apart, edited_itself, left_there, left_holders}
-use Rattle.sf_coupling.specs.Walks.{Spot, walkers_at, AreWalks}
+use Rattle.sf_coupling.specs.Walks.{HeldPath, walkers_at, AreWalks}
 use Rattle.sf_coupling.proofs.Laws.{same_or_not}
 use Rattle.sf_copying.specs.Copies.{copying, AreCopies, Changes}
 use Rattle.sf_copying.proofs.Laws.{goes_keeps, ends_keeps}
-use Rattle.sf_walk.specs.Routes.{route_of, terrain}
+use Rattle.sf_walk.specs.Routes.{route_of, namespace}
 use Rattle.sf_walk.proofs.Laws.{IsSameGround, same_trans, same_held, leads_same, holder_freed}
 use Rattle.sf_core.specs.Cores.{call_at}
 use Rattle.sf_core.specs.Progress.{waiting_reply, IsCopying}
 use Rattle.sf_core.specs.Parts.{PartsView}
-use Rattle.sf_core.specs.Sound.{walker_of, writer_of_file, IsAtRest, spots_at, spots_in, copying_in, copying_scene, IsWriting, Sound}
+use Rattle.sf_core.specs.Sound.{walker_of, writer_of_file, IsAtRest, held_paths_at, held_paths_in, copying_in, copying_scene, IsWriting, Sound}
 use Rattle.sf_core.specs.Finishing.{write_finished}
 use Rattle.sf_core.specs.Writing.{part_copied, block_copied}
 use Rattle.sf_core.proofs.Maps.{some_eq, none_some}
@@ -105,11 +105,11 @@ module _ (p : PartsView) (h : List Record) (sound : Sound p h) (c : Call) (at : 
   own : (m : ℕ) (d : Call) → m ≡ c.number → call_at (staged p.calls c.number after) m ≡ Some d → at_stage after c ≡ d
   own m d e there = some_eq (at_stage after c) d (sym updates.now_is ∙ ap (call_at (staged p.calls c.number after)) (sym e) ∙ there)
 
-  spots_same : (m : ℕ) → spots_in (staged p.calls c.number after) m ≡ spots_in p.calls m
-  spots_same m = elim (same_or_not m c.number) [
-    | inl e ↦ ap (spots_in (staged p.calls c.number after)) e ∙ ap (λ (o : Option Call). option_map_or spots_at o []) updates.now_is ∙ rests_none (route_of c.request) after rests
-        ∙ sym (rests_none (route_of c.request) c.stage rested) ∙ sym (ap (λ (o : Option Call). option_map_or spots_at o []) at) ∙ ap (spots_in p.calls) (sym e)
-    | inr ne ↦ ap (λ (o : Option Call). option_map_or spots_at o []) (updates.rest m ne)
+  held_paths_same : (m : ℕ) → held_paths_in (staged p.calls c.number after) m ≡ held_paths_in p.calls m
+  held_paths_same m = elim (same_or_not m c.number) [
+    | inl e ↦ ap (held_paths_in (staged p.calls c.number after)) e ∙ ap (λ (o : Option Call). option_map_or held_paths_at o []) updates.now_is ∙ rests_none (route_of c.request) after rests
+        ∙ sym (rests_none (route_of c.request) c.stage rested) ∙ sym (ap (λ (o : Option Call). option_map_or held_paths_at o []) at) ∙ ap (held_paths_in p.calls) (sym e)
+    | inr ne ↦ ap (λ (o : Option Call). option_map_or held_paths_at o []) (updates.rest m ne)
   ]
 
   walkers_same : (l : ℕ) → walker_of s.nodes l ≡ walker_of p.store.nodes l
@@ -126,9 +126,9 @@ module _ (p : PartsView) (h : List Record) (sound : Sound p h) (c : Call) (at : 
       keeps refl refl refl
       (record {
         walks =
-            subst (λ (f : ℕ → List Spot). AreWalks (walkers_at (terrain s) f (walker_of s.nodes))) (λ i m. sym (spots_same m) i)
-            (subst (λ (k : ℕ → Option ℕ). AreWalks (walkers_at (terrain s) (spots_in p.calls) k)) (λ i l. sym (walkers_same l) i)
-            (walks_on (terrain p.store) (terrain s) (spots_in p.calls) (walker_of p.store.nodes) (leads_same p.store s ground) sound.coupled.walks));
+            subst (λ (f : ℕ → List HeldPath). AreWalks (walkers_at (namespace s) f (walker_of s.nodes))) (λ i m. sym (held_paths_same m) i)
+            (subst (λ (k : ℕ → Option ℕ). AreWalks (walkers_at (namespace s) (held_paths_in p.calls) k)) (λ i l. sym (walkers_same l) i)
+            (walks_on (namespace p.store) (namespace s) (held_paths_in p.calls) (walker_of p.store.nodes) (leads_same p.store s ground) sound.coupled.walks));
         positions = λ m d there none. elim (same_or_not m c.number) [
           | inl e ↦ absurd (none_some given (sym none ∙ ap waiting_reply (sym (own m d e there)) ∙ reply_same ∙ decided))
           | inr ne ↦ sound.coupled.positions m d (sym (updates.rest m ne) ∙ there) none

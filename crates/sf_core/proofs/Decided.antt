@@ -15,9 +15,9 @@ use Rattle.sf_inode.specs.Stores.{StoreState, node_in, child_of, holder_of, is_d
 use Rattle.sf_keeps.specs.Steps.{walk}
 use Rattle.sf_keeps.specs.Keeps.{Keeps}
 use Rattle.sf_keeps.proofs.Laws.{reached_node}
-use Rattle.sf_coupling.specs.Walks.{Spot, Holds, IsNodeOf, Between, IsShaped, LeadsTo, walkers_at, AreWalks, HandsOver}
+use Rattle.sf_coupling.specs.Walks.{HeldPath, Holds, IsNodeOf, Between, IsShaped, LeadsTo, walkers_at, AreWalks, HandsOver}
 use Rattle.sf_coupling.proofs.Laws.{same_or_not, keeps_walks}
-use Rattle.sf_walk.specs.Routes.{IsPosition, route_of, spots_of, terrain}
+use Rattle.sf_walk.specs.Routes.{IsPosition, route_of, held_paths_of, namespace}
 use Rattle.sf_walk.specs.Served.{IsAsBefore, NodesStay, IsRefused, IsCarriedOut}
 use Rattle.sf_walk.specs.Routes.{nodes_of}
 use Rattle.sf_walk.proofs.Laws.{same_let_go, leads_same, freed_hands}
@@ -35,7 +35,7 @@ module _ (old mid : StoreState) (history : List Record) (n session moment : ℕ)
     (labels : (q : Path) (l holder : ℕ) → walk (child_of old.nodes) old.root q ≡ Some l → walker_of old.nodes l ≡ Some holder → n ≢ holder
     → label_at (after (replay history) (Did n session moment r given)).names q ≡ label_at (replay history).names q)
     (files : (l m : ℕ) → writer_of_file old.nodes l ≡ Some m → is_directory_at mid.nodes l ≡ true → ⊥)
-    (at : Stage) (is : IsPosition (route_of r) at) (f : ℕ → List Spot) (walks : AreWalks (walkers_at (terrain old) f (walker_of old.nodes))) (own : f n ≡ spots_of (route_of r) at) where
+    (at : Stage) (is : IsPosition (route_of r) at) (f : ℕ → List HeldPath) (walks : AreWalks (walkers_at (namespace old) f (walker_of old.nodes))) (own : f n ≡ held_paths_of (route_of r) at) where
   -- a node's holder after the decision is the one that it had
   holder_was : (l m : ℕ) (o : Option Node) (node : Node) → node_in old.nodes l ≡ o → IsAsBefore (λ holder label. (holder ≡ None) × (label ≡ n)) o node → node.holder ≡ Some m → holder_of old.nodes l ≡ Some m
   holder_was l m None node e is h = let x : None ≡ Some m = sym is.0.0 ∙ h in absurd (let z : ⊥ = cc in z)
@@ -53,8 +53,8 @@ module _ (old mid : StoreState) (history : List Record) (n session moment : ℕ)
   holder_is l m (Some was) node e is h = is.0 ∙ sym (ap (option_and_then (λ (x : Node). x.holder)) e) ∙ h
 
   -- where another call stands
-  module _ (m : ℕ) (s : Spot) (other : n ≢ m) (hold : Holds (f m) s) where
-    leads : LeadsTo (terrain old) s
+  module _ (m : ℕ) (s : HeldPath) (other : n ≢ m) (hold : Holds (f m) s) where
+    leads : LeadsTo (namespace old) s
     leads = walks.leads m s hold
 
     still : (walk (child_of mid.nodes) mid.root s.path ≡ Some s.node) × ((node : Node) × (node_in mid.nodes s.node ≡ Some node))
@@ -68,7 +68,7 @@ module _ (old mid : StoreState) (history : List Record) (n session moment : ℕ)
     directory : is_directory_at mid.nodes s.node ≡ true
     directory = directory_still old mid history n session moment r given legal above fresh keeps served stays s.node was.0 still.1.0 was.1 still.1.1 leads.directory
 
-    spared : LeadsTo (terrain (freed at mid)) s
+    spared : LeadsTo (namespace (freed at mid)) s
     spared = leads_same mid (freed at mid) (same_let_go [] (nodes_of at) mid) s (record { names = still.0; directory = directory })
 
     held_still : walker_of mid.nodes s.node ≡ Some m
@@ -92,7 +92,7 @@ module _ (old mid : StoreState) (history : List Record) (n session moment : ℕ)
       elim (walker_of old.nodes l) as (λ o. walker_of old.nodes l ≡ o → walker_of mid.nodes l ≡ o) [
         | Some m ↦ λ e. elim (same_or_not n m) [
           | inl same ↦ absurd (not (subst (λ x. IsNodeOf (f x) l) (sym same) (walks.holds l m e)))
-          | inr other ↦ let w = walks.holds l m e in ap (walker_of mid.nodes) (sym w.node) ∙ held_still m w.spot other w.holds
+          | inr other ↦ let w = walks.holds l m e in ap (walker_of mid.nodes) (sym w.node) ∙ held_still m w.held_path other w.holds
         ]
         | None ↦ λ e. elim (walker_of mid.nodes l) as (λ o. walker_of mid.nodes l ≡ o → o ≡ None) [
           | None ↦ λ g. refl
@@ -105,21 +105,21 @@ module _ (old mid : StoreState) (history : List Record) (n session moment : ℕ)
       let freeing = freed_hands (route_of r) at is mid n in
       record {
         here = λ l h. absurd h.holds;
-        gone = λ l was none. if_none (is_directory_at (freed at mid).nodes l) (holder_of (freed at mid).nodes l) (freeing.gone l (subst (λ (x : List Spot). IsNodeOf x l) own was) none);
-        rest = λ l not none. (λ i. if (same_let_go [] (nodes_of at) mid).directory l i then freeing.rest l (λ h. not (subst (λ (x : List Spot). IsNodeOf x l) (sym own) h)) none i else None) ∙ mid_same l not;
+        gone = λ l was none. if_none (is_directory_at (freed at mid).nodes l) (holder_of (freed at mid).nodes l) (freeing.gone l (subst (λ (x : List HeldPath). IsNodeOf x l) own was) none);
+        rest = λ l not none. (λ i. if (same_let_go [] (nodes_of at) mid).directory l i then freeing.rest l (λ h. not (subst (λ (x : List HeldPath). IsNodeOf x l) (sym own) h)) none i else None) ∙ mid_same l not;
       }
 
   -- the other calls' walks are what they were, and what is left of the call holds nothing
-  pub decided_keeps : (f' : ℕ → List Spot) → f' n ≡ [] → ((m : ℕ) → n ≢ m → f' m ≡ f m) → AreWalks (walkers_at (terrain (freed at mid)) f' (walker_of (freed at mid).nodes))
+  pub decided_keeps : (f' : ℕ → List HeldPath) → f' n ≡ [] → ((m : ℕ) → n ≢ m → f' m ≡ f m) → AreWalks (walkers_at (namespace (freed at mid)) f' (walker_of (freed at mid).nodes))
   decided_keeps f' none same =
-      let nothing : (s : Spot) → Holds (f' n) s → ⊥ = λ s h. subst (λ (x : List Spot). Holds x s) none h in
-      keeps_walks (walkers_at (terrain old) f (walker_of old.nodes)) (walkers_at (terrain (freed at mid)) f' (walker_of (freed at mid).nodes)) n walks (record {
+      let nothing : (s : HeldPath) → Holds (f' n) s → ⊥ = λ s h. subst (λ (x : List HeldPath). Holds x s) none h in
+      keeps_walks (walkers_at (namespace old) f (walker_of old.nodes)) (walkers_at (namespace (freed at mid)) f' (walker_of (freed at mid).nodes)) n walks (record {
         same = same;
-        hands = subst (λ (x : List Spot). HandsOver (walker_of old.nodes) (walker_of (freed at mid).nodes) n (f n) x) (sym none) hands;
-        free = λ l h. absurd (nothing h.spot h.holds);
+        hands = subst (λ (x : List HeldPath). HandsOver (walker_of old.nodes) (walker_of (freed at mid).nodes) n (f n) x) (sym none) hands;
+        free = λ l h. absurd (nothing h.held_path h.holds);
         shaped = subst IsShaped (sym none) tt;
         spared = λ m s other hold _. spared m s other hold;
         leads = λ s h. absurd (nothing s h);
-        apart = λ m s other hold b. subst (λ (x : List Spot). Between x s.path) none b;
+        apart = λ m s other hold b. subst (λ (x : List HeldPath). Between x s.path) none b;
         aside = λ m s other h b. nothing s h;
       })

@@ -48,7 +48,7 @@ use Rattle.sf_core.specs.Progress.MayDecideBy.{AtOnce, AtRoot, AtEnd}
 use Rattle.sf_core.specs.Sure.{IsSure, AreSure}
 use Rattle.sf_core.specs.Events.{AreRecordsOf, IsOfOther, HasCut, IsHelped, IsFinished, Decides}
 use Rattle.sf_core.specs.Parts.{PartsView, core_of}
-use Rattle.sf_core.specs.Sound.{spots_at, Sound}
+use Rattle.sf_core.specs.Sound.{held_paths_at, Sound}
 use Rattle.sf_core.specs.Stepping.{session_set_by, FinishState, Walked, Overtakes}
 use Rattle.sf_core.proofs.Maps.{some_eq, none_some, reply_is}
 use Rattle.sf_core.proofs.Updates.{Updates, updates_set, updates_removed}
@@ -134,7 +134,7 @@ sure_more h (x ∷ rs) r a s = (a.0, sure_more (h ++ x ∷ []) rs r a.1 (subst (
 pub stands : (p : PartsView) (h : List Record) → Sound p h → (n : ℕ) (c : Call) → call_at p.calls n ≡ Some c → waiting_reply c ≡ None → HoldsWay p.store (route_of c.request) c.stage
 stands p h sound n c at undecided = record {
   position = sound.coupled.positions n c at undecided;
-  leads = λ spot held. sound.coupled.walks.leads n spot (subst (λ (o : Option Call). Holds (option_map_or spots_at o []) spot) (sym at) held);
+  leads = λ held_path held. sound.coupled.walks.leads n held_path (subst (λ (o : Option Call). Holds (option_map_or held_paths_at o []) held_path) (sym at) held);
 }
 
 module _ (p : PartsView) (lane : LaneView) (c : Call) (turn : IsTurn p lane c) (undecided : waiting_reply c ≡ None) (q : PartsView) (ways : Ways) (w : Walked p q c c.number (walked.Ready ways)) (free : IsFileFree p.store c) where

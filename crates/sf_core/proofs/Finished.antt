@@ -9,7 +9,7 @@ use Rattle.sf_call.specs.declared.record.Record.{Record}
 use Rattle.sf_call.specs.declared.request.Request.{Request}
 use Rattle.sf_call.specs.Unanswered.{at_stage}
 use Rattle.sf_inode.specs.Stores.{StoreState}
-use Rattle.sf_coupling.specs.Walks.{Spot, Holds}
+use Rattle.sf_coupling.specs.Walks.{HeldPath, Holds}
 use Rattle.sf_coupling.proofs.Laws.{same_or_not}
 use Rattle.sf_walk.specs.Routes.{route_of}
 use Rattle.sf_walk.specs.Ways.{request_names as path_names}
@@ -19,7 +19,7 @@ use Rattle.sf_walk.proofs.Laws.{IsSameGround, same_itself, same_trans}
 use Rattle.sf_core.specs.Cores.{call_at}
 use Rattle.sf_core.specs.Progress.{waiting_reply, IsCopying}
 use Rattle.sf_core.specs.Parts.{PartsView}
-use Rattle.sf_core.specs.Sound.{copying_at, spots_at, spots_in, Sound}
+use Rattle.sf_core.specs.Sound.{copying_at, held_paths_at, held_paths_in, Sound}
 use Rattle.sf_core.specs.Finishing.{write_finished, FinishesWriter}
 use Rattle.sf_core.proofs.Maps.{some_eq}
 use Rattle.sf_core.proofs.Updates.{Updates, updates_staged}
@@ -66,7 +66,7 @@ still_undecided p q h sound why m d (inr f) = absurd (not_copying p h sound m d.
 pub record Readied (p q : PartsView) (h : List Record) (most : ℕ) (r : Request) : Type 0 where
   pub sound : Sound q h
   pub ground : IsSameGround p.store q.store
-  pub stood : (m : ℕ) (s : Spot) → Holds (spots_in q.calls m) s → Holds (spots_in p.calls m) s
+  pub stood : (m : ℕ) (s : HeldPath) → Holds (held_paths_in q.calls m) s → Holds (held_paths_in p.calls m) s
   pub each : (m : ℕ) (d : Call) → call_at p.calls m ≡ Some d → IsStill q (cuts_file r ≡ true) m d
   pub book : q.book ≡ p.book
   pub sessions : q.sessions ≡ p.sessions
@@ -114,8 +114,8 @@ module _ (p : PartsView) (h : List Record) (sound : Sound p h) (looked : StoreSt
       sound = end_sound m h sound_m d at node left is;
       ground = same_trans p.store looked q.store (ground_looked p.store looked most looks) (end_ground m h sound_m d at node left is);
       stood = λ k s hold. elim (same_or_not k d.number) [
-        | inl e ↦ absurd (subst (λ (o : Option Call). Holds (option_map_or spots_at o []) s) (ap (call_at q.calls) e ∙ updates.now_is) hold)
-        | inr ne ↦ subst (λ (o : Option Call). Holds (option_map_or spots_at o []) s) (updates.rest k ne) hold
+        | inl e ↦ absurd (subst (λ (o : Option Call). Holds (option_map_or held_paths_at o []) s) (ap (call_at q.calls) e ∙ updates.now_is) hold)
+        | inr ne ↦ subst (λ (o : Option Call). Holds (option_map_or held_paths_at o []) s) (updates.rest k ne) hold
       ];
       each = λ k x there. elim (same_or_not k d.number) [
         | inl e ↦

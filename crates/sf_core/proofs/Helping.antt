@@ -26,9 +26,9 @@ use Rattle.sf_inode.specs.Stores.{StoreState, node_in, child_of, is_directory_at
 use Rattle.sf_keeps.specs.Steps.{walk}
 use Rattle.sf_keeps.specs.Keeps.{Keeps}
 use Rattle.sf_keeps.proofs.Laws.{reached_node, label_found, one_way}
-use Rattle.sf_coupling.specs.Walks.{Spot, Holds}
+use Rattle.sf_coupling.specs.Walks.{HeldPath, Holds}
 use Rattle.sf_coupling.proofs.Laws.{same_or_not}
-use Rattle.sf_walk.specs.Routes.{Route, is_rooted, are_nested, route_at, route_of, spots_of}
+use Rattle.sf_walk.specs.Routes.{Route, is_rooted, are_nested, route_at, route_of, held_paths_of}
 use Rattle.sf_walk.specs.Routes.Route.{NoPath, Along, Between}
 use Rattle.sf_walk.specs.Steps.{is_one_of}
 use Rattle.sf_walk.specs.Served.{IsRefused, IsCarriedOut}
@@ -40,7 +40,7 @@ use Rattle.sf_core.specs.Sure.{AreSure}
 use Rattle.sf_walk.specs.Files.{cuts_file}
 use Rattle.sf_core.specs.Events.{AreRecordsOf, HasCut}
 use Rattle.sf_core.specs.Parts.{PartsView}
-use Rattle.sf_core.specs.Sound.{spots_at, spots_in, Sound}
+use Rattle.sf_core.specs.Sound.{held_paths_at, held_paths_in, Sound}
 use Rattle.sf_core.specs.Stepping.{freed, ServesCall, HelpState, HelpsAll}
 use Rattle.sf_core.proofs.Maps.{some_eq, none_some}
 use Rattle.sf_core.proofs.Updates.{Updates, updates_answered}
@@ -57,7 +57,7 @@ IsAside old path = (name : Name) (rest : Path) → after_front old path ≢ Some
 
 -- nobody holds what is at the path or below it
 abbrev pub IsClear : PartsView → Path → Type 0
-IsClear p old = (m : ℕ) (s : Spot) → Holds (spots_in p.calls m) s → after_front old s.path ≡ None
+IsClear p old = (m : ℕ) (s : HeldPath) → Holds (held_paths_in p.calls m) s → after_front old s.path ≡ None
 
 -- the call of a number is undecided, holds nothing, and lies below a path
 pub record IsReady (p : PartsView) (old : Path) (number : ℕ) : Type 0 where
@@ -73,7 +73,7 @@ pub record AreLed (old : Path) (p q : PartsView) (h helped : List Record) : Type
   pub sure : AreSure h helped
   pub walks : (path : Path) → IsAside old path → walk (child_of q.store.nodes) q.store.root path ≡ walk (child_of p.store.nodes) p.store.root path
   pub directory : (path : Path) (l : ℕ) → IsAside old path → walk (child_of p.store.nodes) p.store.root path ≡ Some l → is_directory_at p.store.nodes l ≡ true → is_directory_at q.store.nodes l ≡ true
-  pub stood : (m : ℕ) (s : Spot) → Holds (spots_in q.calls m) s → Holds (spots_in p.calls m) s
+  pub stood : (m : ℕ) (s : HeldPath) → Holds (held_paths_in q.calls m) s → Holds (held_paths_in p.calls m) s
   pub sessions : q.sessions ≡ p.sessions
   pub drawn : q.drawn ≡ p.drawn
   pub joins : q.joins ≡ p.joins
@@ -155,9 +155,9 @@ module _ (old : Path) (p : PartsView) (history : List Record) (sound : Sound p h
       helped_sound p q history sound c at undecided given
       (λ x l holder w held other.
       let s = sound.coupled.walks.holds l holder held in
-      let leads = sound.coupled.walks.leads holder s.spot s.holds in
-      let same = one_way p.store (replay history) sound.history.tree s.spot.path x l (leads.names ∙ ap Some s.node) w (ap (is_directory_at p.store.nodes) (sym s.node) ∙ leads.directory) in
-      label_aside x (aside_none old x (ap (after_front old) (sym same) ∙ clear holder s.spot s.holds)))
+      let leads = sound.coupled.walks.leads holder s.held_path s.holds in
+      let same = one_way p.store (replay history) sound.history.tree s.held_path.path x l (leads.names ∙ ap Some s.node) w (ap (is_directory_at p.store.nodes) (sym s.node) ∙ leads.directory) in
+      label_aside x (aside_none old x (ap (after_front old) (sym same) ∙ clear holder s.held_path s.holds)))
       fresh helped
 
   calls_now : Updates p.calls q.calls c.number (Some c) (Some (with_reply given c))
@@ -186,13 +186,13 @@ module _ (old : Path) (p : PartsView) (history : List Record) (sound : Sound p h
             ] refl
       ] refl
 
-  stood_now : (m : ℕ) (s : Spot) → Holds (spots_in q.calls m) s → Holds (spots_in p.calls m) s
+  stood_now : (m : ℕ) (s : HeldPath) → Holds (held_paths_in q.calls m) s → Holds (held_paths_in p.calls m) s
   stood_now m s hold = elim (same_or_not m c.number) [
     | inl e ↦
-        let none : spots_in q.calls m ≡ [] =
-        ap (spots_in q.calls) e ∙ ap (λ (o : Option Call). option_map_or spots_at o []) calls_now.now_is ∙ ap (λ (g : Stage). spots_of (route_of c.request) g) fresh in
-        absurd (subst (λ (x : List Spot). Holds x s) none hold)
-    | inr ne ↦ subst (λ (x : List Spot). Holds x s) (ap (λ (o : Option Call). option_map_or spots_at o []) (calls_now.rest m ne)) hold
+        let none : held_paths_in q.calls m ≡ [] =
+        ap (held_paths_in q.calls) e ∙ ap (λ (o : Option Call). option_map_or held_paths_at o []) calls_now.now_is ∙ ap (λ (g : Stage). held_paths_of (route_of c.request) g) fresh in
+        absurd (subst (λ (x : List HeldPath). Holds x s) none hold)
+    | inr ne ↦ subst (λ (x : List HeldPath). Holds x s) (ap (λ (o : Option Call). option_map_or held_paths_at o []) (calls_now.rest m ne)) hold
   ]
 
   all_sure : AreSure history (did c given ∷ [])

@@ -9,7 +9,7 @@ use Rattle.sf_call.specs.Tree.{Tree}
 use Rattle.sf_call.specs.Histories.{after, IsLegal, replay, IsNewNumber, IsPresent, IsOther, IsNoLeaving, MayFollow, IsAmong}
 use Rattle.sf_call.proofs.Laws.{replay-push, IsLegal-push}
 use Rattle.sf_book.specs.Books.{BookView, is_call, excess, kept_of, gone_of, put}
-use Rattle.sf_book.proofs.Laws.{kept-put, gone-put, deeds-split, deeds-append}
+use Rattle.sf_book.proofs.Laws.{kept-put, gone-put, call_count-split, call_count-append}
 use Rattle.sf_keeps.specs.Keeps.{Keeps}
 use Rattle.sf_coupling.proofs.Laws.{same_or_not}
 use Rattle.sf_core.specs.Cores.{call_at, session_at, last_number, most_sessions}
@@ -23,8 +23,8 @@ pub all_push : {A : Type 0} (P : A → Type 0) (xs : List A) (x : A) → AllByRe
 all_push P [] x h p = (p, tt)
 all_push P (y ∷ xs) x h p = (h.0, all_push P xs x h.1 p)
 
-pub deeds_push : (rs : List Record) (r : Record) → count_by is_call (rs ++ r ∷ []) ≡ count_by is_call rs + count_by is_call (r ∷ [])
-deeds_push rs r = deeds-append rs (r ∷ [])
+pub call_count_push : (rs : List Record) (r : Record) → count_by is_call (rs ++ r ∷ []) ≡ count_by is_call rs + count_by is_call (r ∷ [])
+call_count_push rs r = call_count-append rs (r ∷ [])
 
 pub among_more : (r : Record) (h rs : List Record) → IsAmong r h → IsAmong r (h ++ rs)
 unfolding IsAmong
@@ -83,7 +83,7 @@ written_put b h r w small = record {
         as_gone = w.folded;
         as_before = y;
         parts = gone-put b.keep h r;
-        whole = deeds-split (h ++ r ∷ []) (excess b.keep (h ++ r ∷ []));
+        whole = call_count-split (h ++ r ∷ []) (excess b.keep (h ++ r ∷ []));
         small = small;
       });
 }
@@ -153,7 +153,7 @@ module _ (p q : PartsView) (h : List Record) (is : IsHistory (core_of p) h) (c :
       omega (arith, a, b, left_decided c given now left)
 
   counted_now : q.drawn ≡ count_by is_call (h ++ r ∷ []) + undecided_in q.calls
-  counted_now = let a = is.counted in omega (arith, a, drawn, fewer, deeds_push h r)
+  counted_now = let a = is.counted in omega (arith, a, drawn, fewer, call_count_push h r)
 
   own_by : (o : Option Call) → IsLeft c given o → (d : Call) → o ≡ Some d → (waiting_reply d ≡ Some given) × IsAmong (did d given) (h ++ r ∷ [])
   own_by o Gone d at = absurd (none_some d at)

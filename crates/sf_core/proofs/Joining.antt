@@ -8,11 +8,11 @@ use Rattle.sf_book.specs.Books.{BookView}
 use Rattle.sf_inode.specs.Stores.{StoreState}
 use Rattle.sf_keeps.specs.Keeps.{Keeps}
 use Rattle.sf_coupling.specs.Walks.{walkers_at, AreWalks}
-use Rattle.sf_walk.specs.Routes.{terrain}
+use Rattle.sf_walk.specs.Routes.{namespace}
 use Rattle.sf_core.specs.Cores.{call_at, session_at, lane_state_by, last_number, most_sessions}
 use Rattle.sf_core.specs.Progress.{undecided_in}
 use Rattle.sf_core.specs.Parts.{PartsView, core_of}
-use Rattle.sf_core.specs.Sound.{walker_of, spots_in, Sound}
+use Rattle.sf_core.specs.Sound.{walker_of, held_paths_in, Sound}
 use Rattle.sf_core.specs.Stepping.{JoinState}
 use Rattle.sf_core.proofs.Maps.{some_eq, none_some}
 use Rattle.sf_core.proofs.Updates.{Updates, updates_nothing}
@@ -49,8 +49,8 @@ module _ (p q : PartsView) (h : List Record) (sound : Sound p h) (joined : JoinS
         (let b = sessions.size in omega (arith, fewer, b));
     coupled = record {
       walks =
-          subst (λ (s : StoreState). AreWalks (walkers_at (terrain s) (spots_in q.calls) (walker_of s.nodes))) (sym joined.store)
-          (subst (λ cs. AreWalks (walkers_at (terrain p.store) (spots_in cs) (walker_of p.store.nodes))) (sym joined.calls) sound.coupled.walks);
+          subst (λ (s : StoreState). AreWalks (walkers_at (namespace s) (held_paths_in q.calls) (walker_of s.nodes))) (sym joined.store)
+          (subst (λ cs. AreWalks (walkers_at (namespace p.store) (held_paths_in cs) (walker_of p.store.nodes))) (sym joined.calls) sound.coupled.walks);
       positions = λ m d at. sound.coupled.positions m d (still m d at);
       waiting = λ m d g at some. sound.coupled.waiting m d g (still m d at) some;
     };

@@ -24,13 +24,13 @@ use Rattle.sf_inode.specs.Stores.{StoreState, node_in, child_of, open_handle_at,
 use Rattle.sf_keeps.specs.Steps.{walk}
 use Rattle.sf_keeps.specs.Keeps.{Keeps, WasThere, KeepsNodes}
 use Rattle.sf_keeps.proofs.Laws.{keeps_closed_all, nodes_kept, holder_kept, holder_was, directory_kept, way_kept, looks_kept}
-use Rattle.sf_coupling.specs.Walks.{Spot, walkers_at, AreWalks}
-use Rattle.sf_walk.specs.Routes.{terrain}
+use Rattle.sf_coupling.specs.Walks.{HeldPath, walkers_at, AreWalks}
+use Rattle.sf_walk.specs.Routes.{namespace}
 use Rattle.sf_walk.specs.Served.{NodesStay, IsAsBefore}
 use Rattle.sf_core.specs.Cores.{call_at, session_at, lane_state_by}
 use Rattle.sf_core.specs.Progress.{undecided_in}
 use Rattle.sf_core.specs.Parts.{PartsView, core_of}
-use Rattle.sf_core.specs.Sound.{walker_of, writer_of_file, copying_in, spots_in, Sound}
+use Rattle.sf_core.specs.Sound.{walker_of, writer_of_file, copying_in, held_paths_in, Sound}
 use Rattle.sf_core.specs.Stepping.{LeaveState}
 use Rattle.sf_core.proofs.Maps.{some_eq, none_some, removed_other}
 use Rattle.sf_core.proofs.Walkers.{walker_is, walker_holds}
@@ -41,11 +41,11 @@ use Rattle.sf_core.specs.Events.{Leaves}
 use Rattle.sf_core.proofs.LaneStates.{slot_idle, slot_kept}
 use Rattle.sf_core.proofs.Ledgers.{ledger_changed}
 use Rattle.sf_core.proofs.Starting.{no_call, has_call}
-use Rattle.sf_core.proofs.Histories.{IsWritten, written_put, history_changed, all_push, deeds_push, among_more}
+use Rattle.sf_core.proofs.Histories.{IsWritten, written_put, history_changed, all_push, call_count_push, among_more}
 
 -- ---- walks
 module _ (old new : StoreState) (t u : Tree) (keeps : Keeps old t) (keeps' : Keeps new u) (nodes : KeepsNodes old new) (names : u.names ≡ t.names)
-    (f : ℕ → List Spot) (walks : AreWalks (walkers_at (terrain old) f (walker_of old.nodes))) where
+    (f : ℕ → List HeldPath) (walks : AreWalks (walkers_at (namespace old) f (walker_of old.nodes))) where
   still : (q : Path) (l : ℕ) → walk (child_of old.nodes) old.root q ≡ Some l → (walk (child_of new.nodes) new.root q ≡ Some l) × ((node : Node) × (node_in new.nodes l ≡ Some node))
   still = way_kept old new t u keeps keeps' nodes names
 
@@ -58,7 +58,7 @@ module _ (old new : StoreState) (t u : Tree) (keeps : Keeps old t) (keeps' : Kee
   directory_was l None e dir = absurd (let z : ⊥ = cc in z)
   directory_was l (Some node) e dir = same_kind l node (node_in old.nodes l) refl (nodes.node l node e) dir
 
-  pub walks_still : AreWalks (walkers_at (terrain new) f (walker_of new.nodes))
+  pub walks_still : AreWalks (walkers_at (namespace new) f (walker_of new.nodes))
   walks_still = record {
     shaped = walks.shaped;
     leads = λ n s h. let w = walks.leads n s h in let e = still s.path s.node w.names in record { names = e.0; directory = directory_kept old new nodes s.node e.1.0 e.1.1 w.directory };
@@ -134,7 +134,7 @@ module _ (p q : PartsView) (h : List Record) (sound : Sound p h) (session : ℕ)
   as_many = ap (λ cs. undecided_in cs) parted.calls
 
   counted_now : q.drawn ≡ count_by is_call (h ++ Left session ∷ []) + undecided_in q.calls
-  counted_now = let a = sound.history.counted in let b = parted.drawn in omega (arith, a, b, as_many, deeds_push h (Left session))
+  counted_now = let a = sound.history.counted in let b = parted.drawn in omega (arith, a, b, as_many, call_count_push h (Left session))
 
   pub left_sound : Sound q (h ++ Left session ∷ [])
   left_sound = let is = sound.history in record {
@@ -151,9 +151,9 @@ module _ (p q : PartsView) (h : List Record) (sound : Sound p h) (session : ℕ)
         (let a = is.few in let b = sessions.size in omega (arith, a, b));
     coupled = record {
       walks =
-          subst (λ (s : StoreState). AreWalks (walkers_at (terrain s) (spots_in q.calls) (walker_of s.nodes))) (sym parted.store)
-          (subst (λ cs. AreWalks (walkers_at (terrain (closed_all p.store session)) (spots_in cs) (walker_of (closed_all p.store session).nodes))) (sym parted.calls)
-          (walks_still p.store (closed_all p.store session) (replay h) (replay (h ++ Left session ∷ [])) is.tree tree_now (nodes_kept p.store session) (ap (λ (t : Tree). t.names) (replay-push h (Left session))) (spots_in p.calls)
+          subst (λ (s : StoreState). AreWalks (walkers_at (namespace s) (held_paths_in q.calls) (walker_of s.nodes))) (sym parted.store)
+          (subst (λ cs. AreWalks (walkers_at (namespace (closed_all p.store session)) (held_paths_in cs) (walker_of (closed_all p.store session).nodes))) (sym parted.calls)
+          (walks_still p.store (closed_all p.store session) (replay h) (replay (h ++ Left session ∷ [])) is.tree tree_now (nodes_kept p.store session) (ap (λ (t : Tree). t.names) (replay-push h (Left session))) (held_paths_in p.calls)
           sound.coupled.walks));
       positions = λ m d at. sound.coupled.positions m d (still_call m d at);
       waiting = λ m d g at some. sound.coupled.waiting m d g (still_call m d at) some;

@@ -10,9 +10,9 @@ use Rattle.sf_call.specs.declared.call.Reached.{Reached}
 use Rattle.sf_call.specs.Tree.{after_front}
 use Rattle.sf_call.proofs.Laws.{append-after_front, after_front-append}
 use Rattle.sf_coupling.specs.Fronts.{IsPrefix}
-use Rattle.sf_coupling.specs.Walks.{Spot, Holds}
+use Rattle.sf_coupling.specs.Walks.{HeldPath, Holds}
 use Rattle.sf_coupling.proofs.Laws.{fronts_meet}
-use Rattle.sf_walk.specs.Routes.{Route, spots_on}
+use Rattle.sf_walk.specs.Routes.{Route, held_paths_on}
 use Rattle.sf_walk.specs.Routes.Route.{NoPath, Along, Between}
 use Rattle.sf_core.specs.Progress.{has_walked, are_past}
 
@@ -33,7 +33,7 @@ front_taken (n ∷ old) (m ∷ path) (suc w) rest e =
       | false ↦ λ f. absurd (let z : ⊥ = cc in z)
     ] e
 
--- a spot that isn't past a path is neither there nor below
+-- a path that isn't past another is neither there nor below
 pub stands_aside : (old path : Path) (w : ℕ) → has_walked path w old ≡ false → after_front old (take w path) ≡ None
 stands_aside old path w never =
     elim (after_front old (take w path)) as (λ o. after_front old (take w path) ≡ o → o ≡ None) [
@@ -150,10 +150,10 @@ or_false true y e = absurd (let z : ⊥ = cc in z)
 or_false false y e = (refl, e)
 
 -- who has not passed a path holds nothing there or below it
-pub held_aside : (old : Path) (at : List Reached) (paths : List Path) → are_past at paths old ≡ false → (s : Spot) → Holds (spots_on at paths) s → after_front old s.path ≡ None
+pub held_aside : (old : Path) (at : List Reached) (paths : List Path) → are_past at paths old ≡ false → (s : HeldPath) → Holds (held_paths_on at paths) s → after_front old s.path ≡ None
 held_aside old [] paths never s hold = absurd hold
 held_aside old (r ∷ at) [] never s hold = absurd hold
-held_aside old (r ∷ at) (path ∷ paths) never s (inl e) = ap (λ (x : Spot). after_front old x.path) e ∙ stands_aside old path r.walked (or_false (has_walked path r.walked old) (are_past at paths old) never).0
+held_aside old (r ∷ at) (path ∷ paths) never s (inl e) = ap (λ (x : HeldPath). after_front old x.path) e ∙ stands_aside old path r.walked (or_false (has_walked path r.walked old) (are_past at paths old) never).0
 held_aside old (r ∷ at) (path ∷ paths) never s (inr hold) = held_aside old at paths (or_false (has_walked path r.walked old) (are_past at paths old) never).1 s hold
 
 -- a test that tells whether a path begins with another

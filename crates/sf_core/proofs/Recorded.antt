@@ -25,14 +25,14 @@ use Rattle.sf_keeps.specs.Keeps.{Keeps}
 use Rattle.sf_keeps.proofs.Laws.{keeps_held}
 use Rattle.sf_coupling.specs.Walks.{Holds, IsNodeOf, walkers_at, AreWalks}
 use Rattle.sf_coupling.proofs.Laws.{same_or_not}
-use Rattle.sf_walk.specs.Routes.{route_of, nodes_of, spots_of, terrain}
+use Rattle.sf_walk.specs.Routes.{route_of, nodes_of, held_paths_of, namespace}
 use Rattle.sf_walk.proofs.Laws.{freed_hands}
 use Rattle.sf_walk.specs.Steps.{is_one_of, let_go, free_unless}
 use Rattle.sf_walk.specs.Served.{IsUnused, IsRefused, IsCarriedOut}
 use Rattle.sf_core.specs.Cores.{call_at, session_at}
 use Rattle.sf_core.specs.Progress.{waiting_reply, did}
 use Rattle.sf_core.specs.Parts.{PartsView}
-use Rattle.sf_core.specs.Sound.{walker_of, writer_of_file, spots_at, spots_in, IsCallOf, Copied, Sound}
+use Rattle.sf_core.specs.Sound.{walker_of, writer_of_file, held_paths_at, held_paths_in, IsCallOf, Copied, Sound}
 use Rattle.sf_core.specs.Stepping.{session_set_by, Records, FinishState, HelpState}
 use Rattle.sf_core.proofs.Maps.{some_eq, none_some}
 use Rattle.sf_core.proofs.Updates.{Updates, updates_set, updates_removed, updates_none, updates_answered}
@@ -69,9 +69,9 @@ pub data HoldsNone : Option Call → Type 0 where
   Away : HoldsNone None
   Fresh : (d : Call) → d.stage ≡ stage.Fresh → HoldsNone (Some d)
 
-none_held : (now : Option Call) → HoldsNone now → option_map_or spots_at now [] ≡ []
+none_held : (now : Option Call) → HoldsNone now → option_map_or held_paths_at now [] ≡ []
 none_held now Away = refl
-none_held now (Fresh d e) = ap (λ (g : Stage). spots_of (route_of d.request) g) e
+none_held now (Fresh d e) = ap (λ (g : Stage). held_paths_of (route_of d.request) g) e
 
 module _ (p q : PartsView) (h : List Record) (sound : Sound p h) (c : Call) (given : Reply) (records : Records p q c given) (now : Option Call) (slot : Option ℕ)
     (calls : Updates p.calls q.calls c.number (Some c) now) (sessions : Updates p.sessions q.sessions c.session (Some (Some c.number)) (Some slot))
@@ -142,9 +142,9 @@ module _ (p q : PartsView) (h : List Record) (sound : Sound p h) (c : Call) (giv
       no_directory records.mid.nodes l (writer_holds records.mid.nodes l m kept.0).0 dir
 
   -- the call's own nodes were directories
-  no_own : (l : ℕ) → IsNodeOf (spots_of (route_of c.request) c.stage) l → is_file_at records.mid.nodes l ≡ true → ⊥
+  no_own : (l : ℕ) → IsNodeOf (held_paths_of (route_of c.request) c.stage) l → is_file_at records.mid.nodes l ≡ true → ⊥
   no_own l own file =
-      let held = sound.coupled.walks.leads c.number own.spot (subst (λ (o : Option Call). Holds (option_map_or spots_at o []) own.spot) (sym at) own.holds) in
+      let held = sound.coupled.walks.leads c.number own.held_path (subst (λ (o : Option Call). Holds (option_map_or held_paths_at o []) own.held_path) (sym at) own.holds) in
       let dir : is_directory_at p.store.nodes l ≡ true = ap (is_directory_at p.store.nodes) (sym own.node) ∙ held.directory in
       let there = file_node records.mid.nodes l file in
       no_directory records.mid.nodes l file (kinds_stay l there.0 there.1 dir)
@@ -152,7 +152,7 @@ module _ (p q : PartsView) (h : List Record) (sound : Sound p h) (c : Call) (giv
   writers_same : (l : ℕ) → writer_of_file q.store.nodes l ≡ writer_of_file records.mid.nodes l
   writers_same l =
       ap (λ (s : StoreState). writer_of_file s.nodes l) records.store
-      ∙ writers_stay records.mid (let_go [] (nodes_of c.stage) records.mid) c.number (spots_of (route_of c.request) c.stage) [] (files_let_go [] (nodes_of c.stage) records.mid) (record { before = no_own; after = λ i own. absurd own.holds })
+      ∙ writers_stay records.mid (let_go [] (nodes_of c.stage) records.mid) c.number (held_paths_of (route_of c.request) c.stage) [] (files_let_go [] (nodes_of c.stage) records.mid) (record { before = no_own; after = λ i own. absurd own.holds })
       (freed_hands (route_of c.request) c.stage (sound.coupled.positions c.number c at undecided) records.mid c.number) l
 
   copied_now : Copied q
@@ -162,17 +162,17 @@ module _ (p q : PartsView) (h : List Record) (sound : Sound p h) (c : Call) (giv
       (subst (λ (s : StoreState). SameFiles records.mid s) (sym records.store) (files_let_go [] (nodes_of c.stage) records.mid)) writers_same
       (same_copying p.calls q.calls c.number (Some c) now calls none_was none_now) (λ m d node left there is. (still_copying p.calls q.calls c.number (Some c) now calls none_was none_now m d node left there is).1)
 
-  spots_now : spots_in q.calls c.number ≡ []
-  spots_now = ap (λ (o : Option Call). option_map_or spots_at o []) calls.now_is ∙ none_held now away
+  held_paths_now : held_paths_in q.calls c.number ≡ []
+  held_paths_now = ap (λ (o : Option Call). option_map_or held_paths_at o []) calls.now_is ∙ none_held now away
 
-  spots_other : (m : ℕ) → c.number ≢ m → spots_in q.calls m ≡ spots_in p.calls m
-  spots_other m ne = ap (λ (o : Option Call). option_map_or spots_at o []) (calls.rest m (λ e. ne (sym e)))
+  held_paths_other : (m : ℕ) → c.number ≢ m → held_paths_in q.calls m ≡ held_paths_in p.calls m
+  held_paths_other m ne = ap (λ (o : Option Call). option_map_or held_paths_at o []) (calls.rest m (λ e. ne (sym e)))
 
-  walks_now : AreWalks (walkers_at (terrain q.store) (spots_in q.calls) (walker_of q.store.nodes))
+  walks_now : AreWalks (walkers_at (namespace q.store) (held_paths_in q.calls) (walker_of q.store.nodes))
   walks_now =
-      subst (λ (s : StoreState). AreWalks (walkers_at (terrain s) (spots_in q.calls) (walker_of s.nodes))) (sym records.store)
+      subst (λ (s : StoreState). AreWalks (walkers_at (namespace s) (held_paths_in q.calls) (walker_of s.nodes))) (sym records.store)
       (decided_keeps p.store records.mid h c.number c.session c.moment c.request given sound.history.legal call.above fresh sound.history.tree served records.serves.nodes labels no_writer
-      c.stage (sound.coupled.positions c.number c at undecided) (spots_in p.calls) sound.coupled.walks (ap (λ (o : Option Call). option_map_or spots_at o []) at) (spots_in q.calls) spots_now spots_other)
+      c.stage (sound.coupled.positions c.number c at undecided) (held_paths_in p.calls) sound.coupled.walks (ap (λ (o : Option Call). option_map_or held_paths_at o []) at) (held_paths_in q.calls) held_paths_now held_paths_other)
 
   fresh_by : (o : Option Call) → HoldsNone o → now ≡ o → (d : Call) → o ≡ Some d → d.stage ≡ stage.Fresh
   fresh_by o Away e d is = absurd (none_some d is)

@@ -8,14 +8,14 @@ use Rattle.sf_call.specs.declared.call.Stage.TheVariants as stage
 use Rattle.sf_call.specs.Unanswered.{at_stage}
 use Rattle.sf_inode.specs.Nodes.{with_holder}
 use Rattle.sf_inode.specs.Stores.{StoreState, edited}
-use Rattle.sf_coupling.specs.Walks.{Spot, Holds}
+use Rattle.sf_coupling.specs.Walks.{HeldPath, Holds}
 use Rattle.sf_walk.specs.Routes.{nodes_of}
 use Rattle.sf_walk.specs.Steps.{is_one_of, free_unless, let_go}
 use Rattle.sf_walk.proofs.Laws.{IsSameGround, same_itself, same_trans, same_let_go}
 use Rattle.sf_core.specs.Cores.{call_at}
 use Rattle.sf_core.specs.Progress.{waiting_reply}
 use Rattle.sf_core.specs.Parts.{PartsView}
-use Rattle.sf_core.specs.Sound.{spots_at, Sound}
+use Rattle.sf_core.specs.Sound.{held_paths_at, Sound}
 use Rattle.sf_core.specs.Stepping.{freed, set_back_by, set_back, all_set_back}
 use Rattle.sf_core.proofs.Maps.{some_eq, none_some, reply_is}
 use Rattle.sf_core.proofs.Updates.{updates_staged}
@@ -104,7 +104,7 @@ all_back (n ∷ ns) p history sound undecided =
         }
 
 -- what a call holds afterwards, it held before
-pub stood : (b : Bool) (o : Option Call) (s : Spot) → Holds (option_map_or spots_at (back_if b o) []) s → Holds (option_map_or spots_at o []) s
+pub stood : (b : Bool) (o : Option Call) (s : HeldPath) → Holds (option_map_or held_paths_at (back_if b o) []) s → Holds (option_map_or held_paths_at o []) s
 stood true None s hold = hold
 stood true (Some c) s hold = absurd hold
 stood false o s hold = hold

@@ -13,14 +13,14 @@ use Rattle.sf_call.specs.Histories.{replay}
 use Rattle.sf_book.specs.Books.{BookView}
 use Rattle.sf_inode.specs.Stores.{StoreState}
 use Rattle.sf_keeps.specs.Keeps.{Keeps}
-use Rattle.sf_coupling.specs.Walks.{Spot, walkers_at, AreWalks}
+use Rattle.sf_coupling.specs.Walks.{HeldPath, walkers_at, AreWalks}
 use Rattle.sf_coupling.proofs.Laws.{same_or_not}
-use Rattle.sf_walk.specs.Routes.{IsPosition, route_of, terrain}
+use Rattle.sf_walk.specs.Routes.{IsPosition, route_of, namespace}
 use Rattle.sf_walk.proofs.Laws.{starts}
 use Rattle.sf_core.specs.Cores.{call_at, session_at, last_number}
 use Rattle.sf_core.specs.Progress.{waiting_reply, undecided_in, new_call}
 use Rattle.sf_core.specs.Parts.{PartsView, core_of}
-use Rattle.sf_core.specs.Sound.{walker_of, spots_at, spots_in, IsCallOf, Ledger, Sound}
+use Rattle.sf_core.specs.Sound.{walker_of, held_paths_at, held_paths_in, IsCallOf, Ledger, Sound}
 use Rattle.sf_core.specs.Stepping.{session_set_by, set_back, set_back_by, BeginState}
 use Rattle.sf_core.proofs.Maps.{some_eq, none_some, one_if, put_same, put_other, count_put, passing_put, rise_put}
 use Rattle.sf_core.proofs.Updates.{Updates, updates_set}
@@ -94,10 +94,10 @@ module _ (p q : PartsView) (h : List Record) (sound : Sound p h) (session : ℕ)
   own : (m : ℕ) (d : Call) → m ≡ p.drawn + 1 → call_at q.calls m ≡ Some d → new_call (p.drawn + 1) session moment request ≡ d
   own m d e is = some_eq c d (sym calls.now_is ∙ ap (call_at q.calls) (sym e) ∙ is)
 
-  spots_same : (m : ℕ) → spots_in q.calls m ≡ spots_in p.calls m
-  spots_same m = elim (same_or_not m (p.drawn + 1)) [
-    | inl e ↦ ap (spots_in q.calls) e ∙ ap (λ (o : Option Call). option_map_or spots_at o []) calls.now_is ∙ sym (ap (λ (o : Option Call). option_map_or spots_at o []) none_yet) ∙ ap (spots_in p.calls) (sym e)
-    | inr ne ↦ ap (λ (o : Option Call). option_map_or spots_at o []) (calls.rest m ne)
+  held_paths_same : (m : ℕ) → held_paths_in q.calls m ≡ held_paths_in p.calls m
+  held_paths_same m = elim (same_or_not m (p.drawn + 1)) [
+    | inl e ↦ ap (held_paths_in q.calls) e ∙ ap (λ (o : Option Call). option_map_or held_paths_at o []) calls.now_is ∙ sym (ap (λ (o : Option Call). option_map_or held_paths_at o []) none_yet) ∙ ap (held_paths_in p.calls) (sym e)
+    | inr ne ↦ ap (λ (o : Option Call). option_map_or held_paths_at o []) (calls.rest m ne)
   ]
 
   pub begun_sound : Sound q h
@@ -111,8 +111,8 @@ module _ (p q : PartsView) (h : List Record) (sound : Sound p h) (session : ℕ)
         (let a = is.few in let b = sessions.size in omega (arith, a, b));
     coupled = record {
       walks =
-          subst (λ (s : StoreState). AreWalks (walkers_at (terrain s) (spots_in q.calls) (walker_of s.nodes))) (sym begun.store)
-          (subst (λ (f : ℕ → List Spot). AreWalks (walkers_at (terrain p.store) f (walker_of p.store.nodes))) (λ i m. sym (spots_same m) i) sound.coupled.walks);
+          subst (λ (s : StoreState). AreWalks (walkers_at (namespace s) (held_paths_in q.calls) (walker_of s.nodes))) (sym begun.store)
+          (subst (λ (f : ℕ → List HeldPath). AreWalks (walkers_at (namespace p.store) f (walker_of p.store.nodes))) (λ i m. sym (held_paths_same m) i) sound.coupled.walks);
       positions = λ m d at none. elim (same_or_not m (p.drawn + 1)) [
         | inl e ↦ subst (λ (x : Call). IsPosition (route_of x.request) x.stage) (own m d e at) (starts request)
         | inr ne ↦ sound.coupled.positions m d (sym (calls.rest m ne) ∙ at) none

@@ -10,12 +10,12 @@ use Rattle.sf_call.specs.declared.call.Stage.{Stage}
 use Rattle.sf_call.specs.declared.call.Stage.TheVariants as stage
 use Rattle.sf_call.specs.declared.record.Record.{Record}
 use Rattle.sf_call.specs.Unanswered.{at_stage}
-use Rattle.sf_book.proofs.Laws.{deeds-append}
+use Rattle.sf_book.proofs.Laws.{call_count-append}
 use Rattle.sf_inode.specs.Nodes.{with_holder}
 use Rattle.sf_inode.specs.Stores.{StoreState, edited}
-use Rattle.sf_coupling.specs.Walks.{Spot, Holds, walkers_at}
+use Rattle.sf_coupling.specs.Walks.{HeldPath, Holds, walkers_at}
 use Rattle.sf_walk.specs.declared.walking.Walk.TheVariants as walked
-use Rattle.sf_walk.specs.Routes.{IsPosition, nodes_of, route_of, spots_of, terrain}
+use Rattle.sf_walk.specs.Routes.{IsPosition, nodes_of, route_of, held_paths_of, namespace}
 use Rattle.sf_walk.specs.Steps.{entered, handed_over, walker, AdvancesOne}
 use Rattle.sf_walk.specs.Files.{WaitsForFile, file_handle}
 use Rattle.sf_walk.proofs.Laws.{ground_stays}
@@ -27,7 +27,7 @@ use Rattle.sf_core.specs.Progress.{waiting_reply, is_write, undecided_in, IsBehi
 use Rattle.sf_core.specs.Histories.{IsHistory}
 use Rattle.sf_core.specs.Events.{OwnCall, Goes, HoldsWanted, HoldsFile, LooksOnly, IsBlocked, Fetches, TakesStep, StepsOn}
 use Rattle.sf_core.specs.Parts.{PartsView, core_of}
-use Rattle.sf_core.specs.Sound.{walker_of, spots_at, spots_in, Sound, IsCore}
+use Rattle.sf_core.specs.Sound.{walker_of, held_paths_at, held_paths_in, Sound, IsCore}
 use Rattle.sf_core.specs.Stepping.{session_set_by, Walked, FetchState}
 use Rattle.sf_core.proofs.Maps.{reply_is}
 use Rattle.sf_core.proofs.Updates.{Updates, updates_set, updates_removed, updates_staged}
@@ -63,7 +63,7 @@ module _ (p q : PartsView) (Told : (h added : List Record) → Type 0) (core : I
       let a = adds core.history core.sound in
       let x = core.sound.history.counted in
       let y = a.1.history.counted in
-      omega (arith, x, y, drawn, deeds-append core.history a.0, fit)
+      omega (arith, x, y, drawn, call_count-append core.history a.0, fit)
 
 -- an event without a record
 pub adds_none : (p q : PartsView) (Told : (h added : List Record) → Type 0) → ((h : List Record) → Sound p h → Sound q h × Told h []) → Adds p q Told
@@ -171,7 +171,7 @@ module _ (p : PartsView) (lane : LaneView) (c : Call) (turn : IsTurn p lane c) w
           let none : waiting_reply (at_stage after c) ≡ None = reply_is (at_stage after c) ∙ sym (reply_is c) ∙ undecided in
           let few = walked_few c after w.advances.position in
           let now = left_is (at_stage after c) none in
-          let looks = moved_looks c.number c.stage after w.advances.spot.node p.store turn.fits in
+          let looks = moved_looks c.number c.stage after w.advances.held_path.node p.store turn.fits in
           let e = ap (λ (x : StoreState). x.look_ups) w.advances.state in
           record {
             own = own h sound;
@@ -222,17 +222,17 @@ module _ (p : PartsView) (lane : LaneView) (c : Call) (turn : IsTurn p lane c) w
 
     -- for a node that the next name leads to
     module _ (holder : ℕ) (w : Walked p q c c.number (walked.Blocked holder)) where
-      the_holder : (spot : Spot) → Holds (spots_in p.calls holder) spot → (d : Call) × (call_at p.calls holder ≡ Some d) × Holds (spots_at d) spot
-      the_holder spot hold = elim (call_at p.calls holder) as (λ o. call_at p.calls holder ≡ o → Holds (option_map_or spots_at o []) spot → (d : Call) × (o ≡ Some d) × Holds (spots_at d) spot) [
+      the_holder : (held_path : HeldPath) → Holds (held_paths_in p.calls holder) held_path → (d : Call) × (call_at p.calls holder ≡ Some d) × Holds (held_paths_at d) held_path
+      the_holder held_path hold = elim (call_at p.calls holder) as (λ o. call_at p.calls holder ≡ o → Holds (option_map_or held_paths_at o []) held_path → (d : Call) × (o ≡ Some d) × Holds (held_paths_at d) held_path) [
         | None ↦ λ e h. absurd h
         | Some d ↦ λ e h. (d, refl, h)
       ] refl hold
 
       -- who holds a directory hasn't its reply yet
-      not_decided : (h : List Record) → Sound p h → (d : Call) (spot : Spot) → call_at p.calls holder ≡ Some d → Holds (spots_at d) spot → waiting_reply d ≡ None
-      not_decided h sound d spot at hold = elim (waiting_reply d) as (λ o. waiting_reply d ≡ o → o ≡ None) [
+      not_decided : (h : List Record) → Sound p h → (d : Call) (held_path : HeldPath) → call_at p.calls holder ≡ Some d → Holds (held_paths_at d) held_path → waiting_reply d ≡ None
+      not_decided h sound d held_path at hold = elim (waiting_reply d) as (λ o. waiting_reply d ≡ o → o ≡ None) [
         | None ↦ λ e. refl
-        | Some given ↦ λ e. absurd (subst (λ (x : List Spot). Holds x spot) (rests_none (route_of d.request) d.stage (sound.coupled.waiting holder d given at e)) hold)
+        | Some given ↦ λ e. absurd (subst (λ (x : List HeldPath). Holds x held_path) (rests_none (route_of d.request) d.stage (sound.coupled.waiting holder d given at e)) hold)
       ] refl
 
       looks_few : LooksOnly (core_of p) (core_of q) 2
@@ -252,21 +252,21 @@ module _ (p : PartsView) (lane : LaneView) (c : Call) (turn : IsTurn p lane c) w
       blocked_told h sound = elim (blocked_wants p h sound c turn.at undecided q.store holder w.advances) [
         | inl wants ↦
             let d = the_holder wants.0 wants.4 in
-            let spots : (n : ℕ) (x : Call) → call_at p.calls n ≡ Some x → spots_in p.calls n ≡ spots_of (route_of x.request) x.stage = λ n x at. ap (λ (o : Option Call). option_map_or spots_at o []) at in
+            let held_paths : (n : ℕ) (x : Call) → call_at p.calls n ≡ Some x → held_paths_in p.calls n ≡ held_paths_of (route_of x.request) x.stage = λ n x at. ap (λ (o : Option Call). option_map_or held_paths_at o []) at in
             let none = not_decided h sound d.0 wants.0 d.1 d.2 in
             told_by h sound holder d.0 d.1 w.advances.other (inl none)
-            (inl (record { spot = wants.0; looks = wants.1; leads = wants.2; held = wants.3 ∙ ap Some (sym (sound.ledger.calls holder d.0 d.1).is_number); came = inl d.2 })) (
+            (inl (record { held_path = wants.0; looks = wants.1; leads = wants.2; held = wants.3 ∙ ap Some (sym (sound.ledger.calls holder d.0 d.1).is_number); came = inl d.2 })) (
               not_copying p h sound c.number c turn.at undecided,
-              inr (looks_deeper (walkers_at (terrain p.store) (spots_in p.calls) (walker_of p.store.nodes)) sound.coupled.walks
-                  (record { number = c.number; route = route_of c.request; at = c.stage; holds = spots c.number c turn.at; position = sound.coupled.positions c.number c turn.at undecided })
-                  (record { number = holder; route = route_of d.0.request; at = d.0.stage; holds = spots holder d.0 d.1; position = sound.coupled.positions holder d.0 d.1 none })
+              inr (looks_deeper (walkers_at (namespace p.store) (held_paths_in p.calls) (walker_of p.store.nodes)) sound.coupled.walks
+                  (record { number = c.number; route = route_of c.request; at = c.stage; holds = held_paths c.number c turn.at; position = sound.coupled.positions c.number c turn.at undecided })
+                  (record { number = holder; route = route_of d.0.request; at = d.0.stage; holds = held_paths holder d.0 d.1; position = sound.coupled.positions holder d.0 d.1 none })
                   w.advances.other wants.0 wants.1 wants.4),
             ) looks_few
         | inr f ↦
             let copies : IsCopying f.0.stage = subst IsCopying (sym f.3) tt in
             told_by h sound holder f.0 f.2 w.advances.other (inr copies)
             (inl (record {
-              spot = record { path = w.advances.to; node = w.advances.node };
+              held_path = record { path = w.advances.to; node = w.advances.node };
               looks = w.advances.looks;
               leads = w.advances.leads;
               held = w.advances.held ∙ ap Some (sym (sound.ledger.calls holder f.0 f.2).is_number);

@@ -19,9 +19,9 @@ use Rattle.sf_inode.specs.Stores.{StoreState, child_of, holder_of, is_directory_
 use Rattle.sf_keeps.specs.Steps.{walk}
 use Rattle.sf_keeps.specs.Keeps.{Keeps}
 use Rattle.sf_keeps.proofs.Laws.{keeps_looked, keeps_held, one_way}
-use Rattle.sf_coupling.specs.Walks.{Spot, Holds, walkers_at, AreWalks}
+use Rattle.sf_coupling.specs.Walks.{HeldPath, Holds, walkers_at, AreWalks}
 use Rattle.sf_coupling.proofs.Laws.{same_or_not}
-use Rattle.sf_walk.specs.Routes.{IsPosition, route_of, nodes_of, spots_of, terrain}
+use Rattle.sf_walk.specs.Routes.{IsPosition, route_of, nodes_of, held_paths_of, namespace}
 use Rattle.sf_walk.specs.Steps.{walker, entered, LooksUp, AdvancesTo, WaitsFor}
 use Rattle.sf_walk.specs.Served.{LookedUp}
 use Rattle.sf_walk.proofs.Laws.{IsSameGround, leads_same, looked_nodes, keeps_counted}
@@ -29,7 +29,7 @@ use Rattle.sf_core.specs.Cores.{call_at, session_at}
 use Rattle.sf_core.specs.Progress.{waiting_reply, did, undecided_in}
 use Rattle.sf_core.specs.Histories.{IsHistory}
 use Rattle.sf_core.specs.Parts.{PartsView, core_of}
-use Rattle.sf_core.specs.Sound.{walker_of, writer_of_file, spots_at, spots_in, copying_at, Coupled, Copied, Sound}
+use Rattle.sf_core.specs.Sound.{walker_of, writer_of_file, held_paths_at, held_paths_in, copying_at, Coupled, Copied, Sound}
 use Rattle.sf_core.specs.Stepping.{session_set_by, freed, SameButRoom, FetchState}
 use Rattle.sf_core.proofs.Maps.{some_eq, none_some, one_if}
 use Rattle.sf_core.proofs.Updates.{one_by, Updates, updates_set, updates_removed, updates_none, updates_staged}
@@ -89,7 +89,7 @@ module _ (p q : PartsView) (h : List Record) (sound : Sound p h) (n : ℕ) (c : 
 
 -- ---- the store and the book alone are others
 module _ (p : PartsView) (h : List Record) (sound : Sound p h) (s : StoreState) (b : BookView) (records : b.records ≡ p.book.records) (keep : b.keep ≡ p.book.keep) (folded : b.folded ≡ p.book.folded) (room : p.book.room ≤ b.room)
-    (tree : Keeps s (replay h)) (walks : AreWalks (walkers_at (terrain s) (spots_in p.calls) (walker_of s.nodes)))
+    (tree : Keeps s (replay h)) (walks : AreWalks (walkers_at (namespace s) (held_paths_in p.calls) (walker_of s.nodes)))
     (copied : Copied (record { store = s; book = b; sessions = p.sessions; calls = p.calls; drawn = p.drawn; joins = p.joins })) where
   pub calls_stay : Sound (record { store = s; book = b; sessions = p.sessions; calls = p.calls; drawn = p.drawn; joins = p.joins }) h
   calls_stay = let is = sound.history in let l = sound.ledger in record {
@@ -131,8 +131,8 @@ pub looked_sound : (p : PartsView) (h : List Record) → Sound p h → (s : Stor
     → Sound (record { store = s; book = p.book; sessions = p.sessions; calls = p.calls; drawn = p.drawn; joins = p.joins }) h
 looked_sound p h sound s most looked ground =
     calls_stay p h sound s p.book refl refl refl (omega arith) (keeps_counted p.store s (replay h) most looked sound.history.tree)
-    (subst (λ (ns : List (Option Node)). AreWalks (walkers_at (terrain s) (spots_in p.calls) (walker_of ns))) (sym (looked_nodes p.store s most looked))
-    (walks_on (terrain p.store) (terrain s) (spots_in p.calls) (walker_of p.store.nodes) (leads_same p.store s ground) sound.coupled.walks))
+    (subst (λ (ns : List (Option Node)). AreWalks (walkers_at (namespace s) (held_paths_in p.calls) (walker_of ns))) (sym (looked_nodes p.store s most looked))
+    (walks_on (namespace p.store) (namespace s) (held_paths_in p.calls) (walker_of p.store.nodes) (leads_same p.store s ground) sound.coupled.walks))
     (let files = files_looked p.store s most looked in
     copied_on p (record { store = s; book = p.book; sessions = p.sessions; calls = p.calls; drawn = p.drawn; joins = p.joins }) sound.copied (λ m. refl) (λ m c node left at is. at) files.0 files.1)
 
@@ -148,19 +148,19 @@ module _ (p : PartsView) (h : List Record) (sound : Sound p h) (c : Call) (at : 
   unfolding waiting_reply
   reply_same = refl
 
-  pub spots_other : (m : ℕ) → c.number ≢ m → spots_in (staged p.calls c.number after) m ≡ spots_in p.calls m
-  spots_other m ne = ap (λ (o : Option Call). option_map_or spots_at o []) (staged_updates.rest m (λ e. ne (sym e)))
+  pub held_paths_other : (m : ℕ) → c.number ≢ m → held_paths_in (staged p.calls c.number after) m ≡ held_paths_in p.calls m
+  held_paths_other m ne = ap (λ (o : Option Call). option_map_or held_paths_at o []) (staged_updates.rest m (λ e. ne (sym e)))
 
-  pub spots_now : spots_in (staged p.calls c.number after) c.number ≡ spots_of (route_of c.request) after
-  spots_now = ap (λ (o : Option Call). option_map_or spots_at o []) staged_updates.now_is
+  pub held_paths_now : held_paths_in (staged p.calls c.number after) c.number ≡ held_paths_of (route_of c.request) after
+  held_paths_now = ap (λ (o : Option Call). option_map_or held_paths_at o []) staged_updates.now_is
 
-  pub spots_were : spots_in p.calls c.number ≡ spots_of (route_of c.request) c.stage
-  spots_were = ap (λ (o : Option Call). option_map_or spots_at o []) at
+  pub held_paths_were : held_paths_in p.calls c.number ≡ held_paths_of (route_of c.request) c.stage
+  held_paths_were = ap (λ (o : Option Call). option_map_or held_paths_at o []) at
 
   now_is : (m : ℕ) (d : Call) → m ≡ c.number → call_at (staged p.calls c.number after) m ≡ Some d → at_stage after c ≡ d
   now_is m d e is = some_eq (at_stage after c) d (sym staged_updates.now_is ∙ ap (call_at (staged p.calls c.number after)) (sym e) ∙ is)
 
-  pub come_sound : Keeps s (replay h) → AreWalks (walkers_at (terrain s) (spots_in (staged p.calls c.number after)) (walker_of s.nodes)) → IsPosition (route_of c.request) after → SameFiles p.store s → ((id : ℕ) → writer_of_file s.nodes id ≡ writer_of_file p.store.nodes id)
+  pub come_sound : Keeps s (replay h) → AreWalks (walkers_at (namespace s) (held_paths_in (staged p.calls c.number after)) (walker_of s.nodes)) → IsPosition (route_of c.request) after → SameFiles p.store s → ((id : ℕ) → writer_of_file s.nodes id ≡ writer_of_file p.store.nodes id)
       → Sound (record { store = s; book = p.book; sessions = p.sessions; calls = staged p.calls c.number after; drawn = p.drawn; joins = p.joins }) h
   come_sound keeps walks position files writers =
       let call = sound.ledger.calls c.number c at in
@@ -191,7 +191,7 @@ entered_keeps (stage.Copies node left) s t k = keeps_looked s t k
 
 module _ (p : PartsView) (h : List Record) (sound : Sound p h) (c : Call) (at : call_at p.calls c.number ≡ Some c) (undecided : waiting_reply c ≡ None) where
   files : (s : StoreState) (after : Stage) → AdvancesTo p.store s (walker c.number (route_of c.request) c.stage) after → SameFiles p.store s
-  files s after moves = subst (SameFiles p.store) (sym moves.state) (files_moved c.number c.stage after moves.spot.node p.store)
+  files s after moves = subst (SameFiles p.store) (sym moves.state) (files_moved c.number c.stage after moves.held_path.node p.store)
 
   -- a step
   pub moved_sound : (s : StoreState) (after : Stage) → AdvancesTo p.store s (walker c.number (route_of c.request) c.stage) after
@@ -199,12 +199,12 @@ module _ (p : PartsView) (h : List Record) (sound : Sound p h) (c : Call) (at : 
   moved_sound s after moves =
       come_sound p h sound c at undecided s after
       (subst (λ (x : StoreState). Keeps x (replay h)) (sym moves.state)
-      (let_go_keeps (nodes_of after) (nodes_of c.stage) (edited (with_holder (Some c.number)) (entered c.stage p.store) moves.spot.node) (replay h)
-      (keeps_held (Some c.number) (entered c.stage p.store) (replay h) moves.spot.node (entered_keeps c.stage p.store (replay h) sound.history.tree))))
-      (moved_keeps p.store s h sound.history.tree (spots_in p.calls) sound.coupled.walks (walker c.number (route_of c.request) c.stage) after (spots_were p h sound c at undecided s after) (sound.coupled.positions c.number c at undecided) moves
-      (spots_in (staged p.calls c.number after)) (spots_now p h sound c at undecided s after) (spots_other p h sound c at undecided s after))
+      (let_go_keeps (nodes_of after) (nodes_of c.stage) (edited (with_holder (Some c.number)) (entered c.stage p.store) moves.held_path.node) (replay h)
+      (keeps_held (Some c.number) (entered c.stage p.store) (replay h) moves.held_path.node (entered_keeps c.stage p.store (replay h) sound.history.tree))))
+      (moved_keeps p.store s h sound.history.tree (held_paths_in p.calls) sound.coupled.walks (walker c.number (route_of c.request) c.stage) after (held_paths_were p h sound c at undecided s after) (sound.coupled.positions c.number c at undecided) moves
+      (held_paths_in (staged p.calls c.number after)) (held_paths_now p h sound c at undecided s after) (held_paths_other p h sound c at undecided s after))
       moves.position (files s after moves)
-      (moved_writers p.store s h sound.history.tree (spots_in p.calls) sound.coupled.walks (walker c.number (route_of c.request) c.stage) after (spots_were p h sound c at undecided s after) (sound.coupled.positions c.number c at undecided) moves
+      (moved_writers p.store s h sound.history.tree (held_paths_in p.calls) sound.coupled.walks (walker c.number (route_of c.request) c.stage) after (held_paths_were p h sound c at undecided s after) (sound.coupled.positions c.number c at undecided) moves
       (files s after moves))
 
   -- setting back: the call's route is one
@@ -213,37 +213,37 @@ module _ (p : PartsView) (h : List Record) (sound : Sound p h) (c : Call) (at : 
   reset_sound start =
       let s = freed c.stage p.store in
       come_sound p h sound c at undecided s stage.Fresh (let_go_keeps [] (nodes_of c.stage) p.store (replay h) sound.history.tree)
-      (reset_keeps p.store (spots_in p.calls) (spots_in (staged p.calls c.number stage.Fresh)) c.number sound.coupled.walks (record {
+      (reset_keeps p.store (held_paths_in p.calls) (held_paths_in (staged p.calls c.number stage.Fresh)) c.number sound.coupled.walks (record {
         route = route_of c.request;
         at = c.stage;
         position = sound.coupled.positions c.number c at undecided;
-        was = spots_were p h sound c at undecided s stage.Fresh;
-        none = spots_now p h sound c at undecided s stage.Fresh;
-        same = spots_other p h sound c at undecided s stage.Fresh;
+        was = held_paths_were p h sound c at undecided s stage.Fresh;
+        none = held_paths_now p h sound c at undecided s stage.Fresh;
+        same = held_paths_other p h sound c at undecided s stage.Fresh;
       }))
       start (files_let_go [] (nodes_of c.stage) p.store)
-      (reset_writers p.store (spots_in p.calls) c.number (route_of c.request) c.stage sound.coupled.walks (sound.coupled.positions c.number c at undecided) (spots_were p h sound c at undecided s stage.Fresh))
+      (reset_writers p.store (held_paths_in p.calls) c.number (route_of c.request) c.stage sound.coupled.walks (sound.coupled.positions c.number c at undecided) (held_paths_were p h sound c at undecided s stage.Fresh))
 
-  -- who waits, waits for a spot that another call holds, the one that its next names lead to; or for
+  -- who waits, waits for a path that another call holds, the one that its next names lead to; or for
   -- a file that another call copies into
   pub blocked_wants : (new : StoreState) (holder : ℕ) → (waits : WaitsFor p.store new (walker c.number (route_of c.request) c.stage) holder)
-      → ((spot : Spot) × LooksUp (route_of c.request) c.stage spot.path × (walk (child_of p.store.nodes) p.store.root spot.path ≡ Some spot.node)
-      × (holder_of p.store.nodes spot.node ≡ Some holder) × Holds (spots_in p.calls holder) spot)
+      → ((held_path : HeldPath) × LooksUp (route_of c.request) c.stage held_path.path × (walk (child_of p.store.nodes) p.store.root held_path.path ≡ Some held_path.node)
+      × (holder_of p.store.nodes held_path.node ≡ Some holder) × Holds (held_paths_in p.calls holder) held_path)
       ⊎ ((d : Call) × (left : ℕ) × (call_at p.calls holder ≡ Some d) × (d.stage ≡ stage.Copies waits.node left))
   blocked_wants new holder waits =
-      elim (is_directory_at p.store.nodes waits.node) as (λ b. is_directory_at p.store.nodes waits.node ≡ b → ((spot : Spot) × LooksUp (route_of c.request) c.stage spot.path × (walk (child_of p.store.nodes) p.store.root spot.path ≡ Some spot.node)
-      × (holder_of p.store.nodes spot.node ≡ Some holder) × Holds (spots_in p.calls holder) spot)
+      elim (is_directory_at p.store.nodes waits.node) as (λ b. is_directory_at p.store.nodes waits.node ≡ b → ((held_path : HeldPath) × LooksUp (route_of c.request) c.stage held_path.path × (walk (child_of p.store.nodes) p.store.root held_path.path ≡ Some held_path.node)
+      × (holder_of p.store.nodes held_path.node ≡ Some holder) × Holds (held_paths_in p.calls holder) held_path)
       ⊎ ((d : Call) × (left : ℕ) × (call_at p.calls holder ≡ Some d) × (d.stage ≡ stage.Copies waits.node left))) [
         | true ↦ λ e.
             let w = sound.coupled.walks.holds waits.node holder (walker_is p.store.nodes waits.node holder e waits.held) in
-            let leads = sound.coupled.walks.leads holder w.spot w.holds in
-            let same : waits.to ≡ w.spot.path = one_way p.store (replay h) sound.history.tree waits.to w.spot.path waits.node waits.leads (leads.names ∙ ap Some w.node)
+            let leads = sound.coupled.walks.leads holder w.held_path w.holds in
+            let same : waits.to ≡ w.held_path.path = one_way p.store (replay h) sound.history.tree waits.to w.held_path.path waits.node waits.leads (leads.names ∙ ap Some w.node)
             (ap (is_directory_at p.store.nodes) (sym w.node) ∙ leads.directory) in
             inl (
-              w.spot,
+              w.held_path,
               subst (λ (x : Path). LooksUp (route_of c.request) c.stage x) same waits.looks,
               leads.names,
-              (walker_holds p.store.nodes w.spot.node holder (sound.coupled.walks.held holder w.spot w.holds)).1,
+              (walker_holds p.store.nodes w.held_path.node holder (sound.coupled.walks.held holder w.held_path w.holds)).1,
               w.holds,
             )
         | false ↦ λ e. inr (file_writer p.store p.calls sound.copied.copies waits.node holder (file_there p.store.nodes waits.node holder e waits.held))
@@ -257,13 +257,13 @@ module _ (p q : PartsView) (h : List Record) (sound : Sound p h) (c : Call) (at 
   calls_now : Updates p.calls q.calls c.number (Some c) None
   calls_now = subst (λ cs. Updates p.calls cs c.number (Some c) None) (sym fetched.calls) (updates_removed p.calls c.number c at sound.ledger.calls_rise)
 
-  held_nothing : spots_in p.calls c.number ≡ []
-  held_nothing = ap (λ (o : Option Call). option_map_or spots_at o []) at ∙ ap (spots_of (route_of c.request)) fresh
+  held_nothing : held_paths_in p.calls c.number ≡ []
+  held_nothing = ap (λ (o : Option Call). option_map_or held_paths_at o []) at ∙ ap (held_paths_of (route_of c.request)) fresh
 
-  spots_same : (m : ℕ) → spots_in q.calls m ≡ spots_in p.calls m
-  spots_same m = elim (same_or_not m c.number) [
-    | inl e ↦ ap (spots_in q.calls) e ∙ ap (λ (o : Option Call). option_map_or spots_at o []) calls_now.now_is ∙ sym held_nothing ∙ ap (spots_in p.calls) (sym e)
-    | inr ne ↦ ap (λ (o : Option Call). option_map_or spots_at o []) (calls_now.rest m ne)
+  held_paths_same : (m : ℕ) → held_paths_in q.calls m ≡ held_paths_in p.calls m
+  held_paths_same m = elim (same_or_not m c.number) [
+    | inl e ↦ ap (held_paths_in q.calls) e ∙ ap (λ (o : Option Call). option_map_or held_paths_at o []) calls_now.now_is ∙ sym held_nothing ∙ ap (held_paths_in p.calls) (sym e)
+    | inr ne ↦ ap (λ (o : Option Call). option_map_or held_paths_at o []) (calls_now.rest m ne)
   ]
 
   still : (m : ℕ) (d : Call) → call_at q.calls m ≡ Some d → call_at p.calls m ≡ Some d
@@ -279,8 +279,8 @@ module _ (p q : PartsView) (h : List Record) (sound : Sound p h) (c : Call) (at 
       (Fetch given decided) Goes (subst (λ (s : StoreState). Keeps s (replay h)) (sym fetched.store) sound.history.tree) fetched.book fetched.drawn fetched.joins
       (record {
         walks =
-            subst (λ (s : StoreState). AreWalks (walkers_at (terrain s) (spots_in q.calls) (walker_of s.nodes))) (sym fetched.store)
-            (subst (λ (f : ℕ → List Spot). AreWalks (walkers_at (terrain p.store) f (walker_of p.store.nodes))) (λ i m. sym (spots_same m) i) sound.coupled.walks);
+            subst (λ (s : StoreState). AreWalks (walkers_at (namespace s) (held_paths_in q.calls) (walker_of s.nodes))) (sym fetched.store)
+            (subst (λ (f : ℕ → List HeldPath). AreWalks (walkers_at (namespace p.store) f (walker_of p.store.nodes))) (λ i m. sym (held_paths_same m) i) sound.coupled.walks);
         positions = λ m d is. sound.coupled.positions m d (still m d is);
         waiting = λ m d g is some. sound.coupled.waiting m d g (still m d is) some;
       })

@@ -3,10 +3,10 @@ use Rattle.std.specs.Prelude.{◌≡◌, ℕ, Bool, true, false, if◌then◌els
 use Rattle.std.proofs.Common.{ap, ◌∙◌, inl, inr}
 use Rattle.sf_inode.specs.declared.node.Node.{Node}
 use Rattle.sf_inode.specs.Stores.{StoreState, holder_of, is_directory_at}
-use Rattle.sf_coupling.specs.Walks.{Spot, IsNodeOf, IsFree, HandsOver}
+use Rattle.sf_coupling.specs.Walks.{HeldPath, IsNodeOf, IsFree, HandsOver}
 use Rattle.sf_call.specs.declared.call.Stage.{Stage}
 use Rattle.sf_call.specs.declared.call.Stage.TheVariants as stage
-use Rattle.sf_walk.specs.Routes.{Route, spots_of}
+use Rattle.sf_walk.specs.Routes.{Route, held_paths_of}
 use Rattle.sf_core.specs.Progress.{IsCopying}
 use Rattle.sf_core.specs.Sound.{walker_of, IsAtRest}
 
@@ -31,7 +31,7 @@ pub free_walks : (nodes : List (Option Node)) (n id : ℕ) → IsFree (holder_of
 free_walks nodes n id free = λ m e. free m (walker_holds nodes id m e).1
 
 -- what is handed over of nodes is so of directories
-pub walks_hands : (s t : StoreState) (n : ℕ) (was now : List Spot) → ((l : ℕ) → is_directory_at t.nodes l ≡ is_directory_at s.nodes l) → ((l : ℕ) → IsNodeOf now l → is_directory_at t.nodes l ≡ true)
+pub walks_hands : (s t : StoreState) (n : ℕ) (was now : List HeldPath) → ((l : ℕ) → is_directory_at t.nodes l ≡ is_directory_at s.nodes l) → ((l : ℕ) → IsNodeOf now l → is_directory_at t.nodes l ≡ true)
     → HandsOver (holder_of s.nodes) (holder_of t.nodes) n was now → HandsOver (walker_of s.nodes) (walker_of t.nodes) n was now
 walks_hands s t n was now same directories hands = record {
   here = λ l h. walker_is t.nodes l n (directories l h) (hands.here l h);
@@ -40,12 +40,12 @@ walks_hands s t n was now same directories hands = record {
 }
 
 -- a call that rests holds no directory
-copying_none : (r : Route) (g : Stage) → IsCopying g → spots_of r g ≡ []
+copying_none : (r : Route) (g : Stage) → IsCopying g → held_paths_of r g ≡ []
 copying_none r stage.Fresh copying = absurd copying
 copying_none r (stage.At walked node) copying = absurd copying
 copying_none r (stage.Ends common from to) copying = absurd copying
 copying_none r (stage.Copies node left) copying = refl
 
-pub rests_none : (r : Route) (g : Stage) → IsAtRest g → spots_of r g ≡ []
-rests_none r g (inl fresh) = ap (spots_of r) fresh
+pub rests_none : (r : Route) (g : Stage) → IsAtRest g → held_paths_of r g ≡ []
+rests_none r g (inl fresh) = ap (held_paths_of r) fresh
 rests_none r g (inr copying) = copying_none r g copying

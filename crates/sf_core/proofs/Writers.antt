@@ -15,7 +15,7 @@ use Rattle.sf_inode.specs.declared.handle.OpenHandle.{OpenHandle}
 use Rattle.sf_inode.specs.Nodes.{blocks_left_in, is_file_content, is_directory_content, with_holder}
 use Rattle.sf_inode.specs.Stores.{StoreState, node_in, open_handle_at, holder_of, is_directory_at, is_file_at, blocks_left_at, edited}
 use Rattle.sf_keeps.proofs.Laws.{edited_apart, edited_itself}
-use Rattle.sf_coupling.specs.Walks.{Spot, IsNodeOf, HandsOver}
+use Rattle.sf_coupling.specs.Walks.{HeldPath, IsNodeOf, HandsOver}
 use Rattle.sf_coupling.proofs.Laws.{same_or_not}
 use Rattle.sf_copying.specs.Copies.{Copying, AreCopies}
 use Rattle.sf_walk.specs.Routes.{Route, IsPosition, nodes_of}
@@ -138,11 +138,11 @@ files_moved n was now node s =
 
 -- what is handed over are no files: each file has the holder that it had
 -- no file is among what a call holds, before and after
-pub record HoldsNoFile (s : StoreState) (was now : List Spot) : Type 0 where
+pub record HoldsNoFile (s : StoreState) (was now : List HeldPath) : Type 0 where
   pub before : (l : ℕ) → IsNodeOf was l → is_file_at s.nodes l ≡ true → ⊥
   pub after : (l : ℕ) → IsNodeOf now l → is_file_at s.nodes l ≡ true → ⊥
 
-pub writers_stay : (s t : StoreState) (n : ℕ) (was now : List Spot) → SameFiles s t → HoldsNoFile s was now → HandsOver (holder_of s.nodes) (holder_of t.nodes) n was now → (id : ℕ) → writer_of_file t.nodes id ≡ writer_of_file s.nodes id
+pub writers_stay : (s t : StoreState) (n : ℕ) (was now : List HeldPath) → SameFiles s t → HoldsNoFile s was now → HandsOver (holder_of s.nodes) (holder_of t.nodes) n was now → (id : ℕ) → writer_of_file t.nodes id ≡ writer_of_file s.nodes id
 writers_stay s t n was now same none hands id =
     elim (is_file_at s.nodes id) as (λ b. is_file_at s.nodes id ≡ b → writer_of_file t.nodes id ≡ writer_of_file s.nodes id) [
       | true ↦ λ e. λ i. if same.file id i then hands.rest id (λ h. none.before id h e) (λ h. none.after id h e) i else None

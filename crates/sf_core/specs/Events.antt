@@ -26,8 +26,8 @@ use Rattle.sf_call.specs.Handles.Opened.{OpenFile}
 use Rattle.sf_call.specs.Histories.{replay, IsNewNumber, IsAmong}
 use Rattle.sf_inode.specs.Stores.{StoreState, child_of, holder_of}
 use Rattle.sf_keeps.specs.Steps.{walk}
-use Rattle.sf_coupling.specs.Walks.{Spot, Holds}
-use Rattle.sf_walk.specs.Routes.{IsPosition, route_of, spots_of}
+use Rattle.sf_coupling.specs.Walks.{HeldPath, Holds}
+use Rattle.sf_walk.specs.Routes.{IsPosition, route_of, held_paths_of}
 use Rattle.sf_walk.specs.Steps.{LooksUp, AdvancesOne}
 use Rattle.sf_walk.specs.Files.{WaitsForFile, cuts_file}
 use Rattle.sf_core.specs.Sure.{AreSure}
@@ -91,11 +91,12 @@ pub record Goes (v w : CoreView) (lane : LaneView) (c d : Call) : Type 0 where
 -- The names that a call looks up next lead to a node, and another call holds it: its number stands
 -- at the node, and it has come there by the same names, or copies into it.
 pub record HoldsWanted (s : StoreState) (c d : Call) : Type 0 where
-  pub spot : Spot
-  pub looks : LooksUp (route_of c.request) c.stage spot.path
-  pub leads : walk (child_of s.nodes) s.root spot.path ≡ Some spot.node
-  pub held : holder_of s.nodes spot.node ≡ Some d.number
-  pub came : Holds (spots_of (route_of d.request) d.stage) spot ⊎ CopiesInto d.stage spot.node
+  pub held_path : HeldPath
+  pub looks : LooksUp (route_of c.request) c.stage held_path.path
+  pub leads : walk (child_of s.nodes) s.root held_path.path ≡ Some held_path.node
+  pub held : holder_of s.nodes held_path.node ≡ Some d.number
+  pub came : Holds (held_paths_of (route_of d.request) d.stage) held_path
+      ⊎ CopiesInto d.stage held_path.node
 
 -- another call copies into the file that the call's handle opens
 pub record HoldsFile (s : StoreState) (c d : Call) : Type 0 where

@@ -16,19 +16,19 @@ use Rattle.sf_inode.specs.declared.node.Node.{Node}
 use Rattle.sf_inode.specs.declared.handle.OpenHandle.{OpenHandle}
 use Rattle.sf_inode.specs.Stores.{StoreState, holder_of, open_handle_at, blocks_left_at, is_directory_at, is_file_at}
 use Rattle.sf_copying.specs.Copies.{Copying, copying, AreCopies, Copiers as CopyingScene}
-use Rattle.sf_coupling.specs.Walks.{Spot, walkers_at, AreWalks}
-use Rattle.sf_walk.specs.Routes.{IsPosition, route_of, spots_of, terrain}
+use Rattle.sf_coupling.specs.Walks.{HeldPath, walkers_at, AreWalks}
+use Rattle.sf_walk.specs.Routes.{IsPosition, route_of, held_paths_of, namespace}
 use Rattle.sf_core.specs.Cores.{call_at, session_at, last_number}
 use Rattle.sf_core.specs.Progress.{waiting_reply, undecided_in, copy_of, IsCopying}
 use Rattle.sf_core.specs.Histories.{IsHistory}
 use Rattle.sf_core.specs.Parts.{PartsView, core_of}
 
 -- what a call holds
-abbrev pub spots_at : Call → List Spot
-spots_at c = spots_of (route_of c.request) c.stage
+abbrev pub held_paths_at : Call → List HeldPath
+held_paths_at c = held_paths_of (route_of c.request) c.stage
 
-abbrev pub spots_in : List (ℕ × Call) → ℕ → List Spot
-spots_in calls number = option_map_or spots_at (call_at calls number) []
+abbrev pub held_paths_in : List (ℕ × Call) → ℕ → List HeldPath
+held_paths_in calls number = option_map_or held_paths_at (call_at calls number) []
 
 -- who holds a directory, and who a file
 abbrev pub walker_of : List (Option Node) → ℕ → Option ℕ
@@ -44,7 +44,8 @@ IsAtRest at = (at ≡ stage.Fresh) ⊎ IsCopying at
 -- The calls' walks are coupled, and each undecided one is on its route; one whose reply waits holds
 -- no directory.
 pub record Coupled (p : PartsView) : Type 0 where
-  pub walks : AreWalks (walkers_at (terrain p.store) (spots_in p.calls) (walker_of p.store.nodes))
+  pub walks : AreWalks
+      (walkers_at (namespace p.store) (held_paths_in p.calls) (walker_of p.store.nodes))
   pub positions : (number : ℕ) (c : Call) → call_at p.calls number ≡ Some c → waiting_reply c ≡ None
       → IsPosition (route_of c.request) c.stage
   pub waiting : (number : ℕ) (c : Call) (given : Reply) → call_at p.calls number ≡ Some c

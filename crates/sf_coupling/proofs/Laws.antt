@@ -3,7 +3,7 @@
 
 -- fronts of paths: of two fronts of one path one begins with the other
 pub use Rattle.sf_coupling.proofs.Fronts.{begins_itself, begins_root, begins_trans, begins_snoc, fronts_meet, begins_both}
--- two numbers are the same, or not; a node is one of the spots', or of none
+-- two numbers are the same, or not; a node is one of the held paths', or of none
 pub use Rattle.sf_coupling.proofs.Keeping.{same_or_not, node_or_not}
 -- what keeps walks coupled: a call that goes on or lets go, and a step to a directory that no other call holds
 pub use Rattle.sf_coupling.proofs.Keeping.{keeps_walks, let_go_keeps}

@@ -3,82 +3,82 @@ use Rattle.std.specs.Prelude.{◌≡◌, ◌≢◌, ◌⊎◌, ℕ, List, [], �
 use Rattle.std.proofs.Common.{sym, ap, subst, ◌∙◌, inl, inr}
 use Rattle.sf_path.specs.Names.{Path}
 use Rattle.sf_coupling.specs.Fronts.{IsPrefix}
-use Rattle.sf_coupling.specs.Walks.{Terrain, Spot, Holds, IsNodeOf, IsOnWayTo, Between, AreBelow, IsShaped, LeadsTo, IsFree, Walkers, walkers_at, AreWalks, HandsOver}
-use Rattle.sf_coupling.specs.Stepping.{IsNextTo, IsFrom, AreAllAt, TakesSpot}
-use Rattle.sf_coupling.specs.Stepping.TakesSpot.{Comes, GoesOnWith}
+use Rattle.sf_coupling.specs.Walks.{Namespace, HeldPath, Holds, IsNodeOf, IsOnWayTo, Between, AreBelow, IsShaped, LeadsTo, IsFree, Walkers, walkers_at, AreWalks, HandsOver}
+use Rattle.sf_coupling.specs.Stepping.{IsNextTo, IsFrom, AreAllAt, TakesPath}
+use Rattle.sf_coupling.specs.Stepping.TakesPath.{Comes, GoesOnWith}
 use Rattle.sf_coupling.proofs.Fronts.{begins_itself, begins_trans, begins_snoc, begins_both, begins_nothing}
 use Rattle.sf_coupling.proofs.Keeping.{keeps_walks, holder_is}
 
--- ---- what a step does to lists of spots
-all_held : (q : Spot) (now : List Spot) (s : Spot) → AreAllAt q now → Holds now s → s ≡ q
+-- ---- what a step does to lists of held paths
+all_held : (q : HeldPath) (now : List HeldPath) (s : HeldPath) → AreAllAt q now → Holds now s → s ≡ q
 all_held q [] s all h = absurd h
 all_held q (p ∷ now) s all (inl e) = e ∙ all.0
 all_held q (p ∷ now) s all (inr h) = all_held q now s all.1 h
 
-all_on_way : (q : Spot) (now : List Spot) (path : Path) → AreAllAt q now → IsOnWayTo now path → IsPrefix path q.path
+all_on_way : (q : HeldPath) (now : List HeldPath) (path : Path) → AreAllAt q now → IsOnWayTo now path → IsPrefix path q.path
 all_on_way q [] path all h = absurd h
-all_on_way q (p ∷ now) path all (inl b) = subst (λ (s : Spot). IsPrefix path s.path) all.0 b
+all_on_way q (p ∷ now) path all (inl b) = subst (λ (s : HeldPath). IsPrefix path s.path) all.0 b
 all_on_way q (p ∷ now) path all (inr h) = all_on_way q now path all.1 h
 
-all_below : (q : Spot) (now : List Spot) → AreAllAt q now → AreBelow q.path now
+all_below : (q : HeldPath) (now : List HeldPath) → AreAllAt q now → AreBelow q.path now
 all_below q [] all = tt
-all_below q (p ∷ now) all = (subst (λ (s : Spot). IsPrefix q.path s.path) (sym all.0) (begins_itself q.path), all_below q now all.1)
+all_below q (p ∷ now) all = (subst (λ (s : HeldPath). IsPrefix q.path s.path) (sym all.0) (begins_itself q.path), all_below q now all.1)
 
-kept_held : (q p : Spot) (front rest : List Spot) (s : Spot) → Holds (front ++ q ∷ rest) s → (s ≡ q) ⊎ Holds (front ++ p ∷ rest) s
+kept_held : (q p : HeldPath) (front rest : List HeldPath) (s : HeldPath) → Holds (front ++ q ∷ rest) s → (s ≡ q) ⊎ Holds (front ++ p ∷ rest) s
 kept_held q p [] rest s (inl e) = inl e
 kept_held q p [] rest s (inr h) = inr (inr h)
 kept_held q p (a ∷ front) rest s (inl e) = inr (inl e)
 kept_held q p (a ∷ front) rest s (inr h) = elim (kept_held q p front rest s h) [ inl e ↦ inl e | inr k ↦ inr (inr k) ]
 
-left_held : (p : Spot) (front rest : List Spot) → Holds (front ++ p ∷ rest) p
+left_held : (p : HeldPath) (front rest : List HeldPath) → Holds (front ++ p ∷ rest) p
 left_held p [] rest = inl refl
 left_held p (a ∷ front) rest = inr (left_held p front rest)
 
-up : (p q : Spot) → IsNextTo p q → IsPrefix p.path q.path
+up : (p q : HeldPath) → IsNextTo p q → IsPrefix p.path q.path
 up p q next = record { rest = next.name ∷ []; is = next.is }
 
-kept_on_way : (q p : Spot) → IsNextTo p q → (front rest : List Spot) (path : Path) → IsOnWayTo (front ++ q ∷ rest) path → IsOnWayTo (front ++ p ∷ rest) path ⊎ (path ≡ q.path)
+kept_on_way : (q p : HeldPath) → IsNextTo p q → (front rest : List HeldPath) (path : Path) → IsOnWayTo (front ++ q ∷ rest) path → IsOnWayTo (front ++ p ∷ rest) path ⊎ (path ≡ q.path)
 kept_on_way q p next [] rest path (inl b) = elim (begins_snoc path p.path next.name (subst (IsPrefix path) next.is b)) [ inl c ↦ inl (inl c) | inr e ↦ inr (e ∙ sym next.is) ]
 kept_on_way q p next [] rest path (inr h) = inl (inr h)
 kept_on_way q p next (a ∷ front) rest path (inl b) = inl (inl b)
 kept_on_way q p next (a ∷ front) rest path (inr h) = elim (kept_on_way q p next front rest path h) [ inl k ↦ inl (inr k) | inr e ↦ inr e ]
 
-kept_below : (top : Path) (q p : Spot) → IsNextTo p q → (front rest : List Spot) → AreBelow top (front ++ p ∷ rest) → AreBelow top (front ++ q ∷ rest)
+kept_below : (top : Path) (q p : HeldPath) → IsNextTo p q → (front rest : List HeldPath) → AreBelow top (front ++ p ∷ rest) → AreBelow top (front ++ q ∷ rest)
 kept_below top q p next [] rest below = (begins_trans top p.path q.path below.0 (up p q next), below.1)
 kept_below top q p next (a ∷ front) rest below = (below.0, kept_below top q p next front rest below.1)
 
 -- what is held after the step is new, or was held
-pub takes_held : (q : Spot) (was now : List Spot) (s : Spot) → TakesSpot q was now → Holds now s → (s ≡ q) ⊎ Holds was s
+pub takes_held : (q : HeldPath) (was now : List HeldPath) (s : HeldPath) → TakesPath q was now → Holds now s → (s ≡ q) ⊎ Holds was s
 takes_held q was now s (Comes w n from some all) h = inl (all_held q n s all h)
 takes_held q was now s (GoesOnWith top front p rest next) (inl e) = inr (inl e)
 takes_held q was now s (GoesOnWith top front p rest next) (inr h) = elim (kept_held q p front rest s h) [ inl e ↦ inl e | inr k ↦ inr (inr k) ]
 
 -- a path between is new, or was between
-takes_between : (q : Spot) (was now : List Spot) (path : Path) → TakesSpot q was now → Between now path → Between was path ⊎ (path ≡ q.path)
+takes_between : (q : HeldPath) (was now : List HeldPath) (path : Path) → TakesPath q was now → Between now path → Between was path ⊎ (path ≡ q.path)
 takes_between q was now path (Comes w [] from some all) h = absurd h
 takes_between q was now path (Comes w (top ∷ ends) from some all) h =
-    inr (begins_both path q.path (all_on_way q ends path all.1 h.1) (subst (λ (s : Spot). IsPrefix s.path path) all.0 h.0))
+    inr (begins_both path q.path (all_on_way q ends path all.1 h.1) (subst (λ (s : HeldPath). IsPrefix s.path path) all.0 h.0))
 takes_between q was now path (GoesOnWith top front p rest next) h = elim (kept_on_way q p next front rest path h.1) [ inl k ↦ inl (h.0, k) | inr e ↦ inr e ]
 
-takes_shaped : (q : Spot) (was now : List Spot) → TakesSpot q was now → IsShaped was → IsShaped now
+takes_shaped : (q : HeldPath) (was now : List HeldPath) → TakesPath q was now → IsShaped was → IsShaped now
 takes_shaped q was now (Comes w [] from some all) shaped = tt
-takes_shaped q was now (Comes w (top ∷ ends) from some all) shaped = subst (λ (s : Spot). AreBelow s.path ends) (sym all.0) (all_below q ends all.1)
+takes_shaped q was now (Comes w (top ∷ ends) from some all) shaped = subst (λ (s : HeldPath). AreBelow s.path ends) (sym all.0) (all_below q ends all.1)
 takes_shaped q was now (GoesOnWith top front p rest next) shaped = kept_below top.path q p next front rest shaped
 
 -- the new directory is held
-pub takes_new : (q : Spot) (was now : List Spot) → TakesSpot q was now → IsNodeOf now q.node
+pub takes_new : (q : HeldPath) (was now : List HeldPath) → TakesPath q was now → IsNodeOf now q.node
 takes_new q was now (Comes w [] from some all) = absurd some
-takes_new q was now (Comes w (top ∷ ends) from some all) = record { spot = top; holds = inl refl; node = ap (λ (s : Spot). s.node) all.0 }
-takes_new q was now (GoesOnWith top front p rest next) = record { spot = q; holds = inr (left_held q front rest); node = refl }
+takes_new q was now (Comes w (top ∷ ends) from some all) = record { held_path = top; holds = inl refl; node = ap (λ (s : HeldPath). s.node) all.0 }
+takes_new q was now (GoesOnWith top front p rest next) = record { held_path = q; holds = inr (left_held q front rest); node = refl }
 
-takes_from : (q : Spot) (was now : List Spot) → TakesSpot q was now → IsFrom was q
+takes_from : (q : HeldPath) (was now : List HeldPath) → TakesPath q was now → IsFrom was q
 takes_from q was now (Comes w n from some all) = from
 takes_from q was now (GoesOnWith top front p rest next) = inr (p, inr (left_held p front rest), next)
 
 -- ---- coupling
-module _ (t : Terrain) (f : ℕ → List Spot) (k : ℕ → Option ℕ) (n : ℕ) (walks : AreWalks (walkers_at t f k)) (q : Spot) (is_free : IsFree k n q.node) (there : LeadsTo t q) where
+module _ (t : Namespace) (f : ℕ → List HeldPath) (k : ℕ → Option ℕ) (n : ℕ) (walks : AreWalks (walkers_at t f k)) (q : HeldPath) (is_free : IsFree k n q.node) (there : LeadsTo t q) where
   -- no other call holds the directory at that path
-  pub not_there : (m : ℕ) (s : Spot) → n ≢ m → Holds (f m) s → s.path ≡ q.path → ⊥
+  pub not_there : (m : ℕ) (s : HeldPath) → n ≢ m → Holds (f m) s → s.path ≡ q.path → ⊥
   not_there m s other hold same =
       let a = walks.leads m s hold in
       let x : Some s.node ≡ Some q.node = sym a.names ∙ (ap t.leads same ∙ there.names) in
@@ -86,34 +86,34 @@ module _ (t : Terrain) (f : ℕ → List Spot) (k : ℕ → Option ℕ) (n : ℕ
       other (is_free m (ap k (sym y) ∙ walks.held m s hold))
 
   -- the first of what another call holds isn't at q, so it is further up
-  above : (m : ℕ) (top : Spot) (ends : List Spot) → n ≢ m → f m ≡ top ∷ ends → top.path ≡ q.path → ⊥
-  above m top ends other is = not_there m top other (subst (λ (x : List Spot). Holds x top) (sym is) (inl refl))
+  above : (m : ℕ) (top : HeldPath) (ends : List HeldPath) → n ≢ m → f m ≡ top ∷ ends → top.path ≡ q.path → ⊥
+  above m top ends other is = not_there m top other (subst (λ (x : List HeldPath). Holds x top) (sym is) (inl refl))
 
-  on_way_up : (spots : List Spot) (p path : Path) → IsPrefix p path → IsOnWayTo spots path → IsOnWayTo spots p
+  on_way_up : (held_paths : List HeldPath) (p path : Path) → IsPrefix p path → IsOnWayTo held_paths path → IsOnWayTo held_paths p
   on_way_up [] p path b h = h
-  on_way_up (s ∷ spots) p path b (inl c) = inl (begins_trans p path s.path b c)
-  on_way_up (s ∷ spots) p path b (inr h) = inr (on_way_up spots p path b h)
+  on_way_up (s ∷ held_paths) p path b (inl c) = inl (begins_trans p path s.path b c)
+  on_way_up (s ∷ held_paths) p path b (inr h) = inr (on_way_up held_paths p path b h)
 
   -- no other call's way leads through q
-  pub q_aside : IsFrom (f n) q → (m : ℕ) → n ≢ m → (spots : List Spot) → f m ≡ spots → Between spots q.path → ⊥
+  pub q_aside : IsFrom (f n) q → (m : ℕ) → n ≢ m → (held_paths : List HeldPath) → f m ≡ held_paths → Between held_paths q.path → ⊥
   q_aside from m other [] is b = b
   q_aside (inl root) m other (top ∷ ends) is b = above m top ends other is (begins_nothing top.path (subst (IsPrefix top.path) root b.0) ∙ sym root)
   q_aside (inr next) m other (top ∷ ends) is b =
       let p = next.0 in
       elim (begins_snoc top.path p.path next.2.name (subst (IsPrefix top.path) next.2.is b.0)) [
         | inr e ↦ above m top ends other is (e ∙ sym next.2.is)
-        | inl e ↦ walks.apart m n p (λ i. other (sym i)) next.1 (subst (λ (x : List Spot). Between x p.path) (sym is) (e, on_way_up ends p.path q.path (up p q next.2) b.1))
+        | inl e ↦ walks.apart m n p (λ i. other (sym i)) next.1 (subst (λ (x : List HeldPath). Between x p.path) (sym is) (e, on_way_up ends p.path q.path (up p q next.2) b.1))
       ]
 
   -- a step that takes a free directory keeps the facts
-  pub step_keeps : (f' : ℕ → List Spot) (k' : ℕ → Option ℕ) → TakesSpot q (f n) (f' n) → ((m : ℕ) → n ≢ m → f' m ≡ f m) → HandsOver k k' n (f n) (f' n) → AreWalks (walkers_at t f' k')
+  pub step_keeps : (f' : ℕ → List HeldPath) (k' : ℕ → Option ℕ) → TakesPath q (f n) (f' n) → ((m : ℕ) → n ≢ m → f' m ≡ f m) → HandsOver k k' n (f n) (f' n) → AreWalks (walkers_at t f' k')
   step_keeps f' k' takes same hands =
       keeps_walks (walkers_at t f k) (walkers_at t f' k') n walks (record {
         same = same;
         hands = hands;
-        free = λ l h m at. elim (takes_held q (f n) (f' n) h.spot takes h.holds) [
-          | inl e ↦ is_free m (ap k (ap (λ (x : Spot). x.node) (sym e) ∙ h.node) ∙ at)
-          | inr was ↦ let x : Some n ≡ Some m = sym (holder_is (walkers_at t f k) walks n l (record { spot = h.spot; holds = was; node = h.node })) ∙ at in cc
+        free = λ l h m at. elim (takes_held q (f n) (f' n) h.held_path takes h.holds) [
+          | inl e ↦ is_free m (ap k (ap (λ (x : HeldPath). x.node) (sym e) ∙ h.node) ∙ at)
+          | inr was ↦ let x : Some n ≡ Some m = sym (holder_is (walkers_at t f k) walks n l (record { held_path = h.held_path; holds = was; node = h.node })) ∙ at in cc
         ];
         shaped = takes_shaped q (f n) (f' n) takes (walks.shaped n);
         spared = λ m s other hold leads. leads;
@@ -126,31 +126,31 @@ module _ (t : Terrain) (f : ℕ → List Spot) (k : ℕ → Option ℕ) (n : ℕ
           | inr e ↦ not_there m s other hold e
         ];
         aside = λ m s other h b. elim (takes_held q (f n) (f' n) s takes h) [
-          | inl e ↦ q_aside (takes_from q (f n) (f' n) takes) m other (f m) refl (subst (λ (x : Spot). Between (f m) x.path) e b)
+          | inl e ↦ q_aside (takes_from q (f n) (f' n) takes) m other (f m) refl (subst (λ (x : HeldPath). Between (f m) x.path) e b)
           | inr was ↦ walks.apart m n s (λ i. other (sym i)) was b
         ];
       })
 
 -- ---- who is waited for
-below_held : (top : Path) (ends : List Spot) (s : Spot) → AreBelow top ends → Holds ends s → IsPrefix top s.path
+below_held : (top : Path) (ends : List HeldPath) (s : HeldPath) → AreBelow top ends → Holds ends s → IsPrefix top s.path
 below_held top [] s below h = absurd h
-below_held top (e ∷ ends) s below (inl i) = subst (λ (x : Spot). IsPrefix top x.path) (sym i) below.0
+below_held top (e ∷ ends) s below (inl i) = subst (λ (x : HeldPath). IsPrefix top x.path) (sym i) below.0
 below_held top (e ∷ ends) s below (inr h) = below_held top ends s below.1 h
 
-held_on_way : (spots : List Spot) (s : Spot) (q : Path) → IsPrefix q s.path → Holds spots s → IsOnWayTo spots q
+held_on_way : (held_paths : List HeldPath) (s : HeldPath) (q : Path) → IsPrefix q s.path → Holds held_paths s → IsOnWayTo held_paths q
 held_on_way [] s q b h = absurd h
-held_on_way (e ∷ spots) s q b (inl i) = inl (subst (λ (x : Spot). IsPrefix q x.path) i b)
-held_on_way (e ∷ spots) s q b (inr h) = inr (held_on_way spots s q b h)
+held_on_way (e ∷ held_paths) s q b (inl i) = inl (subst (λ (x : HeldPath). IsPrefix q x.path) i b)
+held_on_way (e ∷ held_paths) s q b (inr h) = inr (held_on_way held_paths s q b h)
 
--- who wants the root, or a spot one name past its own, wants the first one of its holder's
-pub waits_at_top : {s : Walkers} → AreWalks s → {n m : ℕ} → n ≢ m → (spot : Spot) → IsFrom (s.spots n) spot → {top : Spot} {ends : List Spot} → s.spots m ≡ top ∷ ends → Holds (top ∷ ends) spot → spot.path ≡ top.path
-waits_at_top walks other spot from is (inl e) = ap (λ (x : Spot). x.path) e
-waits_at_top walks {m = m} other spot (inl root) {top = top} {ends = ends} is (inr h) =
-    root ∙ sym (begins_nothing top.path (subst (IsPrefix top.path) root (below_held top.path ends spot (subst IsShaped is (walks.shaped m)) h)))
-waits_at_top walks {n = n} {m = m} other spot (inr next) {top = top} {ends = ends} is (inr h) =
+-- who wants the root, or a path one name past its own, wants the first one of its holder's
+pub waits_at_top : {s : Walkers} → AreWalks s → {n m : ℕ} → n ≢ m → (held_path : HeldPath) → IsFrom (s.held_paths n) held_path → {top : HeldPath} {ends : List HeldPath} → s.held_paths m ≡ top ∷ ends → Holds (top ∷ ends) held_path → held_path.path ≡ top.path
+waits_at_top walks other held_path from is (inl e) = ap (λ (x : HeldPath). x.path) e
+waits_at_top walks {m = m} other held_path (inl root) {top = top} {ends = ends} is (inr h) =
+    root ∙ sym (begins_nothing top.path (subst (IsPrefix top.path) root (below_held top.path ends held_path (subst IsShaped is (walks.shaped m)) h)))
+waits_at_top walks {n = n} {m = m} other held_path (inr next) {top = top} {ends = ends} is (inr h) =
     let p = next.0 in
-    let below = below_held top.path ends spot (subst IsShaped is (walks.shaped m)) h in
+    let below = below_held top.path ends held_path (subst IsShaped is (walks.shaped m)) h in
     elim (begins_snoc top.path p.path next.2.name (subst (IsPrefix top.path) next.2.is below)) [
       | inr e ↦ next.2.is ∙ sym e
-      | inl e ↦ absurd (walks.apart m n p (λ i. other (sym i)) next.1 (subst (λ (x : List Spot). Between x p.path) (sym is) (e, held_on_way ends spot p.path (up p spot next.2) h)))
+      | inl e ↦ absurd (walks.apart m n p (λ i. other (sym i)) next.1 (subst (λ (x : List HeldPath). Between x p.path) (sym is) (e, held_on_way ends held_path p.path (up p held_path next.2) h)))
     ]

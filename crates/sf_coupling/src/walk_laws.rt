@@ -1,14 +1,14 @@
 //! What keeps walks coupled.
 
 ghost use Rattle.std.specs.Prelude.{◌≡◌, ◌≢◌, ℕ, List, [], ◌∷◌};
-ghost use Rattle.sf_coupling.specs.Stepping.{IsFrom, TakesSpot};
-ghost use Rattle.sf_coupling.specs.Walks.{Spot, Holds, HandsOver, IsFree, LeadsTo, Walkers, AreWalks, HoldsOthers};
+ghost use Rattle.sf_coupling.specs.Stepping.{IsFrom, TakesPath};
+ghost use Rattle.sf_coupling.specs.Walks.{HeldPath, Holds, HandsOver, IsFree, LeadsTo, Walkers, AreWalks, HoldsOthers};
 
 /// Two calls never hold one node.
 #[tactic(auto, using(crate::proofs::Laws::held_by_one))]
 pub fn held_once()
-    ensures { (s : Walkers) → AreWalks s → (n m : ℕ) (a b : Spot) → Holds (s.spots n) a
-        → Holds (s.spots m) b → a.node ≡ b.node → n ≡ m }
+    ensures { (s : Walkers) → AreWalks s → (n m : ℕ) (a b : HeldPath) → Holds (s.held_paths n) a
+        → Holds (s.held_paths m) b → a.node ≡ b.node → n ≡ m }
 {}
 
 /// Walks stay coupled where one call goes on, or is decided, and the ways of the others are spared.
@@ -20,24 +20,25 @@ pub fn walks_kept()
 /// A step to a directory that no other call holds keeps walks coupled: to the root, or one name on.
 #[tactic(auto, using(crate::proofs::Laws::step_keeps))]
 pub fn steps_kept()
-    ensures { (s new : Walkers) (n : ℕ) (q : Spot) → AreWalks s → new.terrain ≡ s.terrain
-        → IsFree s.holder n q.node → LeadsTo s.terrain q → TakesSpot q (s.spots n) (new.spots n)
-        → ((m : ℕ) → n ≢ m → new.spots m ≡ s.spots m)
-        → HandsOver s.holder new.holder n (s.spots n) (new.spots n) → AreWalks new }
+    ensures { (s new : Walkers) (n : ℕ) (q : HeldPath) → AreWalks s → new.namespace ≡ s.namespace
+        → IsFree s.holder n q.node → LeadsTo s.namespace q
+        → TakesPath q (s.held_paths n) (new.held_paths n)
+        → ((m : ℕ) → n ≢ m → new.held_paths m ≡ s.held_paths m)
+        → HandsOver s.holder new.holder n (s.held_paths n) (new.held_paths n) → AreWalks new }
 {}
 
 /// A call that lets go of all that it holds keeps walks coupled: nothing is asked of it.
 #[tactic(auto, using(crate::proofs::Laws::let_go_keeps))]
 pub fn let_go_kept()
-    ensures { (s new : Walkers) (n : ℕ) → AreWalks s → new.terrain ≡ s.terrain
-        → new.spots n ≡ [] → ((m : ℕ) → n ≢ m → new.spots m ≡ s.spots m)
-        → HandsOver s.holder new.holder n (s.spots n) [] → AreWalks new }
+    ensures { (s new : Walkers) (n : ℕ) → AreWalks s → new.namespace ≡ s.namespace
+        → new.held_paths n ≡ [] → ((m : ℕ) → n ≢ m → new.held_paths m ≡ s.held_paths m)
+        → HandsOver s.holder new.holder n (s.held_paths n) [] → AreWalks new }
 {}
 
-/// Who wants the root, or a spot one name past its own, which another call holds, wants the first
-/// spot of that call: so it waits above all that the other one does.
+/// Who wants the root, or a path one name past its own, which another call holds, wants the first
+/// path of that call: so it waits above all that the other one does.
 pub fn waits_above()
-    ensures { (s : Walkers) → AreWalks s → (n m : ℕ) → n ≢ m → (spot : Spot)
-        → IsFrom (s.spots n) spot → (top : Spot) (ends : List Spot) → s.spots m ≡ top ∷ ends
-        → Holds (top ∷ ends) spot → spot.path ≡ top.path }
+    ensures { (s : Walkers) → AreWalks s → (n m : ℕ) → n ≢ m → (held_path : HeldPath)
+        → IsFrom (s.held_paths n) held_path → (top : HeldPath) (ends : List HeldPath)
+        → s.held_paths m ≡ top ∷ ends → Holds (top ∷ ends) held_path → held_path.path ≡ top.path }
 {}

@@ -111,8 +111,8 @@ pub record EntryKey : Type 0 where
   pub dir : ℕ
   pub name : Name
 
-abbrev pub spot : ℕ → Name → EntryKey
-spot dir name = record { dir = dir; name = name }
+abbrev pub entry_key : ℕ → Name → EntryKey
+entry_key dir name = record { dir = dir; name = name }
 
 -- An entry is moved: to a new name, or to one that leads to another node, which goes if nothing
 -- else leads to it.
@@ -126,7 +126,7 @@ relinked_from s old new (Some id) (Some target) = forgotten (moved_entry s old n
 
 abbrev pub relinked : StoreState → ℕ → Name → ℕ → Name → StoreState
 relinked s old_dir old_name new_dir new_name =
-    relinked_from s (spot old_dir old_name) (spot new_dir new_name)
+    relinked_from s (entry_key old_dir old_name) (entry_key new_dir new_name)
     (child_of s.nodes old_dir old_name) (child_of s.nodes new_dir new_name)
 
 -- a node's bytes, if it is a file

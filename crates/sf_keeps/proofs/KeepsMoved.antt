@@ -16,7 +16,7 @@ use Rattle.sf_inode.specs.declared.node.Content.TheVariants as content
 use Rattle.sf_inode.specs.Nodes.{is_directory_content, is_bare_content, more_content, less_content, with_content, without_name, is_unused}
 use Rattle.sf_keeps.specs.Steps.{EntryMap, walk, changed_step}
 use Rattle.sf_keeps.specs.Shows.{View, Shows, label_by, with_step}
-use Rattle.sf_inode.specs.Stores.{StoreState, node_in, child_of, entry_put, moved_entry, relinked, relinked_from, spot}
+use Rattle.sf_inode.specs.Stores.{StoreState, node_in, child_of, entry_put, moved_entry, relinked, relinked_from, entry_key}
 use Rattle.sf_keeps.specs.Keeps.{view_of, Keeps}
 use Rattle.sf_keeps.proofs.Sound.{IsBare}
 use Rattle.sf_keeps.proofs.Shown.{below}
@@ -57,15 +57,15 @@ module _ (s : StoreState) (t : Tree) (po : Path) (od : ℕ) (on : Name) (c : ℕ
   abbrev after : Tree
   after = changed t (Move (po ++ on ∷ []) (pn ++ nn ∷ []))
 
-  marks_moved : (i : ℕ) → marks_of (moved_entry s (spot od on) (spot nd nn) c).nodes i ≡ marks_of s.nodes i
+  marks_moved : (i : ℕ) → marks_of (moved_entry s (entry_key od on) (entry_key nd nn) c).nodes i ≡ marks_of s.nodes i
   marks_moved i =
       let f = still_there (with_content (more_content nn c)) s nd od to.0 from.0 to.2 from.1 in
       marks_entries (less_content on) (entry_put s nd nn c) od f.0 f.1 i ∙ marks_entries (more_content nn c) s nd to.0 to.2 i
 
-  ordered_moved : InOrder (moved_entry s (spot od on) (spot nd nn) c).nodes
+  ordered_moved : InOrder (moved_entry s (entry_key od on) (entry_key nd nn) c).nodes
   ordered_moved = in_order_moved s t k.shows k.entries move
 
-  is_view : view_of (moved_entry s (spot od on) (spot nd nn) c) ≡ with_step (with_step (view_of s) od on None) nd nn (Some c)
+  is_view : view_of (moved_entry s (entry_key od on) (entry_key nd nn) c) ≡ with_step (with_step (view_of s) od on None) nd nn (Some c)
   is_view = view_moved s t k.shows k.entries move
 
   abbrev old : Path
@@ -90,13 +90,13 @@ module _ (s : StoreState) (t : Tree) (po : Path) (od : ℕ) (on : Name) (c : ℕ
   -- ---- onto nothing
   pub keeps_moved : child_of s.nodes nd nn ≡ None → Keeps (relinked s od on nd nn) (changed t (Move (po ++ on ∷ []) (pn ++ nn ∷ [])))
   keeps_moved none =
-      let is : relinked s od on nd nn ≡ moved_entry s (spot od on) (spot nd nn) c = ap (λ o. relinked_from s (spot od on) (spot nd nn) o (child_of s.nodes nd nn)) there ∙ ap (relinked_from s (spot od on) (spot nd nn) (Some c)) none in
+      let is : relinked s od on nd nn ≡ moved_entry s (entry_key od on) (entry_key nd nn) c = ap (λ o. relinked_from s (entry_key od on) (entry_key nd nn) o (child_of s.nodes nd nn)) there ∙ ap (relinked_from s (entry_key od on) (entry_key nd nn) (Some c)) none in
       let shows = shows_relinked s t k.shows k.entries move none in
       let nothing : (name : Name) (rest : Path) → label_at t.names (new ++ name ∷ rest) ≡ None =
       λ name rest. k.shows.by.names (new ++ name ∷ rest) ∙ ap (option_and_then (label_by (view_of s).shown)) (below_new name rest ∙ ap (option_and_then (λ y. walk (child_of s.nodes) y (name ∷ rest))) none) in
       let free = free_name (view_of s) t k.shows pn nd nn at_to none in
       subst (λ (x : StoreState). Keeps x after) (sym is)
-      (keeps_marked s (moved_entry s (spot od on) (spot nd nn) c) t after k (record {
+      (keeps_marked s (moved_entry s (entry_key od on) (entry_key nd nn) c) t after k (record {
         step = moved;
         marks = marks_of s.nodes;
         shows = subst (λ (x : StoreState). Shows (view_of x) after) is shows;
@@ -144,7 +144,7 @@ module _ (s : StoreState) (t : Tree) (po : Path) (od : ℕ) (on : Name) (c : ℕ
         let is = is_relinked s t k.shows k.entries move target gone.0 stood_at gone.1 bare in
         subst (λ (x : StoreState). Keeps x after) (sym is)
         (keeps_forgotten s t after k (record {
-          mid = moved_entry s (spot od on) (spot nd nn) c;
+          mid = moved_entry s (entry_key od on) (entry_key nd nn) c;
           step = moved;
           id = target;
           node = gone.0;

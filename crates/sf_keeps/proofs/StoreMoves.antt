@@ -14,7 +14,7 @@ use Rattle.sf_inode.specs.declared.node.Content.TheVariants as content
 use Rattle.sf_inode.specs.Nodes.{object_in, less_content, more_content, with_content, without_name, is_unused}
 use Rattle.sf_keeps.specs.Steps.{changed_step}
 use Rattle.sf_keeps.specs.Shows.{View, Shows, is_directory_by, with_step, with_shown}
-use Rattle.sf_inode.specs.Stores.{StoreState, node_in, child_of, shown_node, shown_of, edited, entry_put, forgotten, moved_entry, relinked_from, relinked, spot}
+use Rattle.sf_inode.specs.Stores.{StoreState, node_in, child_of, shown_node, shown_of, edited, entry_put, forgotten, moved_entry, relinked_from, relinked, entry_key}
 use Rattle.sf_keeps.specs.Keeps.{view_of}
 use Rattle.sf_keeps.proofs.InOrder.{InOrder, node_in_order, in_order_put, less_in_order, more_in_order}
 use Rattle.sf_keeps.proofs.Sound.{HasNoEntry, IsBare}
@@ -84,14 +84,14 @@ module _ (s : StoreState) (t : Tree) (h : Shows (view_of s) t) (ordered : InOrde
   in_order_put_in = in_order_put (edited_node (with_content (more_content nn c)) s nd above here_to) ordered
       (more_in_order nn c above.content (node_in_order s.nodes nd above ordered here_to))
 
-  pub view_moved : view_of (moved_entry s (spot od on) (spot nd nn) c) ≡ with_step (with_step (view_of s) od on None) nd nn (Some c)
+  pub view_moved : view_of (moved_entry s (entry_key od on) (entry_key nd nn) c) ≡ with_step (with_step (view_of s) od on None) nd nn (Some c)
   view_moved =
       let f = still_there (with_content (more_content nn c)) s nd od above from here_to here_from in
       view_taken put od on f.0 (node_in_order put.nodes od f.0 in_order_put_in f.1) f.1 ∙ ap (λ (v : View). with_step v od on None) (view_put s nd nn c above es here_to dir)
       ∙ same_view (with_step (with_step (view_of s) od on None) nd nn (Some c)) (with_step (with_step (view_of s) nd nn (Some c)) od on None)
       (λ x m. swapped (nat_eq od x && same_name on m) (nat_eq nd x && same_name nn m) c (child_of s.nodes x m) (apart x m)) (λ x. refl) refl (λ a b. refl)
 
-  pub in_order_moved : InOrder (moved_entry s (spot od on) (spot nd nn) c).nodes
+  pub in_order_moved : InOrder (moved_entry s (entry_key od on) (entry_key nd nn) c).nodes
   in_order_moved =
       let f = still_there (with_content (more_content nn c)) s nd od above from here_to here_from in
       in_order_put (edited_node (with_content (less_content on)) put od f.0 f.1) in_order_put_in
@@ -100,14 +100,14 @@ module _ (s : StoreState) (t : Tree) (h : Shows (view_of s) t) (ordered : InOrde
   -- ---- onto nothing
   pub shows_relinked : child_of s.nodes nd nn ≡ None → Shows (view_of (relinked s od on nd nn)) (changed t (Move (po ++ on ∷ []) (pn ++ nn ∷ [])))
   shows_relinked none =
-      let is : relinked s od on nd nn ≡ moved_entry s (spot od on) (spot nd nn) c = ap (λ o. relinked_from s (spot od on) (spot nd nn) o (child_of s.nodes nd nn)) there ∙ ap (relinked_from s (spot od on) (spot nd nn) (Some c)) none in
+      let is : relinked s od on nd nn ≡ moved_entry s (entry_key od on) (entry_key nd nn) c = ap (λ o. relinked_from s (entry_key od on) (entry_key nd nn) o (child_of s.nodes nd nn)) there ∙ ap (relinked_from s (entry_key od on) (entry_key nd nn) (Some c)) none in
       subst (λ (v : View). Shows v (changed t (Move (po ++ on ∷ []) (pn ++ nn ∷ [])))) (sym (ap view_of is ∙ view_moved))
       (shows_move (view_of s) t h po on od pn nn nd c at_from there at_to is_to not_inside none)
 
   -- ---- onto another node
   module _ (target : ℕ) (gone : Node) (stood : child_of s.nodes nd nn ≡ Some target) (is : node_in s.nodes target ≡ Some gone) (bare : IsBare (child_of s.nodes) target) where
-    pub is_relinked : relinked s od on nd nn ≡ forgotten (moved_entry s (spot od on) (spot nd nn) c) target
-    is_relinked = ap (λ o. relinked_from s (spot od on) (spot nd nn) o (child_of s.nodes nd nn)) there ∙ ap (relinked_from s (spot od on) (spot nd nn) (Some c)) stood
+    pub is_relinked : relinked s od on nd nn ≡ forgotten (moved_entry s (entry_key od on) (entry_key nd nn) c) target
+    is_relinked = ap (λ o. relinked_from s (entry_key od on) (entry_key nd nn) o (child_of s.nodes nd nn)) there ∙ ap (relinked_from s (entry_key od on) (entry_key nd nn) (Some c)) stood
 
     apart_from : od ≢ target
     apart_from e = let a = ap (λ (x : ℕ). child_of s.nodes x on) e in let b = bare on in cc
@@ -115,7 +115,7 @@ module _ (s : StoreState) (t : Tree) (h : Shows (view_of s) t) (ordered : InOrde
     apart_to : nd ≢ target
     apart_to e = let a = ap (λ (x : ℕ). child_of s.nodes x nn) e in let b = bare nn in cc
 
-    pub target_there : node_in (moved_entry s (spot od on) (spot nd nn) c).nodes target ≡ Some gone
+    pub target_there : node_in (moved_entry s (entry_key od on) (entry_key nd nn) c).nodes target ≡ Some gone
     target_there =
         let f = still_there (with_content (more_content nn c)) s nd od above from here_to here_from in
         (edited_node (with_content (less_content on)) put od f.0 f.1).beside target apart_from
@@ -128,7 +128,7 @@ module _ (s : StoreState) (t : Tree) (h : Shows (view_of s) t) (ordered : InOrde
     pub shows_relinked_gone : HasNoEntry (changed_step (changed_step (child_of s.nodes) od on None) nd nn (Some c)) target → IsClosed (view_of s) gone.label → is_unused (without_name gone) ≡ true
         → Shows (view_of (relinked s od on nd nn)) (changed t (Move (po ++ on ∷ []) (pn ++ nn ∷ [])))
     shows_relinked_gone free closed unused =
-        let after = moved_entry s (spot od on) (spot nd nn) c in
+        let after = moved_entry s (entry_key od on) (entry_key nd nn) c in
         let bare_after : IsBare (child_of after.nodes) target = λ m. ap (λ (v : View). v.step target m) view_moved ∙ bare_moved m in
         subst (λ (v : View). Shows v (changed t (Move (po ++ on ∷ []) (pn ++ nn ∷ []))))
         (sym (ap view_of is_relinked ∙ view_goes without_name after target gone target_there (λ m. refl) refl bare_after unused ∙ ap (λ (v : View). with_shown v target None) view_moved))
@@ -137,7 +137,7 @@ module _ (s : StoreState) (t : Tree) (h : Shows (view_of s) t) (ordered : InOrde
     pub shows_relinked_used : is_used (moved t.names (po ++ on ∷ []) (pn ++ nn ∷ [])) t.handles gone.label ≡ true → is_unused (without_name gone) ≡ false
         → Shows (view_of (relinked s od on nd nn)) (changed t (Move (po ++ on ∷ []) (pn ++ nn ∷ [])))
     shows_relinked_used used kept =
-        let after = moved_entry s (spot od on) (spot nd nn) c in
+        let after = moved_entry s (entry_key od on) (entry_key nd nn) c in
         subst (λ (v : View). Shows v (changed t (Move (po ++ on ∷ []) (pn ++ nn ∷ []))))
         (sym (ap view_of is_relinked ∙ view_stays without_name after target gone target_there (λ m. refl) refl kept ∙ view_moved))
         (shows_replaced_used (view_of s) t h po on od pn nn nd c at_from there at_to is_to not_inside target gone.label (object_in gone.metadata gone.content) stood (ap (option_map shown_node) is) bare used)

@@ -6,7 +6,7 @@ use Rattle.sf_call.specs.Attributes.{Object}
 use Rattle.sf_inode.specs.declared.node.Node.{Node}
 use Rattle.sf_inode.specs.declared.node.Content.{Content}
 use Rattle.sf_inode.specs.Nodes.{object_in, less_content, more_content, with_content, without_name, is_unused}
-use Rattle.sf_inode.specs.Stores.{StoreState, EntryKey, node_in, child_of, shown_node, shown_of, holder_of, with_nodes, edited, edited_by, entry_taken, entry_put, released_if, forgotten, unlinked, unlinked_from, moved_entry, relinked, relinked_from, Inserted, spot, new_entry}
+use Rattle.sf_inode.specs.Stores.{StoreState, EntryKey, node_in, child_of, shown_node, shown_of, holder_of, with_nodes, edited, edited_by, entry_taken, entry_put, released_if, forgotten, unlinked, unlinked_from, moved_entry, relinked, relinked_from, Inserted, entry_key, new_entry}
 use Rattle.sf_keeps.proofs.SetsAt.{SetsAt, unchanged, set_seen}
 use Rattle.sf_keeps.proofs.StoreLaws.{object_less, set_node, object_more}
 
@@ -105,4 +105,4 @@ sight_relinked s from into i (Some id) (Some c) e other =
     sight_forgotten (moved_entry s from into id) c i (not_there (child_of s.nodes into.dir into.name) c i e other) ∙ sight_taken (entry_put s into.dir into.name id) from.dir from.name i ∙ sight_put s into.dir into.name id i
 
 pub relinked_alike : (s : StoreState) (dir : ℕ) (n : Name) (to : ℕ) (m : Name) (i : ℕ) → child_of s.nodes to m ≢ Some i → Alike (relinked s dir n to m).nodes s.nodes i
-relinked_alike s dir n to m i other = alike (relinked s dir n to m).nodes s.nodes i (sight_relinked s (spot dir n) (spot to m) i (child_of s.nodes dir n) (child_of s.nodes to m) refl other)
+relinked_alike s dir n to m i other = alike (relinked s dir n to m).nodes s.nodes i (sight_relinked s (entry_key dir n) (entry_key to m) i (child_of s.nodes dir n) (child_of s.nodes to m) refl other)

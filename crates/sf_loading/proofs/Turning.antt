@@ -3,7 +3,7 @@ use Rattle.std.proofs.Common.{◌≡◌, ◌∙◌, ◌++◌, ℕ, List, [], ◌
 use Rattle.sf_field.specs.Fields.{be64}
 use Rattle.sf_reply.specs.declared.reply.Reply.{Reply}
 use Rattle.sf_trees.specs.declared.fault.TreeFault.{TreeFault}
-use Rattle.sf_trees.specs.Deeds.{Deed, Begins, Asks, Ends, Does}
+use Rattle.sf_trees.specs.Operations.{Operation, Begins, Asks, Ends, Does}
 use Rattle.sf_loading.specs.declared.folder.Item.{Item}
 use Rattle.sf_loading.specs.declared.making.LoadFault.{LoadFault}
 use Rattle.sf_loading.specs.Items.{Gives}
@@ -23,33 +23,33 @@ pub makes_none : (session handle : ℕ) → Makes session handle [] [] handle
 unfolding Makes
 makes_none session handle = (refl, refl)
 
-pub makes_more : (session handle : ℕ) (xs : List Item) (deeds : List Deed) (last : ℕ) (x : Item) (came : Result Reply TreeFault) (after : ℕ)
-    → Makes session handle xs deeds last → settled_by last x came ≡ Ok after
-    → Makes session handle (xs ++ x ∷ []) (deeds ++ Asks session (request_of (be64 last) x) came ∷ []) after
+pub makes_more : (session handle : ℕ) (xs : List Item) (operations : List Operation) (last : ℕ) (x : Item) (came : Result Reply TreeFault) (after : ℕ)
+    → Makes session handle xs operations last → settled_by last x came ≡ Ok after
+    → Makes session handle (xs ++ x ∷ []) (operations ++ Asks session (request_of (be64 last) x) came ∷ []) after
 unfolding Makes
-makes_more session handle [] deeds last x came after made is =
-    let parts : deeds ++ Asks session (request_of (be64 last) x) came ∷ [] ≡ Asks session (request_of (be64 handle) x) came ∷ [] = rw (made.0, made.1) refl in
+makes_more session handle [] operations last x came after made is =
+    let parts : operations ++ Asks session (request_of (be64 last) x) came ∷ [] ≡ Asks session (request_of (be64 handle) x) came ∷ [] = rw (made.0, made.1) refl in
     let settled : settled_by handle x came ≡ Ok after = subst (λ (h : ℕ). settled_by h x came ≡ Ok after) made.1 is in
     (came, after, [], parts, settled, (refl, refl))
-makes_more session handle (y ∷ xs) deeds last x came after made is =
+makes_more session handle (y ∷ xs) operations last x came after made is =
     let asked = Asks session (request_of (be64 last) x) came ∷ [] in
-    (made.0, made.1, made.2 ++ asked, ap (λ (l : List Deed). l ++ asked) made.3, made.4, makes_more session made.1 xs made.2 last x came after made.5 is)
+    (made.0, made.1, made.2 ++ asked, ap (λ (l : List Operation). l ++ asked) made.3, made.4, makes_more session made.1 xs made.2 last x came after made.5 is)
 
 -- What was made so far: a server was led from one state to another.
-pub record SoFar {V : Type 0} (reaches : V → List Deed → V → Type 0) (session : ℕ) (a b : V) (old now : Option (List Item)) (last : ℕ) : Type 0 where
+pub record SoFar {V : Type 0} (reaches : V → List Operation → V → Type 0) (session : ℕ) (a b : V) (old now : Option (List Item)) (last : ℕ) : Type 0 where
   pub items : List Item
-  pub made : List Deed
+  pub made : List Operation
   pub gives : Gives old items now
   pub makes : Makes session 0 items made last
   pub leads : reaches a made b
 
-abbrev pub On : {V : Type 0} → (V → List Deed → V → Type 0) → Type 0
-On {V} reaches = (a b c : V) (first second : List Deed) → reaches a first b → reaches b second c → reaches a (first ++ second) c
+abbrev pub On : {V : Type 0} → (V → List Operation → V → Type 0) → Type 0
+On {V} reaches = (a b c : V) (first second : List Operation) → reaches a first b → reaches b second c → reaches a (first ++ second) c
 
-pub none_so_far : {V : Type 0} (reaches : V → List Deed → V → Type 0) (session : ℕ) (a : V) (old : Option (List Item)) → reaches a [] a → SoFar reaches session a a old old 0
+pub none_so_far : {V : Type 0} (reaches : V → List Operation → V → Type 0) (session : ℕ) (a : V) (old : Option (List Item)) → reaches a [] a → SoFar reaches session a a old old 0
 none_so_far reaches session a old none = record { items = []; made = []; gives = gives_none old; makes = makes_none session 0; leads = none }
 
-pub one_more : {V : Type 0} {reaches : V → List Deed → V → Type 0} {session : ℕ} {a b : V} {old now : Option (List Item)} {last : ℕ} (c : V) (new : Option (List Item)) (after : ℕ) → On reaches
+pub one_more : {V : Type 0} {reaches : V → List Operation → V → Type 0} {session : ℕ} {a b : V} {old now : Option (List Item)} {last : ℕ} (c : V) (new : Option (List Item)) (after : ℕ) → On reaches
     → SoFar reaches session a b old now last → Does reaches b c (Turns session last now new) (Ok (Some after)) → SoFar reaches session a c old new after
 one_more {reaches = reaches} {session = session} {a = a} {b = b} {old = old} {now = now} {last = last} c new after on far does =
     let t = does.2 in
@@ -58,12 +58,12 @@ one_more {reaches = reaches} {session = session} {a = a} {b = b} {old = old} {no
       made = far.made ++ Asks session (request_of (be64 last) t.0) t.1 ∷ [];
       gives = gives_more old now new far.items t.0 far.gives t.2;
       makes = makes_more session 0 far.items far.made last t.0 t.1 after far.makes t.4;
-      leads = on a b c far.made _ far.leads (subst (λ (l : List Deed). reaches b l c) t.3 does.1);
+      leads = on a b c far.made _ far.leads (subst (λ (l : List Operation). reaches b l c) t.3 does.1);
     }
 
 -- the last turn was this
-pub all_made : {V : Type 0} {reaches : V → List Deed → V → Type 0} {session : ℕ} {a b : V} {old now : Option (List Item)} {last : ℕ} (c : V) (new : Option (List Item)) (r : Result (Unit {0}) LoadFault) → On reaches
-    → SoFar reaches session a b old now last → Does reaches b c (λ deeds r. EndsBy session last now new deeds r) r → Does reaches a c (MakesItems session old new) r
+pub all_made : {V : Type 0} {reaches : V → List Operation → V → Type 0} {session : ℕ} {a b : V} {old now : Option (List Item)} {last : ℕ} (c : V) (new : Option (List Item)) (r : Result (Unit {0}) LoadFault) → On reaches
+    → SoFar reaches session a b old now last → Does reaches b c (λ operations r. EndsBy session last now new operations r) r → Does reaches a c (MakesItems session old new) r
 all_made {a = a} {b = b} {now = now} {last = last} c new r on far does = (
   far.made ++ does.0,
   on a b c far.made does.0 far.leads does.1,
@@ -71,7 +71,7 @@ all_made {a = a} {b = b} {now = now} {last = last} c new r on far does = (
 )
 
 -- a session began, made the items, and ended
-pub session_made : {V : Type 0} {reaches : V → List Deed → V → Type 0} {a b c d : V} {old new : Option (List Item)} (session : ℕ) (r : Result (Unit {0}) LoadFault) → On reaches
+pub session_made : {V : Type 0} {reaches : V → List Operation → V → Type 0} {a b c d : V} {old new : Option (List Item)} (session : ℕ) (r : Result (Unit {0}) LoadFault) → On reaches
     → reaches a (Begins (Ok session) ∷ []) b → Does reaches b c (MakesItems session old new) r → reaches c (Ends session ∷ []) d → Does reaches a d (Loads old new) r
 session_made {a = a} {b = b} {c = c} {d = d} session r on begun does ended = (
   Begins (Ok session) ∷ does.0 ++ Ends session ∷ [],

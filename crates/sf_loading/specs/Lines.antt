@@ -1,4 +1,4 @@
--- What deeds are on a line.
+-- What operations are on a line.
 use Rattle.std.specs.Prelude.{◌+◌, ℕ, List, [], length, Option, Ok, Err}
 use Rattle.std.specs.List.{AllByRecursion, flat_map}
 use Rattle.std.specs.Io.KnownBytes.{Appends, Consumes}
@@ -7,7 +7,7 @@ use Rattle.sf_request.specs.declared.request.WireRequest.{WireRequest}
 use Rattle.sf_request.specs.declared.request.WireRequest.TheVariants as request
 use Rattle.sf_request.specs.Requests.{request_body, init_body}
 use Rattle.sf_reply.specs.Replies.{reply_body, version_body}
-use Rattle.sf_trees.specs.Deeds.{Deed, Begins, Asks, Ends}
+use Rattle.sf_trees.specs.Operations.{Operation, Begins, Asks, Ends}
 
 -- what the line has still to give, and what it has taken, where it tells that
 pub record LineView : Type 0 where
@@ -45,31 +45,31 @@ abbrev pub most_strings : ℕ
 most_strings = 262080
 
 -- a reply came
-abbrev pub IsAnswered : Deed → Type 0
+abbrev pub IsAnswered : Operation → Type 0
 IsAnswered (Begins (Ok session)) = Unit {0}
 IsAnswered (Begins (Err why)) = ⊥
 IsAnswered (Asks session q (Ok r)) = Unit {0}
 IsAnswered (Asks session q (Err why)) = ⊥
 IsAnswered (Ends session) = Unit {0}
 
--- the packet of a deed
-abbrev pub sent_by : Deed → List ℕ
+-- the packet of an operation
+abbrev pub sent_by : Operation → List ℕ
 sent_by (Begins came) = packet init_body
 sent_by (Asks session q came) = packet (request_body id q)
 sent_by (Ends session) = []
 
 -- the packet that answered it
-abbrev pub taken_by : Deed → List ℕ
+abbrev pub taken_by : Operation → List ℕ
 taken_by (Begins came) = packet version_body
 taken_by (Asks session q (Ok r)) = packet (reply_body id r)
 taken_by (Asks session q (Err why)) = []
 taken_by (Ends session) = []
 
--- the packets of the deeds were sent, and those that answered them were taken
-pub record HasTalked (v : LineView) (deeds : List Deed) (w : LineView) : Type 0 where
-  pub sent : Appends v.outgoing w.outgoing (flat_map sent_by deeds)
-  pub taken : Consumes v.incoming w.incoming (flat_map taken_by deeds)
+-- the packets of the operations were sent, and those that answered them were taken
+pub record HasTalked (v : LineView) (operations : List Operation) (w : LineView) : Type 0 where
+  pub sent : Appends v.outgoing w.outgoing (flat_map sent_by operations)
+  pub taken : Consumes v.incoming w.incoming (flat_map taken_by operations)
 
 -- so, if all of them were answered
-abbrev pub Reaches : LineView → List Deed → LineView → Type 0
-Reaches v deeds w = AllByRecursion IsAnswered deeds → HasTalked v deeds w
+abbrev pub Reaches : LineView → List Operation → LineView → Type 0
+Reaches v operations w = AllByRecursion IsAnswered operations → HasTalked v operations w

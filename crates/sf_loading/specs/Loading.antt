@@ -9,7 +9,7 @@ use Rattle.sf_reply.specs.declared.reply.Reply.{Reply}
 use Rattle.sf_reply.specs.declared.reply.Reply.TheVariants as reply
 use Rattle.sf_reply.specs.declared.reply.StatusCode.TheVariants as status
 use Rattle.sf_trees.specs.declared.fault.TreeFault.{TreeFault}
-use Rattle.sf_trees.specs.Deeds.{Deed, Begins, Asks, Ends, fault_in_reply}
+use Rattle.sf_trees.specs.Operations.{Operation, Begins, Asks, Ends, fault_in_reply}
 use Rattle.sf_loading.specs.declared.folder.Item.{Item}
 use Rattle.sf_loading.specs.declared.folder.Item.TheVariants as item
 use Rattle.sf_loading.specs.declared.making.LoadFault.{LoadFault}
@@ -58,54 +58,58 @@ settled_by handle (item.FileAttributes attrs) came = done_with handle came
 settled_by handle item.FileEnd came = done_with handle came
 
 -- The items were made, in order, each by its request; and the handle of the last file then.
-unfoldable pub Makes : (session handle : ℕ) → List Item → List Deed → (last : ℕ) → Type 0
-Makes session handle [] deeds last = (deeds ≡ []) × (last ≡ handle)
-Makes session handle (x ∷ xs) deeds last = (came : Result Reply TreeFault) × (after : ℕ)
-    × (rest : List Deed) × (deeds ≡ Asks session (request_of (be64 handle) x) came ∷ rest)
+unfoldable pub Makes : (session handle : ℕ) → List Item → List Operation → (last : ℕ) → Type 0
+Makes session handle [] operations last = (operations ≡ []) × (last ≡ handle)
+Makes session handle (x ∷ xs) operations last = (came : Result Reply TreeFault) × (after : ℕ)
+    × (rest : List Operation) × (operations ≡ Asks session (request_of (be64 handle) x) came ∷ rest)
     × (settled_by handle x came ≡ Ok after) × Makes session after xs rest last
 
 -- One item was taken, and made, or refused; or there was none, or the folder failed.
-abbrev pub Turns : (session handle : ℕ) → (old new : Option (List Item)) → List Deed
+abbrev pub Turns : (session handle : ℕ) → (old new : Option (List Item)) → List Operation
     → Result (Option ℕ) LoadFault → Type 0
-Turns session handle old new deeds (Ok (Some after)) = (x : Item) × (came : Result Reply TreeFault)
-    × Gives old (x ∷ []) new × (deeds ≡ Asks session (request_of (be64 handle) x) came ∷ [])
+Turns session handle old new operations (Ok (Some after)) = (x : Item)
+    × (came : Result Reply TreeFault)
+    × Gives old (x ∷ []) new × (operations ≡ Asks session (request_of (be64 handle) x) came ∷ [])
     × (settled_by handle x came ≡ Ok after)
-Turns session handle old new deeds (Ok None) = HasNone old new × (deeds ≡ [])
-Turns session handle old new deeds (Err (fault.Folder why)) = deeds ≡ []
-Turns session handle old new deeds (Err (fault.Server why)) = (x : Item)
+Turns session handle old new operations (Ok None) = HasNone old new × (operations ≡ [])
+Turns session handle old new operations (Err (fault.Folder why)) = operations ≡ []
+Turns session handle old new operations (Err (fault.Server why)) = (x : Item)
     × (came : Result Reply TreeFault) × Gives old (x ∷ []) new
-    × (deeds ≡ Asks session (request_of (be64 handle) x) came ∷ [])
+    × (operations ≡ Asks session (request_of (be64 handle) x) came ∷ [])
     × (settled_by handle x came ≡ Err why)
 
 -- the last turn
-abbrev pub EndsBy : (session handle : ℕ) → (old new : Option (List Item)) → List Deed
+abbrev pub EndsBy : (session handle : ℕ) → (old new : Option (List Item)) → List Operation
     → Result (Unit {0}) LoadFault → Type 0
-EndsBy session handle old new deeds (Ok done) = Turns session handle old new deeds (Ok None)
-EndsBy session handle old new deeds (Err why) = Turns session handle old new deeds (Err why)
+EndsBy session handle old new operations (Ok done) =
+    Turns session handle old new operations (Ok None)
+EndsBy session handle old new operations (Err why) =
+    Turns session handle old new operations (Err why)
 
 -- Items that the folder gave were made, in order, by a session that had no file open; and then it
 -- had no more, or failed, or one more was refused.
-pub record MakesItems (session : ℕ) (old new : Option (List Item)) (deeds : List Deed)
+pub record MakesItems (session : ℕ) (old new : Option (List Item)) (operations : List Operation)
     (result : Result (Unit {0}) LoadFault) : Type 0 where
   pub items : List Item
   pub now : Option (List Item)
   pub last : ℕ
-  pub made : List Deed
-  pub end : List Deed
+  pub made : List Operation
+  pub end : List Operation
   pub gives : Gives old items now
   pub makes : Makes session 0 items made last
-  pub parts : deeds ≡ made ++ end
+  pub parts : operations ≡ made ++ end
   pub ends : EndsBy session last now new end result
 
 -- A session began, made the items, and ended.
-pub record HasLoaded (old new : Option (List Item)) (deeds : List Deed)
+pub record HasLoaded (old new : Option (List Item)) (operations : List Operation)
     (result : Result (Unit {0}) LoadFault) : Type 0 where
   pub session : ℕ
-  pub inner : List Deed
-  pub parts : deeds ≡ Begins (Ok session) ∷ inner ++ Ends session ∷ []
+  pub inner : List Operation
+  pub parts : operations ≡ Begins (Ok session) ∷ inner ++ Ends session ∷ []
   pub made : MakesItems session old new inner result
 
 -- so, or no session began
-abbrev pub Loads : (old new : Option (List Item)) → List Deed → Result (Unit {0}) LoadFault → Type 0
-Loads old new deeds result = HasLoaded old new deeds result
-    ⊎ ((why : TreeFault) × (deeds ≡ Begins (Err why) ∷ []) × (result ≡ Err (fault.Server why)))
+abbrev pub Loads : (old new : Option (List Item)) → List Operation → Result (Unit {0}) LoadFault
+    → Type 0
+Loads old new operations result = HasLoaded old new operations result
+    ⊎ ((why : TreeFault) × (operations ≡ Begins (Err why) ∷ []) × (result ≡ Err (fault.Server why)))

@@ -1,29 +1,29 @@
 -- No public clause cites this module.
--- Deeds on a line, one after the other.
+-- Operations on a line, one after the other.
 use Rattle.std.specs.Prelude.{ℕ, List, [], ◌∷◌, ◌++◌}
 use Rattle.std.specs.List.{AllByRecursion, flat_map}
 use Rattle.std.specs.Io.KnownBytes.{Appends, Consumes}
 use Rattle.std.proofs.Common.{sym, subst}
 use Rattle.std.proofs.KnownBytes.{Appends-nil, Appends-trans, Consumes-nil, Consumes-trans}
 use Rattle.std.proofs.lemmas.List.Concat.{flat_map-append}
-use Rattle.sf_trees.specs.Deeds.{Deed}
+use Rattle.sf_trees.specs.Operations.{Operation}
 use Rattle.sf_loading.specs.Lines.{LineView, IsAnswered, Reaches, sent_by, taken_by}
 
 pub none_sent : (a : LineView) → Reaches a [] a
 none_sent a all = record { sent = Appends-nil a.outgoing; taken = Consumes-nil a.incoming }
 
-front_answered : (first second : List Deed) → AllByRecursion IsAnswered (first ++ second)
+front_answered : (first second : List Operation) → AllByRecursion IsAnswered (first ++ second)
     → AllByRecursion IsAnswered first
 front_answered [] second all = tt
 front_answered (d ∷ first) second all = (all.0, front_answered first second all.1)
 
-rest_answered : (first second : List Deed) → AllByRecursion IsAnswered (first ++ second)
+rest_answered : (first second : List Operation) → AllByRecursion IsAnswered (first ++ second)
     → AllByRecursion IsAnswered second
 rest_answered [] second all = all
 rest_answered (d ∷ first) second all = rest_answered first second all.1
 
-pub sent_on : (a b c : LineView) (first second : List Deed) → Reaches a first b → Reaches b second c
-    → Reaches a (first ++ second) c
+pub sent_on : (a b c : LineView) (first second : List Operation) → Reaches a first b
+    → Reaches b second c → Reaches a (first ++ second) c
 sent_on a b c first second one more all =
     let p = one (front_answered first second all) in
     let q = more (rest_answered first second all) in

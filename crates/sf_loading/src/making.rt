@@ -2,7 +2,7 @@
 
 ghost use Rattle.std.specs.Prelude.{◌≡◌, ◌∷◌, ℕ, List, [], Ok, Err};
 ghost use Rattle.sf_field.specs.Fields.{be64};
-ghost use Rattle.sf_trees.specs.Deeds.{Does, IsAsked, fault_in_reply};
+ghost use Rattle.sf_trees.specs.Operations.{Does, IsAsked, fault_in_reply};
 ghost use Rattle.sf_loading.specs.Loading.{request_of, settled_by, opened_by, done_with, Turns, MakesItems, Loads};
 
 use crate::folder::{Folder, FolderFault, Item};

@@ -24,8 +24,8 @@ use Rattle.sf_pool.specs.Scenes.{response_calls, Attempt, attempt, answer_attemp
 use Rattle.sf_pool.specs.declared.calling.Stop.TheVariants as stop
 use Rattle.sf_pool.specs.AtDesks.{MakesCall, talk, after_calls, IsAnsweredAt, IsLong, FailsCall}
 
-abbrev pub deed : ℕ → Request → Reply → CallRecord
-deed number request reply = record { number = number; request = request; reply = reply }
+abbrev pub record_of_call : ℕ → Request → Reply → CallRecord
+record_of_call number request reply = record { number = number; request = request; reply = reply }
 
 -- ---- the last call
 
@@ -54,18 +54,18 @@ pub record IsMade (d d1 d2 : DeskView) (request : Request) (number moment : ℕ)
   pub answered : IsAnsweredAt d1 d2
 
 -- so it is noted behind the calls before it
-pub noted_so : {d d1 d2 : DeskView} {request : Request} {number moment : ℕ} → IsMade d d1 d2 request number moment → (reply : Reply) × (d2 ≡ after_calls d (deed number request reply ∷ []) d2.steps)
+pub noted_so : {d d1 d2 : DeskView} {request : Request} {number moment : ℕ} → IsMade d d1 d2 request number moment → (reply : Reply) × (d2 ≡ after_calls d (record_of_call number request reply ∷ []) d2.steps)
 noted_so {d = d} {d2 = d2} {request = request} {number = number} made =
     let h = subst (λ (x : DeskView). IsAnsweredAt x d2) made.begun made.answered in
-    (h.0, h.1 ∙ ap (λ (p : DeskState). record d { place = p; calls = d.calls ++ deed number request h.0 ∷ []; steps = d2.steps }) (sym made.rests))
+    (h.0, h.1 ∙ ap (λ (p : DeskState). record d { place = p; calls = d.calls ++ record_of_call number request h.0 ∷ []; steps = d2.steps }) (sym made.rests))
 
 pub some_told : {d d1 d2 : DeskView} {request : Request} {number moment : ℕ} → IsMade d d1 d2 request number moment → d2.calls ≢ []
 some_told {d = d} {request = request} {number = number} made e =
     let h = noted_so made in
-    some_pushed d.calls (deed number request h.0) (sym (ap (λ (x : DeskView). x.calls) h.1) ∙ e)
+    some_pushed d.calls (record_of_call number request h.0) (sym (ap (λ (x : DeskView). x.calls) h.1) ∙ e)
 
 last_at : (before after : List CallRecord) (d : CallRecord) (n : ℕ) (reply : Reply) → after ≡ before ++ d ∷ [] → IsLastAnswer after n reply → reply ≡ d.reply
-last_at before after d n reply noted last = ap (λ (c : CallRecord). c.reply) (same_last last.0 before (deed n last.1 reply) d (sym last.2 ∙ noted))
+last_at before after d n reply noted last = ap (λ (c : CallRecord). c.reply) (same_last last.0 before (record_of_call n last.1 reply) d (sym last.2 ∙ noted))
 
 -- ---- what is told of it
 
@@ -89,7 +89,7 @@ call_made {d = d} {d2 = d2} {request = request} {number = number} Asked answer v
     let answers : Answers request Asked d d2 (λ id. ByCall id number request h.0) = record { asks = λ id. refl; noted = λ id. h.1; asked = λ id. asked } in
     made_by v w v.waiting answers
     (λ id e. omega (arith, little, ap (λ (b : List ℕ). length b) e, length-append v.output (packet_for (ByCall id number request h.0))))
-    (subst (λ (r : Reply). IfSome v.waiting (λ id. w ≡ record v { output = v.output ++ packet (reply_body id r); waiting = None })) (last_at d.calls d2.calls (deed number request h.0) answer.number answer.reply (ap (λ (x : DeskView). x.calls) h.1) last) written)
+    (subst (λ (r : Reply). IfSome v.waiting (λ id. w ≡ record v { output = v.output ++ packet (reply_body id r); waiting = None })) (last_at d.calls d2.calls (record_of_call number request h.0) answer.number answer.reply (ap (λ (x : DeskView). x.calls) h.1) last) written)
 
 pub call_refused : (request : Request) (Asked : List Attempt → Type 0) {d d1 : DeskView} (fault : CoreFault) (v w : SessionView) → d1 ≡ d → IfSome v.waiting (λ id. w ≡ record v { output = v.output ++ packet (reply_body id (refusal_of fault)); waiting = None })
     → Asked (attempt request (Err fault) ∷ []) → MakesCall request Asked (talk d v) (talk d1 w)
@@ -108,7 +108,7 @@ pub call_unanswered : {d d1 d2 : DeskView} {request : Request} {number moment : 
     → IfSome waiting (λ id. length (packet (reply_body id answer.reply)) ≤ reply_room → IsOk r) → is_err r ≡ true → Asked (attempt request (Ok number) ∷ []) → FailsCall waiting request stop.OutOfMemory Asked d d2
 call_unanswered {d = d} {d2 = d2} {request = request} {number = number} waiting Asked answer r made last enough err asked =
     let h = noted_so made in
-    let same = last_at d.calls d2.calls (deed number request h.0) answer.number answer.reply (ap (λ (x : DeskView). x.calls) h.1) last in
+    let same = last_at d.calls d2.calls (record_of_call number request h.0) answer.number answer.reply (ap (λ (x : DeskView). x.calls) h.1) last in
     (number, (h.0, h.1, long waiting h.0 r (subst (λ (x : Reply). IfSome waiting (λ id. length (packet (reply_body id x)) ≤ reply_room → IsOk r)) same enough) err), asked)
 
 -- a desk was asked to begin a call at the moment that was told for it, and no other since

@@ -11,14 +11,14 @@
 mod at_desk;
 mod calling;
 mod desk;
-mod hall;
+mod wait_queue;
 mod lock_desk;
 mod observer;
 mod serving;
 mod stay;
 
 pub use desk::{Begin, Desk, StepResult};
-pub use hall::Hall;
+pub use wait_queue::WaitQueue;
 pub use lock_desk::LockDesk;
 pub use observer::StepObserver;
 pub use serving::serve;

@@ -6,7 +6,7 @@ ghost use Rattle.sf_pool.specs.Desks.{New, new_desk};
 ghost use Rattle.sf_pool.specs.OnCores.{IsVisitOf, calls_begun_by};
 
 use crate::desk::{Desk, StepResult};
-use crate::hall::{Hall, LOOKS};
+use crate::wait_queue::{WaitQueue, LOOKS};
 use crate::stay::{Stay, Stayed};
 use sf_audit::AnsweredCall;
 use sf_call::{CoreFault, Request};
@@ -26,10 +26,10 @@ const YIELDS: u32 = 20;
 /// How often a blocked step is tried again before its thread sleeps until something happens.
 const TRIES: u32 = 64;
 
-/// How many calls a session makes from one rest to the next before it goes through the door.
+/// How many calls a session makes from one rest to the next before it takes the permit.
 const FEW: u64 = 4;
 
-/// How many calls it makes before it leaves the door to others.
+/// How many calls it makes before it leaves the permit to others.
 const MANY: u64 = 256;
 
 /// Whether a call moves much data: its packet and its reply are best made while others have the
@@ -43,16 +43,16 @@ fn is_large(request: &Request) -> bool {
 
 /// One session's calls on a core that threads share. Each of its events is one hold of the core,
 /// and between any two of them whoever asks for the core is let in. Where nobody asks it keeps
-/// the lock until its call is answered, and behind the door until it rests. Where another
+/// the lock until its call is answered, and with the permit until it rests. Where another
 /// session's call is in the way of its own, its step is tried again after others ran, and at last
 /// waits until something happened on the core.
 pub struct LockDesk<'a, R: Wait, B: RollName + Ledger> {
     rt: &'a R,
     core: &'a Mutex<NotedCore<B>>,
-    hall: &'a Hall,
+    wait_queue: &'a WaitQueue,
     stay: Stay<B>,
     held: Option<MutexGuard<'a, NotedCore<B>>>,
-    door: Option<MutexGuard<'a, ()>>,
+    permit: Option<MutexGuard<'a, ()>>,
     // How many calls were begun since it rested, and how many between the two rests before.
     made: u64,
     before: u64,
@@ -71,10 +71,10 @@ impl<R: Wait, B: RollName + Ledger> Drop for LockDesk<'_, R, B> {
         let LockDesk {
             rt: _,
             core: _,
-            hall,
+            wait_queue,
             stay: _stay,
             held,
-            door: _door,
+            permit: _permit,
             made: _,
             before: _,
             blocked: _,
@@ -83,7 +83,7 @@ impl<R: Wait, B: RollName + Ledger> Drop for LockDesk<'_, R, B> {
             is_large: _,
         } = self;
         drop(held);
-        hall.tell();
+        wait_queue.tell();
     }
 }
 
@@ -94,7 +94,7 @@ impl<'a, R: Wait, B: RollName + Ledger> LockDesk<'a, R, B> {
         rt: &'a R,
         alloc: Global,
         core: &'a Mutex<NotedCore<B>>,
-        hall: &'a Hall,
+        wait_queue: &'a WaitQueue,
         keeps: bool,
         share: ledger::Share<B>,
     ) -> LockDesk<'a, R, B>
@@ -105,10 +105,10 @@ impl<'a, R: Wait, B: RollName + Ledger> LockDesk<'a, R, B> {
         LockDesk {
             rt,
             core,
-            hall,
+            wait_queue,
             stay: Stay::new(alloc, keeps, share),
             held: None,
-            door: None,
+            permit: None,
             made: 0,
             before: 0,
             blocked: 0,
@@ -132,10 +132,10 @@ impl<'a, R: Wait, B: RollName + Ledger> LockDesk<'a, R, B> {
         let LockDesk {
             rt: _,
             core: _,
-            hall,
+            wait_queue,
             stay,
             held,
-            door: _door,
+            permit: _permit,
             made: _,
             before: _,
             blocked: _,
@@ -144,14 +144,14 @@ impl<'a, R: Wait, B: RollName + Ledger> LockDesk<'a, R, B> {
             is_large: _,
         } = self;
         drop(held);
-        hall.tell();
+        wait_queue.tell();
         stay.end()
     }
 
     /// Tries to take the lock for a while.
     fn look(&self) -> Option<MutexGuard<'a, NotedCore<B>>> {
         for _ in 0..LOOKS {
-            if !self.hall.is_taken() {
+            if !self.wait_queue.is_taken() {
                 if let Some(guard) = self.core.try_lock() {
                     return Some(guard);
                 }
@@ -178,31 +178,31 @@ impl<'a, R: Wait, B: RollName + Ledger> LockDesk<'a, R, B> {
             return guard;
         }
         let is_blocked = self.blocked != 0;
-        self.hall.ask(is_blocked);
+        self.wait_queue.ask(is_blocked);
         let guard = self.take();
-        self.hall.got(is_blocked);
+        self.wait_queue.got(is_blocked);
         guard
     }
 
-    /// Takes the lock for an event. Whoever has the door lets others in, and asks for nothing.
+    /// Takes the lock for an event. Whoever has the permit lets others in, and asks for nothing.
     fn lock(&self) -> MutexGuard<'a, NotedCore<B>> {
-        let guard = if self.door.is_some() && self.blocked == 0 {
+        let guard = if self.permit.is_some() && self.blocked == 0 {
             self.take()
         } else {
             self.ask()
         };
-        self.hall.set_taken(true);
+        self.wait_queue.set_taken(true);
         guard
     }
 
-    /// Takes the lock for many calls, of all sessions that make so many the only one. It waits at
-    /// the door with no lock, and between two calls alone: nobody can be in its way who waits for
+    /// Takes the lock for many calls, of all sessions that make so many the only one. It waits for
+    /// the permit with no lock, and between two calls alone: nobody can be in its way who waits for
     /// it.
     fn lock_for_many(&mut self) -> MutexGuard<'a, NotedCore<B>>
         ensures { self.new.stay ≡ self.old.stay }
     {
-        self.door = None;
-        self.door = Some(self.hall.enter(self.rt));
+        self.permit = None;
+        self.permit = Some(self.wait_queue.enter(self.rt));
         self.lock()
     }
 
@@ -210,10 +210,10 @@ impl<'a, R: Wait, B: RollName + Ledger> LockDesk<'a, R, B> {
     fn release(&mut self, guard: MutexGuard<'a, NotedCore<B>>)
         ensures stay { self.new.stay ≡ self.old.stay }
         ensures held { self.new.held ≡ self.old.held }
-        ensures door { self.new.door ≡ self.old.door }
+        ensures permit { self.new.permit ≡ self.old.permit }
     {
         self.tell();
-        self.hall.set_taken(false);
+        self.wait_queue.set_taken(false);
         drop(guard);
     }
 
@@ -221,10 +221,10 @@ impl<'a, R: Wait, B: RollName + Ledger> LockDesk<'a, R, B> {
     fn tell(&mut self)
         ensures stay { self.new.stay ≡ self.old.stay }
         ensures held { self.new.held ≡ self.old.held }
-        ensures door { self.new.door ≡ self.old.door }
+        ensures permit { self.new.permit ≡ self.old.permit }
     {
         if self.moved {
-            self.hall.tell();
+            self.wait_queue.tell();
             self.moved = false;
         }
     }
@@ -238,10 +238,10 @@ impl<'a, R: Wait, B: RollName + Ledger> LockDesk<'a, R, B> {
     ) -> MutexGuard<'a, NotedCore<B>>
         ensures { self.new.stay ≡ self.old.stay }
     {
-        if !self.hall.is_asked(is_over) {
+        if !self.wait_queue.is_asked(is_over) {
             return guard;
         }
-        let asks = self.hall.asks();
+        let asks = self.wait_queue.asks();
         self.release(guard);
         if asks != self.vain && !self.are_in(is_over) {
             self.vain = asks;
@@ -252,14 +252,14 @@ impl<'a, R: Wait, B: RollName + Ledger> LockDesk<'a, R, B> {
     /// Waits a while until all have come in who may. Whoever keeps the core for many calls lets
     /// their threads run, too; one call is over before that.
     fn are_in(&self, is_over: bool) -> bool {
-        if self.hall.are_in(is_over) {
+        if self.wait_queue.are_in(is_over) {
             return true;
         }
-        if self.door.is_none() {
+        if self.permit.is_none() {
             return false;
         }
         thread::yield_now();
-        self.hall.are_in(is_over)
+        self.wait_queue.are_in(is_over)
     }
 
     /// The lock, for the next call.
@@ -269,7 +269,7 @@ impl<'a, R: Wait, B: RollName + Ledger> LockDesk<'a, R, B> {
         let made = self.made;
         self.made = made.saturating_add(1);
         self.blocked = 0;
-        let is_many = self.door.is_none() && (made >= FEW || self.before > FEW);
+        let is_many = self.permit.is_none() && (made >= FEW || self.before > FEW);
         if is_many || made % MANY == MANY - 1 {
             self.give_up();
             return self.lock_for_many();
@@ -303,9 +303,9 @@ impl<'a, R: Wait, B: RollName + Ledger> LockDesk<'a, R, B> {
             thread::yield_now();
             return;
         }
-        self.door = None;
+        self.permit = None;
         self.tell();
-        self.held = Some(self.hall.wait(self.rt, core));
+        self.held = Some(self.wait_queue.wait(self.rt, core));
     }
 
     /// Gives the lock up, where it keeps it.
@@ -322,22 +322,22 @@ impl<'a, R: Wait, B: RollName + Ledger> LockDesk<'a, R, B> {
     fn let_go(&mut self)
         ensures stay { self.new.stay ≡ self.old.stay }
         ensures held { self.new.held ≡ None }
-        ensures door { self.new.door ≡ None }
+        ensures permit { self.new.permit ≡ None }
     {
         self.give_up();
-        self.door = None;
+        self.permit = None;
         self.before = self.made;
         self.made = 0;
         self.vain = 0;
     }
 
-    /// The call has its answer. The lock is kept for the next one behind the door alone.
+    /// The call has its answer. The lock is kept for the next one with the permit alone.
     fn end_call(&mut self)
         ensures { self.new.stay ≡ self.old.stay }
     {
         if self.is_large {
             self.let_go();
-        } else if self.door.is_none() {
+        } else if self.permit.is_none() {
             self.give_up();
         }
     }
@@ -348,7 +348,7 @@ impl<R: Wait, B: RollName + Ledger> Desk for LockDesk<'_, R, B> {
 
     ghost at = { λ d. d.stay };
 
-    ghost rests = { λ d. (d.held ≡ None) × (d.door ≡ None) };
+    ghost rests = { λ d. (d.held ≡ None) × (d.permit ≡ None) };
 
     fn join(&mut self) -> Result<u64, CoreFault> {
         let mut core = self.lock();

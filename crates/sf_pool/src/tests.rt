@@ -12,5 +12,5 @@ fn is_shared<T: Sync>() {}
 fn all_may_cross_threads() {
     crosses::<Stay<Brand>>();
     crosses::<Stayed<Brand>>();
-    is_shared::<Hall>();
+    is_shared::<WaitQueue>();
 }

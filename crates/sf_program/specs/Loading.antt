@@ -2,7 +2,7 @@
 use Rattle.std.specs.Prelude.{◌≡◌, ℕ, List, [], Option, Some, Ok}
 use Rattle.sf_engine.specs.Views.{EngineView}
 use Rattle.sf_engine.specs.Fits.{Fits}
-use Rattle.sf_trees.specs.Deeds.{Does}
+use Rattle.sf_trees.specs.Operations.{Does}
 use Rattle.sf_asking.specs.Askers.{AskerView}
 use Rattle.sf_asking.specs.Asking.{Reaches}
 use Rattle.sf_loading.specs.declared.folder.Item.{Item}

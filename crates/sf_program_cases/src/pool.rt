@@ -9,7 +9,7 @@ use sf_call::{Answer, Request};
 use sf_cases::requests::mkdir;
 use sf_core::{Core, Lane, Share, Step};
 use sf_noted::{NotedCore, Page};
-use sf_pool::{Desk, Hall, LockDesk, Stayed, StepResult};
+use sf_pool::{Desk, WaitQueue, LockDesk, Stayed, StepResult};
 use sf_reply::{Reply, StatusCode};
 use sf_roll::{NewRoll, RollName};
 use std::alloc::Global;
@@ -260,7 +260,7 @@ fn visit<B: RollName + Ledger>(
     rt: &(impl Abort + Wait),
     alloc: Global,
     core: &Mutex<NotedCore<B>>,
-    hall: &Hall,
+    wait_queue: &WaitQueue,
     part: ledger::Share<B>,
     request: Result<Request, Fail>,
 ) -> Result<(Stayed<B>, Share), Fail>
@@ -269,7 +269,7 @@ fn visit<B: RollName + Ledger>(
     ensures { IfOk result (λ came. came.0.share.parts ≡ 1) }
 {
     let request = request?;
-    let mut desk = LockDesk::new(rt, alloc, core, hall, true, part);
+    let mut desk = LockDesk::new(rt, alloc, core, wait_queue, true, part);
     let session = desk.join()?;
     let number = desk.begin(request, 100)?;
     assert_eq!(rt; desk.step(), StepResult::Going);
@@ -297,10 +297,10 @@ fn visit_in_turn<B: RollName + Ledger>(
 {
     let (calls, mut all) = blank.open::<B>();
     let core = Mutex::new(NotedCore::open(core, roll, calls));
-    let hall = Hall::new();
+    let wait_queue = WaitQueue::new();
     let part = all.split_off(1, 0);
-    let (first, one) = visit(rt, alloc, &core, &hall, part, mkdir(alloc, b"/a"))?;
-    let (second, other) = visit(rt, alloc, &core, &hall, all, mkdir(alloc, b"/a"))?;
+    let (first, one) = visit(rt, alloc, &core, &wait_queue, part, mkdir(alloc, b"/a"))?;
+    let (second, other) = visit(rt, alloc, &core, &wait_queue, all, mkdir(alloc, b"/a"))?;
     let Stayed {
         visit: _visit,
         transcript,

@@ -2,21 +2,21 @@
 use Rattle.std.proofs.Common.{◌≡◌, inl, inr, ◌<◌, ◌+◌, ◌-◌, ℕ, zero, suc, List, [], ◌∷◌, ◌++◌, Result, Ok, Err, refl, sym, subst, add-one, append-nil, arith}
 use Rattle.sf_trees.specs.declared.fault.TreeFault.{TreeFault}
 use Rattle.sf_trees.specs.declared.fault.Refused.{Refused}
-use Rattle.sf_trees.specs.Deeds.{Deed, Begins, Ends, Does, IsNothing, Then, BySession, refused_at, request_place}
+use Rattle.sf_trees.specs.Operations.{Operation, Begins, Ends, Does, IsNothing, Then, BySession, refused_at, request_place}
 
--- Deeds lead a server from one state to another: none leaves it as it is, and they follow one
+-- Operations lead a server from one state to another: none leaves it as it is, and they follow one
 -- another.
-pub record DeedLaws (V : Type 0) : Type 1 where
-  pub reaches : V → List Deed → V → Type 0
+pub record OperationLaws (V : Type 0) : Type 1 where
+  pub reaches : V → List Operation → V → Type 0
   pub none : (a : V) → reaches a [] a
-  pub on : (a b c : V) (first second : List Deed) → reaches a first b → reaches b second c → reaches a (first ++ second) c
+  pub on : (a b c : V) (first second : List Operation) → reaches a first b → reaches b second c → reaches a (first ++ second) c
 
-abbrev pub deed_laws : {V : Type 0} {reaches : V → List Deed → V → Type 0} → ((a : V) → reaches a [] a)
-    → ((a b c : V) (first second : List Deed) → reaches a first b → reaches b second c → reaches a (first ++ second) c) → DeedLaws V
-deed_laws {reaches = reaches} none on = record { reaches = reaches; none = none; on = on }
+abbrev pub operation_laws : {V : Type 0} {reaches : V → List Operation → V → Type 0} → ((a : V) → reaches a [] a)
+    → ((a b c : V) (first second : List Operation) → reaches a first b → reaches b second c → reaches a (first ++ second) c) → OperationLaws V
+operation_laws {reaches = reaches} none on = record { reaches = reaches; none = none; on = on }
 
 -- the first one was refused
-pub refused_first : {V A R E : Type 0} {a b : V} {P : List Deed → Result A E → Type 0} (s : DeedLaws V) (Q : A → List Deed → Result R E → Type 0) (why : E)
+pub refused_first : {V A R E : Type 0} {a b : V} {P : List Operation → Result A E → Type 0} (s : OperationLaws V) (Q : A → List Operation → Result R E → Type 0) (why : E)
     → Does s.reaches a b P (Err why) → Does s.reaches a b (Then P Q) (Err why)
 refused_first s Q why does = (
   does.0,
@@ -32,7 +32,7 @@ refused_first s Q why does = (
 )
 
 -- both were done
-pub both_done : {V A R E : Type 0} {a b c : V} {P : List Deed → Result A E → Type 0} (s : DeedLaws V) (Q : A → List Deed → Result R E → Type 0) (x : A) (r : Result R E)
+pub both_done : {V A R E : Type 0} {a b c : V} {P : List Operation → Result A E → Type 0} (s : OperationLaws V) (Q : A → List Operation → Result R E → Type 0) (x : A) (r : Result R E)
     → Does s.reaches a b P (Ok x) → Does s.reaches b c (Q x) r → Does s.reaches a c (Then P Q) r
 both_done {a = a} {b = b} {c = c} s Q x r does more = (
   does.0 ++ more.0,
@@ -48,16 +48,16 @@ both_done {a = a} {b = b} {c = c} s Q x r does more = (
 )
 
 -- nothing has to be done
-pub done_already : {V E : Type 0} (s : DeedLaws V) (a : V) → Does s.reaches a a (IsNothing {E = E}) (Ok tt)
+pub done_already : {V E : Type 0} (s : OperationLaws V) (a : V) → Does s.reaches a a (IsNothing {E = E}) (Ok tt)
 done_already s a = ([], s.none a, (refl, refl))
 
 -- no session begins
-pub no_session : {V R : Type 0} {a b : V} (s : DeedLaws V) (P : ℕ → List Deed → Result R Refused → Type 0) (why : TreeFault) → s.reaches a (Begins (Err why) ∷ []) b
+pub no_session : {V R : Type 0} {a b : V} (s : OperationLaws V) (P : ℕ → List Operation → Result R Refused → Type 0) (why : TreeFault) → s.reaches a (Begins (Err why) ∷ []) b
     → Does s.reaches a b (BySession P) (Err (refused_at (request_place 1 0) why))
 no_session s P why begun = (Begins (Err why) ∷ [], begun, inr (why, refl, refl))
 
 -- a session began, this was done by it, and it ended
-pub by_session : {V R : Type 0} {a b c d : V} (s : DeedLaws V) (session : ℕ) (P : ℕ → List Deed → Result R Refused → Type 0) (r : Result R Refused)
+pub by_session : {V R : Type 0} {a b c d : V} (s : OperationLaws V) (session : ℕ) (P : ℕ → List Operation → Result R Refused → Type 0) (r : Result R Refused)
     → s.reaches a (Begins (Ok session) ∷ []) b → Does s.reaches b c (P session) r → s.reaches c (Ends session ∷ []) d
     → Does s.reaches a d (BySession P) r
 by_session {a = a} {b = b} {c = c} {d = d} s session P r begun does ended = (
@@ -70,23 +70,23 @@ by_session {a = a} {b = b} {c = c} {d = d} s session P r begun does ended = (
 
 -- Things that are done in order, until one is refused: each of them, and those before a number.
 pub record Sequence : Type 1 where
-  pub One : ℕ → List Deed → Result (Unit {0}) Refused → Type 0
-  pub Before : ℕ → List Deed → Result (Unit {0}) Refused → Type 0
-  pub none : (deeds : List Deed) (r : Result (Unit {0}) Refused) → IsNothing deeds r → Before zero deeds r
-  pub more : (n : ℕ) (deeds : List Deed) (r : Result (Unit {0}) Refused) → Then (Before n) (λ done. One n) deeds r → Before (suc n) deeds r
+  pub One : ℕ → List Operation → Result (Unit {0}) Refused → Type 0
+  pub Before : ℕ → List Operation → Result (Unit {0}) Refused → Type 0
+  pub none : (operations : List Operation) (r : Result (Unit {0}) Refused) → IsNothing operations r → Before zero operations r
+  pub more : (n : ℕ) (operations : List Operation) (r : Result (Unit {0}) Refused) → Then (Before n) (λ done. One n) operations r → Before (suc n) operations r
 
-pub none_yet : {V : Type 0} (s : DeedLaws V) (q : Sequence) (a : V) → Does s.reaches a a (q.Before 0) (Ok tt)
+pub none_yet : {V : Type 0} (s : OperationLaws V) (q : Sequence) (a : V) → Does s.reaches a a (q.Before 0) (Ok tt)
 none_yet s q a = ([], s.none a, q.none [] (Ok tt) (refl, refl))
 
 -- one more was done, or refused
-one_more : {V : Type 0} {a b c : V} (s : DeedLaws V) (q : Sequence) (n : ℕ) (r : Result (Unit {0}) Refused) → Does s.reaches a b (q.Before n) (Ok tt) → Does s.reaches b c (q.One n) r → Does s.reaches a c (q.Before (suc n)) r
+one_more : {V : Type 0} {a b c : V} (s : OperationLaws V) (q : Sequence) (n : ℕ) (r : Result (Unit {0}) Refused) → Does s.reaches a b (q.Before n) (Ok tt) → Does s.reaches b c (q.One n) r → Does s.reaches a c (q.Before (suc n)) r
 one_more s q n r before one = let both = both_done s (λ done. q.One n) tt r before one in (both.0, both.1, q.more n both.0 r both.2)
 
-pub done_further : {V : Type 0} {a b c : V} (s : DeedLaws V) (q : Sequence) (n : ℕ) → Does s.reaches a b (q.Before n) (Ok tt) → Does s.reaches b c (q.One n) (Ok tt) → Does s.reaches a c (q.Before (n + 1)) (Ok tt)
+pub done_further : {V : Type 0} {a b c : V} (s : OperationLaws V) (q : Sequence) (n : ℕ) → Does s.reaches a b (q.Before n) (Ok tt) → Does s.reaches b c (q.One n) (Ok tt) → Does s.reaches a c (q.Before (n + 1)) (Ok tt)
 done_further s q n before one = rw (add-one n) (one_more s q n (Ok tt) before one)
 
 -- refused before one number, and so before all further ones
-refused_before : {V : Type 0} {a b : V} (s : DeedLaws V) (q : Sequence) (n further m : ℕ) (why : Refused) → m ≡ n + further → Does s.reaches a b (q.Before n) (Err why) → Does s.reaches a b (q.Before m) (Err why)
+refused_before : {V : Type 0} {a b : V} (s : OperationLaws V) (q : Sequence) (n further m : ℕ) (why : Refused) → m ≡ n + further → Does s.reaches a b (q.Before n) (Err why) → Does s.reaches a b (q.Before m) (Err why)
 refused_before {a = a} {b = b} s q n zero m why e does =
     let same : n ≡ m = omega (arith, e) in
     subst (λ (k : ℕ). Does s.reaches a b (q.Before k) (Err why)) same does
@@ -95,7 +95,7 @@ refused_before {a = a} {b = b} s q n (suc further) m why e does =
     let all = refused_first s (λ (done : Unit {0}). q.One (n + further)) why (refused_before s q n further (n + further) why refl does) in
     subst (λ (k : ℕ). Does s.reaches a b (q.Before k) (Err why)) next (all.0, all.1, q.more (n + further) all.0 (Err why) all.2)
 
-pub refused_at_one : {V : Type 0} {a b c : V} (s : DeedLaws V) (q : Sequence) (n all : ℕ) (why : Refused) → n < all → Does s.reaches a b (q.Before n) (Ok tt) → Does s.reaches b c (q.One n) (Err why) → Does s.reaches a c (q.Before all) (Err why)
+pub refused_at_one : {V : Type 0} {a b c : V} (s : OperationLaws V) (q : Sequence) (n all : ℕ) (why : Refused) → n < all → Does s.reaches a b (q.Before n) (Ok tt) → Does s.reaches b c (q.One n) (Err why) → Does s.reaches a c (q.Before all) (Err why)
 refused_at_one s q n all why below before one =
     let whole : all ≡ suc n + (all - suc n) = omega (arith, below) in
     refused_before s q (suc n) (all - suc n) all why whole (one_more s q n (Err why) before one)

@@ -3,30 +3,30 @@ use Rattle.std.proofs.Common.{◌≡◌, ◌≤◌, ℕ, zero, suc, Bool, List, 
 use Rattle.std.proofs.lemmas.List.{take_all, take_min}
 use Rattle.sf_trees.specs.declared.fault.Place.{Place}
 use Rattle.sf_trees.specs.declared.fault.Refused.{Refused}
-use Rattle.sf_trees.specs.Deeds.{Deed, IsNothing, Then}
+use Rattle.sf_trees.specs.Operations.{Operation, IsNothing, Then}
 use Rattle.sf_trees.specs.Makings.{MakesAt, MakesTo, WritesPiece, WritesTo}
 use Rattle.sf_trees.proofs.Doing.{Sequence}
 
-pub way_none : (session : ℕ) (whole : Bool) (path : List ℕ) (deeds : List Deed) (r : Result (Unit {0}) Refused) → IsNothing deeds r → MakesTo session whole path zero deeds r
+pub way_none : (session : ℕ) (whole : Bool) (path : List ℕ) (operations : List Operation) (r : Result (Unit {0}) Refused) → IsNothing operations r → MakesTo session whole path zero operations r
 unfolding MakesTo
-way_none session whole path deeds r h = h
+way_none session whole path operations r h = h
 
-pub way_more : (session : ℕ) (whole : Bool) (path : List ℕ) (n : ℕ) (deeds : List Deed) (r : Result (Unit {0}) Refused) → Then (MakesTo session whole path n) (λ done. MakesAt session whole path n) deeds r → MakesTo session whole path (suc n) deeds r
+pub way_more : (session : ℕ) (whole : Bool) (path : List ℕ) (n : ℕ) (operations : List Operation) (r : Result (Unit {0}) Refused) → Then (MakesTo session whole path n) (λ done. MakesAt session whole path n) operations r → MakesTo session whole path (suc n) operations r
 unfolding MakesTo
-way_more session whole path n deeds r h = h
+way_more session whole path n operations r h = h
 
 -- the directories on the way to a path
 abbrev pub way : ℕ → Bool → List ℕ → Sequence
 way session whole path = record { One = MakesAt session whole path; Before = MakesTo session whole path; none = way_none session whole path; more = way_more session whole path }
 
-pub writing_none : (session handle : ℕ) (place : Place) (contents : List ℕ) (deeds : List Deed) (r : Result (Unit {0}) Refused) → IsNothing deeds r → WritesTo session handle place contents zero deeds r
+pub writing_none : (session handle : ℕ) (place : Place) (contents : List ℕ) (operations : List Operation) (r : Result (Unit {0}) Refused) → IsNothing operations r → WritesTo session handle place contents zero operations r
 unfolding WritesTo
-writing_none session handle place contents deeds r h = h
+writing_none session handle place contents operations r h = h
 
-pub writing_more : (session handle : ℕ) (place : Place) (contents : List ℕ) (n : ℕ) (deeds : List Deed) (r : Result (Unit {0}) Refused) → Then (WritesTo session handle place contents n) (λ done. WritesPiece session handle place contents n) deeds r
-    → WritesTo session handle place contents (suc n) deeds r
+pub writing_more : (session handle : ℕ) (place : Place) (contents : List ℕ) (n : ℕ) (operations : List Operation) (r : Result (Unit {0}) Refused) → Then (WritesTo session handle place contents n) (λ done. WritesPiece session handle place contents n) operations r
+    → WritesTo session handle place contents (suc n) operations r
 unfolding WritesTo
-writing_more session handle place contents n deeds r h = h
+writing_more session handle place contents n operations r h = h
 
 -- the pieces of a file's contents
 abbrev pub writing : ℕ → ℕ → Place → List ℕ → Sequence

@@ -1,2 +1,2 @@
-pub mod Deeds
+pub mod Operations
 pub mod Makings

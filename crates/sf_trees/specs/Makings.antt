@@ -11,7 +11,7 @@ use Rattle.sf_reply.specs.declared.reply.StatusCode.TheVariants as status
 use Rattle.sf_trees.specs.declared.fault.TreeFault.{TreeFault}
 use Rattle.sf_trees.specs.declared.fault.Place.{Place}
 use Rattle.sf_trees.specs.declared.fault.Refused.{Refused}
-use Rattle.sf_trees.specs.Deeds.{Deed, IsAsked, fault_in_reply, refused_at, done_by, handle_by, request_place, IsNothing, Then, BySession}
+use Rattle.sf_trees.specs.Operations.{Operation, IsAsked, fault_in_reply, refused_at, done_by, handle_by, request_place, IsNothing, Then, BySession}
 
 -- a byte of a name, and no slash
 abbrev pub is_of_name : Option ℕ → Bool
@@ -44,41 +44,42 @@ finds_by place (Ok (reply.Status status.NoSuchFile)) = Ok false
 finds_by place (Ok other) = Err (refused_at place (fault_in_reply other))
 finds_by place (Err why) = Err (refused_at place why)
 
-abbrev pub Mkdirs : ℕ → List ℕ → List Deed → Result (Unit {0}) Refused → Type 0
-Mkdirs session path deeds result =
+abbrev pub Mkdirs : ℕ → List ℕ → List Operation → Result (Unit {0}) Refused → Type 0
+Mkdirs session path operations result =
     IsAsked session (request.Mkdir path no_attrs) (done_by (request_place 14 (length path)))
-    deeds result
+    operations result
 
 -- a directory is made, unless it was found
-abbrev pub MakesUnless : ℕ → List ℕ → Bool → List Deed → Result (Unit {0}) Refused → Type 0
-MakesUnless session path true deeds result = IsNothing deeds result
-MakesUnless session path false deeds result = Mkdirs session path deeds result
+abbrev pub MakesUnless : ℕ → List ℕ → Bool → List Operation → Result (Unit {0}) Refused → Type 0
+MakesUnless session path true operations result = IsNothing operations result
+MakesUnless session path false operations result = Mkdirs session path operations result
 
 -- One directory is looked for, and made where it isn't found.
-abbrev pub MakesOne : ℕ → List ℕ → List Deed → Result (Unit {0}) Refused → Type 0
-MakesOne session path deeds result =
+abbrev pub MakesOne : ℕ → List ℕ → List Operation → Result (Unit {0}) Refused → Type 0
+MakesOne session path operations result =
     Then (IsAsked session (request.Stat path) (finds_by (request_place 17 (length path))))
-    (MakesUnless session path) deeds result
+    (MakesUnless session path) operations result
 
-abbrev pub MakesIf : ℕ → List ℕ → Bool → List Deed → Result (Unit {0}) Refused → Type 0
-MakesIf session path true deeds result = MakesOne session path deeds result
-MakesIf session path false deeds result = IsNothing deeds result
+abbrev pub MakesIf : ℕ → List ℕ → Bool → List Operation → Result (Unit {0}) Refused → Type 0
+MakesIf session path true operations result = MakesOne session path operations result
+MakesIf session path false operations result = IsNothing operations result
 
 -- so of the path up to a place, if a name ends there
-abbrev pub MakesAt : ℕ → Bool → List ℕ → ℕ → List Deed → Result (Unit {0}) Refused → Type 0
-MakesAt session whole path at deeds result =
-    MakesIf session (take (at + 1) path) (ends_name whole path at) deeds result
+abbrev pub MakesAt : ℕ → Bool → List ℕ → ℕ → List Operation → Result (Unit {0}) Refused → Type 0
+MakesAt session whole path at operations result =
+    MakesIf session (take (at + 1) path) (ends_name whole path at) operations result
 
 -- So at each of so many places, in order.
-unfoldable pub MakesTo : ℕ → Bool → List ℕ → ℕ → List Deed → Result (Unit {0}) Refused → Type 0
-MakesTo session whole path zero deeds result = IsNothing deeds result
-MakesTo session whole path (suc n) deeds result = Then (MakesTo session whole path n)
-    (λ done. MakesAt session whole path n) deeds result
+unfoldable pub MakesTo : ℕ → Bool → List ℕ → ℕ → List Operation → Result (Unit {0}) Refused → Type 0
+MakesTo session whole path zero operations result = IsNothing operations result
+MakesTo session whole path (suc n) operations result = Then (MakesTo session whole path n)
+    (λ done. MakesAt session whole path n) operations result
 
 -- The directories on the way to a path are made where they are missing, and its own if the last
 -- name counts.
-abbrev pub MakesWay : ℕ → Bool → List ℕ → List Deed → Result (Unit {0}) Refused → Type 0
-MakesWay session whole path deeds result = MakesTo session whole path (length path) deeds result
+abbrev pub MakesWay : ℕ → Bool → List ℕ → List Operation → Result (Unit {0}) Refused → Type 0
+MakesWay session whole path operations result =
+    MakesTo session whole path (length path) operations result
 
 -- the most bytes of a WRITE
 abbrev pub piece : ℕ
@@ -92,33 +93,34 @@ pieces_in len = (len + 131071) / 131072
 abbrev pub piece_at : List ℕ → ℕ → List ℕ
 piece_at contents offset = take piece (drop offset contents)
 
-abbrev pub WritesPiece : ℕ → ℕ → Place → List ℕ → ℕ → List Deed → Result (Unit {0}) Refused → Type 0
-WritesPiece session handle place contents n deeds result =
+abbrev pub WritesPiece : ℕ → ℕ → Place → List ℕ → ℕ → List Operation → Result (Unit {0}) Refused
+    → Type 0
+WritesPiece session handle place contents n operations result =
     IsAsked session (request.Write (be64 handle) (n * piece) (piece_at contents (n * piece)))
-    (done_by place) deeds result
+    (done_by place) operations result
 
 -- So many pieces of these contents are written, in order.
-unfoldable pub WritesTo : ℕ → ℕ → Place → List ℕ → ℕ → List Deed → Result (Unit {0}) Refused
+unfoldable pub WritesTo : ℕ → ℕ → Place → List ℕ → ℕ → List Operation → Result (Unit {0}) Refused
     → Type 0
-WritesTo session handle place contents zero deeds result = IsNothing deeds result
-WritesTo session handle place contents (suc n) deeds result =
+WritesTo session handle place contents zero operations result = IsNothing operations result
+WritesTo session handle place contents (suc n) operations result =
     Then (WritesTo session handle place contents n)
-    (λ done. WritesPiece session handle place contents n) deeds result
+    (λ done. WritesPiece session handle place contents n) operations result
 
-abbrev pub WritesPieces : ℕ → ℕ → ℕ → List ℕ → List Deed → Result (Unit {0}) Refused → Type 0
-WritesPieces session handle len contents deeds result =
+abbrev pub WritesPieces : ℕ → ℕ → ℕ → List ℕ → List Operation → Result (Unit {0}) Refused → Type 0
+WritesPieces session handle len contents operations result =
     WritesTo session handle (request_place 6 len) contents (pieces_in (length contents))
-    deeds result
+    operations result
 
-abbrev pub ClosesHandle : ℕ → ℕ → ℕ → List Deed → Result (Unit {0}) Refused → Type 0
-ClosesHandle session handle len deeds result =
-    IsAsked session (request.Close (be64 handle)) (done_by (request_place 4 len)) deeds result
+abbrev pub ClosesHandle : ℕ → ℕ → ℕ → List Operation → Result (Unit {0}) Refused → Type 0
+ClosesHandle session handle len operations result =
+    IsAsked session (request.Close (be64 handle)) (done_by (request_place 4 len)) operations result
 
 -- All of these contents are written, and the handle is closed.
-abbrev pub WritesContents : ℕ → ℕ → List ℕ → ℕ → List Deed → Result (Unit {0}) Refused → Type 0
-WritesContents session len contents handle deeds result =
+abbrev pub WritesContents : ℕ → ℕ → List ℕ → ℕ → List Operation → Result (Unit {0}) Refused → Type 0
+WritesContents session len contents handle operations result =
     Then (WritesPieces session handle len contents) (λ done. ClosesHandle session handle len)
-    deeds result
+    operations result
 
 -- WRITE, CREAT and TRUNC
 abbrev pub to_write : OpenFlags
@@ -131,40 +133,41 @@ to_write = record {
   exclusive = false;
 }
 
-abbrev pub OpensFile : ℕ → List ℕ → OpenFlags → ℕ → List Deed → Result ℕ Refused → Type 0
-OpensFile session path flags len deeds result =
+abbrev pub OpensFile : ℕ → List ℕ → OpenFlags → ℕ → List Operation → Result ℕ Refused → Type 0
+OpensFile session path flags len operations result =
     IsAsked session (request.Open path flags no_attrs) (handle_by (request_place 3 len))
-    deeds result
+    operations result
 
 -- A file is opened to be written anew, written and closed.
-abbrev pub Fills : ℕ → List ℕ → List ℕ → List Deed → Result (Unit {0}) Refused → Type 0
-Fills session path contents deeds result =
+abbrev pub Fills : ℕ → List ℕ → List ℕ → List Operation → Result (Unit {0}) Refused → Type 0
+Fills session path contents operations result =
     Then (OpensFile session path to_write (length path))
-    (WritesContents session (length path) contents) deeds result
+    (WritesContents session (length path) contents) operations result
 
 -- the directory of a path, and those on its way
-abbrev pub MakesDirectory : List ℕ → List Deed → Result (Unit {0}) Refused → Type 0
-MakesDirectory path deeds result =
-    BySession (λ session. MakesWay session true path) deeds result
+abbrev pub MakesDirectory : List ℕ → List Operation → Result (Unit {0}) Refused → Type 0
+MakesDirectory path operations result =
+    BySession (λ session. MakesWay session true path) operations result
 
-abbrev pub WritesMore : List ℕ → List ℕ → ℕ → List Deed → Result (Unit {0}) Refused → Type 0
-WritesMore path contents session deeds result =
-    Then (MakesWay session false path) (λ done. Fills session path contents) deeds result
+abbrev pub WritesMore : List ℕ → List ℕ → ℕ → List Operation → Result (Unit {0}) Refused → Type 0
+WritesMore path contents session operations result =
+    Then (MakesWay session false path) (λ done. Fills session path contents) operations result
 
 -- a file, and the directories on its way
-abbrev pub WritesFile : List ℕ → List ℕ → List Deed → Result (Unit {0}) Refused → Type 0
-WritesFile path contents deeds result =
-    BySession (WritesMore path contents) deeds result
+abbrev pub WritesFile : List ℕ → List ℕ → List Operation → Result (Unit {0}) Refused → Type 0
+WritesFile path contents operations result =
+    BySession (WritesMore path contents) operations result
 
-abbrev pub LinksAlone : ℕ → List ℕ → List ℕ → List Deed → Result (Unit {0}) Refused → Type 0
-LinksAlone session old new deeds result =
-    IsAsked session (request.Link old new) (done_by (request_place 202 (length new))) deeds result
+abbrev pub LinksAlone : ℕ → List ℕ → List ℕ → List Operation → Result (Unit {0}) Refused → Type 0
+LinksAlone session old new operations result =
+    IsAsked session (request.Link old new) (done_by (request_place 202 (length new))) operations
+    result
 
-abbrev pub LinksOn : List ℕ → List ℕ → ℕ → List Deed → Result (Unit {0}) Refused → Type 0
-LinksOn old new session deeds result = Then (MakesWay session false new)
-    (λ done. LinksAlone session old new) deeds result
+abbrev pub LinksOn : List ℕ → List ℕ → ℕ → List Operation → Result (Unit {0}) Refused → Type 0
+LinksOn old new session operations result = Then (MakesWay session false new)
+    (λ done. LinksAlone session old new) operations result
 
 -- one more name of a file, and the directories on its way
-abbrev pub Links : List ℕ → List ℕ → List Deed → Result (Unit {0}) Refused → Type 0
-Links old new deeds result =
-    BySession (LinksOn old new) deeds result
+abbrev pub Links : List ℕ → List ℕ → List Operation → Result (Unit {0}) Refused → Type 0
+Links old new operations result =
+    BySession (LinksOn old new) operations result

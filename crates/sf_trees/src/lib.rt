@@ -1,7 +1,7 @@
 //! Trees, made by requests of sessions.
 //!
 //! Start with `write_file`: `specs/Makings.antt` says what each function makes. It speaks of what
-//! was done on a `Server`, which is a list of deeds (`specs/Deeds.antt`).
+//! was done on a `Server`, which is a list of operations (`specs/Operations.antt`).
 #![tactic(auto)]
 
 mod fault;

@@ -2,7 +2,7 @@
 
 ghost use Rattle.std.specs.Prelude.{◌≡◌, ◌≤◌, ◌<◌, ◌+◌, ◌*◌, ◌^◌, length};
 ghost use Rattle.sf_request.specs.declared.request.WireRequest.TheVariants as request;
-ghost use Rattle.sf_trees.specs.Deeds.{Does, IsAsked, request_place};
+ghost use Rattle.sf_trees.specs.Operations.{Does, IsAsked, request_place};
 ghost use Rattle.sf_trees.specs.Makings.{is_of_name, goes_on_by, ends_name, is_directory_attrs, finds_by, Mkdirs, MakesOne, MakesAt, MakesWay, piece, pieces_in, piece_at, WritesPiece, WritesPieces, ClosesHandle, WritesContents, OpensFile, Fills, MakesDirectory, WritesMore, WritesFile, LinksAlone, LinksOn, Links};
 
 use crate::fault::{Place, Refused, TreeFault};

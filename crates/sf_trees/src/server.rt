@@ -2,7 +2,7 @@
 
 ghost use Rattle.std.specs.Prelude.{◌≡◌, ℕ, List, [], ◌∷◌, ◌++◌, Ok, Err, IfOk, IfErr};
 ghost use Rattle.sf_trees.specs.declared.fault.TreeFault.{TreeFault};
-ghost use Rattle.sf_trees.specs.Deeds.{Deed, Begins, Asks, Ends, Does, IsAsked, fault_in_reply, done_by, handle_by, refused_at, request_place};
+ghost use Rattle.sf_trees.specs.Operations.{Operation, Begins, Asks, Ends, Does, IsAsked, fault_in_reply, done_by, handle_by, refused_at, request_place};
 
 use crate::fault::{Place, Refused, TreeFault};
 use sf_reply::{Reply, StatusCode};
@@ -11,7 +11,7 @@ use sf_request::WireRequest;
 /// A server, of which sessions ask one request after the other.
 pub trait Server {
     /// What was done led from one state of the server to another.
-    ghost reaches: { Self → List Deed → Self → Type 0 };
+    ghost reaches: { Self → List Operation → Self → Type 0 };
 
     /// A session begins.
     fn begin(&mut self) -> Result<u64, TreeFault>
@@ -27,8 +27,8 @@ pub trait Server {
 
     ghost none: { (a : Self) → reaches a [] a };
 
-    ghost on: { (a b c : Self) (first second : List Deed) → reaches a first b → reaches b second c
-        → reaches a (first ++ second) c };
+    ghost on: { (a b c : Self) (first second : List Operation) → reaches a first b
+        → reaches b second c → reaches a (first ++ second) c };
 }
 
 /// Why a reply isn't the one that is due.

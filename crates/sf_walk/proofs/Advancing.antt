@@ -8,13 +8,13 @@ use Rattle.sf_call.specs.declared.call.Stage.{Stage}
 use Rattle.sf_call.specs.declared.call.Stage.TheVariants as stage
 use Rattle.sf_inode.specs.Stores.{StoreState, child_of, holder_of, is_directory_at, looked_up}
 use Rattle.sf_keeps.specs.Steps.{walk}
-use Rattle.sf_coupling.specs.Walks.{Spot, LeadsTo, IsFree}
-use Rattle.sf_coupling.specs.Stepping.{IsNextTo, TakesSpot}
-use Rattle.sf_coupling.specs.Stepping.TakesSpot.{Comes, GoesOnWith}
+use Rattle.sf_coupling.specs.Walks.{HeldPath, LeadsTo, IsFree}
+use Rattle.sf_coupling.specs.Stepping.{IsNextTo, TakesPath}
+use Rattle.sf_coupling.specs.Stepping.TakesPath.{Comes, GoesOnWith}
 use Rattle.sf_walk.specs.declared.finding.Ways.{Ways}
 use Rattle.sf_walk.specs.declared.finding.Located.{Located}
 use Rattle.sf_walk.specs.declared.finding.Located.TheVariants as located
-use Rattle.sf_walk.specs.Routes.{Route, are_nested, PartAt, AreEnds, IsPosition, reached, paths_on, spot_on, spots_of, terrain, HoldsWay}
+use Rattle.sf_walk.specs.Routes.{Route, are_nested, PartAt, AreEnds, IsPosition, reached, paths_on, held_path_on, held_paths_of, namespace, HoldsWay}
 use Rattle.sf_walk.specs.Routes.Route.{NoPath, Along, Between}
 use Rattle.sf_walk.specs.Routes.IsPosition.{Starts, IsOn, IsBefore, IsApart}
 use Rattle.sf_walk.specs.Ways.{along, way_from}
@@ -47,14 +47,14 @@ stands_first s old new h = by h.position
     by : IsPosition (Between old new) stage.Fresh → are_nested old new ≡ false
     by (Starts r is) = is
 
-on_way : (s : StoreState) (path : Path) (at : Reached) → at.walked < length path → LeadsTo (terrain s) (spot_on path at) → LeadsOnWay s path at.walked at.node
+on_way : (s : StoreState) (path : Path) (at : Reached) → at.walked < length path → LeadsTo (namespace s) (held_path_on path at) → LeadsOnWay s path at.walked at.node
 on_way s path at short leads = record { short = short; leads = leads.names; directory = leads.directory }
 
 pub stands_on_one : (s : StoreState) (path : Path) (walked node : ℕ) → HoldsWay s (Along path) (stage.At walked node) → LeadsOnWay s path walked node
 stands_on_one s path walked node h = by h.position
   where
     by : IsPosition (Along path) (stage.At walked node) → LeadsOnWay s path walked node
-    by (IsOn p w n less) = on_way s path (reached walked node) less (h.leads (spot_on path (reached walked node)) (inl refl))
+    by (IsOn p w n less) = on_way s path (reached walked node) less (h.leads (held_path_on path (reached walked node)) (inl refl))
 
 pub stands_together : (s : StoreState) (old new : Path) (walked node : ℕ) → HoldsWay s (Between old new) (stage.At walked node) → LeadsOnWay s old walked node × PartLater old new (walked + 1)
 stands_together s old new walked node h = by h.position
@@ -62,7 +62,7 @@ stands_together s old new walked node h = by h.position
     by : IsPosition (Between old new) (stage.At walked node) → LeadsOnWay s old walked node × PartLater old new (walked + 1)
     by (IsBefore p q w n count part less) =
         let short = part.short in (
-          on_way s old (reached walked node) (omega (arith, less, short)) (h.leads (spot_on old (reached walked node)) (inl refl)),
+          on_way s old (reached walked node) (omega (arith, less, short)) (h.leads (held_path_on old (reached walked node)) (inl refl)),
           record { count = count; part = part; later = omega (arith, less) },
         )
 
@@ -74,10 +74,10 @@ module _ (s : StoreState) (old new : Path) (common from to : Reached) (h : Holds
       by (IsApart p q c a b is) = is
 
   pub old_on_way : LeadsOnWay s old from.walked from.node
-  old_on_way = on_way s old from ends.short (h.leads (spot_on old from) (inr (inl refl)))
+  old_on_way = on_way s old from ends.short (h.leads (held_path_on old from) (inr (inl refl)))
 
   pub new_on_way : LeadsOnWay s new to.walked to.node
-  new_on_way = on_way s new to ends.short_new (h.leads (spot_on new to) (inr (inr (inl refl))))
+  new_on_way = on_way s new to ends.short_new (h.leads (held_path_on new to) (inr (inr (inl refl))))
 
 -- where two paths part, both ends are at the common directory
 pub ends_at : (from to : Path) (at : Reached) → PartAt from to at.walked → AreEnds from to at at at
@@ -94,12 +94,12 @@ module _ (s : StoreState) (number root : ℕ) (is : root ≡ s.root) where
   waits_root r path rest paths holder held other = record { to = []; node = root; looks = Root r path rest paths; leads = ap Some (sym is); held = held; other = other; looked = looked_itself s 1 }
 
   module _ (dir : is_directory_at s.nodes s.root ≡ true) (free : IsFree (holder_of s.nodes) number root) (last : StoreState) where
-    leads_root : LeadsTo (terrain s) (record { path = []; node = root })
+    leads_root : LeadsTo (namespace s) (record { path = []; node = root })
     leads_root = record { names = ap Some (sym is); directory = subst (λ r. is_directory_at s.nodes r ≡ true) (sym is) dir }
 
     pub moves_first : (path : Path) → 0 < length path → last ≡ handed_over number stage.Fresh (stage.At 0 root) root s → AdvancesTo s last (walker number (Along path) stage.Fresh) (stage.At 0 root)
     moves_first path some state = record {
-      spot = record { path = []; node = root };
+      held_path = record { path = []; node = root };
       takes = Comes [] (record { path = []; node = root } ∷ []) (inl refl) tt (refl, tt);
       leads = leads_root;
       free = free;
@@ -110,8 +110,8 @@ module _ (s : StoreState) (number root : ℕ) (is : root ≡ s.root) where
 
     pub moves_first_of_two : (from to : Path) (after : Stage) → ComesTo from to (reached 0 root) after → last ≡ handed_over number stage.Fresh after root s → AdvancesTo s last (walker number (Between from to) stage.Fresh) after
     moves_first_of_two from to after (inl h) state = record {
-      spot = record { path = []; node = root };
-      takes = subst (λ (g : Stage). TakesSpot (record { path = []; node = root }) [] (spots_of (Between from to) g)) (sym h.3) (Comes [] (record { path = []; node = root } ∷ []) (inl refl) tt (refl, tt));
+      held_path = record { path = []; node = root };
+      takes = subst (λ (g : Stage). TakesPath (record { path = []; node = root }) [] (held_paths_of (Between from to) g)) (sym h.3) (Comes [] (record { path = []; node = root } ∷ []) (inl refl) tt (refl, tt));
       leads = leads_root;
       free = free;
       position = subst (λ (g : Stage). IsPosition (Between from to) g) (sym h.3) (IsBefore from to 0 root h.0 h.1 h.2);
@@ -119,10 +119,10 @@ module _ (s : StoreState) (number root : ℕ) (is : root ≡ s.root) where
       state = state;
     }
     moves_first_of_two from to after (inr h) state =
-        let q : Spot = record { path = []; node = root } in
+        let q : HeldPath = record { path = []; node = root } in
         record {
-          spot = record { path = []; node = root };
-          takes = subst (λ (g : Stage). TakesSpot (record { path = []; node = root }) [] (spots_of (Between from to) g)) (sym h.1) (Comes [] (record { path = []; node = root } ∷ record { path = []; node = root } ∷ record { path = []; node = root } ∷ []) (inl refl) tt (refl, (refl, (refl, tt))));
+          held_path = record { path = []; node = root };
+          takes = subst (λ (g : Stage). TakesPath (record { path = []; node = root }) [] (held_paths_of (Between from to) g)) (sym h.1) (Comes [] (record { path = []; node = root } ∷ record { path = []; node = root } ∷ record { path = []; node = root } ∷ []) (inl refl) tt (refl, (refl, (refl, tt))));
           leads = leads_root;
           free = free;
           position = subst (λ (g : Stage). IsPosition (Between from to) g) (sym h.1) (IsApart from to (reached 0 root) (reached 0 root) (reached 0 root) (ends_at from to (reached 0 root) h.0));
@@ -152,10 +152,10 @@ one_more : (path : Path) (walked : ℕ) → walked < length path → take (walke
 one_more path walked less = ap (λ (k : ℕ). take k path) (add-one walked) ∙ take-suc path walked [] less
 
 module _ (s : StoreState) (number : ℕ) (path : Path) (from to : Reached) (free : IsNextFree s number path from to) where
-  pub next_to : from.walked < length path → IsNextTo (spot_on path from) (spot_on path to)
+  pub next_to : from.walked < length path → IsNextTo (held_path_on path from) (held_path_on path to)
   next_to less = record { name = get_or path from.walked []; is = ap (λ k. take k path) free.walked ∙ one_more path from.walked less }
 
-  pub next_leads : LeadsTo (terrain s) (spot_on path to)
+  pub next_leads : LeadsTo (namespace s) (held_path_on path to)
   next_leads = record { names = ap (λ k. walk (child_of s.nodes) s.root (take k path)) free.walked ∙ free.on_way.leads; directory = free.on_way.directory }
 
   pub next_short : to.walked < length path
@@ -207,10 +207,10 @@ module _ (old new : StoreState) (looked : new ≡ looked_up old) (number : ℕ) 
       looked = looked_once old new looked;
     }
 
-  pub moves : (r : Route) (at after : Stage) (path : Path) (from to : Reached) (last : StoreState) → IsNextFree old number path from to → TakesSpot (spot_on path to) (spots_of r at) (spots_of r after) → IsPosition r after → AdvancesOne at after
+  pub moves : (r : Route) (at after : Stage) (path : Path) (from to : Reached) (last : StoreState) → IsNextFree old number path from to → TakesPath (held_path_on path to) (held_paths_of r at) (held_paths_of r after) → IsPosition r after → AdvancesOne at after
       → entered at old ≡ looked_up old → last ≡ handed_over number at after to.node new → AdvancesTo old last (walker number r at) after
   moves r at after path from to last free takes position walks enters state = record {
-    spot = spot_on path to;
+    held_path = held_path_on path to;
     takes = takes;
     leads = next_leads old number path from to free;
     free = free.free;
@@ -224,7 +224,7 @@ module _ (old new : StoreState) (looked : new ≡ looked_up old) (number : ℕ) 
       → last ≡ handed_over number (stage.At at.walked at.node) (stage.At to.walked to.node) to.node new → AdvancesTo old last (walker number (Along path) (stage.At at.walked at.node)) (stage.At to.walked to.node)
   moves_one path at to last way free state =
       moves (Along path) (stage.At at.walked at.node) (stage.At to.walked to.node) path at to last free
-      (Comes (spot_on path at ∷ []) (spot_on path to ∷ []) (inr (spot_on path at, inl refl, next_to old number path at to free way.short)) tt (refl, tt))
+      (Comes (held_path_on path at ∷ []) (held_path_on path to ∷ []) (inr (held_path_on path at, inl refl, next_to old number path at to free way.short)) tt (refl, tt))
       (IsOn path to.walked to.node (next_short old number path at to free)) (GoesOn at.walked at.node to free.walked) refl state
 
   -- ---- on two, which haven't parted
@@ -233,19 +233,19 @@ module _ (old new : StoreState) (looked : new ≡ looked_up old) (number : ℕ) 
   moves_together from to at next after last way free comes state =
       by (next_to old number from at next free way.short) comes state
     where
-      by : IsNextTo (spot_on from at) (spot_on from next) → ComesTo from to next after → last ≡ handed_over number (stage.At at.walked at.node) after next.node new
+      by : IsNextTo (held_path_on from at) (held_path_on from next) → ComesTo from to next after → last ≡ handed_over number (stage.At at.walked at.node) after next.node new
           → AdvancesTo old last (walker number (Between from to) (stage.At at.walked at.node)) after
       by goes (inl h) state =
           moves (Between from to) (stage.At at.walked at.node) after from at next last free
-          (subst (λ (g : Stage). TakesSpot (spot_on from next) (spot_on from at ∷ []) (spots_of (Between from to) g)) (sym h.3)
-          (Comes (spot_on from at ∷ []) (spot_on from next ∷ []) (inr (spot_on from at, inl refl, goes)) tt (refl, tt)))
+          (subst (λ (g : Stage). TakesPath (held_path_on from next) (held_path_on from at ∷ []) (held_paths_of (Between from to) g)) (sym h.3)
+          (Comes (held_path_on from at ∷ []) (held_path_on from next ∷ []) (inr (held_path_on from at, inl refl, goes)) tt (refl, tt)))
           (subst (λ (g : Stage). IsPosition (Between from to) g) (sym h.3) (IsBefore from to next.walked next.node h.0 h.1 h.2))
           (subst (λ (g : Stage). AdvancesOne (stage.At at.walked at.node) g) (sym h.3) (GoesOn at.walked at.node next free.walked)) refl state
       by goes (inr h) state =
-          let same : spot_on to next ≡ spot_on from next = λ i. record { path = sym h.0.alike i; node = next.node } in
+          let same : held_path_on to next ≡ held_path_on from next = λ i. record { path = sym h.0.alike i; node = next.node } in
           moves (Between from to) (stage.At at.walked at.node) after from at next last free
-          (subst (λ (g : Stage). TakesSpot (spot_on from next) (spot_on from at ∷ []) (spots_of (Between from to) g)) (sym h.1)
-          (Comes (spot_on from at ∷ []) (spot_on from next ∷ spot_on from next ∷ spot_on to next ∷ []) (inr (spot_on from at, inl refl, goes)) tt (refl, (refl, (same, tt)))))
+          (subst (λ (g : Stage). TakesPath (held_path_on from next) (held_path_on from at ∷ []) (held_paths_of (Between from to) g)) (sym h.1)
+          (Comes (held_path_on from at ∷ []) (held_path_on from next ∷ held_path_on from next ∷ held_path_on to next ∷ []) (inr (held_path_on from at, inl refl, goes)) tt (refl, (refl, (same, tt)))))
           (subst (λ (g : Stage). IsPosition (Between from to) g) (sym h.1) (IsApart from to next next next (ends_at from to next h.0)))
           (subst (λ (g : Stage). AdvancesOne (stage.At at.walked at.node) g) (sym h.1) (Parts at.walked at.node next free.walked)) refl state
 
@@ -255,7 +255,7 @@ module _ (old new : StoreState) (looked : new ≡ looked_up old) (number : ℕ) 
         → AdvancesTo old last (walker number (Between from to) (stage.Ends common a b)) (stage.Ends common next b)
     moves_old next last more free state =
         moves (Between from to) (stage.Ends common a b) (stage.Ends common next b) from a next last free
-        (GoesOnWith (spot_on from common) [] (spot_on from a) (spot_on to b ∷ []) (next_to old number from a next free is.short))
+        (GoesOnWith (held_path_on from common) [] (held_path_on from a) (held_path_on to b ∷ []) (next_to old number from a next free is.short))
         (IsApart from to common next b (record {
           part = is.part;
           old_below = let x = is.old_below in let y = free.walked in omega (arith, x, y);
@@ -270,7 +270,7 @@ module _ (old new : StoreState) (looked : new ≡ looked_up old) (number : ℕ) 
         → AdvancesTo old last (walker number (Between from to) (stage.Ends common a b)) (stage.Ends common a next)
     moves_new next last parent free state =
         moves (Between from to) (stage.Ends common a b) (stage.Ends common a next) to b next last free
-        (GoesOnWith (spot_on from common) (spot_on from a ∷ []) (spot_on to b) [] (next_to old number to b next free is.short_new))
+        (GoesOnWith (held_path_on from common) (held_path_on from a ∷ []) (held_path_on to b) [] (next_to old number to b next free is.short_new))
         (IsApart from to common a next (record {
           part = is.part;
           old_below = is.old_below;

@@ -8,9 +8,9 @@ use Rattle.sf_inode.specs.declared.node.Node.{Node}
 use Rattle.sf_inode.specs.Nodes.{with_holder}
 use Rattle.sf_inode.specs.Stores.{StoreState, node_in, holder_of, edited}
 use Rattle.sf_keeps.proofs.Laws.{edited_apart, edited_itself}
-use Rattle.sf_coupling.specs.Walks.{Spot, Holds, IsNodeOf, HandsOver}
+use Rattle.sf_coupling.specs.Walks.{HeldPath, Holds, IsNodeOf, HandsOver}
 use Rattle.sf_coupling.proofs.Laws.{same_or_not}
-use Rattle.sf_walk.specs.Routes.{Route, IsPosition, reached_at, paths_on, spot_on, spots_on, spots_of, nodes_in, nodes_of}
+use Rattle.sf_walk.specs.Routes.{Route, IsPosition, reached_at, paths_on, held_path_on, held_paths_on, held_paths_of, nodes_in, nodes_of}
 use Rattle.sf_walk.specs.Routes.IsPosition.{Starts, IsOn, IsBefore, IsApart}
 use Rattle.sf_walk.specs.Steps.{is_one_of, free_unless, let_go, handed_over}
 
@@ -56,12 +56,12 @@ one_or_not x ys = elim (is_one_of x ys) as (λ b. is_one_of x ys ≡ b → (is_o
 true_false : (x : ℕ) (ys : List ℕ) → is_one_of x ys ≡ true → is_one_of x ys ≡ false → ⊥
 true_false x ys e f = let z : true ≡ false = sym e ∙ f in cc
 
--- the nodes of the spots
-node_of_spot : (at : List Reached) (paths : List Path) (l : ℕ) (s : Spot) → Holds (spots_on at paths) s → s.node ≡ l → is_one_of l (nodes_in at) ≡ true
-node_of_spot [] paths l s h e = absurd h
-node_of_spot (r ∷ at) [] l s h e = absurd h
-node_of_spot (r ∷ at) (p ∷ paths) l s (inl i) e = first_is l r.node (nodes_in at) (sym e ∙ ap (λ (x : Spot). x.node) i)
-node_of_spot (r ∷ at) (p ∷ paths) l s (inr h) e = later_is (nat_eq l r.node) (is_one_of l (nodes_in at)) (node_of_spot at paths l s h e)
+-- the nodes of the held paths
+node_of_held_path : (at : List Reached) (paths : List Path) (l : ℕ) (s : HeldPath) → Holds (held_paths_on at paths) s → s.node ≡ l → is_one_of l (nodes_in at) ≡ true
+node_of_held_path [] paths l s h e = absurd h
+node_of_held_path (r ∷ at) [] l s h e = absurd h
+node_of_held_path (r ∷ at) (p ∷ paths) l s (inl i) e = first_is l r.node (nodes_in at) (sym e ∙ ap (λ (x : HeldPath). x.node) i)
+node_of_held_path (r ∷ at) (p ∷ paths) l s (inr h) e = later_is (nat_eq l r.node) (is_one_of l (nodes_in at)) (node_of_held_path at paths l s h e)
 
 -- each node has a path that leads to it
 abbrev AreEnough : List Reached → List Path → Type 0
@@ -80,12 +80,12 @@ nodes_on route at (IsOn path walked node less) = refl
 nodes_on route at (IsBefore old new walked node count part less) = refl
 nodes_on route at (IsApart old new c a b is) = refl
 
-spot_of_node : (at : List Reached) (paths : List Path) (l : ℕ) → AreEnough at paths → is_one_of l (nodes_in at) ≡ true → IsNodeOf (spots_on at paths) l
-spot_of_node [] paths l fits e = let z : ⊥ = cc in absurd z
-spot_of_node (r ∷ at) [] l fits e = absurd (omega (arith, fits))
-spot_of_node (r ∷ at) (p ∷ paths) l fits e = elim (either_is l r.node (nodes_in at) e) [
-  | inl i ↦ record { spot = spot_on p r; holds = inl refl; node = sym i }
-  | inr more ↦ let h = spot_of_node at paths l (omega (arith, fits)) more in record { spot = h.spot; holds = inr h.holds; node = h.node }
+held_path_of_node : (at : List Reached) (paths : List Path) (l : ℕ) → AreEnough at paths → is_one_of l (nodes_in at) ≡ true → IsNodeOf (held_paths_on at paths) l
+held_path_of_node [] paths l fits e = let z : ⊥ = cc in absurd z
+held_path_of_node (r ∷ at) [] l fits e = absurd (omega (arith, fits))
+held_path_of_node (r ∷ at) (p ∷ paths) l fits e = elim (either_is l r.node (nodes_in at) e) [
+  | inl i ↦ record { held_path = held_path_on p r; holds = inl refl; node = sym i }
+  | inr more ↦ let h = held_path_of_node at paths l (omega (arith, fits)) more in record { held_path = h.held_path; holds = inr h.holds; node = h.node }
 ]
 
 -- ---- letting go
@@ -133,27 +133,27 @@ module _ (kept : List ℕ) where
 
 -- ---- a call
 module _ (route : Route) (at : Stage) (is : IsPosition route at) where
-  node_there : (l : ℕ) → IsNodeOf (spots_of route at) l → is_one_of l (nodes_of at) ≡ true
-  node_there l h = ap (is_one_of l) (nodes_on route at is) ∙ node_of_spot (reached_at at) (paths_on route) l h.spot h.holds h.node
+  node_there : (l : ℕ) → IsNodeOf (held_paths_of route at) l → is_one_of l (nodes_of at) ≡ true
+  node_there l h = ap (is_one_of l) (nodes_on route at is) ∙ node_of_held_path (reached_at at) (paths_on route) l h.held_path h.holds h.node
 
-  spot_there : (l : ℕ) → is_one_of l (nodes_of at) ≡ true → IsNodeOf (spots_of route at) l
-  spot_there l e = spot_of_node (reached_at at) (paths_on route) l (enough route at is) (sym (ap (is_one_of l) (nodes_on route at is)) ∙ e)
+  held_path_there : (l : ℕ) → is_one_of l (nodes_of at) ≡ true → IsNodeOf (held_paths_of route at) l
+  held_path_there l e = held_path_of_node (reached_at at) (paths_on route) l (enough route at is) (sym (ap (is_one_of l) (nodes_on route at is)) ∙ e)
 
-  none_there : (l : ℕ) → (IsNodeOf (spots_of route at) l → ⊥) → is_one_of l (nodes_of at) ≡ false
-  none_there l not = elim (one_or_not l (nodes_of at)) [ inl e ↦ absurd (not (spot_there l e)) | inr e ↦ e ]
+  none_there : (l : ℕ) → (IsNodeOf (held_paths_of route at) l → ⊥) → is_one_of l (nodes_of at) ≡ false
+  none_there l not = elim (one_or_not l (nodes_of at)) [ inl e ↦ absurd (not (held_path_there l e)) | inr e ↦ e ]
 
   -- a call lets go of all that it holds
-  pub freed_hands : (s : StoreState) (n : ℕ) → HandsOver (holder_of s.nodes) (holder_of (let_go [] (nodes_of at) s).nodes) n (spots_of route at) []
+  pub freed_hands : (s : StoreState) (n : ℕ) → HandsOver (holder_of s.nodes) (holder_of (let_go [] (nodes_of at) s).nodes) n (held_paths_of route at) []
   freed_hands s n = record {
     here = λ l h. absurd h.holds;
     gone = λ l was _. gone_free [] (nodes_of at) s l (node_there l was) refl;
-    rest = λ l not _. apart_held [] (nodes_of at) s l (λ e. not (spot_there l e));
+    rest = λ l not _. apart_held [] (nodes_of at) s l (λ e. not (held_path_there l e));
   }
 
 -- hand over hand
 pub moved_hands : (s : StoreState) {route : Route} {at after : Stage} (n node : ℕ) {x : Node} → IsPosition route at → IsPosition route after → node_in s.nodes node ≡ Some x
-    → IsNodeOf (spots_of route after) node → ((l : ℕ) → IsNodeOf (spots_of route after) l → (l ≡ node) ⊎ (holder_of s.nodes l ≡ Some n))
-    → HandsOver (holder_of s.nodes) (holder_of (handed_over n at after node s).nodes) n (spots_of route at) (spots_of route after)
+    → IsNodeOf (held_paths_of route after) node → ((l : ℕ) → IsNodeOf (held_paths_of route after) l → (l ≡ node) ⊎ (holder_of s.nodes l ≡ Some n))
+    → HandsOver (holder_of s.nodes) (holder_of (handed_over n at after node s).nodes) n (held_paths_of route at) (held_paths_of route after)
 moved_hands s {route = route} {at = at} {after = after} n node {x = x} is after_is there now held =
     let held_node = edited (with_holder (Some n)) s node in
     record {
@@ -162,6 +162,6 @@ moved_hands s {route = route} {at = at} {after = after} n node {x = x} is after_
         | inr ne ↦ holder_other (Some n) s node l ne ∙ elim (held l h) [ inl e ↦ absurd (ne e) | inr e ↦ e ]
       ];
       gone = λ l was not. gone_free (nodes_of after) (nodes_of at) held_node l (node_there route at is l was) (none_there route after after_is l not);
-      rest = λ l was not. apart_held (nodes_of after) (nodes_of at) held_node l (λ e. was (spot_there route at is l e))
-          ∙ holder_other (Some n) s node l (λ e. not (subst (λ y. IsNodeOf (spots_of route after) y) (sym e) now));
+      rest = λ l was not. apart_held (nodes_of after) (nodes_of at) held_node l (λ e. was (held_path_there route at is l e))
+          ∙ holder_other (Some n) s node l (λ e. not (subst (λ y. IsNodeOf (held_paths_of route after) y) (sym e) now));
     }

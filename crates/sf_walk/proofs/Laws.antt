@@ -14,7 +14,7 @@ pub use Rattle.sf_walk.proofs.Standing.{starts, stands_fresh}
 -- a call that took a step stands where it led, one that waits or decides stands as before, and so
 -- does each after look-ups; the root stays a directory
 pub use Rattle.sf_walk.proofs.Standing.{stands_on, stands_unmoved, stands_still, root_stands}
--- what a step and letting go leave: entries, the root, what is a directory, and so where spots lead
+-- what a step and letting go leave: entries, the root, what is a directory, and so where held paths lead
 pub use Rattle.sf_walk.proofs.Standing.{IsSameGround, same_itself, same_trans, same_held, same_let_go, ground_stays, walk_same, leads_same}
 -- hand over hand: who holds what after a step, and after a call has let go of all
 pub use Rattle.sf_walk.proofs.HandOver.{moved_hands, freed_hands, holder_other, holder_here, holder_freed}

@@ -13,12 +13,12 @@ use Rattle.sf_inode.specs.Nodes.{child_in, is_directory_content, with_holder}
 use Rattle.sf_inode.specs.Stores.{StoreState, node_in, child_of, is_directory_at, looked_up, edited}
 use Rattle.sf_keeps.specs.Steps.{walk}
 use Rattle.sf_keeps.proofs.Laws.{edited_apart, edited_itself}
-use Rattle.sf_coupling.specs.Walks.{Spot, LeadsTo}
+use Rattle.sf_coupling.specs.Walks.{HeldPath, LeadsTo}
 use Rattle.sf_coupling.proofs.Laws.{same_or_not, takes_held}
 use Rattle.sf_walk.specs.declared.walking.Walk.{Walk}
 use Rattle.sf_walk.specs.declared.walking.Walk.TheVariants.{Moved, Blocked, Ready}
 use Rattle.sf_walk.specs.Served.{LookedUp, after_look_ups}
-use Rattle.sf_walk.specs.Routes.{Route, IsRoute, IsPosition, route_at, route_of, is_rooted, are_nested, spots_of, nodes_of, terrain, HoldsWay}
+use Rattle.sf_walk.specs.Routes.{Route, IsRoute, IsPosition, route_at, route_of, is_rooted, are_nested, held_paths_of, nodes_of, namespace, HoldsWay}
 use Rattle.sf_walk.specs.Routes.Route.{NoPath, Along, Between}
 use Rattle.sf_walk.specs.Routes.IsPosition.{Starts}
 use Rattle.sf_walk.specs.Steps.{Walker, is_one_of, free_unless, let_go, entered, handed_over, AdvancesTo, Advances}
@@ -39,7 +39,7 @@ starts r = Starts (route_of r) (route_is (target_of r))
 
 -- and a call that starts stands there
 pub stands_fresh : (s : StoreState) (r : Request) → HoldsWay s (route_of r) stage.Fresh
-stands_fresh s r = record { position = starts r; leads = λ spot held. absurd held }
+stands_fresh s r = record { position = starts r; leads = λ held_path held. absurd held }
 
 -- entries, the root, and what is a directory are the same
 pub record IsSameGround (s new : StoreState) : Type 0 where
@@ -105,29 +105,29 @@ module _ (old new : StoreState) (same : IsSameGround old new) where
   pub walk_same : (p : Path) → walk (child_of new.nodes) new.root p ≡ walk (child_of old.nodes) old.root p
   walk_same p = λ i. walk (λ x n. same.step x n i) (same.root i) p
 
-  pub leads_same : (spot : Spot) → LeadsTo (terrain old) spot → LeadsTo (terrain new) spot
-  leads_same spot h = record { names = walk_same spot.path ∙ h.names; directory = same.directory spot.node ∙ h.directory }
+  pub leads_same : (held_path : HeldPath) → LeadsTo (namespace old) held_path → LeadsTo (namespace new) held_path
+  leads_same held_path h = record { names = walk_same held_path.path ∙ h.names; directory = same.directory held_path.node ∙ h.directory }
 
   pub stands_same : (r : Route) (at : Stage) → HoldsWay old r at → HoldsWay new r at
-  stands_same r at h = record { position = h.position; leads = λ spot held. leads_same spot (h.leads spot held) }
+  stands_same r at h = record { position = h.position; leads = λ held_path held. leads_same held_path (h.leads held_path held) }
 
   root_same : is_directory_at old.nodes old.root ≡ true → is_directory_at new.nodes new.root ≡ true
   root_same dir = ap (is_directory_at new.nodes) same.root ∙ same.directory old.root ∙ dir
 
 same_moved : (old new : StoreState) (w : Walker) (after : Stage) → AdvancesTo old new w after → IsSameGround old new
 same_moved old new w after m =
-    let held = edited (with_holder (Some w.number)) (entered w.at old) m.spot.node in
+    let held = edited (with_holder (Some w.number)) (entered w.at old) m.held_path.node in
     subst (λ (s : StoreState). IsSameGround old s) (sym m.state)
-    (same_trans old held (handed_over w.number w.at after m.spot.node (entered w.at old)) (same_trans old (entered w.at old) held (same_entered w.at old) (same_held (Some w.number) (entered w.at old) m.spot.node))
+    (same_trans old held (handed_over w.number w.at after m.held_path.node (entered w.at old)) (same_trans old (entered w.at old) held (same_entered w.at old) (same_held (Some w.number) (entered w.at old) m.held_path.node))
     (same_let_go (nodes_of after) (nodes_of w.at) held))
 
 -- a call that took a step stands where it led
 pub stands_on : (old new : StoreState) (w : Walker) (after : Stage) → HoldsWay old w.route w.at → AdvancesTo old new w after → HoldsWay new w.route after
 stands_on old new w after h m = record {
   position = m.position;
-  leads = λ spot held. leads_same old new (same_moved old new w after m) spot (elim (takes_held m.spot (spots_of w.route w.at) (spots_of w.route after) spot m.takes held) [
-    | inl e ↦ subst (LeadsTo (terrain old)) (sym e) m.leads
-    | inr was ↦ h.leads spot was
+  leads = λ held_path held. leads_same old new (same_moved old new w after m) held_path (elim (takes_held m.held_path (held_paths_of w.route w.at) (held_paths_of w.route after) held_path m.takes held) [
+    | inl e ↦ subst (LeadsTo (namespace old)) (sym e) m.leads
+    | inr was ↦ h.leads held_path was
   ]);
 }
 

@@ -10,7 +10,7 @@ use Rattle.sf_call.specs.Requests.Target.{ByHandle, OnPath, OnPaths}
 use Rattle.sf_call.specs.Tree.{after_front, is_nil}
 use Rattle.sf_inode.specs.Stores.{StoreState, child_of, is_directory_at}
 use Rattle.sf_keeps.specs.Steps.{walk}
-use Rattle.sf_coupling.specs.Walks.{Terrain, Spot, Holds, LeadsTo}
+use Rattle.sf_coupling.specs.Walks.{Namespace, HeldPath, Holds, LeadsTo}
 use Rattle.sf_walk.specs.declared.routes.Route.{Route as Borrowed}
 use Rattle.sf_walk.specs.declared.routes.Route.TheVariants as borrowed
 
@@ -98,17 +98,17 @@ paths_on (Along path) = path ∷ []
 paths_on (Between old new) = old ∷ old ∷ new ∷ []
 
 -- so many names of the path lead to the node
-abbrev pub spot_on : Path → Reached → Spot
-spot_on path at = record { path = take at.walked path; node = at.node }
+abbrev pub held_path_on : Path → Reached → HeldPath
+held_path_on path at = record { path = take at.walked path; node = at.node }
 
-abbrev pub spots_on : List Reached → List Path → List Spot
-spots_on [] paths = []
-spots_on (r ∷ at) [] = []
-spots_on (r ∷ at) (path ∷ paths) = spot_on path r ∷ spots_on at paths
+abbrev pub held_paths_on : List Reached → List Path → List HeldPath
+held_paths_on [] paths = []
+held_paths_on (r ∷ at) [] = []
+held_paths_on (r ∷ at) (path ∷ paths) = held_path_on path r ∷ held_paths_on at paths
 
 -- what a call holds on its route
-abbrev pub spots_of : Route → Stage → List Spot
-spots_of route at = spots_on (reached_at at) (paths_on route)
+abbrev pub held_paths_of : Route → Stage → List HeldPath
+held_paths_of route at = held_paths_on (reached_at at) (paths_on route)
 
 -- the nodes that a call holds: directories, or the file that it copies into
 abbrev pub nodes_in : List Reached → List ℕ
@@ -120,8 +120,8 @@ nodes_of (stage.Copies node left) = node ∷ []
 nodes_of at = nodes_in (reached_at at)
 
 -- where paths lead in a store
-abbrev pub terrain : StoreState → Terrain
-terrain s = record {
+abbrev pub namespace : StoreState → Namespace
+namespace s = record {
   leads = λ path. walk (child_of s.nodes) s.root path;
   is_directory = is_directory_at s.nodes;
 }
@@ -129,4 +129,5 @@ terrain s = record {
 -- A call stands on its route: what it has walked leads to the directories that it holds.
 pub record HoldsWay (s : StoreState) (route : Route) (at : Stage) : Type 0 where
   pub position : IsPosition route at
-  pub leads : (spot : Spot) → Holds (spots_of route at) spot → LeadsTo (terrain s) spot
+  pub leads : (held_path : HeldPath) → Holds (held_paths_of route at) held_path
+      → LeadsTo (namespace s) held_path

@@ -8,14 +8,14 @@ use Rattle.sf_inode.specs.declared.node.Node.{Node}
 use Rattle.sf_inode.specs.Nodes.{with_holder}
 use Rattle.sf_inode.specs.Stores.{StoreState, child_of, holder_of, is_directory_at, looked_up, edited}
 use Rattle.sf_keeps.specs.Steps.{walk}
-use Rattle.sf_coupling.specs.Walks.{Spot, IsFree, LeadsTo}
-use Rattle.sf_coupling.specs.Stepping.{TakesSpot}
+use Rattle.sf_coupling.specs.Walks.{HeldPath, IsFree, LeadsTo}
+use Rattle.sf_coupling.specs.Stepping.{TakesPath}
 use Rattle.sf_walk.specs.declared.finding.Ways.{Ways}
 use Rattle.sf_walk.specs.declared.finding.Located.{Located}
 use Rattle.sf_walk.specs.declared.finding.Located.TheVariants as located
 use Rattle.sf_walk.specs.declared.walking.Walk.{Walk}
 use Rattle.sf_walk.specs.declared.walking.Walk.TheVariants.{Moved, Blocked, Ready}
-use Rattle.sf_walk.specs.Routes.{Route, IsPosition, reached, paths_on, spots_of, nodes_of, terrain}
+use Rattle.sf_walk.specs.Routes.{Route, IsPosition, reached, paths_on, held_paths_of, nodes_of, namespace}
 use Rattle.sf_walk.specs.Routes.Route.{NoPath, Along, Between}
 use Rattle.sf_walk.specs.Ways.{IsThere, AreWays}
 use Rattle.sf_walk.specs.Served.{LookedUp}
@@ -87,13 +87,13 @@ handed_over number was now node s =
 
 -- the call came to a further directory, which no other call held
 pub record AdvancesTo (old new : StoreState) (w : Walker) (after : Stage) : Type 0 where
-  pub spot : Spot
-  pub takes : TakesSpot spot (spots_of w.route w.at) (spots_of w.route after)
-  pub leads : LeadsTo (terrain old) spot
-  pub free : IsFree (holder_of old.nodes) w.number spot.node
+  pub held_path : HeldPath
+  pub takes : TakesPath held_path (held_paths_of w.route w.at) (held_paths_of w.route after)
+  pub leads : LeadsTo (namespace old) held_path
+  pub free : IsFree (holder_of old.nodes) w.number held_path.node
   pub position : IsPosition w.route after
   pub walks : AdvancesOne w.at after
-  pub state : new ≡ handed_over w.number w.at after spot.node (entered w.at old)
+  pub state : new ≡ handed_over w.number w.at after held_path.node (entered w.at old)
 
 -- another call holds the node that the next name leads to
 pub record WaitsFor (old new : StoreState) (w : Walker) (holder : ℕ) : Type 0 where

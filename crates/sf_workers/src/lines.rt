@@ -14,7 +14,7 @@ use sf_audit::Transcript;
 use sf_core::Core;
 use sf_line::Line;
 use sf_noted::{NotedCore, Page, Visit};
-use sf_pool::{Hall, StepObserver};
+use sf_pool::{WaitQueue, StepObserver};
 use sf_roll::{NewRoll, RollName};
 use sf_session::Clock;
 use std::alloc::{AllocError, Global};
@@ -155,13 +155,13 @@ pub fn serve_lines<
 {
     let mut rest = all;
     let jobs = jobs(alloc, clocks, &mut rest)?;
-    let hall = Hall::new();
+    let wait_queue = WaitQueue::new();
     let core = Mutex::new(core);
     let place = Place {
         rt,
         alloc,
         core: &core,
-        hall: &hall,
+        wait_queue: &wait_queue,
     };
     let all = work_all(&place, lines, jobs, observer, keep)?;
     let all = together(alloc, all, rest, keep)?;

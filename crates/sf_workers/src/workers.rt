@@ -14,7 +14,7 @@ use crossbeam_channel::Receiver;
 use sf_core::Share;
 use sf_line::Line;
 use sf_noted::NotedCore;
-use sf_pool::{Hall, LockDesk, NotJoined, Stayed, StepObserver, serve};
+use sf_pool::{WaitQueue, LockDesk, NotJoined, Stayed, StepObserver, serve};
 use sf_roll::RollName;
 use sf_serving::new_piece;
 use sf_session::{Clock, ServeFault};
@@ -78,13 +78,13 @@ pub(crate) struct Served<B: RollName + Ledger> {
     ghost counted: { share.amount ≡ calls_of told.visits.items },
 }
 
-/// Where sessions are served: a core that threads share, and the hall for those that wait for it.
+/// Where sessions are served: a core that threads share, and the queue of those that wait for it.
 #[derive(Drop)]
 pub struct Place<'a, R, B: RollName + Ledger> {
     pub rt: &'a R,
     pub alloc: Global,
     pub core: &'a Mutex<NotedCore<B>>,
-    pub hall: &'a Hall,
+    pub wait_queue: &'a WaitQueue,
 }
 
 /// What came of a line.
@@ -130,7 +130,7 @@ pub fn serve_line<B: RollName + Ledger, R: Wait, L: Line, C: Clock, G: StepObser
         (line_view (L.incoming line.new) (L.outgoing line.new) (L.calls line.new))) }
     ensures len { vec_len piece.new ≡ vec_len piece.old }
 {
-    let mut desk = LockDesk::new(place.rt, place.alloc, place.core, place.hall, keeps, lent);
+    let mut desk = LockDesk::new(place.rt, place.alloc, place.core, place.wait_queue, keeps, lent);
     let mut share = Share::zero();
     let outcome = serve(
         place.alloc,

@@ -159,7 +159,7 @@ fn serve_second<'a, R: Threads + Wait + Abort + Sync, G: StepObserver + Sync>(
     ended
 }
 
-/// A client is idle after six calls, of which the last ones were made behind the door. Another
+/// A client is idle after six calls, of which the last ones were made with the permit. Another
 /// session makes six calls meanwhile.
 #[test]
 fn six_calls_beside_an_idle_client(rt: HostRuntime) -> Result<(), Fail> {
@@ -179,13 +179,13 @@ fn six_calls_beside_an_idle_client(rt: HostRuntime) -> Result<(), Fail> {
 /// The WRITE of the first session is call 3, and is held half way. The SETSTAT of the second one,
 /// call 4, waits for it, and sleeps. The third session isn't stopped.
 #[derive(Drop)]
-struct WakesBehindTheDoor<'a> {
+struct WakesWithThePermit<'a> {
     signs: &'a Signs,
 }
 
-impl CallObserver for WakesBehindTheDoor<'_> {}
+impl CallObserver for WakesWithThePermit<'_> {}
 
-impl StepObserver for WakesBehindTheDoor<'_> {
+impl StepObserver for WakesWithThePermit<'_> {
     fn stops(&self, session: u64, _number: u64, _steps: u64) -> bool {
         session != 3
     }
@@ -247,7 +247,7 @@ fn serve_third<'a, R: Threads + Wait + Abort + Sync, G: StepObserver + Sync>(
     ended
 }
 
-/// The third session makes five calls and a rename, all behind the door at last, and then its
+/// The third session makes five calls and a rename, all with the permit at last, and then its
 /// client is idle. The rename carried out the call that sleeps, which is woken.
 #[test]
 fn an_idle_client_has_woken_whom_it_carried_out(rt: HostRuntime) -> Result<(), Fail> {
@@ -261,7 +261,7 @@ fn an_idle_client_has_woken_whom_it_carried_out(rt: HostRuntime) -> Result<(), F
     let first = IdleLine::new(alloc, &one, &signs, 0);
     let second = IdleLine::new(alloc, &two, &signs, 0);
     let third = IdleLine::new(alloc, &three, &signs, 1);
-    let observer = WakesBehindTheDoor { signs: &signs };
+    let observer = WakesWithThePermit { signs: &signs };
     let ended = serve_third(&rt, alloc, first, second, third, &signs, &observer)?;
     signs.are_in_time(&rt, 1);
     has_told(&rt, &ended, 10);

@@ -5,7 +5,7 @@ ghost use Rattle.std.specs.Prelude.{◌≡◌, vec_len};
 use super::asleep::{OPEN_A_F, SIZE_A_F, TRIES, add_write};
 use super::*;
 use sf_noted::{NotedCore, Page};
-use sf_pool::{Hall, Stayed};
+use sf_pool::{WaitQueue, Stayed};
 use sf_roll::{NewRoll, RollName};
 use sf_serving::new_piece;
 use sf_workers::{Place, serve_line};
@@ -49,7 +49,7 @@ enum Sign {
 #[derive(Drop)]
 struct TwoSleepers<'a, R> {
     rt: &'a R,
-    hall: &'a Hall,
+    wait_queue: &'a WaitQueue,
     waker: u64,
     woken: u64,
     held: AtomicU64,
@@ -57,10 +57,10 @@ struct TwoSleepers<'a, R> {
 }
 
 impl<'a, R: Abort + Clock> TwoSleepers<'a, R> {
-    fn new(rt: &'a R, hall: &'a Hall, waker: u64, woken: u64) -> TwoSleepers<'a, R> {
+    fn new(rt: &'a R, wait_queue: &'a WaitQueue, waker: u64, woken: u64) -> TwoSleepers<'a, R> {
         TwoSleepers {
             rt,
-            hall,
+            wait_queue,
             waker,
             woken,
             held: AtomicU64::new(0),
@@ -71,7 +71,7 @@ impl<'a, R: Abort + Clock> TwoSleepers<'a, R> {
     fn is_so(&self, sign: Sign) -> bool {
         match sign {
             Sign::Held(count) => self.held.load(Ordering::SeqCst) >= count,
-            Sign::Asleep(count) => self.hall.asleep() == count,
+            Sign::Asleep(count) => self.wait_queue.asleep() == count,
             Sign::Woken => self.answered.load(Ordering::SeqCst) == 1,
         }
     }
@@ -225,7 +225,7 @@ fn serve_four<B: RollName + Ledger + Send + Sync, R: Threads + Wait + Abort + Cl
         rt,
         alloc,
         core: &core,
-        hall: observer.hall,
+        wait_queue: observer.wait_queue,
     };
     let turns = turns(alloc, inputs, all)?;
     let transcripts = thread::map_vec(rt, turns, &|turn| { take_turn(&place, turn, observer) })?;
@@ -253,8 +253,8 @@ fn both_are_woken<R: Threads + Wait + Abort + Clock + Sync>(
         hex_packets(alloc, &[INIT, SIZE_A_F])?,
         hex_packets(alloc, &[INIT, SIZE_B_F])?,
     ];
-    let hall = Hall::new();
-    let observer = TwoSleepers::new(rt, &hall, waker, woken);
+    let wait_queue = WaitQueue::new();
+    let observer = TwoSleepers::new(rt, &wait_queue, waker, woken);
     let tokens = (NewRoll::new(alloc)?, Blank::new(4));
     let ended = serve_four::<Brand, R>(rt, alloc, tokens, &inputs, &observer)?;
     has_told(rt, &ended, 8);

@@ -1,6 +1,6 @@
 use Rattle.std.proofs.Common.{◌+◌, map, drop}
 use Rattle.sf_audit.specs.Audits.{call_record, call_records, IsWithin}
-use Rattle.sf_audit.proofs.Deeds.{goes_on, none_left, at_the_end}
+use Rattle.sf_audit.proofs.ToldCalls.{goes_on, none_left, at_the_end}
 use Rattle.sf_audit.proofs.audits.are_in_order.Goals as goal
 
 pub loop-entry-preserved : goal.loop-entry-preserved

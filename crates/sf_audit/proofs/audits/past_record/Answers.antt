@@ -1,7 +1,7 @@
 use Rattle.std.proofs.Common.{◌≡◌, ◌≢◌, ◌↔◌, ◌∷◌, map, List, Some, sym, subst}
 use Rattle.sf_audit.specs.declared.transcript.AnsweredCall.{AnsweredCall}
 use Rattle.sf_audit.specs.Audits.{call_record, call_record_of, call_records, IsWithin}
-use Rattle.sf_audit.proofs.Deeds.{within_takes, within_passes}
+use Rattle.sf_audit.proofs.ToldCalls.{within_takes, within_passes}
 use Rattle.sf_audit.proofs.audits.past_record.Goals as goal
 
 pub returns-then-tells : goal.returns-then-tells

@@ -7,16 +7,16 @@ use Rattle.sf_audit.proofs.gathering.recorded.Goals as goal
 pub overflow_add-result : goal.overflow_add-result
 overflow_add-result c =
     let whole = c.history.ensures.whole in
-    let kept : c.deeds-kept.result ≡ count_by is_call c.args.core.now.records = c.deeds-kept.ensures ∙ ap (count_by is_call) c.history.ensures.records in
+    let kept : c.call_count-kept.result ≡ count_by is_call c.args.core.now.records = c.call_count-kept.ensures ∙ ap (count_by is_call) c.history.ensures.records in
     omega (arith, kept, c.folded.ensures, counted c.args.core.now whole.0 whole.1, not_more c.args.core.now whole.0 whole.1, c.requires, c.ranges.calls.fits)
 
 pub returns-clause-all : goal.returns-clause-all
 returns-clause-all c = λ h is.
-    let kept : c.deeds-kept.result ≡ count_by is_call c.args.core.now.records = c.deeds-kept.ensures ∙ ap (count_by is_call) c.history.ensures.records in
+    let kept : c.call_count-kept.result ≡ count_by is_call c.args.core.now.records = c.call_count-kept.ensures ∙ ap (count_by is_call) c.history.ensures.records in
     omega (arith, kept, c.folded.ensures, counted c.args.core.now h is)
 
 pub returns-clause-most : goal.returns-clause-most
 returns-clause-most c =
     let whole = c.history.ensures.whole in
-    let kept : c.deeds-kept.result ≡ count_by is_call c.args.core.now.records = c.deeds-kept.ensures ∙ ap (count_by is_call) c.history.ensures.records in
+    let kept : c.call_count-kept.result ≡ count_by is_call c.args.core.now.records = c.call_count-kept.ensures ∙ ap (count_by is_call) c.history.ensures.records in
     omega (arith, kept, c.folded.ensures, counted c.args.core.now whole.0 whole.1, not_more c.args.core.now whole.0 whole.1, c.requires)

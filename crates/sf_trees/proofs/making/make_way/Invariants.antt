@@ -1,5 +1,5 @@
 use Rattle.std.proofs.Common.{Ok}
-use Rattle.sf_trees.specs.Deeds.{Does}
+use Rattle.sf_trees.specs.Operations.{Does}
 use Rattle.sf_trees.specs.Makings.{MakesTo}
 use Rattle.sf_trees.proofs.making.make_way.Given as goal
 

@@ -1,5 +1,5 @@
 use Rattle.std.proofs.Common.{Ok}
-use Rattle.sf_trees.specs.Deeds.{Does, request_place}
+use Rattle.sf_trees.specs.Operations.{Does, request_place}
 use Rattle.sf_trees.specs.Makings.{WritesTo}
 use Rattle.sf_trees.proofs.making.write_pieces.Given as goal
 

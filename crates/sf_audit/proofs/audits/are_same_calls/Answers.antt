@@ -1,7 +1,7 @@
 use Rattle.std.proofs.Common.{◌≡◌, ◌+◌, map, drop}
 use Rattle.sf_audit.specs.Audits.{call_record, call_records}
-use Rattle.sf_audit.proofs.Deeds.{goes_on, ends_here}
-use Rattle.sf_audit.proofs.audits.are_deeds.Goals as goal
+use Rattle.sf_audit.proofs.ToldCalls.{goes_on, ends_here}
+use Rattle.sf_audit.proofs.audits.are_same_calls.Goals as goal
 
 pub returns-in-None : goal.returns-in-None
 returns-in-None c =

@@ -10,21 +10,22 @@ use Rattle.sf_trees.specs.declared.fault.Place.{Place}
 use Rattle.sf_trees.specs.declared.fault.Refused.{Refused}
 
 -- A session begins, a request of it is answered or isn't, and a session ends.
-pub data Deed : Type 0 where
-  Begins : (came : Result ℕ TreeFault) → Deed
-  Asks : (session : ℕ) → (q : WireRequest) → (came : Result Reply TreeFault) → Deed
-  Ends : (session : ℕ) → Deed
+pub data Operation : Type 0 where
+  Begins : (came : Result ℕ TreeFault) → Operation
+  Asks : (session : ℕ) → (q : WireRequest) → (came : Result Reply TreeFault) → Operation
+  Ends : (session : ℕ) → Operation
 
 -- This was done, and came to that.
-abbrev pub Does : {V : Type 0} → {R : Type 0} → (V → List Deed → V → Type 0) → V → V
-    → (List Deed → R → Type 0) → R → Type 0
-Does reaches old new P result = (deeds : List Deed) × reaches old deeds new × P deeds result
+abbrev pub Does : {V : Type 0} → {R : Type 0} → (V → List Operation → V → Type 0) → V → V
+    → (List Operation → R → Type 0) → R → Type 0
+Does reaches old new P result = (operations : List Operation) × reaches old operations new
+    × P operations result
 
 -- a request alone, and what its reply tells
-abbrev pub IsAsked : {R : Type 0} → ℕ → WireRequest → (Result Reply TreeFault → R) → List Deed → R
-    → Type 0
-IsAsked session q told deeds result = (came : Result Reply TreeFault)
-    × (deeds ≡ Asks session q came ∷ []) × (result ≡ told came)
+abbrev pub IsAsked : {R : Type 0} → ℕ → WireRequest → (Result Reply TreeFault → R) → List Operation
+    → R → Type 0
+IsAsked session q told operations result = (came : Result Reply TreeFault)
+    × (operations ≡ Asks session q came ∷ []) × (result ≡ told came)
 
 -- why a reply isn't the one that is due
 abbrev pub fault_in_reply : Reply → TreeFault
@@ -55,37 +56,37 @@ abbrev pub request_place : ℕ → ℕ → Place
 request_place kind len = record { kind = kind; length = len }
 
 -- nothing was done
-abbrev pub IsNothing : {E : Type 0} → List Deed → Result (Unit {0}) E → Type 0
-IsNothing deeds result = (deeds ≡ []) × (result ≡ Ok tt)
+abbrev pub IsNothing : {E : Type 0} → List Operation → Result (Unit {0}) E → Type 0
+IsNothing operations result = (operations ≡ []) × (result ≡ Ok tt)
 
 -- what came of it leads on to this, or ends it
 abbrev pub ContinuesWith : {A : Type 0} → {R : Type 0} → {E : Type 0}
-    → (A → List Deed → Result R E → Type 0) → Result A E → List Deed → Result R E → Type 0
-ContinuesWith Q (Ok x) deeds result = Q x deeds result
-ContinuesWith Q (Err why) deeds result = (deeds ≡ []) × (result ≡ Err why)
+    → (A → List Operation → Result R E → Type 0) → Result A E → List Operation → Result R E → Type 0
+ContinuesWith Q (Ok x) operations result = Q x operations result
+ContinuesWith Q (Err why) operations result = (operations ≡ []) × (result ≡ Err why)
 
 -- one thing after another, unless the first one is refused
-pub record Then {A : Type 0} {R : Type 0} {E : Type 0} (P : List Deed → Result A E → Type 0)
-    (Q : A → List Deed → Result R E → Type 0) (deeds : List Deed)
+pub record Then {A : Type 0} {R : Type 0} {E : Type 0} (P : List Operation → Result A E → Type 0)
+    (Q : A → List Operation → Result R E → Type 0) (operations : List Operation)
     (result : Result R E) : Type 0 where
-  pub first : List Deed
-  pub second : List Deed
+  pub first : List Operation
+  pub second : List Operation
   pub came : Result A E
-  pub parts : deeds ≡ first ++ second
+  pub parts : operations ≡ first ++ second
   pub begins : P first came
   pub goes_on : ContinuesWith Q came second result
 
 -- A session begins, this is done by it, and it ends.
-pub record HasSession {R : Type 0} (P : ℕ → List Deed → Result R Refused → Type 0)
-    (deeds : List Deed) (result : Result R Refused) : Type 0 where
+pub record HasSession {R : Type 0} (P : ℕ → List Operation → Result R Refused → Type 0)
+    (operations : List Operation) (result : Result R Refused) : Type 0 where
   pub session : ℕ
-  pub inner : List Deed
-  pub parts : deeds ≡ Begins (Ok session) ∷ inner ++ Ends session ∷ []
+  pub inner : List Operation
+  pub parts : operations ≡ Begins (Ok session) ∷ inner ++ Ends session ∷ []
   pub done : P session inner result
 
 -- so, or no session begins
-abbrev pub BySession : {R : Type 0} → (ℕ → List Deed → Result R Refused → Type 0) → List Deed
-    → Result R Refused → Type 0
-BySession P deeds result = HasSession P deeds result
-    ⊎ ((why : TreeFault) × (deeds ≡ Begins (Err why) ∷ [])
+abbrev pub BySession : {R : Type 0} → (ℕ → List Operation → Result R Refused → Type 0)
+    → List Operation → Result R Refused → Type 0
+BySession P operations result = HasSession P operations result
+    ⊎ ((why : TreeFault) × (operations ≡ Begins (Err why) ∷ [])
     × (result ≡ Err (refused_at (request_place 1 0) why)))

@@ -1,6 +1,6 @@
 use Rattle.std.proofs.Common.{◌≡◌, ◌↔◌, map, drop}
 use Rattle.sf_audit.specs.Audits.{call_record, call_records}
-use Rattle.sf_audit.proofs.audits.are_deeds.Given as goal
+use Rattle.sf_audit.proofs.audits.are_same_calls.Given as goal
 
 -- the records so far told of the calls that are not left
 abbrev pub invariant-loop-entry : goal.invariant-loop-entry

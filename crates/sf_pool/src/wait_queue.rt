@@ -9,7 +9,7 @@ pub(crate) const LOOKS: u32 = 20;
 
 /// Who waits for a core that threads share, and whether one keeps it.
 #[derive(Drop)]
-pub struct Hall {
+pub struct WaitQueue {
     happened: Condvar,
     // How many wait for something to happen on the core. Changed by whoever has the lock.
     asleep: AtomicU64,
@@ -22,20 +22,20 @@ pub struct Hall {
     asking: AtomicU64,
     blocked: AtomicU64,
     // Whoever has it may keep the core for many calls.
-    door: Mutex<()>,
+    permit: Mutex<()>,
 }
 
-impl Hall {
+impl WaitQueue {
     /// Nobody waits.
-    pub fn new() -> Hall {
-        Hall {
+    pub fn new() -> WaitQueue {
+        WaitQueue {
             happened: Condvar::new(),
             asleep: AtomicU64::new(0),
             taken: AtomicU64::new(0),
             asks: AtomicU64::new(0),
             asking: AtomicU64::new(0),
             blocked: AtomicU64::new(0),
-            door: Mutex::new(()),
+            permit: Mutex::new(()),
         }
     }
 
@@ -121,6 +121,6 @@ impl Hall {
 
     /// Waits for the leave to keep the core for many calls.
     pub(crate) fn enter<R: Wait>(&self, rt: &R) -> MutexGuard<'_, ()> {
-        self.door.lock(rt)
+        self.permit.lock(rt)
     }
 }
