@@ -24,7 +24,7 @@ use Rattle.sf_walk.specs.Routes.{Route, HoldsWay, route_of}
 use Rattle.sf_walk.specs.Routes.Route.{NoPath, Along, Between}
 use Rattle.sf_walk.specs.Files.{IsFileFree, IsSettled, file_handle, file_holder_of, holder_by}
 use Rattle.sf_walk.specs.Steps.{walker, DecidesNow as Ready}
-use Rattle.sf_walk.specs.Ways.{along}
+use Rattle.sf_walk.specs.Ways.{no_path, AreWays, IsLocated}
 use Rattle.sf_walk.proofs.Laws.{at_once, nowhere_stays, stands_fresh}
 use Rattle.sf_core.specs.declared.step.Step.TheVariants as step
 use Rattle.sf_core.specs.Lanes.{LaneView, at_rest}
@@ -60,6 +60,9 @@ is_nobody (Some n) e = absurd (let z : ⊥ = cc in z)
 module _ (s : StoreState) (session : ℕ) (request : Request) (once : is_at_once s session request ≡ true) where
   pub at_once_route : route_of request ≡ NoPath
   at_once_route = is_no_path (route_of request) (both_true (walks_nothing (route_of request)) (not (is_write request) && is_none (holder_by s session request)) once).0
+
+  pub at_once_located : (t : StoreState) (ways : Ways) → ways ≡ no_path → IsLocated t request ways
+  at_once_located t ways e = subst (λ (r : Route). AreWays t r ways) (sym at_once_route) (ap (λ (w : Ways). w.kind) e, tt)
 
   pub at_once_silent : is_write request ≡ false
   at_once_silent = is_not (is_write request) (both_true (not (is_write request)) (is_none (holder_by s session request)) (both_true (walks_nothing (route_of request)) (not (is_write request) && is_none (holder_by s session request)) once).1).0
@@ -149,7 +152,7 @@ module _ (lane : LaneView) (p q : PartsView) (core : IsCore p) (request : Reques
   undecided = reply_is its
 
   abbrev nowhere : Ways
-  nowhere = along located.NoWay
+  nowhere = no_path
 
   free : IsFileFree at.mid.store its
   free = record { free = (subst (λ (s : StoreState). IsFileFree s its) (sym at.begun.store) (at_once_free p.store lane.session request once its refl refl)).free }

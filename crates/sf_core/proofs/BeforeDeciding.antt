@@ -162,7 +162,7 @@ module _ (p : PartsView) (h : List Record) (sound : Sound p h) (c : Call) (at : 
   labels_by (ByHandle handle) e w f given mid served stays path l holder leads held other =
       label_by_handle p.store mid h c.number c.session c.moment c.request given sound.history.legal above fresh sound.history.tree served stays handle e path
   labels_by (OnPath x) e w f given mid served stays path l holder leads held other =
-      label_still p.store mid h c.number c.session c.moment c.request given sound.history.legal above fresh sound.history.tree served stays x e ways w f path l holder leads (walker_holds p.store.nodes l holder held).1 other
+      label_still p.store mid h c.number c.session c.moment c.request given sound.history.legal above fresh sound.history.tree served stays x e ways w.1 f path l holder leads (walker_holds p.store.nodes l holder held).1 other
   labels_by (OnPaths old new) e w f given mid served stays path l holder leads held other =
       let it = reached_node p.store (replay h) sound.history.tree path l leads in
       let some : label_at (replay h).names path ≡ Some it.0.label =
@@ -344,10 +344,10 @@ module _ (p : PartsView) (h : List Record) (sound : Sound p h) (fits : p.store.l
   old_way = located_at p.store.nodes old p.store.root p.store.root old_node.0 old_node.1
 
   old_there : IsThere ways.path
-  old_there = subst IsThere (sym (ways_are.0 ∙ old_way.1)) tt
+  old_there = subst IsThere (sym (ways_are.1.0 ∙ old_way.1)) tt
 
   new_is : ways.new ≡ way_from p.store.nodes p.store.root p.store.root new
-  new_is = ways_are.1 old_there
+  new_is = ways_are.1.1 old_there
 
   free_new : IsFreeThere (holder_of p.store.nodes) c.number ways.new
   free_new = subst (λ (r : Route). AreFree (holder_of p.store.nodes) c.number r ways) route_is free
@@ -561,11 +561,14 @@ module _ (p : PartsView) (h : List Record) (sound : Sound p h) (fits : p.store.l
 
   located_m : IsLocated m.store c.request ways
   located_m = subst (λ (r : Route). AreWays m.store r ways) (sym route_is) (
-    ways_are.0 ∙ sym (way_still old aside_old (λ none. let x : located.NoWay ≡ located.At old_way.0 old_node.0 = sym none ∙ old_way.1 in let z : ⊥ = cc in z)),
-    λ _. new_is ∙ sym (way_still new aside_new (λ none.
-        let a : look_up (replay h) new ≡ place.NoWay = no_way p.store (replay h) sound.history.tree new none in
-        let d : look_up (replay h) new ≡ lookup_of (label_at (replay h).names new) = ap (λ y. cond y place.NoWay (lookup_of (label_at (replay h).names new))) is_move.way in
-        no_place (label_at (replay h).names new) (sym d ∙ a))),
+    ways_are.0,
+    (
+      ways_are.1.0 ∙ sym (way_still old aside_old (λ none. let x : located.NoWay ≡ located.At old_way.0 old_node.0 = sym none ∙ old_way.1 in let z : ⊥ = cc in z)),
+      λ _. new_is ∙ sym (way_still new aside_new (λ none.
+          let a : look_up (replay h) new ≡ place.NoWay = no_way p.store (replay h) sound.history.tree new none in
+          let d : look_up (replay h) new ≡ lookup_of (label_at (replay h).names new) = ap (λ y. cond y place.NoWay (lookup_of (label_at (replay h).names new))) is_move.way in
+          no_place (label_at (replay h).names new) (sym d ∙ a))),
+    ),
   )
 
   became : (k : ℕ) (d : Call) → k ≢ c.number → call_at p.calls k ≡ Some d → Became m all.helped k d

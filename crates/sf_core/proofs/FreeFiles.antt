@@ -119,7 +119,7 @@ module _ (p : PartsView) (h : List Record) (sound : Sound p h) (c : Call) (at : 
   left_root node e = left_where p.store node (λ file. absurd (no_directory p.store.nodes node file (ap (is_directory_at p.store.nodes) e ∙ root_kept p.store _ sound.history.tree)))
 
   by_path : (ways : Ways) (path : Path) → AreWays p.store (Along path) ways → AreFree (holder_of p.store.nodes) c.number (Along path) ways → (parent node : ℕ) → ways.path ≡ located.At parent node → blocks_left_at p.store.nodes node ≡ 0
-  by_path ways [] w free parent node there = left_root node (let e : located.At parent node ≡ located.At p.store.root p.store.root = sym there ∙ w in cc)
+  by_path ways [] w free parent node there = left_root node (let e : located.At parent node ≡ located.At p.store.root p.store.root = sym there ∙ w.1 in cc)
   by_path ways (x ∷ path) w free parent node there = left_free node (subst (λ (f : Located). IsFreeThere (holder_of p.store.nodes) c.number f) there free)
 
   on_path_by : (r : Request) (ways : Ways) → AreWays p.store (route_of r) ways → AreFree (holder_of p.store.nodes) c.number (route_of r) ways → (parent node : ℕ) → cuts_file r ≡ true → ways.path ≡ located.At parent node → blocks_left_at p.store.nodes node ≡ 0

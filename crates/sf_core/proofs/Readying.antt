@@ -37,9 +37,9 @@ module _ (s t : StoreState) (g : IsSameGround s t) where
   way_root path = way_same path t.root t.root ∙ ap (λ r. way_from s.nodes r r path) g.root
 
   pub ways_same : (r : Route) (ways : Ways) → AreWays s r ways → AreWays t r ways
-  ways_same NoPath ways w = tt
-  ways_same (Along path) ways w = w ∙ sym (way_root path)
-  ways_same (Between old new) ways w = (w.0 ∙ sym (way_root old), λ there. w.1 there ∙ sym (way_root new))
+  ways_same NoPath ways w = (w.0, tt)
+  ways_same (Along path) ways w = (w.0, w.1 ∙ sym (way_root path))
+  ways_same (Between old new) ways w = (w.0, (w.1.0 ∙ sym (way_root old), λ there. w.1.1 there ∙ sym (way_root new)))
 
 pub finished_ground : (s : StoreState) (node : ℕ) → IsSameGround s (edited (with_holder None) (left_set s node 0) node)
 finished_ground s node = same_trans s (left_set s node 0) (edited (with_holder None) (left_set s node 0) node) (ground_left 0 s node) (same_held None (left_set s node 0) node)

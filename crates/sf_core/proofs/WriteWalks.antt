@@ -14,11 +14,10 @@ use Rattle.sf_laws.proofs.Laws.{never_moved}
 use Rattle.sf_copying.specs.Copies.{copying}
 use Rattle.sf_walk.specs.declared.finding.Ways.{Ways}
 use Rattle.sf_walk.specs.declared.walking.Walk.TheVariants as walked
-use Rattle.sf_walk.specs.declared.finding.Located.TheVariants as located
 use Rattle.sf_walk.specs.Routes.{Route, HoldsWay, route_of}
 use Rattle.sf_walk.specs.Routes.Route.{NoPath}
 use Rattle.sf_walk.specs.Steps.{walker, DecidesNow}
-use Rattle.sf_walk.specs.Ways.{along}
+use Rattle.sf_walk.specs.Ways.{no_path}
 use Rattle.sf_walk.proofs.Laws.{at_once}
 use Rattle.sf_walk.specs.Files.{IsWriteRequest, file_handle}
 use Rattle.sf_core.specs.declared.step.Step.{Step}
@@ -195,19 +194,19 @@ module _ (lane : LaneView) (n : ℕ) (call : lane.call ≡ Some n) (p : PartsVie
   -- one that may start has walked nothing, and decides where it is
   module _ (q : PartsView) (w : WalkState p lane.session n most (ending outcome.Writes q)) where
     abbrev nowhere : Ways
-    nowhere = along located.NoWay
+    nowhere = no_path
 
     none_yet : waiting_reply w.last.comes.1 ≡ None
     none_yet = reply_is w.last.comes.1 ∙ w.last.comes.4
 
-    no_path : route_of w.last.comes.1.request ≡ NoPath
-    no_path = write_route w.last.comes.1.request (is_write_by w.last.comes.1.request w.last.comes.6)
+    route_is : route_of w.last.comes.1.request ≡ NoPath
+    route_is = write_route w.last.comes.1.request (is_write_by w.last.comes.1.request w.last.comes.6)
 
     walks_nowhere : Walked w.mid w.mid w.last.comes.1 n (walked.Ready nowhere)
     walks_nowhere = let c = w.last.comes.1 in record {
       advances =
-          subst (λ (r : Route). DecidesNow w.mid.store w.mid.store (walker c.number r c.stage) nowhere) (sym no_path)
-          (at_once w.mid.store c.number c.stage (subst (λ (r : Route). HoldsWay w.mid.store r c.stage) no_path (stands w.mid w.last.core.history w.last.core.sound n c w.last.comes.2 none_yet)));
+          subst (λ (r : Route). DecidesNow w.mid.store w.mid.store (walker c.number r c.stage) nowhere) (sym route_is)
+          (at_once w.mid.store c.number c.stage (subst (λ (r : Route). HoldsWay w.mid.store r c.stage) route_is (stands w.mid w.last.core.history w.last.core.sound n c w.last.comes.2 none_yet)));
       book = refl;
       sessions = refl;
       calls = refl;
@@ -215,7 +214,7 @@ module _ (lane : LaneView) (n : ℕ) (call : lane.call ≡ Some n) (p : PartsVie
       joins = refl;
     }
 
-    pub write_ready : WalkState p lane.session n most (ending (outcome.Walked (walked.Ready (along located.NoWay))) q)
+    pub write_ready : WalkState p lane.session n most (ending (outcome.Walked (walked.Ready no_path)) q)
     write_ready = record {
       moves = w.moves;
       mid = w.mid;

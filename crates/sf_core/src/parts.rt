@@ -26,7 +26,7 @@ use sf_call::{Call, Calls, Leaf, Record, Request, Stage};
 use sf_inode::Store;
 use sf_reply::Reply;
 use sf_walk::{
-    Located, Route, Walk, Ways, advance, decide, file_holder, holder_by, let_go, route_of,
+    Route, Walk, Ways, advance, decide, file_holder, holder_by, let_go, route_of,
 };
 use std::alloc::{AllocError, Global};
 use std::marker::Model;
@@ -246,7 +246,7 @@ impl Parts {
             copy: None,
             reply: None,
         };
-        let ways = Ways::along(Located::NoWay);
+        let ways = Ways::no_path();
         let (reply, copy) = decide(&mut self.store, &call, ways);
         self.book.put(record_of(call, reply));
         self.drawn = number;

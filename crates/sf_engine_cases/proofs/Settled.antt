@@ -18,7 +18,7 @@ module _ (old new : StoreState) (most : ℕ) (looked : LookedUp old new most) (w
   along_same : (path : Path) → AreWays old (Along path) w → AreWays new (Along path) v → w.path ≡ v.path
   along_same path at_w at_v =
       let root = looked_root old new most looked in
-      at_w ∙ (λ i. way_from (sym (looked_nodes old new most looked) i) (sym root i) (sym root i) path) ∙ sym at_v
+      at_w.1 ∙ (λ i. way_from (sym (looked_nodes old new most looked) i) (sym root i) (sym root i) path) ∙ sym at_v.1
 
   path_same : (r : Request) → cuts_file r ≡ true → AreWays old (route_of r) w → IsLocated new r v → w.path ≡ v.path
   path_same (request.SetStat path attrs) cuts at_w at_v = along_same path at_w at_v

@@ -17,7 +17,7 @@ use Rattle.sf_walk.specs.declared.finding.Located.TheVariants as located
 use Rattle.sf_walk.specs.Routes.{Route, are_nested, PartAt, AreEnds, IsPosition, reached, paths_on, held_path_on, held_paths_of, namespace, HoldsWay}
 use Rattle.sf_walk.specs.Routes.Route.{NoPath, Along, Between}
 use Rattle.sf_walk.specs.Routes.IsPosition.{Starts, IsOn, IsBefore, IsApart}
-use Rattle.sf_walk.specs.Ways.{along, way_from}
+use Rattle.sf_walk.specs.Ways.{no_path, along, between, way_from}
 use Rattle.sf_walk.specs.Served.{LookedUp}
 use Rattle.sf_walk.specs.Further.{ComesToBoth as ComesTo, LeadsOnWay, PartLater, IsHeldThere, IsHeldOnWay, IsNextFree}
 use Rattle.sf_walk.specs.Steps.{walker, GoesFrom, AdvancesOne, entered, handed_over, AdvancesTo, WaitsFor, EndsAt, MayDecideAt, IsFreeThere, AreFree, DecidesNow}
@@ -33,10 +33,10 @@ fresh_without_path : (at : Stage) → IsPosition NoPath at → at ≡ stage.Fres
 fresh_without_path at (Starts r is) = refl
 
 -- a call that walks no path decides at once
-pub at_once : (s : StoreState) (number : ℕ) (at : Stage) → HoldsWay s NoPath at → DecidesNow s s (walker number NoPath at) (along located.NoWay)
+pub at_once : (s : StoreState) (number : ℕ) (at : Stage) → HoldsWay s NoPath at → DecidesNow s s (walker number NoPath at) no_path
 at_once s number at stands =
-    subst (λ (g : Stage). DecidesNow s s (walker number NoPath g) (along located.NoWay)) (sym (fresh_without_path at stands.position))
-    (record { may = AtOnce; located = tt; free = tt; holds = tt; looked = looked_itself s 2 })
+    subst (λ (g : Stage). DecidesNow s s (walker number NoPath g) no_path) (sym (fresh_without_path at stands.position))
+    (record { may = AtOnce; located = (refl, tt); free = tt; holds = tt; looked = looked_itself s 2 })
 
 pub one_not_two : (path : Path) (common old new : Reached) → IsPosition (Along path) (stage.Ends common old new) → ⊥
 one_not_two path common old new is = elim is [ ]
@@ -88,7 +88,7 @@ module _ (s : StoreState) (number root : ℕ) (is : root ≡ s.root) where
   pub decides_root : (path : Path) → path ≡ [] → DecidesNow s s (walker number (Along path) stage.Fresh) (along (located.At root root))
   decides_root path e =
       subst (λ (p : Path). DecidesNow s s (walker number (Along p) stage.Fresh) (along (located.At root root))) (sym e)
-      (record { may = AtRoot; located = ap (λ r. located.At r r) is; free = tt; holds = tt; looked = looked_itself s 2 })
+      (record { may = AtRoot; located = (refl, ap (λ r. located.At r r) is); free = tt; holds = tt; looked = looked_itself s 2 })
 
   pub waits_root : (r : Route) (path : Path) (rest : List Path) → paths_on r ≡ path ∷ rest → (holder : ℕ) → holder_of s.nodes root ≡ Some holder → number ≢ holder → WaitsFor s s (walker number r stage.Fresh) holder
   waits_root r path rest paths holder held other = record { to = []; node = root; looks = Root r path rest paths; leads = ap Some (sym is); held = held; other = other; looked = looked_itself s 1 }
@@ -167,17 +167,17 @@ module _ (old new : StoreState) (looked : new ≡ looked_up old) (number : ℕ) 
       → DecidesNow old new (walker number (Along path) at) (along found)
   decides_one path at may found is free = record {
     may = may;
-    located = is ∙ way_after old new path looked;
+    located = (refl, is ∙ way_after old new path looked);
     free = free_along (holder_of old.nodes) number path found free;
     holds = tt;
     looked = looked_less old new 1 2 (looked_once old new looked) (omega arith);
   }
 
   pub decides_nowhere : (from to : Path) (at : Stage) → MayDecideAt old.nodes (Between from to) at → located.NoWay ≡ way_from old.nodes old.root old.root from
-      → DecidesNow old new (walker number (Between from to) at) (along located.NoWay)
+      → DecidesNow old new (walker number (Between from to) at) (between located.NoWay located.NoWay)
   decides_nowhere from to at may is = record {
     may = may;
-    located = (is ∙ way_after old new from looked, λ there. absurd there);
+    located = (refl, (is ∙ way_after old new from looked, λ there. absurd there));
     free = tt;
     holds = λ there. absurd there;
     looked = looked_less old new 1 2 (looked_once old new looked) (omega arith);
@@ -282,15 +282,12 @@ module _ (old new : StoreState) (looked : new ≡ looked_up old) (number : ℕ) 
         (NewGoesOn common a b next free.walked) refl state
 
 -- with the end of its old path at its parent a call decides after two look-ups
-abbrev pub both : Located → Located → Ways
-both old new = record { path = old; new = new }
-
 module _ (number : ℕ) (path to : Path) (common a b : Reached) (old mid : StoreState) (looked : mid ≡ looked_up old) (parent : a.walked + 1 ≡ length path) where
   pub decides_at_old_parent : (new : StoreState) → new ≡ looked_up mid → (found : Located) → found ≡ way_from mid.nodes mid.root mid.root path → (there : Located) → EndsAt old.nodes to b
-      → there ≡ way_from old.nodes old.root old.root to → IsFreeThere (holder_of old.nodes) number there → DecidesNow old new (walker number (Between path to) (stage.Ends common a b)) (both found there)
+      → there ≡ way_from old.nodes old.root old.root to → IsFreeThere (holder_of old.nodes) number there → DecidesNow old new (walker number (Between path to) (stage.Ends common a b)) (between found there)
   decides_at_old_parent new again found is there ends is_there free = record {
     may = AtEnd (Between path to) (stage.Ends common a b) to b (NewEnd path to common a b parent) ends;
-    located = (is ∙ way_after mid new path again, λ _. is_there ∙ way_after old mid to looked ∙ way_after mid new to again);
+    located = (refl, (is ∙ way_after mid new path again, λ _. is_there ∙ way_after old mid to looked ∙ way_after mid new to again));
     free = free;
     holds = λ _. (common, a, b, refl, parent);
     looked = looked_more old mid new 1 (looked_once old mid looked) again;

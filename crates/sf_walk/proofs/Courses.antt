@@ -1,5 +1,5 @@
 -- What a rename comes to, in the store and in the tree that it keeps.
-use Rattle.std.specs.Prelude.{◌≡◌, ◌≢◌, ℕ, nat_eq, Bool, true, false, cond, if◌then◌else◌, not, ◌&&◌, ◌||◌, List, [], ◌∷◌, ◌++◌, is_some, Option, Some, None, refl}
+use Rattle.std.specs.Prelude.{◌≡◌, ◌≢◌, ◌<◌, ℕ, length, nat_eq, Bool, true, false, cond, if◌then◌else◌, not, ◌&&◌, ◌||◌, List, [], ◌∷◌, ◌++◌, is_some, Option, Some, None, refl}
 use Rattle.std.specs.Option.{option_map_or}
 use Rattle.std.proofs.Common.{sym, ap, subst, ◌∙◌, inl, inr, eq-eqb, eqb-true}
 use Rattle.sf_path.specs.Names.{Name, Path}
@@ -19,15 +19,17 @@ use Rattle.sf_inode.specs.Nodes.{is_directory_content}
 use Rattle.sf_inode.specs.Stores.{StoreState, node_in, child_of, is_directory_at, is_bare_at}
 use Rattle.sf_keeps.specs.Steps.{walk}
 use Rattle.sf_keeps.specs.Keeps.{Keeps}
-use Rattle.sf_call.proofs.Laws.{front_itself as is_front}
+use Rattle.sf_call.proofs.Laws.{front_itself as is_front, same_path_is}
 use Rattle.sf_keeps.proofs.Laws.{bare_found, one_node, one_way}
+use Rattle.sf_walk.specs.declared.routes.RouteKind.TheVariants as kind
 use Rattle.sf_walk.specs.declared.finding.Ways.{Ways}
 use Rattle.sf_walk.specs.declared.finding.Located.{Located}
 use Rattle.sf_walk.specs.declared.finding.Located.TheVariants as located
-use Rattle.sf_walk.specs.Ways.{way_from, found_content, found_node, IsThere, AreWays}
+use Rattle.sf_walk.specs.Ways.{way_from, found_content, found_node, IsThere, kind_of, Lead, AreWays}
 use Rattle.sf_walk.specs.Renames.{may_replace, MayMove}
 use Rattle.sf_walk.proofs.Fits.{Known, no_way, name_missing, node_at, directory_says}
 use Rattle.sf_walk.proofs.Onward.{has_entry}
+use Rattle.sf_walk.proofs.Parting.{not_nothing}
 use Rattle.sf_walk.proofs.PathCalls.{file_bare, found_no_way, found_missing}
 
 abbrev pub AreNoRoots : Path → Path → Type 0
@@ -48,22 +50,89 @@ not_rooted_apart [] q apart = absurd (is_false (are_nested [] q) refl apart)
 not_rooted_apart (n ∷ p) [] apart = absurd (is_false (are_nested (n ∷ p) []) refl apart)
 not_rooted_apart (n ∷ p) (m ∷ q) apart = refl
 
+unrooted : (p q : Path) → is_rooted p q ≡ false → AreNoRoots p q
+unrooted [] q e = cc
+unrooted (n ∷ p) [] e = cc
+unrooted (n ∷ p) (m ∷ q) e = (λ a. cc, λ a. cc)
+
+root_refused : (p q : Path) (a : Outcome) → is_rooted p q ≡ true → unless_root p (unless_root q a) ≡ refuses Failure
+root_refused [] q a e = refl
+root_refused (n ∷ p) [] a e = refl
+root_refused (n ∷ p) (m ∷ q) a e = cc
+
+front_itself : (p : Path) → is_some (after_front p p) ≡ true
+front_itself p = ap (λ (x : Option Path). is_some x) (is_front p)
+
+nested_itself : (p q : Path) → p ≡ q → are_nested p q ≡ true
+nested_itself p q e = ap (λ (r : Path). is_some (after_front p r) || is_some (after_front r p)) (sym e) ∙ ap (λ b. b || is_some (after_front p p)) (front_itself p)
+
+differ : (p q : Path) → are_nested p q ≡ false → same_path p q ≡ false
+differ p q apart = elim (same_path p q) as (λ b. same_path p q ≡ b → b ≡ false) [
+  | true ↦ λ same. absurd (is_false (are_nested p q) (nested_itself p q (same_path_is p q same)) apart)
+  | false ↦ λ other. refl
+] refl
+
 module _ (s : StoreState) (old new : Path) (ways : Ways) (are : AreWays s (route_between old new) ways) where
-  old_by : (a b : Bool) → a ≡ false → AreWays s (if a then NoPath else if b then Along old else Between old new) ways → ways.path ≡ way_from s.nodes s.root s.root old
+  -- ---- of which kind the route is tells how the paths stand to each other
+  rooted_by : (a b : Bool) → ways.kind ≡ kind_of (if a then NoPath else if b then Along old else Between old new) → ways.kind ≡ kind.NoPath → a ≡ true
+  rooted_by true b e f = refl
+  rooted_by false true e f = absurd (let h : kind.Along ≡ kind.NoPath = sym e ∙ f in let x : ⊥ = cc in x)
+  rooted_by false false e f = absurd (let h : kind.Between ≡ kind.NoPath = sym e ∙ f in let x : ⊥ = cc in x)
+
+  unrooted_by : (a b : Bool) → ways.kind ≡ kind_of (if a then NoPath else if b then Along old else Between old new) → (ways.kind ≡ kind.NoPath → ⊥) → a ≡ false
+  unrooted_by true b e ne = absurd (ne e)
+  unrooted_by false b e ne = refl
+
+  nested_by : (a b : Bool) → ways.kind ≡ kind_of (if a then NoPath else if b then Along old else Between old new) → ways.kind ≡ kind.Along → b ≡ true
+  nested_by true b e f = absurd (let h : kind.NoPath ≡ kind.Along = sym e ∙ f in let x : ⊥ = cc in x)
+  nested_by false true e f = refl
+  nested_by false false e f = absurd (let h : kind.Between ≡ kind.Along = sym e ∙ f in let x : ⊥ = cc in x)
+
+  apart_by : (a b : Bool) → ways.kind ≡ kind_of (if a then NoPath else if b then Along old else Between old new) → (ways.kind ≡ kind.NoPath → ⊥) → (ways.kind ≡ kind.Along → ⊥) → b ≡ false
+  apart_by true b e no_path no_one = absurd (no_path e)
+  apart_by false true e no_path no_one = absurd (no_one e)
+  apart_by false false e no_path no_one = refl
+
+  pub roots_refused : ways.kind ≡ kind.NoPath → (a : Outcome) → unless_root old (unless_root new a) ≡ refuses Failure
+  roots_refused no_path a = root_refused old new a (rooted_by (is_rooted old new) (are_nested old new) are.0 no_path)
+
+  pub no_roots : (ways.kind ≡ kind.NoPath → ⊥) → AreNoRoots old new
+  no_roots some = unrooted old new (unrooted_by (is_rooted old new) (are_nested old new) are.0 some)
+
+  pub nested_there : ways.kind ≡ kind.Along → are_nested old new ≡ true
+  nested_there one = nested_by (is_rooted old new) (are_nested old new) are.0 one
+
+  pub apart_there : (ways.kind ≡ kind.NoPath → ⊥) → (ways.kind ≡ kind.Along → ⊥) → are_nested old new ≡ false
+  apart_there some two = apart_by (is_rooted old new) (are_nested old new) are.0 some two
+
+  pub not_same : (ways.kind ≡ kind.NoPath → ⊥) → (ways.kind ≡ kind.Along → ⊥) → same_path old new ≡ false
+  not_same some two = differ old new (apart_there some two)
+
+  pub never_same : (ways.kind ≡ kind.NoPath → ⊥) → (ways.kind ≡ kind.Along → ⊥) → same_path old new ≡ true → ⊥
+  never_same some two same = is_false (same_path old new) same (not_same some two)
+
+  pub old_named : (ways.kind ≡ kind.NoPath → ⊥) → 0 < length old
+  old_named some = not_nothing old (no_roots some).0
+
+  pub new_named : (ways.kind ≡ kind.NoPath → ⊥) → 0 < length new
+  new_named some = not_nothing new (no_roots some).1
+
+  -- ---- where the paths lead
+  old_by : (a b : Bool) → a ≡ false → Lead s (if a then NoPath else if b then Along old else Between old new) ways → ways.path ≡ way_from s.nodes s.root s.root old
   old_by true b e h = cc
   old_by false true e h = h
   old_by false false e h = h.0
 
-  new_by : (a b : Bool) → a ≡ false → b ≡ false → AreWays s (if a then NoPath else if b then Along old else Between old new) ways → IsThere ways.path → ways.new ≡ way_from s.nodes s.root s.root new
+  new_by : (a b : Bool) → a ≡ false → b ≡ false → Lead s (if a then NoPath else if b then Along old else Between old new) ways → IsThere ways.path → ways.new ≡ way_from s.nodes s.root s.root new
   new_by true b e f h = cc
   new_by false true e f h = cc
   new_by false false e f h = h.1
 
   pub old_found : AreNoRoots old new → (found : Located) → ways.path ≡ found → way_from s.nodes s.root s.root old ≡ found
-  old_found ne found e = sym (old_by (is_rooted old new) (are_nested old new) (not_rooted old new ne) are) ∙ e
+  old_found ne found e = sym (old_by (is_rooted old new) (are_nested old new) (not_rooted old new ne) are.1) ∙ e
 
   pub new_found : are_nested old new ≡ false → (from node : ℕ) → ways.path ≡ located.At from node → (found : Located) → ways.new ≡ found → way_from s.nodes s.root s.root new ≡ found
-  new_found apart from node there found e = sym (new_by (is_rooted old new) (are_nested old new) (not_rooted_apart old new apart) apart are (subst IsThere (sym there) tt)) ∙ e
+  new_found apart from node there found e = sym (new_by (is_rooted old new) (are_nested old new) (not_rooted_apart old new apart) apart are.1 (subst IsThere (sym there) tt)) ∙ e
 
 no_root : (p : Path) (a : Outcome) → (p ≡ [] → ⊥) → unless_root p a ≡ a
 no_root [] a ne = absurd (ne refl)
@@ -190,14 +259,10 @@ module _ (s : StoreState) (t : Tree) (k : Keeps s t) (moment : ℕ) (old new : P
             ∙ one_content w.2.0.label w.2.0.metadata w.2.0.content labels (λ directory. no_directory target (o.0 ∙ ap Some one) w.0
             (ap (λ (x : Option Node). option_map_or (λ (y : Node). is_directory_content y.content) x false) w.2.1 ∙ directory))
           where
-            front_itself : (p : Path) → is_some (after_front p p) ≡ true
-            front_itself p = ap (λ (x : Option Path). is_some x) (is_front p)
-
             no_directory : (d : ℕ) → walk (child_of s.nodes) s.root old ≡ Some d → walk (child_of s.nodes) s.root new ≡ Some d → is_directory_at s.nodes d ≡ true → ⊥
             no_directory d to_old to_new directory =
                 let paths : old ≡ new = one_way s t k old new d to_old to_new directory in
-                let nested : are_nested old new ≡ true = ap (λ (p : Path). is_some (after_front old p) || is_some (after_front p old)) (sym paths) ∙ ap (λ b. b || is_some (after_front old old)) (front_itself old) in
-                let x : ⊥ = cc in x
+                is_false (are_nested old new) (nested_itself old new paths) apart
 
             one_content : (l : ℕ) (m : Metadata) (c : Content) → label ≡ l → (is_directory_content c ≡ true → ⊥) → replace_by t moment old new label (found_content l m c) ≡ succeeds []
             one_content l m (content.Directory es) labels never = absurd (never refl)

@@ -18,9 +18,9 @@ use Rattle.sf_walk.proofs.Looked.{way_looked}
 use Rattle.sf_walk.proofs.Holders.{alike_looked}
 
 pub located_after : (old mid : StoreState) (most : ℕ) (r : Route) (w : Ways) → LookedUp old mid most → AreWays old r w → AreWays mid r w
-located_after old mid most NoPath w looked h = tt
-located_after old mid most (Along p) w looked h = sym (way_looked old mid p most w.path looked h)
-located_after old mid most (Between p q) w looked h = (sym (way_looked old mid p most w.path looked h.0), λ there. sym (way_looked old mid q most w.new looked (h.1 there)))
+located_after old mid most NoPath w looked h = (h.0, tt)
+located_after old mid most (Along p) w looked h = (h.0, sym (way_looked old mid p most w.path looked h.1))
+located_after old mid most (Between p q) w looked h = (h.0, (sym (way_looked old mid p most w.path looked h.1.0), λ there. sym (way_looked old mid q most w.new looked (h.1.1 there))))
 
 -- what is located now is what was located before
 pub way_before : (old mid : StoreState) (most : ℕ) (p : Path) (l : Located) → LookedUp old mid most → l ≡ way_from mid.nodes mid.root mid.root p → l ≡ way_from old.nodes old.root old.root p

@@ -14,6 +14,8 @@ use Rattle.sf_inode.specs.declared.node.Content.TheVariants as content
 use Rattle.sf_inode.specs.Stores.{StoreState, child_of, is_directory_at}
 use Rattle.sf_walk.specs.Routes.{Route, route_of}
 use Rattle.sf_walk.specs.Routes.Route.{NoPath, Along, Between}
+use Rattle.sf_walk.specs.declared.routes.RouteKind.{RouteKind}
+use Rattle.sf_walk.specs.declared.routes.RouteKind.TheVariants as kind
 use Rattle.sf_walk.specs.declared.finding.Ways.{Ways}
 use Rattle.sf_walk.specs.declared.finding.Located.{Located}
 use Rattle.sf_walk.specs.declared.finding.Located.TheVariants as located
@@ -57,9 +59,23 @@ names_on (Between old new) = length old + length new
 abbrev pub request_names : Request → ℕ
 request_names request = target_names (target_of request)
 
+-- of which kind a route is
+abbrev pub kind_of : Route → RouteKind
+kind_of NoPath = kind.NoPath
+kind_of (Along path) = kind.Along
+kind_of (Between old new) = kind.Between
+
+-- where no path is walked
+abbrev pub no_path : Ways
+no_path = record { kind = kind.NoPath; path = located.NoWay; new = located.NoWay }
+
 -- where one path leads
 abbrev pub along : Located → Ways
-along path = record { path = path; new = located.NoWay }
+along path = record { kind = kind.Along; path = path; new = located.NoWay }
+
+-- where two paths lead
+abbrev pub between : Located → Located → Ways
+between path new = record { kind = kind.Between; path = path; new = new }
 
 -- a node was found
 abbrev pub IsThere : Located → Type 0
@@ -67,13 +83,17 @@ IsThere (located.NoWay) = ⊥
 IsThere (located.Missing parent) = ⊥
 IsThere (located.At parent node) = Unit {0}
 
--- What was located is where the paths of the route lead; nothing is asked of a new path where
--- nothing was found at the old one.
-abbrev pub AreWays : StoreState → Route → Ways → Type 0
-AreWays s NoPath ways = Unit {0}
-AreWays s (Along path) ways = ways.path ≡ way_from s.nodes s.root s.root path
-AreWays s (Between old new) ways = (ways.path ≡ way_from s.nodes s.root s.root old)
+-- what was located is where the paths of the route lead; nothing is asked of a new path where
+-- nothing was found at the old one
+abbrev pub Lead : StoreState → Route → Ways → Type 0
+Lead s NoPath ways = Unit {0}
+Lead s (Along path) ways = ways.path ≡ way_from s.nodes s.root s.root path
+Lead s (Between old new) ways = (ways.path ≡ way_from s.nodes s.root s.root old)
     × (IsThere ways.path → ways.new ≡ way_from s.nodes s.root s.root new)
+
+-- what was located is of the route's kind, and where its paths lead
+abbrev pub AreWays : StoreState → Route → Ways → Type 0
+AreWays s route ways = (ways.kind ≡ kind_of route) × Lead s route ways
 
 abbrev pub IsLocated : StoreState → Request → Ways → Type 0
 IsLocated s request ways = AreWays s (route_of request) ways

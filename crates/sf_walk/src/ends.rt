@@ -32,7 +32,7 @@ pub(crate) fn at_ends(store: &mut Store, number: u64, path: &Path, other: &Path,
 {
     match look(store, number, path, ends.old) {
         Further::AtParent => new_end(store, number, path, other, ends),
-        Further::NoDirectory => Walk::Ready(Ways::along(Located::NoWay)),
+        Further::NoDirectory => Walk::Ready(Ways::between(Located::NoWay, Located::NoWay)),
         Further::Held(holder) => Walk::Blocked(holder),
         Further::Free(old) => {
             let before = Stage::Ends {
@@ -60,10 +60,10 @@ fn new_end(store: &mut Store, number: u64, path: &Path, other: &Path, ends: Ends
 {
     match look(store, number, other, ends.new) {
         Further::AtParent => at_parents(store, number, path, other, ends),
-        Further::NoDirectory => Walk::Ready(Ways {
-            path: find_last(store, path, ends.old),
-            new: Located::NoWay,
-        }),
+        Further::NoDirectory => {
+            let path = find_last(store, path, ends.old);
+            Walk::Ready(Ways::between(path, Located::NoWay))
+        }
         Further::Held(holder) => Walk::Blocked(holder),
         Further::Free(new) => {
             let before = Stage::Ends {
@@ -96,7 +96,7 @@ fn at_parents(store: &mut Store, number: u64, path: &Path, other: &Path, ends: E
         return Walk::Blocked(holder);
     }
     let path = find_last(store, path, ends.old);
-    Walk::Ready(Ways { path, new })
+    Walk::Ready(Ways::between(path, new))
 }
 
 /// Hand over hand: holds the directory that a call comes to, and then frees what it holds no more.

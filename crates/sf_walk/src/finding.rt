@@ -4,11 +4,11 @@ ghost use Rattle.std.specs.Prelude.{◌≡◌, ◌≤◌, length, IfOk, IfErr};
 ghost use Rattle.sf_reply.specs.declared.reply.StatusCode.TheVariants.{NoSuchFile};
 ghost use Rattle.sf_walk.specs.declared.finding.Located.TheVariants.{NoWay, At};
 ghost use Rattle.sf_walk.specs.Routes.{route_in};
-ghost use Rattle.sf_walk.specs.Ways.{AreWays, IsThere, along, names_on, way_from};
+ghost use Rattle.sf_walk.specs.Ways.{AreWays, IsThere, no_path, along, between, names_on, way_from};
 ghost use Rattle.sf_walk.specs.LastEntries.{IsLastEntry};
 ghost use Rattle.sf_walk.specs.Served.{LookedUp};
 
-use crate::routes::Route;
+use crate::routes::{Route, RouteKind};
 use sf_inode::{NodeId, Store};
 use sf_path::Path;
 use sf_reply::StatusCode;
@@ -62,22 +62,47 @@ impl Located {
     }
 }
 
-/// Where the paths of a call lead: its path, or a rename's old one; and a rename's new one.
+/// Where the paths of a route lead: its path, or the old one of two; and the new one.
 #[derive(Clone, Copy, Debug, PartialEq, Eq)]
 pub struct Ways {
+    /// Of which kind the route is.
+    pub kind: RouteKind,
     pub path: Located,
-    /// `NoWay` for all but renames.
+    /// `NoWay` where the route is not between two paths.
     pub new: Located,
 }
 
 impl Ways {
-    /// Those of a call that is no rename.
+    /// Those of a call that walks no path.
+    pub fn no_path() -> Ways
+        ensures { result ≡ no_path }
+    {
+        Ways {
+            kind: RouteKind::NoPath,
+            path: Located::NoWay,
+            new: Located::NoWay,
+        }
+    }
+
+    /// Those of a call that walks one path.
     pub fn along(path: Located) -> Ways
         ensures { result ≡ along path }
     {
         Ways {
+            kind: RouteKind::Along,
             path,
             new: Located::NoWay,
+        }
+    }
+
+    /// Those of a call that walks two paths.
+    pub fn between(path: Located, new: Located) -> Ways
+        ensures { result ≡ between path new }
+    {
+        Ways {
+            kind: RouteKind::Between,
+            path,
+            new,
         }
     }
 }
@@ -117,12 +142,12 @@ pub fn locate_all(store: &mut Store, route: Route<'_>) -> Ways
     ensures looked { LookedUp store.old store.new (names_on (route_in route.entry)) }
 {
     match route {
-        Route::NoPath => Ways::along(Located::NoWay),
+        Route::NoPath => Ways::no_path(),
         Route::Along(path) => Ways::along(locate(store, path)),
         Route::Between(old, new) => {
             let path = locate(store, old);
             let new = locate(store, new);
-            Ways { path, new }
+            Ways::between(path, new)
         }
     }
 }

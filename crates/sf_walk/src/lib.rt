@@ -27,6 +27,6 @@ pub use calls::{decide, from_root, from_root_twice};
 pub use files::{Copying, Writer, file_holder, holder_by, left_to_copy, start, writer_to_finish};
 pub use finding::{Located, Ways, locate, locate_all};
 pub use renames::is_move;
-pub use routes::{Route, route_of};
+pub use routes::{Route, RouteKind, route_of};
 pub use sparing::spared_file;
 pub use walking::{Walk, advance, let_go};

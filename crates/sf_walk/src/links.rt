@@ -6,13 +6,13 @@ ghost use Rattle.sf_call.specs.Tree.{Tree, found_at};
 ghost use Rattle.sf_call.specs.Calls.{Outcome, link, unless_root};
 ghost use Rattle.sf_inode.specs.Stores.{linked};
 ghost use Rattle.sf_keeps.specs.Keeps.{Keeps};
-ghost use Rattle.sf_walk.specs.Routes.{are_nested, route_between};
+ghost use Rattle.sf_walk.specs.Routes.{route_between};
 ghost use Rattle.sf_walk.specs.Ways.{last_name_of, AreWays};
 ghost use Rattle.sf_walk.specs.Served.{ServesOutcome, IsAlike, HoldersStay};
 ghost use Rattle.sf_walk.specs.Links.{IsLinking, IsNamed, nested_code};
 
 use crate::finding::{Located, Ways};
-use crate::renames::{are_nested, has_root};
+use crate::routes::RouteKind;
 use sf_call::MAX_LINKS;
 use sf_inode::{NodeId, Store};
 use sf_path::Path;
@@ -59,7 +59,7 @@ fn link_course(store: &Store, old: &Path, new: &Path, ways: Ways) -> LinkCourse
         result }
     ensures named { IsNamed new.now result }
 {
-    if has_root(old, new) {
+    if let RouteKind::NoPath = ways.kind {
         return LinkCourse::Told(StatusCode::Failure);
     }
     match ways.path {
@@ -69,7 +69,7 @@ fn link_course(store: &Store, old: &Path, new: &Path, ways: Ways) -> LinkCourse
             if store.is_directory(node) {
                 return LinkCourse::Told(StatusCode::Failure);
             }
-            if are_nested(old, new) {
+            if let RouteKind::Along = ways.kind {
                 return LinkCourse::Told(nested_code(old, new));
             }
             match ways.new {

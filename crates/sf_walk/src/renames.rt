@@ -1,6 +1,7 @@
 //! Both renames.
 
-ghost use Rattle.std.specs.Prelude.{◌≡◌, ◌≢◌, ◌⊎◌, ◌<◌, ℕ, true, false, [], length, is_some, OnOk, OnErr, IsOk, IfOk};
+ghost use Rattle.std.specs.Prelude.{◌≡◌, ◌<◌, ℕ, true, length, is_some, OnOk, OnErr, IsOk, IfOk};
+ghost use Rattle.sf_path.specs.Names.{Path};
 ghost use Rattle.sf_path.specs.Order.{same_path};
 ghost use Rattle.sf_reply.specs.Replies.{IsPlain};
 ghost use Rattle.sf_call.specs.Tree.{Tree, look_up};
@@ -9,11 +10,12 @@ ghost use Rattle.sf_call.specs.Calls.{Outcome, answer_to, rename, posix_rename, 
 ghost use Rattle.sf_inode.specs.Stores.{StoreState, relinked};
 ghost use Rattle.sf_keeps.specs.Keeps.{Keeps};
 ghost use Rattle.sf_walk.specs.Ways.{last_name_of, AreWays, IsLocated};
-ghost use Rattle.sf_walk.specs.Routes.{are_nested, route_between};
+ghost use Rattle.sf_walk.specs.Routes.{route_between};
 ghost use Rattle.sf_walk.specs.Served.{ServesOutcome, IsAlike, HoldersStay};
 ghost use Rattle.sf_walk.specs.Renames.{does_move, may_replace, IsCourse, AreNamed, MovesNothing, renaming};
 
 use crate::finding::{Located, Ways};
+use crate::routes::RouteKind;
 use sf_call::{Call, Request};
 use sf_inode::{NodeId, Store};
 use sf_path::Path;
@@ -38,7 +40,7 @@ pub fn is_move(store: &Store, call: &Call, ways: Ways) -> bool
         call.now.request).changes) }
 {
     match &call.request {
-        Request::Rename(old, new) => does_move(rename_course(old, new, ways)),
+        Request::Rename(_, _) => does_move(rename_course(ways)),
         Request::PosixRename(old, new) => does_move(posix_course(store, old, new, ways)),
         _ => false,
     }
@@ -70,7 +72,7 @@ pub(crate) fn rename(
     ensures look_ups { store.new.look_ups ≡ store.old.look_ups }
     ensures holders { HoldersStay store.old store.new }
 {
-    let course = rename_course(old, new, ways);
+    let course = rename_course(ways);
     carry_out(store, moment, old, new, course)
 }
 
@@ -97,21 +99,22 @@ pub(crate) fn posix_rename(
 }
 
 /// RENAME moves to a path where nothing stands.
-fn rename_course(old: &Path, new: &Path, ways: Ways) -> Course
-    ensures course { (s : StoreState) (t : Tree) (moment : ℕ) → Keeps s t
-        → AreWays s (route_between old.now new.now) ways
-        → IsCourse s t (renaming old.now new.now moment) (unless_root old.now
-        (unless_root new.now (rename t moment old.now new.now (look_up t old.now)))) result }
-    ensures named { AreNamed old.now new.now result }
+fn rename_course(ways: Ways) -> Course
+    ensures course { (s : StoreState) (t : Tree) (old new : Path) (moment : ℕ) → Keeps s t
+        → AreWays s (route_between old new) ways
+        → IsCourse s t (renaming old new moment)
+        (unless_root old (unless_root new (rename t moment old new (look_up t old)))) result }
+    ensures named { (s : StoreState) (old new : Path) → AreWays s (route_between old new) ways
+        → AreNamed old new result }
 {
-    if has_root(old, new) {
+    if let RouteKind::NoPath = ways.kind {
         return Course::Told(StatusCode::Failure);
     }
     match ways.path {
         Located::NoWay => Course::Told(StatusCode::NoSuchFile),
         Located::Missing { parent: _ } => Course::Told(StatusCode::NoSuchFile),
         Located::At { parent, node: _ } => {
-            if are_nested(old, new) {
+            if let RouteKind::Along = ways.kind {
                 return Course::Told(StatusCode::Failure);
             }
             match ways.new {
@@ -134,17 +137,17 @@ fn posix_course(store: &Store, old: &Path, new: &Path, ways: Ways) -> Course
     ensures named { AreNamed old.now new.now result }
     ensures same { same_path old.now new.now ≡ true → MovesNothing result }
 {
-    if has_root(old, new) {
+    if let RouteKind::NoPath = ways.kind {
         return Course::Told(StatusCode::Failure);
     }
     match ways.path {
         Located::NoWay => Course::Told(StatusCode::NoSuchFile),
         Located::Missing { parent: _ } => Course::Told(StatusCode::NoSuchFile),
         Located::At { parent, node } => {
-            if *old == *new {
-                return Course::Told(StatusCode::Success);
-            }
-            if are_nested(old, new) {
+            if let RouteKind::Along = ways.kind {
+                if *old == *new {
+                    return Course::Told(StatusCode::Success);
+                }
                 return Course::Told(StatusCode::Failure);
             }
             match ways.new {
@@ -165,21 +168,6 @@ fn posix_course(store: &Store, old: &Path, new: &Path, ways: Ways) -> Course
             }
         }
     }
-}
-
-/// Whether one of the paths is the root.
-pub(crate) fn has_root(old: &Path, new: &Path) -> bool
-    ensures yes { result ≡ true → (old.now ≡ []) ⊎ (new.now ≡ []) }
-    ensures no { result ≡ false → (old.now ≢ []) × (new.now ≢ []) }
-{
-    old.is_root() || new.is_root()
-}
-
-/// Whether one path begins with the other.
-pub(crate) fn are_nested(old: &Path, new: &Path) -> bool
-    ensures { result ≡ are_nested old.now new.now }
-{
-    new.begins_with(old) || old.begins_with(new)
 }
 
 /// Whether a node may take another's place.

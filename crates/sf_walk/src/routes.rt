@@ -1,9 +1,8 @@
 //! The paths that a call walks.
 
-ghost use Rattle.std.specs.Prelude.{◌≡◌};
-ghost use Rattle.sf_walk.specs.Routes.{route_of, route_in, route_between};
+ghost use Rattle.std.specs.Prelude.{◌≡◌, ◌≢◌, ◌⊎◌, true, false, []};
+ghost use Rattle.sf_walk.specs.Routes.{are_nested, route_of, route_in, route_between};
 
-use crate::renames::{are_nested, has_root};
 use sf_call::Request;
 use sf_path::Path;
 
@@ -16,6 +15,14 @@ pub enum Route<'a> {
     Along(&'a Path),
     /// Both, which part.
     Between(&'a Path, &'a Path),
+}
+
+/// Of which kind a route is.
+#[derive(Clone, Copy, Debug, PartialEq, Eq)]
+pub enum RouteKind {
+    NoPath,
+    Along,
+    Between,
 }
 
 /// The route of a request.
@@ -53,4 +60,20 @@ fn between<'a>(old: &'a Path, new: &'a Path) -> Route<'a>
         return Route::Along(old);
     }
     Route::Between(old, new)
+}
+
+/// Whether one of the paths is the root.
+fn has_root(old: &Path, new: &Path) -> bool
+    ensures yes { result ≡ true → (old.now ≡ []) ⊎ (new.now ≡ []) }
+    ensures no { result ≡ false → (old.now ≢ []) × (new.now ≢ []) }
+{
+    old.is_root() || new.is_root()
+}
+
+/// Whether one path begins with the other.
+fn are_nested(old: &Path, new: &Path) -> bool
+    ensures { result ≡ are_nested old.now new.now }
+{
+    let alike = old.common(new);
+    alike == old.len() || alike == new.len()
 }

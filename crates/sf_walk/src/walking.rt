@@ -45,7 +45,7 @@ pub fn advance(store: &mut Store, number: u64, route: Route<'_>, at: Stage) -> W
     ensures { Advances store.old store.new (walker number (route_in route.entry) at) result }
 {
     match route {
-        Route::NoPath => Walk::Ready(Ways::along(Located::NoWay)),
+        Route::NoPath => Walk::Ready(Ways::no_path()),
         Route::Along(path) => match at {
             Stage::Fresh => first(store, number, path),
             Stage::At { walked, node } => onward(store, number, path, Reached { walked, node }),
@@ -162,7 +162,7 @@ fn together(store: &mut Store, number: u64, old: &Path, new: &Path, at: Reached)
 {
     match look(store, number, old, at) {
         Further::AtParent => unreachable!(),
-        Further::NoDirectory => Walk::Ready(Ways::along(Located::NoWay)),
+        Further::NoDirectory => Walk::Ready(Ways::between(Located::NoWay, Located::NoWay)),
         Further::Held(holder) => Walk::Blocked(holder),
         Further::Free(to) => {
             let after = arrived(old, new, to);

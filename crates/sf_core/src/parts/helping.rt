@@ -122,7 +122,7 @@ impl Parts {
         ensures none { call_at self.old.calls number ≡ None → self.new ≡ self.old }
     {
         let Some(call) = self.calls.get(number) else {
-            return Ways::along(Located::NoWay);
+            return Ways::no_path();
         };
         let ways = locate_all(&mut self.store, route_of(&call.request));
         if let Some(writer) = writer_to_finish(&self.store, &call.request, ways.path) {

@@ -172,7 +172,7 @@ fn a_decision_is_told_twice(rt: HostRuntime) -> Result<(), Fail> {
     let mut store = Store::new(rt.alloc())?;
     let call = fresh(Request::Close(9));
     assert!(rt; matches!(route_of(&call.request), Route::NoPath));
-    match decide(&mut store, &call, Ways::along(Located::NoWay)) {
+    match decide(&mut store, &call, Ways::no_path()) {
         (Reply::Status(Failure), Reply::Status(Failure)) => Ok(()),
         replies => panic!(rt; "{replies:?}"),
     }
@@ -210,7 +210,7 @@ fn a_rename_walks_with_two_ends(rt: HostRuntime) -> Result<(), Fail> {
     };
     let new = Located::Missing { parent: ground.e };
     let stages = ground.both_ways();
-    moves(&rt, &mut ground, rename, &stages, Ways { path, new });
+    moves(&rt, &mut ground, rename, &stages, Ways::between(path, new));
     assert!(rt; ground.store.look_ups() == before.wrapping_add(7));
     ground.are_held(&rt, &[ground.store.root()], None);
     Ok(())

@@ -19,7 +19,7 @@ returns-in-NoDirectory c =
     let path = c.args.path.now in
     let other = c.args.other.now in
     let found = c.in-NoDirectory.ensures in
-    subst (λ (w : Ways). DecidesNow c.args.store.now c.look.new.store (walker c.args.number (Between path other) (stage.Ends e.common e.old e.new)) w) (sym c.along.ensures)
+    subst (λ (w : Ways). DecidesNow c.args.store.now c.look.new.store (walker c.args.number (Between path other) (stage.Ends e.common e.old e.new)) w) (sym c.between.ensures)
     (decides_nowhere c.args.store.now c.look.new.store found.0.0 c.args.number path other (stage.Ends e.common e.old e.new)
     (AtEnd (Between path other) (stage.Ends e.common e.old e.new) path e.old (OldEnd path other e.common e.old e.new found.0.1) (inr (found.0.1, found.1)))
     (no_way_on c.args.store.now path e.old.walked e.old.node (old_on_way c.args.store.now path other e.common e.old e.new c.requires) found.0.1 found.1))

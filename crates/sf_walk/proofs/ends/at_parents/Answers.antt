@@ -1,6 +1,8 @@
-use Rattle.std.proofs.Common.{inl}
+use Rattle.std.proofs.Common.{sym, subst, inl}
 use Rattle.sf_call.specs.declared.call.Stage.TheVariants as stage
+use Rattle.sf_walk.specs.declared.finding.Ways.{Ways}
 use Rattle.sf_walk.specs.Routes.Route.{Between}
+use Rattle.sf_walk.specs.Steps.{walker, DecidesNow}
 use Rattle.sf_walk.specs.Steps.GoesFrom.{NewEnd}
 use Rattle.sf_walk.proofs.Advancing.{decides_at_old_parent, waits_there, old_on_way, new_on_way, way_looked_up, free_before}
 use Rattle.sf_walk.proofs.ends.at_parents.Goals as goal
@@ -26,6 +28,7 @@ returns c =
     let e = c.args.ends in
     let path = c.args.path.now in
     let other = c.args.other.now in
-    decides_at_old_parent c.args.number path other e.common e.old e.new c.args.store.now c.find_last-new.new.store c.find_last-new.ensures.looked c.requires.parent c.find_last-path.new.store c.find_last-path.ensures.looked
+    subst (λ (w : Ways). DecidesNow c.args.store.now c.find_last-path.new.store (walker c.args.number (Between path other) (stage.Ends e.common e.old e.new)) w) (sym c.between.ensures)
+    (decides_at_old_parent c.args.number path other e.common e.old e.new c.args.store.now c.find_last-new.new.store c.find_last-new.ensures.looked c.requires.parent c.find_last-path.new.store c.find_last-path.ensures.looked
     c.find_last-path.result c.find_last-path.ensures.found c.find_last-new.result (inl c.requires.parent_new) c.find_last-new.ensures.found
-    (free_before c.args.store.now c.find_last-new.new.store c.args.number c.find_last-new.result c.find_last-new.ensures.looked c.in_default.ensures.none)
+    (free_before c.args.store.now c.find_last-new.new.store c.args.number c.find_last-new.result c.find_last-new.ensures.looked c.in_default.ensures.none))

@@ -1,28 +1,34 @@
 use Rattle.std.proofs.Common.{refl, sym, ◌∙◌}
 use Rattle.sf_call.specs.Calls.{rename}
-use Rattle.sf_walk.proofs.Courses.{old_found, new_found, old_no_way, old_missing, rename_nested, rename_no_way, rename_taken, rename_moves}
+use Rattle.sf_walk.proofs.Courses.{roots_refused, no_roots, nested_there, apart_there, old_named, new_named, old_found, new_found, old_no_way, old_missing, rename_nested, rename_no_way, rename_taken, rename_moves}
 use Rattle.sf_walk.proofs.renames.rename_course.Goals as goal
 
-pub returns-then-are_nested-clause-course : goal.returns-then-are_nested-clause-course
-returns-then-are_nested-clause-course c = λ s t moment k w.
-    rename_nested s t k moment c.args.old.now c.args.new.now (c.has_root.ensures.no c.if-has_root.false) c.in-At.parent c.in-At.node (old_found s c.args.old.now c.args.new.now c.args.ways w (c.has_root.ensures.no c.if-has_root.false) _ c.in-At.is) (sym c.are_nested.ensures ∙ c.if-are_nested.true)
+pub returns-in-Along-clause-course : goal.returns-in-Along-clause-course
+returns-in-Along-clause-course c = λ s t old new moment k w.
+    rename_nested s t k moment old new (no_roots s old new c.args.ways w c.in_default.not-NoPath) c.in-At.parent c.in-At.node (old_found s old new c.args.ways w (no_roots s old new c.args.ways w c.in_default.not-NoPath) _ c.in-At.is) (nested_there s old new c.args.ways w c.in-Along.is)
 
 pub returns-in-NoWay-clause-course : goal.returns-in-NoWay-clause-course
-returns-in-NoWay-clause-course c = λ s t moment k w.
-    old_no_way s t k moment c.args.old.now c.args.new.now (c.has_root.ensures.no c.if-has_root.false) (rename t moment c.args.old.now c.args.new.now) refl (old_found s c.args.old.now c.args.new.now c.args.ways w (c.has_root.ensures.no c.if-has_root.false) _ c.in-NoWay.is)
+returns-in-NoWay-clause-course c = λ s t old new moment k w.
+    old_no_way s t k moment old new (no_roots s old new c.args.ways w c.in_default.not-NoPath) (rename t moment old new) refl (old_found s old new c.args.ways w (no_roots s old new c.args.ways w c.in_default.not-NoPath) _ c.in-NoWay.is)
 
 pub returns-in-Missing-clause-course : goal.returns-in-Missing-clause-course
-returns-in-Missing-clause-course c = λ s t moment k w.
-    old_missing s t k moment c.args.old.now c.args.new.now (c.has_root.ensures.no c.if-has_root.false) (rename t moment c.args.old.now c.args.new.now) refl c.in-Missing.parent (old_found s c.args.old.now c.args.new.now c.args.ways w (c.has_root.ensures.no c.if-has_root.false) _ c.in-Missing.is)
+returns-in-Missing-clause-course c = λ s t old new moment k w.
+    old_missing s t k moment old new (no_roots s old new c.args.ways w c.in_default.not-NoPath) (rename t moment old new) refl c.in-Missing.parent (old_found s old new c.args.ways w (no_roots s old new c.args.ways w c.in_default.not-NoPath) _ c.in-Missing.is)
 
 pub returns-in-NoWay-new-clause-course : goal.returns-in-NoWay-new-clause-course
-returns-in-NoWay-new-clause-course c = λ s t moment k w.
-    rename_no_way s t k moment c.args.old.now c.args.new.now (c.has_root.ensures.no c.if-has_root.false) c.in-At.parent c.in-At.node (old_found s c.args.old.now c.args.new.now c.args.ways w (c.has_root.ensures.no c.if-has_root.false) _ c.in-At.is) (sym c.are_nested.ensures ∙ c.if-are_nested.false) (new_found s c.args.old.now c.args.new.now c.args.ways w (sym c.are_nested.ensures ∙ c.if-are_nested.false) c.in-At.parent c.in-At.node c.in-At.is _ c.in-NoWay-new.is)
+returns-in-NoWay-new-clause-course c = λ s t old new moment k w.
+    rename_no_way s t k moment old new (no_roots s old new c.args.ways w c.in_default.not-NoPath) c.in-At.parent c.in-At.node (old_found s old new c.args.ways w (no_roots s old new c.args.ways w c.in_default.not-NoPath) _ c.in-At.is) (apart_there s old new c.args.ways w c.in_default.not-NoPath c.in_default-kind.not-Along) (new_found s old new c.args.ways w (apart_there s old new c.args.ways w c.in_default.not-NoPath c.in_default-kind.not-Along) c.in-At.parent c.in-At.node c.in-At.is _ c.in-NoWay-new.is)
 
 pub returns-in-At-new-clause-course : goal.returns-in-At-new-clause-course
-returns-in-At-new-clause-course c = λ s t moment k w.
-    rename_taken s t k moment c.args.old.now c.args.new.now (c.has_root.ensures.no c.if-has_root.false) c.in-At.parent c.in-At.node (old_found s c.args.old.now c.args.new.now c.args.ways w (c.has_root.ensures.no c.if-has_root.false) _ c.in-At.is) (sym c.are_nested.ensures ∙ c.if-are_nested.false) _ _ (new_found s c.args.old.now c.args.new.now c.args.ways w (sym c.are_nested.ensures ∙ c.if-are_nested.false) c.in-At.parent c.in-At.node c.in-At.is _ c.in-At-new.is)
+returns-in-At-new-clause-course c = λ s t old new moment k w.
+    rename_taken s t k moment old new (no_roots s old new c.args.ways w c.in_default.not-NoPath) c.in-At.parent c.in-At.node (old_found s old new c.args.ways w (no_roots s old new c.args.ways w c.in_default.not-NoPath) _ c.in-At.is) (apart_there s old new c.args.ways w c.in_default.not-NoPath c.in_default-kind.not-Along) _ _ (new_found s old new c.args.ways w (apart_there s old new c.args.ways w c.in_default.not-NoPath c.in_default-kind.not-Along) c.in-At.parent c.in-At.node c.in-At.is _ c.in-At-new.is)
 
 pub returns-in-Missing-new-clause-course : goal.returns-in-Missing-new-clause-course
-returns-in-Missing-new-clause-course c = λ s t moment k w.
-    rename_moves s t k moment c.args.old.now c.args.new.now (c.has_root.ensures.no c.if-has_root.false) c.in-At.parent c.in-At.node (old_found s c.args.old.now c.args.new.now c.args.ways w (c.has_root.ensures.no c.if-has_root.false) _ c.in-At.is) (sym c.are_nested.ensures ∙ c.if-are_nested.false) c.in-Missing-new.into (new_found s c.args.old.now c.args.new.now c.args.ways w (sym c.are_nested.ensures ∙ c.if-are_nested.false) c.in-At.parent c.in-At.node c.in-At.is _ c.in-Missing-new.is)
+returns-in-Missing-new-clause-course c = λ s t old new moment k w.
+    rename_moves s t k moment old new (no_roots s old new c.args.ways w c.in_default.not-NoPath) c.in-At.parent c.in-At.node (old_found s old new c.args.ways w (no_roots s old new c.args.ways w c.in_default.not-NoPath) _ c.in-At.is) (apart_there s old new c.args.ways w c.in_default.not-NoPath c.in_default-kind.not-Along) c.in-Missing-new.into (new_found s old new c.args.ways w (apart_there s old new c.args.ways w c.in_default.not-NoPath c.in_default-kind.not-Along) c.in-At.parent c.in-At.node c.in-At.is _ c.in-Missing-new.is)
+
+pub returns-in-NoPath-clause-course : goal.returns-in-NoPath-clause-course
+returns-in-NoPath-clause-course c = λ s t old new moment k w. roots_refused s old new c.args.ways w c.in-NoPath.is _
+
+pub returns-in-Missing-new-clause-named : goal.returns-in-Missing-new-clause-named
+returns-in-Missing-new-clause-named c = λ s old new w. (old_named s old new c.args.ways w c.in_default.not-NoPath, new_named s old new c.args.ways w c.in_default.not-NoPath)

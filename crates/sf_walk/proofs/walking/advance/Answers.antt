@@ -31,5 +31,5 @@ pub returns-in-NoPath : goal.returns-in-NoPath
 returns-in-NoPath c =
     let s = c.args.store.now in
     let on = subst (λ (r : Borrowed). HoldsWay s (route_in r) c.args.at) c.in-NoPath.is c.requires.stands in
-    subst (λ (w : Ways). DecidesNow s s (walker c.args.number (route_in c.args.route) c.args.at) w) (sym c.along.ensures)
+    subst (λ (w : Ways). DecidesNow s s (walker c.args.number (route_in c.args.route) c.args.at) w) (sym c.no_path.ensures)
     (subst (λ (r : Borrowed). DecidesNow s s (walker c.args.number (route_in r) c.args.at) _) (sym c.in-NoPath.is) (at_once s c.args.number c.args.at on))

@@ -17,7 +17,7 @@ returns-in-NoDirectory c =
     let old = c.args.old.now in
     let new = c.args.new.now in
     let found = c.in-NoDirectory.ensures in
-    subst (λ (w : Ways). DecidesNow c.args.store.now c.look.new.store (walker c.args.number (Between old new) (stage.At at.walked at.node)) w) (sym c.along.ensures)
+    subst (λ (w : Ways). DecidesNow c.args.store.now c.look.new.store (walker c.args.number (Between old new) (stage.At at.walked at.node)) w) (sym c.between.ensures)
     (decides_nowhere c.args.store.now c.look.new.store found.0.0 c.args.number old new (stage.At at.walked at.node)
     (AtEnd (Between old new) (stage.At at.walked at.node) old (reached at.walked at.node) (Together old new at.walked at.node) (inr (found.0.1, found.1)))
     (no_way_on c.args.store.now old at.walked at.node c.requires.on_way found.0.1 found.1))

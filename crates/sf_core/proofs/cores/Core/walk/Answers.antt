@@ -1,8 +1,7 @@
 use Rattle.std.proofs.Common.{ℕ, refl, subst, arith}
 use Rattle.std.specs.Vec.{vec_capacity}
-use Rattle.sf_walk.specs.declared.finding.Located.TheVariants.{NoWay}
 use Rattle.sf_walk.specs.declared.walking.Walk.{Walk}
-use Rattle.sf_walk.specs.Ways.{along}
+use Rattle.sf_walk.specs.Ways.{no_path}
 use Rattle.sf_core.specs.declared.parts.WalkOutcome.TheVariants as outcome
 use Rattle.sf_core.specs.Lanes.{LaneView}
 use Rattle.sf_core.specs.Stepping.{WalkState, ending}
@@ -168,28 +167,28 @@ pub write_on-reply-requires-clause-write : goal.write_on-reply-requires-clause-w
 write_on-reply-requires-clause-write c =
     let lane : LaneView = record { session = c.lane.inside.session; call = c.lane.inside.call; begun = c.lane.inside.begun } in
     let w = write_ready lane c.in-Some.number c.in-Some.is c.self.inside.parts c.args.most (vec_capacity c.self.inside.overtaken) c.self.invariant.1 c.args.self.now c.self.view_is c.args.lane.now c.lane.view_is c.walk_on.new.self c.in-Writes.ensures.comes in
-    writes_ready lane c.in-Some.number c.in-Some.is c.self.inside.parts c.args.most (vec_capacity c.self.inside.overtaken) c.self.invariant.1 c.args.self.now c.self.view_is c.args.lane.now c.lane.view_is (along NoWay) c.walk_on.new.self w (write_there lane c.in-Some.number c.in-Some.is c.self.inside.parts c.args.most (vec_capacity c.self.inside.overtaken) c.self.invariant.1 c.args.self.now c.self.view_is c.args.lane.now c.lane.view_is c.walk_on.new.self c.in-Writes.ensures.comes)
+    writes_ready lane c.in-Some.number c.in-Some.is c.self.inside.parts c.args.most (vec_capacity c.self.inside.overtaken) c.self.invariant.1 c.args.self.now c.self.view_is c.args.lane.now c.lane.view_is no_path c.walk_on.new.self w (write_there lane c.in-Some.number c.in-Some.is c.self.inside.parts c.args.most (vec_capacity c.self.inside.overtaken) c.self.invariant.1 c.args.self.now c.self.view_is c.args.lane.now c.lane.view_is c.walk_on.new.self c.in-Writes.ensures.comes)
 
 pub write_on-reply-requires-clause-room : goal.write_on-reply-requires-clause-room
 write_on-reply-requires-clause-room c =
     let lane : LaneView = record { session = c.lane.inside.session; call = c.lane.inside.call; begun = c.lane.inside.begun } in
     let w = write_ready lane c.in-Some.number c.in-Some.is c.self.inside.parts c.args.most (vec_capacity c.self.inside.overtaken) c.self.invariant.1 c.args.self.now c.self.view_is c.args.lane.now c.lane.view_is c.walk_on.new.self c.in-Writes.ensures.comes in
-    writes_room lane c.in-Some.number c.in-Some.is c.self.inside.parts c.args.most (vec_capacity c.self.inside.overtaken) c.self.invariant.1 c.args.self.now c.self.view_is c.args.lane.now c.lane.view_is (along NoWay) c.walk_on.new.self w (write_there lane c.in-Some.number c.in-Some.is c.self.inside.parts c.args.most (vec_capacity c.self.inside.overtaken) c.self.invariant.1 c.args.self.now c.self.view_is c.args.lane.now c.lane.view_is c.walk_on.new.self c.in-Writes.ensures.comes)
+    writes_room lane c.in-Some.number c.in-Some.is c.self.inside.parts c.args.most (vec_capacity c.self.inside.overtaken) c.self.invariant.1 c.args.self.now c.self.view_is c.args.lane.now c.lane.view_is no_path c.walk_on.new.self w (write_there lane c.in-Some.number c.in-Some.is c.self.inside.parts c.args.most (vec_capacity c.self.inside.overtaken) c.self.invariant.1 c.args.self.now c.self.view_is c.args.lane.now c.lane.view_is c.walk_on.new.self c.in-Writes.ensures.comes)
 
 pub told-requires-in-Writes : goal.told-requires-in-Writes
 told-requires-in-Writes c =
     let lane : LaneView = record { session = c.lane.inside.session; call = c.lane.inside.call; begun = c.lane.inside.begun } in
     let w = write_ready lane c.in-Some.number c.in-Some.is c.self.inside.parts c.args.most (vec_capacity c.self.inside.overtaken) c.self.invariant.1 c.args.self.now c.self.view_is c.args.lane.now c.lane.view_is c.walk_on.new.self c.in-Writes.ensures.comes in
-    writes_given lane c.in-Some.number c.in-Some.is c.self.inside.parts c.args.most (vec_capacity c.self.inside.overtaken) c.self.invariant.1 c.args.self.now c.self.view_is c.args.lane.now c.lane.view_is (along NoWay) c.walk_on.new.self w (write_there lane c.in-Some.number c.in-Some.is c.self.inside.parts c.args.most (vec_capacity c.self.inside.overtaken) c.self.invariant.1 c.args.self.now c.self.view_is c.args.lane.now c.lane.view_is c.walk_on.new.self c.in-Writes.ensures.comes) c.write_on-reply.new.self c.write_on-reply.result c.write_on-reply.ensures
+    writes_given lane c.in-Some.number c.in-Some.is c.self.inside.parts c.args.most (vec_capacity c.self.inside.overtaken) c.self.invariant.1 c.args.self.now c.self.view_is c.args.lane.now c.lane.view_is no_path c.walk_on.new.self w (write_there lane c.in-Some.number c.in-Some.is c.self.inside.parts c.args.most (vec_capacity c.self.inside.overtaken) c.self.invariant.1 c.args.self.now c.self.view_is c.args.lane.now c.lane.view_is c.walk_on.new.self c.in-Writes.ensures.comes) c.write_on-reply.new.self c.write_on-reply.result c.write_on-reply.ensures
 
 pub invariant_of-self-in-Writes : goal.invariant_of-self-in-Writes
 invariant_of-self-in-Writes c =
     let lane : LaneView = record { session = c.lane.inside.session; call = c.lane.inside.call; begun = c.lane.inside.begun } in
     let w = write_ready lane c.in-Some.number c.in-Some.is c.self.inside.parts c.args.most (vec_capacity c.self.inside.overtaken) c.self.invariant.1 c.args.self.now c.self.view_is c.args.lane.now c.lane.view_is c.walk_on.new.self c.in-Writes.ensures.comes in
-    let e = writes_end lane c.in-Some.number c.in-Some.is c.self.inside.parts c.args.most (vec_capacity c.self.inside.overtaken) c.self.invariant.1 c.args.self.now c.self.view_is c.args.lane.now c.lane.view_is (along NoWay) c.walk_on.new.self w (write_there lane c.in-Some.number c.in-Some.is c.self.inside.parts c.args.most (vec_capacity c.self.inside.overtaken) c.self.invariant.1 c.args.self.now c.self.view_is c.args.lane.now c.lane.view_is c.walk_on.new.self c.in-Writes.ensures.comes) c.write_on-reply.new.self c.write_on-reply.result c.write_on-reply.ensures c.told-in-Writes.result c.told-in-Writes.new.lane c.told-in-Writes.ensures in (e.0, e.1)
+    let e = writes_end lane c.in-Some.number c.in-Some.is c.self.inside.parts c.args.most (vec_capacity c.self.inside.overtaken) c.self.invariant.1 c.args.self.now c.self.view_is c.args.lane.now c.lane.view_is no_path c.walk_on.new.self w (write_there lane c.in-Some.number c.in-Some.is c.self.inside.parts c.args.most (vec_capacity c.self.inside.overtaken) c.self.invariant.1 c.args.self.now c.self.view_is c.args.lane.now c.lane.view_is c.walk_on.new.self c.in-Writes.ensures.comes) c.write_on-reply.new.self c.write_on-reply.result c.write_on-reply.ensures c.told-in-Writes.result c.told-in-Writes.new.lane c.told-in-Writes.ensures in (e.0, e.1)
 
 pub returns-in-Writes : goal.returns-in-Writes
 returns-in-Writes c =
     let lane : LaneView = record { session = c.lane.inside.session; call = c.lane.inside.call; begun = c.lane.inside.begun } in
     let w = write_ready lane c.in-Some.number c.in-Some.is c.self.inside.parts c.args.most (vec_capacity c.self.inside.overtaken) c.self.invariant.1 c.args.self.now c.self.view_is c.args.lane.now c.lane.view_is c.walk_on.new.self c.in-Writes.ensures.comes in
-    (writes_end lane c.in-Some.number c.in-Some.is c.self.inside.parts c.args.most (vec_capacity c.self.inside.overtaken) c.self.invariant.1 c.args.self.now c.self.view_is c.args.lane.now c.lane.view_is (along NoWay) c.walk_on.new.self w (write_there lane c.in-Some.number c.in-Some.is c.self.inside.parts c.args.most (vec_capacity c.self.inside.overtaken) c.self.invariant.1 c.args.self.now c.self.view_is c.args.lane.now c.lane.view_is c.walk_on.new.self c.in-Writes.ensures.comes) c.write_on-reply.new.self c.write_on-reply.result c.write_on-reply.ensures c.told-in-Writes.result c.told-in-Writes.new.lane c.told-in-Writes.ensures).2
+    (writes_end lane c.in-Some.number c.in-Some.is c.self.inside.parts c.args.most (vec_capacity c.self.inside.overtaken) c.self.invariant.1 c.args.self.now c.self.view_is c.args.lane.now c.lane.view_is no_path c.walk_on.new.self w (write_there lane c.in-Some.number c.in-Some.is c.self.inside.parts c.args.most (vec_capacity c.self.inside.overtaken) c.self.invariant.1 c.args.self.now c.self.view_is c.args.lane.now c.lane.view_is c.walk_on.new.self c.in-Writes.ensures.comes) c.write_on-reply.new.self c.write_on-reply.result c.write_on-reply.ensures c.told-in-Writes.result c.told-in-Writes.new.lane c.told-in-Writes.ensures).2

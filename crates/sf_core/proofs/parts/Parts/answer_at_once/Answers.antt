@@ -10,15 +10,18 @@ use Rattle.sf_core.specs.Stepping.{ServesCall, AtOnceState}
 use Rattle.sf_walk.specs.declared.finding.Located.TheVariants.{NoWay}
 use Rattle.sf_walk.specs.declared.finding.Ways.{Ways}
 use Rattle.sf_walk.specs.Files.{IsSettled}
-use Rattle.sf_core.proofs.AtOnce.{at_once_settled, decided_at_once}
+use Rattle.sf_core.proofs.AtOnce.{at_once_located, at_once_settled, decided_at_once}
 use Rattle.sf_core.proofs.parts.Parts.answer_at_once.Goals as goal
+
+pub decide-reply-requires-clause-located : goal.decide-reply-requires-clause-located
+decide-reply-requires-clause-located c = at_once_located c.args.self.now.store c.args.session c.args.request c.requires.at_once c.self.inside.store c.no_path-ways.result c.no_path-ways.ensures
 
 pub decide-reply-requires-clause-settled : goal.decide-reply-requires-clause-settled
 decide-reply-requires-clause-settled c =
     let p = c.args.self.now in
     let same = c.in_ok-make_room.ensures.same in
     let store : c.self.inside.store ≡ p.store = ap (λ (q : PartsView). q.store) c.self.view_is ∙ same.store in
-    subst (λ (w : Ways). IsSettled c.self.inside.store c.args.session c.args.request w.path) (sym c.along-ways.ensures)
+    subst (λ (w : Ways). IsSettled c.self.inside.store c.args.session c.args.request w.path) (sym c.no_path-ways.ensures)
     (subst (λ (s : StoreState). IsSettled s c.args.session c.args.request NoWay) (sym store) (at_once_settled p.store c.args.session c.args.request c.requires.at_once c.requires.settled))
 
 pub returns-clause-ok : goal.returns-clause-ok
