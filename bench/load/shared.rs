@@ -7,14 +7,15 @@
 //! `@` has a process for each session, over a pair of sockets, and the tree is the folder that
 //! stands for `{}`. Another one has a process and a tree for each session, so it is measured with
 //! one session alone; or with many, where it keeps no tree and its name ends with `:`. What is
-//! measured are stats, renames, data and sessions, or of these alone what has the word.
+//! measured are stats, changes, renames, data and sessions, or of these alone what has the word.
 //!
 //! Ratios are those of the first server to each other one. Rounds are those of the other workloads.
 
 use crate::session::{processor_seconds, Session};
 use crate::wire::Outcome;
 use crate::workloads::{
-    MoveDirectory, ReadFile, Rename, Setting, Stat, StatMoving, Workload, WriteFile,
+    MakeDirectories, MakeFiles, MoveDirectory, ReadFile, Rename, Setting, Stat, StatMoving,
+    Workload, WriteFile,
 };
 use crate::{number, print_head, print_line, value, ROUNDS};
 use std::process::{Child, Command};
@@ -175,6 +176,13 @@ const STATS: [Row; 4] = [
 const STATS_ALONE: [Row; 2] = [
     row("1 session", 1, |setting| Stat::new(setting, 1)),
     row("8 sessions", 8, |setting| Stat::new(setting, 1)),
+];
+
+const CHANGES: [Row; 4] = [
+    row("MKDIR and RMDIR, 1 session", 1, |setting| MakeDirectories::new(setting, 1)),
+    row("MKDIR and RMDIR, 8 sessions", 8, |setting| MakeDirectories::new(setting, 1)),
+    row("open, close and remove, 1 session", 1, |setting| MakeFiles::new(setting, 1)),
+    row("open, close and remove, 8 sessions", 8, |setting| MakeFiles::new(setting, 1)),
 ];
 
 const DATA: [Row; 4] = [
@@ -438,6 +446,14 @@ fn print_stats(options: &Options, places: &mut Places) -> Outcome<()> {
     Ok(())
 }
 
+fn print_changes(options: &Options, places: &mut Places) -> Outcome<()> {
+    let rows = measure_all(&CHANGES, options, places)?;
+    print_table("Calls a second, one at a time", options, &rows, rate);
+    let title = "Processor time for a call, in microseconds";
+    print_table(title, options, &rows, |figure| figure.processor);
+    Ok(())
+}
+
 fn print_data(options: &Options, places: &mut Places) -> Outcome<()> {
     let rows = measure_all(&DATA, options, places)?;
     print_table("MB a second, 64 sent ahead", options, &rows, |figure| rate(figure) / 1e6);
@@ -470,8 +486,9 @@ pub fn run(words: impl Iterator<Item = String>) -> Outcome<()> {
         options.files, options.names, options.seconds
     );
     type Print = fn(&Options, &mut Places) -> Outcome<()>;
-    let parts: [(&str, Print); 4] = [
+    let parts: [(&str, Print); 5] = [
         ("stats", print_stats),
+        ("changes", print_changes),
         ("renames", print_renames),
         ("data", print_data),
         ("sessions", print_sessions),

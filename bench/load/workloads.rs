@@ -256,14 +256,19 @@ impl Workload for Stat {
     }
 }
 
+/// A number that no other slot has, of all sessions with so many slots on one tree.
+fn number_of(setting: Setting, slots: usize, slot: usize) -> usize {
+    setting.number as usize * slots + slot
+}
+
 /// Beside the tree each slot makes a directory of its own and removes it.
-struct MakeDirectories {
+pub struct MakeDirectories {
     setting: Setting,
     ahead: usize,
 }
 
 impl MakeDirectories {
-    fn new(setting: Setting, ahead: usize) -> Box<dyn Workload> {
+    pub fn new(setting: Setting, ahead: usize) -> Box<dyn Workload> {
         Box::new(MakeDirectories { setting, ahead })
     }
 }
@@ -283,7 +288,7 @@ impl Workload for MakeDirectories {
                     return Ok(false);
                 }
             }
-            let path = format!("w/d{slot}");
+            let path = format!("w/d{}", number_of(self.setting, self.ahead, slot));
             if is_there[slot] {
                 request.send(RMDIR, &[Field::Bytes(path.as_bytes())]);
             } else {
@@ -296,7 +301,7 @@ impl Workload for MakeDirectories {
 }
 
 /// Beside the tree each slot opens a new file of its own, closes it and removes it.
-struct MakeFiles {
+pub struct MakeFiles {
     setting: Setting,
     ahead: usize,
 }
@@ -310,7 +315,7 @@ enum Asked {
 }
 
 impl MakeFiles {
-    fn new(setting: Setting, ahead: usize) -> Box<dyn Workload> {
+    pub fn new(setting: Setting, ahead: usize) -> Box<dyn Workload> {
         Box::new(MakeFiles { setting, ahead })
     }
 }
@@ -324,7 +329,7 @@ impl Workload for MakeFiles {
     fn round(&mut self, session: &mut Session, until: Instant) -> Outcome<u64> {
         let mut asked = vec![Asked::Remove; self.ahead];
         session.pump(self.ahead, &mut |slot, reply, request| {
-            let path = format!("w/f{slot}");
+            let path = format!("w/f{}", number_of(self.setting, self.ahead, slot));
             asked[slot] = match (asked[slot], reply) {
                 (Asked::Open, Some(reply)) => {
                     close(request, &reply.handle()?);
