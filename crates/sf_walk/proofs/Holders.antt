@@ -11,7 +11,7 @@ use Rattle.sf_inode.specs.declared.node.Content.TheVariants as content
 use Rattle.sf_inode.specs.declared.handle.OpenHandle.{OpenHandle}
 use Rattle.sf_inode.specs.declared.handle.Marks.{Marks}
 use Rattle.sf_inode.specs.Nodes.{blocks_left_in, new_content, less_content, more_content, with_content, with_bytes, with_opened, without_name, is_unused}
-use Rattle.sf_inode.specs.Stores.{NewEntry, StoreState, node_in, child_of, edited_by, edited, blocks_left_at, bytes_set, entry_taken, entry_put, moved_entry, relinked_from, relinked, with_nodes, released_if, released, unlinked_from, unlinked, handles_of, handles_put, handle_put, new_handle, after_open_node, after_open, handle_dropped, closed_by, closed, open_handle_at, Inserted, held_path}
+use Rattle.sf_inode.specs.Stores.{NewEntry, StoreState, node_in, child_of, edited_by, edited, blocks_left_at, bytes_set, entry_taken, entry_put, moved_entry, relinked_from, relinked, with_nodes, released_if, released, unlinked_from, unlinked, handles_of, handles_put, handle_put, new_handle, after_open_node, after_open, handle_dropped, closed_by, closed, open_handle_at, Inserted, entry_key}
 use Rattle.sf_keeps.proofs.Laws.{node_in-set}
 use Rattle.sf_walk.specs.Served.{IsAsBefore, KeepsRest, HoldersStay, IsAlike, LookedUp, after_look_ups}
 use Rattle.sf_walk.proofs.LookUps.{looked_nodes, looked_root}
@@ -118,14 +118,14 @@ stays_unlinked {N} old s dir n h =
 
 pub stays_relinked : {N : Option ℕ → ℕ → Type 0} (old s : StoreState) (dir : ℕ) (n : Name) (to : ℕ) (m : Name) → KeepsRest N old s → KeepsRest N old (relinked s dir n to m)
 stays_relinked {N} old s dir n to m h =
-    elim (child_of s.nodes dir n) as (λ o. KeepsRest N old (relinked_from s (held_path dir n) (held_path to m) o (child_of s.nodes to m))) [
+    elim (child_of s.nodes dir n) as (λ o. KeepsRest N old (relinked_from s (entry_key dir n) (entry_key to m) o (child_of s.nodes to m))) [
       | None ↦ h
       | Some id ↦
-          let moved : KeepsRest N old (moved_entry s (held_path dir n) (held_path to m) id) =
+          let moved : KeepsRest N old (moved_entry s (entry_key dir n) (entry_key to m) id) =
           stays_edited (with_content (less_content n)) (λ node. (refl, refl, less_left n node.content)) old (entry_put s to m id) dir (stays_edited (with_content (more_content m id)) (λ node. (refl, refl, more_left m id node.content)) old s to h) in
-          elim (child_of s.nodes to m) as (λ r. KeepsRest N old (relinked_from s (held_path dir n) (held_path to m) (Some id) r)) [
+          elim (child_of s.nodes to m) as (λ r. KeepsRest N old (relinked_from s (entry_key dir n) (entry_key to m) (Some id) r)) [
             | None ↦ moved
-            | Some target ↦ stays_released old (edited without_name (moved_entry s (held_path dir n) (held_path to m) id) target) target (stays_edited without_name (λ node. (refl, refl, refl)) old (moved_entry s (held_path dir n) (held_path to m) id) target moved)
+            | Some target ↦ stays_released old (edited without_name (moved_entry s (entry_key dir n) (entry_key to m) id) target) target (stays_edited without_name (λ node. (refl, refl, refl)) old (moved_entry s (entry_key dir n) (entry_key to m) id) target moved)
           ]
     ]
 

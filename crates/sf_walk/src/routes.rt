@@ -74,6 +74,5 @@ fn has_root(old: &Path, new: &Path) -> bool
 fn are_nested(old: &Path, new: &Path) -> bool
     ensures { result ≡ are_nested old.now new.now }
 {
-    let alike = old.common(new);
-    alike == old.len() || alike == new.len()
+    new.begins_with(old) || old.begins_with(new)
 }

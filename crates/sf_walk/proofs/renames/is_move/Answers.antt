@@ -14,7 +14,7 @@ returns-in_default c = λ t k.
 pub returns-in-Rename : goal.returns-in-Rename
 returns-in-Rename c = λ t k.
     let w = subst (λ (r : Request). IsLocated c.args.store.now r c.args.ways) c.in-Rename.is c.requires in
-    c.does_move.ensures ∙ course_moves c.args.store.now t c.args.call.now.moment _ _ _ _ (c.rename_course.ensures.course c.args.store.now t _ _ c.args.call.now.moment k w)
+    c.does_move.ensures ∙ course_moves c.args.store.now t c.args.call.now.moment _ _ _ _ (c.rename_course.ensures.course c.args.store.now t c.before.before.in-Rename.field-0 c.before.before.in-Rename.field-1 c.args.call.now.moment k w)
     ∙ ap (λ (r : Request). is_some (moved_by (answer_to t c.args.call.now.session c.args.call.now.number c.args.call.now.moment r).changes)) (sym c.in-Rename.is)
 
 pub returns-in-PosixRename : goal.returns-in-PosixRename
