@@ -62,8 +62,8 @@ begins_more x y z {xs = xs} p q =
 
 -- ---- a session at rest
 
-rest_operations : (t : SessionState) → t.phase ≡ AtRest → state_calls t ≡ flat_map response_calls t.answers
-rest_operations t at = ap (λ (f : Phase). flat_map response_calls t.answers ++ phase_calls f) at ∙ append-nil (flat_map response_calls t.answers)
+rest_calls : (t : SessionState) → t.phase ≡ AtRest → state_calls t ≡ flat_map response_calls t.answers
+rest_calls t at = ap (λ (f : Phase). flat_map response_calls t.answers ++ phase_calls f) at ∙ append-nil (flat_map response_calls t.answers)
 
 rest_attempts : (t : SessionState) → t.phase ≡ AtRest → attempts_told t ≡ flat_map answer_attempts t.answers
 rest_attempts t at = ap (λ (f : Phase). flat_map answer_attempts t.answers ++ phase_attempts f) at ∙ append-nil (flat_map answer_attempts t.answers)
@@ -129,9 +129,9 @@ told_still {start = start} {at = at} {v = v} {d' = d'} {b = b} {tl = tl} {t = t}
 
 -- ---- it ends
 
-closed_operations : (t : SessionState) (f : Phase) → t.phase ≡ f → state_calls (closed_now t f) ≡ state_calls t
-closed_operations t AtRest at = ap (λ (f : Phase). flat_map response_calls t.answers ++ phase_calls f) (sym at)
-closed_operations t f at = refl
+closed_calls : (t : SessionState) (f : Phase) → t.phase ≡ f → state_calls (closed_now t f) ≡ state_calls t
+closed_calls t AtRest at = ap (λ (f : Phase). flat_map response_calls t.answers ++ phase_calls f) (sym at)
+closed_calls t f at = refl
 
 closed_attempts : (t : SessionState) (f : Phase) → t.phase ≡ f → attempts_told (closed_now t f) ≡ attempts_told t
 closed_attempts t AtRest at = ap (λ (f : Phase). flat_map answer_attempts t.answers ++ phase_attempts f) (sym at)
@@ -153,13 +153,13 @@ told_ended {start = start} {at' = at'} {v = v} {d' = d'} {b' = b'} {tl = tl} {t 
     let asked : BeginsCalls start.told tl start.begins b' (attempts_told t) = subst (λ (x : Option (List Begin)). BeginsCalls start.told tl start.begins x (attempts_told t)) (sym begins) h.notes.asked in
     record {
       notes = record {
-        noted = calls ∙ h.notes.noted ∙ sym (closed_operations t t.phase refl);
+        noted = calls ∙ h.notes.noted ∙ sym (closed_calls t t.phase refl);
         keeps = keeps ∙ h.notes.keeps;
         asked = subst (λ (l : List Attempt). BeginsCalls start.told tl start.begins b' l) (sym (closed_attempts t t.phase refl)) asked;
       };
       stands = λ rests. absurd (never_rests t t.phase refl rests);
       waits = ap transcript same.answers ∙ h.waits ∙ ap (λ (b : List ℕ). b ++ v.output) (sym same.sent);
-      counts = counts_same at' d' t (ended t) (closed_operations t t.phase refl) (closed_in_call d'.place t t.phase refl) (count h.notes.noted h.counts);
+      counts = counts_same at' d' t (ended t) (closed_calls t t.phase refl) (closed_in_call d'.place t t.phase refl) (count h.notes.noted h.counts);
     }
 
 -- ---- it goes on
@@ -298,7 +298,7 @@ goes_body {start = start} {now = now} {now' = now'} {v = v} {t = t} {asked = ask
       t',
       record {
         notes = record {
-          noted = n.noted ∙ ap (λ (l : List CallRecord). l ++ (flat_map response_calls more ++ phase_calls f)) (h.notes.noted ∙ rest_operations t rests) ∙ same_calls;
+          noted = n.noted ∙ ap (λ (l : List CallRecord). l ++ (flat_map response_calls more ++ phase_calls f)) (h.notes.noted ∙ rest_calls t rests) ∙ same_calls;
           keeps = n.keeps ∙ h.notes.keeps;
           asked = subst (λ (l : List Attempt). BeginsCalls start.told now'.told start.begins now'.begins l) same_attempts
               (begins_more start now now' begun n.begins);
