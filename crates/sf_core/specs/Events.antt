@@ -16,7 +16,7 @@ use Rattle.sf_call.specs.declared.record.Record.{Record}
 use Rattle.sf_call.specs.declared.record.Record.TheVariants.{Did, Left}
 use Rattle.sf_call.specs.declared.call.Call.{Call}
 use Rattle.sf_call.specs.declared.call.Stage.TheVariants as stage
-use Rattle.sf_call.specs.Answers.{AnswerView as Answer}
+use Rattle.sf_call.specs.Answers.{AnswerView}
 use Rattle.sf_call.specs.declared.fault.CoreFault.{CoreFault}
 use Rattle.sf_call.specs.declared.fault.CoreFault.TheVariants as fault
 use Rattle.sf_call.specs.Changes.{moved_by}
@@ -290,7 +290,7 @@ pub record AddsNothing (b : Before) (a : After) : Type 0 where
   pub lane : a.lane ≡ b.lane
 
 -- the answer is the lane's call's, and the lane is at rest
-pub record Answers (b : Before) (given : Answer) (a : After) : Type 0 where
+pub record Answers (b : Before) (given : AnswerView) (a : After) : Type 0 where
   pub session : given.session ≡ b.lane.session
   pub number : b.lane.call ≡ Some given.number
   pub lane : a.lane ≡ at_rest b.lane

@@ -7,7 +7,7 @@ use Rattle.sf_call.specs.declared.call.Call.{Call}
 use Rattle.sf_call.specs.declared.call.Stage.{Stage}
 use Rattle.sf_call.specs.declared.call.Stage.TheVariants as stage
 use Rattle.sf_call.specs.declared.record.Record.{Record}
-use Rattle.sf_call.specs.Answers.{AnswerView as Answer}
+use Rattle.sf_call.specs.Answers.{AnswerView}
 use Rattle.sf_call.specs.Histories.{IsLegal}
 use Rattle.sf_session.specs.Sessions.{SessionView}
 use Rattle.sf_core.specs.Lanes.{LaneView}
@@ -80,7 +80,7 @@ reply_due id reply = record { id = id; reply = reply }
 pub record HasAnswer (v : CoreView) (s : ℕ) (x : SessionView) (d : DueReply)
     (p : SeatState) : Type 0 where
   pub lane : LaneView
-  pub answer : Answer
+  pub answer : AnswerView
   pub session : lane.session ≡ s
   pub idle : lane.call ≡ None
   pub place_is : p ≡ state.Answered lane answer
