@@ -35,7 +35,7 @@ use Rattle.sf_core.specs.declared.step.Step.{Step}
 use Rattle.sf_core.specs.declared.step.Step.TheVariants.{Moved, Blocked, Answered, Stranger}
 use Rattle.sf_core.specs.Lanes.{LaneView, at_rest}
 use Rattle.sf_core.specs.Cores.{CoreView, LaneState, call_at, lane_state, joined, last_number, most_sessions}
-use Rattle.sf_core.specs.Cores.LaneState.{Gone, Idle, Busy}
+use Rattle.sf_core.specs.Cores.LaneState.{NoLane, Idle, Busy}
 use Rattle.sf_core.specs.Histories.{IsHistory}
 use Rattle.sf_core.specs.Progress.{waiting_reply, left_of, bound_of, is_write, IsBehind, CopiesInto, IsCopying, MayDecide, did, new_call, SameCall, overtaken, names_in_records, record_number}
 
@@ -351,7 +351,7 @@ pub record Walks (v : CoreView) (lane : LaneView) (most : ℕ) (c : Came) : Type
 pub record Joins (v w : CoreView) : Type 0 where
   pub few : joined v < most_sessions
   pub unspent : v.joins < last_number
-  pub was : lane_state v (v.joins + 1) ≡ Gone
+  pub was : lane_state v (v.joins + 1) ≡ NoLane
   pub own : lane_state w (v.joins + 1) ≡ Idle
   pub others : (s : ℕ) → s ≢ v.joins + 1 → lane_state w s ≡ lane_state v s
   pub joined : joined w ≡ joined v + 1
@@ -404,7 +404,7 @@ RefusesBegin v lane fault.Stranger = lane_state v lane.session ≢ Idle
 -- the session leaves
 pub record Leaves (v w : CoreView) (session : ℕ) : Type 0 where
   pub idle : lane_state v session ≡ Idle
-  pub own : lane_state w session ≡ Gone
+  pub own : lane_state w session ≡ NoLane
   pub others : (s : ℕ) → s ≢ session → lane_state w s ≡ lane_state v s
   pub joined : joined v ≡ joined w + 1
   pub drawn : w.drawn ≡ v.drawn

@@ -10,7 +10,7 @@ use Rattle.sf_core.specs.declared.step.Step.{Step}
 use Rattle.sf_core.specs.declared.step.Step.TheVariants.{Moved, Blocked, Answered, Stranger}
 use Rattle.sf_core.specs.Lanes.{LaneView}
 use Rattle.sf_core.specs.Cores.{CoreView, lane_state}
-use Rattle.sf_core.specs.Cores.LaneState.{Gone, Idle, Busy}
+use Rattle.sf_core.specs.Cores.LaneState.{NoLane, Idle, Busy}
 use Rattle.sf_core.specs.Progress.{new_call}
 use Rattle.sf_core.specs.Histories.{IsHistory}
 use Rattle.sf_core.specs.Owners.{OwnsCalls}
@@ -105,7 +105,7 @@ steps b came a pages takes before after hist agrees place p p' at is fits =
     (λ s apart q f. others_step b came a takes before after hist s (λ e. apart (e ∙ is)) q f)
     (λ s less.
     let apart : s ≢ b.lane.session = λ e. let e' = e ∙ is in omega arith in
-    let gone : lane_state b.core s ≡ Gone = before.later s less in
+    let gone : lane_state b.core s ≡ NoLane = before.later s less in
     let f = others_step b came a takes before after hist s apart (page Departed []) (record { presence = ap presence_in gone; told = agrees.later s less ∙ ap waits_in (sym gone) }) in
     f.told ∙ ap waits_in (after.later s (subst (λ j. j < s) (sym stay.0) less)))
 
@@ -127,7 +127,7 @@ step_goes b came a pages takes before after hist agrees own =
       joins = agrees.joins ∙ sym stay.0;
       each = λ u q e. on (u + 1) q (agrees.each u q e);
       later = λ s less.
-          let gone : lane_state b.core s ≡ Gone = before.later s (subst (λ j. j < s) stay.0 less) in
+          let gone : lane_state b.core s ≡ NoLane = before.later s (subst (λ j. j < s) stay.0 less) in
           let f = on s (page Departed []) (record { presence = ap presence_in gone; told = agrees.later s (subst (λ j. j < s) stay.0 less) ∙ ap waits_in (sym gone) }) in
           f.told ∙ ap waits_in (after.later s less);
     }
@@ -137,7 +137,7 @@ pub leaves : (v w : CoreView) (session : ℕ) (pages : List Page) (h : List Reco
     → PagesAgree w (slice_set pages place (page Departed p.told)) (h ++ Left session ∷ [])
 leaves v w session pages h a hist l place p at is rests =
     let idle = idle_there v pages h a place p at rests in
-    let gone : lane_state w (place + 1) ≡ Gone = ap (lane_state w) (sym is) ∙ l.own in
+    let gone : lane_state w (place + 1) ≡ NoLane = ap (lane_state w) (sym is) ∙ l.own in
     let same : (s : ℕ) → call_records s (h ++ Left session ∷ []) ≡ call_records s h = λ s. records_append s h (Left session ∷ []) ∙ append-nil (call_records s h) in
     let f = a.each place p at in
     sets v w pages h (h ++ Left session ∷ []) a hist l.joins place p (page Departed p.told) at

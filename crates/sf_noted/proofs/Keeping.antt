@@ -14,7 +14,7 @@ use Rattle.sf_core.specs.declared.step.Step.{Step}
 use Rattle.sf_core.specs.declared.step.Step.TheVariants.{Moved, Blocked, Answered, Stranger}
 use Rattle.sf_core.specs.Lanes.{LaneView}
 use Rattle.sf_core.specs.Cores.{CoreView, LaneState, lane_state}
-use Rattle.sf_core.specs.Cores.LaneState.{Gone, Idle, Busy}
+use Rattle.sf_core.specs.Cores.LaneState.{NoLane, Idle, Busy}
 use Rattle.sf_core.specs.Progress.{waiting_reply, SameCall, did}
 use Rattle.sf_core.specs.Histories.{IsHistory}
 use Rattle.sf_core.specs.Owners.{OwnsCalls}
@@ -205,12 +205,12 @@ own_answers b given a x p f =
 
 -- ---- what a page tells of the core
 pub busy_of : (l : LaneState) (number moment : ℕ) (request : Request) → presence_in l ≡ UnderWay number moment request → (c : Call) × (l ≡ Busy c) × (c.number ≡ number)
-busy_of Gone number moment request e = absurd cc
+busy_of NoLane number moment request e = absurd cc
 busy_of Idle number moment request e = absurd cc
 busy_of (Busy c) number moment request e = (c, refl, cc)
 
 pub idle_of : (l : LaneState) → presence_in l ≡ Resting → l ≡ Idle
-idle_of Gone e = absurd cc
+idle_of NoLane e = absurd cc
 idle_of Idle e = refl
 idle_of (Busy c) e = absurd cc
 

@@ -7,7 +7,7 @@ use Rattle.sf_core.specs.declared.step.Step.{Step}
 use Rattle.sf_core.specs.declared.step.Step.TheVariants.{Moved, Blocked, Answered, Stranger}
 use Rattle.sf_core.specs.Lanes.{LaneView}
 use Rattle.sf_core.specs.Cores.{CoreView, LaneState, lane_state}
-use Rattle.sf_core.specs.Cores.LaneState.{Gone, Idle, Busy}
+use Rattle.sf_core.specs.Cores.LaneState.{NoLane, Idle, Busy}
 use Rattle.sf_core.specs.Progress.{waiting_reply}
 use Rattle.sf_core.specs.Histories.{IsHistory}
 use Rattle.sf_audit.specs.Audits.{CallRecord, call_records}
@@ -26,12 +26,12 @@ waiting_for c None = []
 waiting_for c (Some given) = told_of c given ∷ []
 
 abbrev pub waits_in : LaneState → List CallRecord
-waits_in Gone = []
+waits_in NoLane = []
 waits_in Idle = []
 waits_in (Busy c) = waiting_for c (waiting_reply c)
 
 abbrev pub presence_in : LaneState → Presence
-presence_in Gone = Departed
+presence_in NoLane = Departed
 presence_in Idle = Resting
 presence_in (Busy c) = UnderWay c.number c.moment c.request
 
