@@ -13,7 +13,7 @@ use Rattle.sf_call.specs.Tree.{Tree}
 use Rattle.sf_call.specs.declared.call.Call.{Call}
 use Rattle.sf_call.specs.declared.record.Record.{Record}
 use Rattle.sf_call.specs.declared.record.Record.TheVariants.{Did, Left}
-use Rattle.sf_call.specs.Answers.{AnswerView as Answer}
+use Rattle.sf_call.specs.Answers.{AnswerView}
 use Rattle.sf_call.specs.Histories.{replay, IsAmong}
 use Rattle.sf_walk.specs.Routes.{IsPosition, route_of}
 use Rattle.sf_session.specs.Sessions.{SessionView}
@@ -114,7 +114,7 @@ has_stopped e k c given at here position way undecided =
     subst (λ (r : Record). WalkHasStopped tree k.moves r) (own_record e.seat.old.core (number e.seat) e.seat.was.session k e.seat.was.place c given at here) (stops tree (route_of c.request) c.stage k.moves position moved way)
 
 -- the session's call was decided, and its answer waits
-decided_now : (e : SeatEvent) (k : Walking) (a : Answer) → (is : IsTold (in_phase e (under_way_as k))) → KeepsSession e.seat
+decided_now : (e : SeatEvent) (k : Walking) (a : AnswerView) → (is : IsTold (in_phase e (under_way_as k))) → KeepsSession e.seat
     → Moves e.seat.old.core e.seat.core (number e.seat) (with_phase e.told (under_way_as k)) (with_phase e.told (Decided k.id k.number k.request a.reply)) 0
     → lane_state e.seat.core (number e.seat) ≡ Idle → e.seat.now.place ≡ state.Answered (at_rest is.seat.at.lane) a
     → DecidesCall e.world (number e.seat) k.moves (own_did (number e.seat) k a.reply) e.added
