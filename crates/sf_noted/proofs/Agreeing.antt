@@ -18,7 +18,7 @@ use Rattle.sf_core.specs.Events.{Before, After, Fetches, Decides, Joins, CallBeg
 use Rattle.sf_audit.specs.Audits.{call_records}
 use Rattle.sf_roll.proofs.Laws.{get_set, get_set_else}
 use Rattle.sf_noted.specs.Pages.{Page}
-use Rattle.sf_noted.specs.Pages.Presence.{Resting, UnderWay, Departed}
+use Rattle.sf_noted.specs.Pages.Presence.{BetweenCalls, Calling, Departed}
 use Rattle.sf_noted.specs.PageChanges.{page, fresh_page}
 use Rattle.sf_noted.specs.Noted.{waiting_for, waits_in, presence_in, FitsPage, PagesAgree}
 use Rattle.sf_noted.proofs.Lists.{within, one_there, at_end, length_set}
@@ -64,20 +64,20 @@ joins v w pages h a hist j =
     }
 
 -- ---- a call begins
-pub idle_there : (v : CoreView) (pages : List Page) (h : List Record) → PagesAgree v pages h → (place : ℕ) (p : Page) → slice_get pages place ≡ Some p → p.presence ≡ Resting → lane_state v (place + 1) ≡ Idle
+pub idle_there : (v : CoreView) (pages : List Page) (h : List Record) → PagesAgree v pages h → (place : ℕ) (p : Page) → slice_get pages place ≡ Some p → p.presence ≡ BetweenCalls → lane_state v (place + 1) ≡ Idle
 idle_there v pages h a place p at rests = idle_of (lane_state v (place + 1)) ((a.each place p at).presence ∙ rests)
 
 pub begins : (v w : CoreView) (lane : LaneView) (request : Request) (moment : ℕ) (pages : List Page) (h : List Record) → PagesAgree v pages h → IsHistory w h → CallBegins v w lane request moment
-    → (place : ℕ) (p : Page) → slice_get pages place ≡ Some p → lane.session ≡ place + 1 → p.presence ≡ Resting → (number : ℕ) → number ≡ w.drawn
-    → PagesAgree w (slice_set pages place (page (UnderWay number moment request) p.told)) h
+    → (place : ℕ) (p : Page) → slice_get pages place ≡ Some p → lane.session ≡ place + 1 → p.presence ≡ BetweenCalls → (number : ℕ) → number ≡ w.drawn
+    → PagesAgree w (slice_set pages place (page (Calling number moment request) p.told)) h
 begins v w lane request moment pages h a hist b place p at is rests number drawn =
     let idle = idle_there v pages h a place p at rests in
     let c = new_call (v.drawn + 1) lane.session moment request in
     let own : lane_state w (place + 1) ≡ Busy c = ap (lane_state w) (sym is) ∙ b.own in
     let f = a.each place p at in
-    sets v w pages h h a hist b.joins place p (page (UnderWay number moment request) p.told) at
+    sets v w pages h h a hist b.joins place p (page (Calling number moment request) p.told) at
     (record {
-      presence = ap presence_in own ∙ ap (λ n. UnderWay n moment request) (sym (drawn ∙ b.drawn));
+      presence = ap presence_in own ∙ ap (λ n. Calling n moment request) (sym (drawn ∙ b.drawn));
       told = f.told ∙ (ap (λ l. p.told ++ waits_in l) idle ∙ ap (λ l. p.told ++ l) (sym (ap waits_in own ∙ ap (waiting_for c) b.fresh.0)));
     })
     (λ s apart q g. fit_kept v w h s q (b.others s (λ e. apart (e ∙ is))) g)
@@ -133,7 +133,7 @@ step_goes b came a pages takes before after hist agrees own =
     }
 
 -- ---- a session leaves
-pub leaves : (v w : CoreView) (session : ℕ) (pages : List Page) (h : List Record) → PagesAgree v pages h → IsHistory w (h ++ Left session ∷ []) → Leaves v w session → (place : ℕ) (p : Page) → slice_get pages place ≡ Some p → session ≡ place + 1 → p.presence ≡ Resting
+pub leaves : (v w : CoreView) (session : ℕ) (pages : List Page) (h : List Record) → PagesAgree v pages h → IsHistory w (h ++ Left session ∷ []) → Leaves v w session → (place : ℕ) (p : Page) → slice_get pages place ≡ Some p → session ≡ place + 1 → p.presence ≡ BetweenCalls
     → PagesAgree w (slice_set pages place (page Departed p.told)) (h ++ Left session ∷ [])
 leaves v w session pages h a hist l place p at is rests =
     let idle = idle_there v pages h a place p at rests in

@@ -17,7 +17,7 @@ use Rattle.sf_session.proofs.Laws.{refusal_short}
 use Rattle.sf_session.specs.Responses.{Response, ByCall, Refused, ask_behind, packet_for}
 use Rattle.sf_session.specs.SessionStates.{HasShortPacket}
 use Rattle.sf_audit.specs.Audits.{CallRecord}
-use Rattle.sf_noted.specs.Pages.Presence.{UnderWay}
+use Rattle.sf_noted.specs.Pages.Presence.{Calling}
 use Rattle.sf_pool.specs.declared.desk.Begin.{Begin}
 use Rattle.sf_pool.specs.Desks.{DeskState, Joined, IsResting, IsLastAnswer, DeskView, Notes}
 use Rattle.sf_pool.specs.Scenes.{response_calls, Attempt, attempt, answer_attempts, BeginsCalls}
@@ -50,7 +50,7 @@ some_pushed (y ∷ ys) x e = cc
 -- From the first of these views of a desk to the second a call began, and from there to the third it was answered.
 pub record IsMade (d d1 d2 : DeskView) (request : Request) (number moment : ℕ) : Type 0 where
   pub rests : IsResting d.place
-  pub begun : d1 ≡ record d { place = Joined (UnderWay number moment request) }
+  pub begun : d1 ≡ record d { place = Joined (Calling number moment request) }
   pub answered : IsAnsweredAt d1 d2
 
 -- so it is noted behind the calls before it
