@@ -3,10 +3,10 @@
 ghost use Rattle.std.specs.Prelude.{◌<◌};
 ghost use Rattle.sf_alone.specs.Talks.{talk_view, ConversesTo};
 
-use sf_serving::NoObserver;
 use crate::on_engine::serve_one;
 use sf_engine::Engine;
 use sf_line::Line;
+use sf_serving::NoObserver;
 use sf_session::{Cause, Clock, ServeFault};
 use std::alloc::Global;
 

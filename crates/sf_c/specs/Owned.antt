@@ -8,8 +8,8 @@ use Rattle.sf_engine.specs.contracts.engine.Engine.{the_row}
 use Rattle.sf_engine.specs.Views.{EngineView}
 use Rattle.sf_call.specs.Leaves.{Leaf}
 use Rattle.sf_refusing.specs.declared.refusals.Refusals.{Refusals}
-use Rattle.sf_refusing.specs.contracts.refusals.Refusals as refusals
-use Rattle.sf_c.specs.contracts.leaves.Leaves as tree
+use Rattle.sf_refusing.specs.contracts.refusals.Refusals.{the_row as refusals_row}
+use Rattle.sf_c.specs.contracts.leaves.Leaves.{the_row as tree_row}
 use denote.RawPtr.{Ptr}
 use base.Fml.{Fml, ftrue}
 
@@ -21,9 +21,9 @@ engine_owned alloc at (Some engine) = box_owns (ghosts.dealloc_token alloc) the_
 -- the box of refusals, if there is one
 abbrev pub refusals_owned : Global → Ptr → Option Refusals → Fml
 refusals_owned alloc at None = ftrue
-refusals_owned alloc at (Some x) = box_owns (ghosts.dealloc_token alloc) refusals.the_row at x
+refusals_owned alloc at (Some x) = box_owns (ghosts.dealloc_token alloc) refusals_row at x
 
 -- the box of a tree, if there is one
 abbrev pub tree_owned : Global → Ptr → Option (List Leaf) → Fml
 tree_owned alloc at None = ftrue
-tree_owned alloc at (Some leaves) = box_owns (ghosts.dealloc_token alloc) tree.the_row at leaves
+tree_owned alloc at (Some leaves) = box_owns (ghosts.dealloc_token alloc) tree_row at leaves

@@ -10,7 +10,7 @@ use Rattle.sf_reply.specs.declared.reply.Reply.{Reply}
 use Rattle.sf_call.specs.declared.call.Call.{Call}
 use Rattle.sf_call.specs.declared.call.Stage.TheVariants as stage
 use Rattle.sf_call.specs.declared.record.Record.{Record}
-use Rattle.sf_call.specs.Answers.{AnswerView as Answer}
+use Rattle.sf_call.specs.Answers.{AnswerView}
 use Rattle.sf_call.specs.Histories.{IsGiven}
 use Rattle.sf_call.specs.declared.request.Request.{Request}
 use Rattle.sf_call.specs.Values.{IsCall}
@@ -175,7 +175,7 @@ module _ (lane : LaneView) (p q : PartsView) (core : IsCore p) (request : Reques
   pub given_at_once : IsGiven (p.drawn + 1) lane.session given
   given_at_once = decided_given at.mid its_lane its turn undecided at.mid nowhere walked free at.mid over core.history (sound_mid core.history core.sound) q given at.finished
 
-  module _ (a : Answer) (is : a ≡ record { number = p.drawn + 1; session = lane.session; reply = given }) where
+  module _ (a : AnswerView) (is : a ≡ record { number = p.drawn + 1; session = lane.session; reply = given }) where
     steps : IsStep at.mid its_lane (step.Answered a) q (at_rest its_lane)
     steps = decided_step at.mid its_lane its turn undecided at.mid nowhere walked free at.mid over q given at.finished a is (no_block at.mid.store its given (at_once_silent p.store lane.session request once))
 

@@ -2,7 +2,7 @@
 use Rattle.std.specs.Prelude.{◌≡◌, ◌<◌, ◌≤◌, ◌+◌, ◌^◌, ℕ, zero, suc, List, [], length, Option, Some, None, refl}
 use Rattle.std.proofs.Common.{sym, ap, subst, ◌∙◌, inl, inr, arith}
 use Rattle.sf_reply.specs.declared.reply.Reply.{Reply}
-use Rattle.sf_call.specs.Answers.{AnswerView as Answer}
+use Rattle.sf_call.specs.Answers.{AnswerView}
 use Rattle.sf_call.specs.declared.call.Call.{Call}
 use Rattle.sf_call.specs.declared.call.Stage.TheVariants as stage
 use Rattle.sf_call.specs.declared.record.Record.{Record}
@@ -143,7 +143,7 @@ module _ (lane : LaneView) (n : ℕ) (call : lane.call ≡ Some n) where
           fetched_sound over q h (sound_over h sound) (at_stage stage.Fresh b.was.call) (ap (call_at over.calls) number_e ∙ staged_e.now_is) b.was.given (staged_reply e stage.Fresh ∙ had_e) refl
           (subst (λ (k : ℕ). FetchState over q e.session k) (sym number_e) (subst (λ (s : ℕ). FetchState over q s n) (sym session_e) fetches))
 
-      module _ (a : Answer) (is : a ≡ record { number = n; session = lane.session; reply = b.was.given }) where
+      module _ (a : AnswerView) (is : a ≡ record { number = n; session = lane.session; reply = b.was.given }) where
         last_told : (h : List Record) → Sound p h → Fetches (record { core = core_of p; history = h; lane = lane }) (record { core = core_of q; added = []; lane = at_rest lane }) b.was.call b.was.given
         last_told h sound =
             let busy : session_at p.sessions lane.session ≡ Some (Some n) = ap (session_at p.sessions) (sym session_e) ∙ (sound.ledger.calls n e b.was.there).session in
@@ -175,9 +175,9 @@ module _ (lane : LaneView) (n : ℕ) (call : lane.call ≡ Some n) where
           (
             (
               b.was.call,
-              inl (subst (λ (g : Reply). Fetches (record { core = core_of p; history = h; lane = lane }) (record { core = core_of q; added = []; lane = at_rest lane }) b.was.call g) (sym (ap (λ (x : Answer). x.reply) is)) (last_told h sound)),
+              inl (subst (λ (g : Reply). Fetches (record { core = core_of p; history = h; lane = lane }) (record { core = core_of q; added = []; lane = at_rest lane }) b.was.call g) (sym (ap (λ (x : AnswerView). x.reply) is)) (last_told h sound)),
             ),
-            record { session = ap (λ (x : Answer). x.session) is; number = call ∙ ap Some (sym (ap (λ (x : Answer). x.number) is)); lane = refl },
+            record { session = ap (λ (x : AnswerView). x.session) is; number = call ∙ ap Some (sym (ap (λ (x : AnswerView). x.number) is)); lane = refl },
           ),
         ))
 

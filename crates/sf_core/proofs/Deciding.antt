@@ -9,7 +9,7 @@ use Rattle.std.proofs.lemmas.List.{append_assoc}
 use Rattle.sf_path.specs.Names.{Name, Path}
 use Rattle.sf_reply.specs.declared.reply.Reply.{Reply}
 use Rattle.sf_book.specs.Books.{BookView}
-use Rattle.sf_call.specs.Answers.{AnswerView as Answer}
+use Rattle.sf_call.specs.Answers.{AnswerView}
 use Rattle.sf_call.specs.declared.call.Call.{Call}
 use Rattle.sf_call.specs.declared.call.Stage.{Stage}
 use Rattle.sf_call.specs.declared.call.Stage.TheVariants as stage
@@ -170,7 +170,7 @@ module _ (p : PartsView) (lane : LaneView) (c : Call) (turn : IsTurn p lane c) (
     pub made_drawn : (h : List Record) → Sound p h → m.drawn ≡ p.drawn
     made_drawn h sound = (made h sound).drawn ∙ w.drawn
 
-    module _ (r : PartsView) (given : Reply) (fin : FinishState m r c c.number given) (a : Answer) (is : a ≡ record { number = c.number; session = lane.session; reply = given }) where
+    module _ (r : PartsView) (given : Reply) (fin : FinishState m r c c.number given) (a : AnswerView) (is : a ≡ record { number = c.number; session = lane.session; reply = given }) where
       module _ (h : List Record) (sound : Sound p h) where
         abbrev it : Prepared q m h c ways
         it = made h sound
@@ -322,9 +322,9 @@ module _ (p : PartsView) (lane : LaneView) (c : Call) (turn : IsTurn p lane c) (
           (
             c,
             inr (subst (λ (g : Reply). Decides (record { core = core_of p; history = h; lane = lane }) (record { core = core_of r; added = (made h sound).helped ++ did c given ∷ []; lane = at_rest lane }) c g)
-                (sym (ap (λ (x : Answer). x.reply) is)) (decided_told h sound one)),
+                (sym (ap (λ (x : AnswerView). x.reply) is)) (decided_told h sound one)),
           ),
-          record { session = ap (λ (x : Answer). x.session) is; number = turn.call ∙ ap Some (sym (ap (λ (x : Answer). x.number) is)); lane = refl },
+          record { session = ap (λ (x : AnswerView). x.session) is; number = turn.call ∙ ap Some (sym (ap (λ (x : AnswerView). x.number) is)); lane = refl },
         ),
       )
 

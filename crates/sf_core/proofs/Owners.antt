@@ -2,7 +2,7 @@
 use Rattle.std.proofs.Common.{◌≡◌, ◌<◌, ◌≤◌, ℕ, Option, Some, None, refl, sym, ap, ◌∙◌, arith}
 use Rattle.sf_call.specs.declared.call.Call.{Call}
 use Rattle.sf_core.specs.Cores.{CoreView, call_at, session_at, lane_state_by, lane_state}
-use Rattle.sf_core.specs.Cores.LaneState.{Gone, Busy}
+use Rattle.sf_core.specs.Cores.LaneState.{NoLane, Busy}
 use Rattle.sf_core.specs.Owners.{OwnsCalls}
 use Rattle.sf_core.specs.Parts.{PartsView, core_of}
 use Rattle.sf_core.specs.Sound.{Ledger, IsCore}
@@ -20,7 +20,7 @@ own_number p ledger s c e =
     let b = busy_slot (core_of p) s c e in
     ap (call_at p.calls) (ledger.calls b.0 c b.2).is_number ∙ b.2
 
-gone_by : (p : PartsView) → Ledger p → (s : ℕ) → p.joins < s → (o : Option (Option ℕ)) → session_at p.sessions s ≡ o → lane_state_by p.calls o ≡ Gone
+gone_by : (p : PartsView) → Ledger p → (s : ℕ) → p.joins < s → (o : Option (Option ℕ)) → session_at p.sessions s ≡ o → lane_state_by p.calls o ≡ NoLane
 gone_by p ledger s less None e = refl
 gone_by p ledger s less (Some number) e = absurd (let m = (ledger.sessions s number e).most in omega arith)
 

@@ -12,7 +12,7 @@ use Rattle.sf_core.specs.declared.step.Step.{Step}
 use Rattle.sf_core.specs.declared.step.Step.TheVariants.{Moved, Blocked, Answered, Stranger}
 use Rattle.sf_core.specs.Lanes.{LaneView}
 use Rattle.sf_core.specs.Cores.{CoreView, LaneState, lane_state}
-use Rattle.sf_core.specs.Cores.LaneState.{Gone, Idle, Busy}
+use Rattle.sf_core.specs.Cores.LaneState.{NoLane, Idle, Busy}
 use Rattle.sf_core.specs.Progress.{left_of, depth_of, IsCopying, IsBehind}
 use Rattle.sf_core.specs.Events.{OwnCall, Goes, StartsToWrite, CopiesBlock, IsHelped, IsFinished, Before, After, Fetches, Decides, TakesStep}
 use Rattle.sf_core.specs.Parts.{PartsView, core_of}
@@ -118,7 +118,7 @@ one_free v n free (inr f) = inr (record {
 })
 
 one_more : (v : CoreView) (n : ℕ) (x : LaneState) → lane_state v n ≡ x → NoCall v n ⊎ Furthest v n → NoCall v (suc n) ⊎ Furthest v (suc n)
-one_more v n Gone at f = one_free v n (λ c busy. let e : Gone ≡ Busy c = sym at ∙ busy in cc) f
+one_more v n NoLane at f = one_free v n (λ c busy. let e : NoLane ≡ Busy c = sym at ∙ busy in cc) f
 one_more v n Idle at f = one_free v n (λ c busy. let e : Idle ≡ Busy c = sym at ∙ busy in cc) f
 one_more v n (Busy c) at f = inr (one_busy v n c at f)
 
@@ -184,7 +184,7 @@ busy_left v s c at = ap (λ (z : LaneState). steps_left_in z) at
 pub idle_left : (v : CoreView) (s : ℕ) → lane_state v s ≡ Idle → steps_left_in (lane_state v s) ≡ 0
 idle_left v s at = ap (λ (z : LaneState). steps_left_in z) at
 
-pub gone_left : (v : CoreView) (s : ℕ) → lane_state v s ≡ Gone → steps_left_in (lane_state v s) ≡ 0
+pub gone_left : (v : CoreView) (s : ℕ) → lane_state v s ≡ NoLane → steps_left_in (lane_state v s) ≡ 0
 gone_left v s at = ap (λ (z : LaneState). steps_left_in z) at
 
 -- one session's lane state is another, with less left

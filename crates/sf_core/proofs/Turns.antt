@@ -3,7 +3,7 @@ use Rattle.std.specs.Prelude.{◌≡◌, ◌≢◌, ◌⊎◌, ◌<◌, ◌≤�
 use Rattle.std.specs.Option.{option_map_or}
 use Rattle.std.proofs.Common.{sym, ap, subst, ◌∙◌, inl, inr, arith, append-nil}
 use Rattle.sf_reply.specs.declared.reply.Reply.{Reply}
-use Rattle.sf_call.specs.Answers.{AnswerView as Answer}
+use Rattle.sf_call.specs.Answers.{AnswerView}
 use Rattle.sf_call.specs.declared.request.Request.{Request}
 use Rattle.sf_call.specs.declared.call.Call.{Call}
 use Rattle.sf_call.specs.declared.call.Stage.{Stage}
@@ -129,7 +129,7 @@ module _ (p : PartsView) (lane : LaneView) (c : Call) (turn : IsTurn p lane c) w
   apart h sound s m ne at = other_call p sound.ledger c.number c turn.at s m (λ e. ne (e ∙ turn.session)) at
 
   -- ---- a reply is fetched
-  module _ (given : Reply) (decided : waiting_reply c ≡ Some given) (fresh : c.stage ≡ stage.Fresh) (q : PartsView) (fetched : FetchState p q lane.session c.number) (a : Answer) (is : a ≡ record { number = c.number; session = lane.session; reply = given }) where
+  module _ (given : Reply) (decided : waiting_reply c ≡ Some given) (fresh : c.stage ≡ stage.Fresh) (q : PartsView) (fetched : FetchState p q lane.session c.number) (a : AnswerView) (is : a ≡ record { number = c.number; session = lane.session; reply = given }) where
     fetched_told : (h : List Record) → Sound p h → Fetches (record { core = core_of p; history = h; lane = lane }) (record { core = core_of q; added = []; lane = at_rest lane }) c given
     fetched_told h sound =
         let calls = updates_removed p.calls c.number c turn.at sound.ledger.calls_rise in
@@ -156,8 +156,8 @@ module _ (p : PartsView) (lane : LaneView) (c : Call) (turn : IsTurn p lane c) w
     fetched_step = adds_none p q _ (λ h sound. (
       fetched_sound p q h sound c turn.at given decided fresh (subst (λ s. FetchState p q s c.number) (sym turn.session) fetched),
       (
-        (c, inl (subst (λ (g : Reply). Fetches (record { core = core_of p; history = h; lane = lane }) (record { core = core_of q; added = []; lane = at_rest lane }) c g) (sym (ap (λ (x : Answer). x.reply) is)) (fetched_told h sound))),
-        record { session = ap (λ (x : Answer). x.session) is; number = turn.call ∙ ap Some (sym (ap (λ (x : Answer). x.number) is)); lane = refl },
+        (c, inl (subst (λ (g : Reply). Fetches (record { core = core_of p; history = h; lane = lane }) (record { core = core_of q; added = []; lane = at_rest lane }) c g) (sym (ap (λ (x : AnswerView). x.reply) is)) (fetched_told h sound))),
+        record { session = ap (λ (x : AnswerView). x.session) is; number = turn.call ∙ ap Some (sym (ap (λ (x : AnswerView). x.number) is)); lane = refl },
       ),
     ))
 

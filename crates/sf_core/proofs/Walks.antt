@@ -4,7 +4,7 @@ use Rattle.std.proofs.Common.{sym, ap, subst, ◌∙◌, arith}
 use Rattle.std.specs.Ordering.{nat_cmp}
 use Rattle.std.specs.BTreeMap.{is_at}
 use Rattle.sf_reply.specs.declared.reply.Reply.{Reply}
-use Rattle.sf_call.specs.Answers.{AnswerView as Answer}
+use Rattle.sf_call.specs.Answers.{AnswerView}
 use Rattle.sf_call.specs.Histories.{replay, IsGiven}
 use Rattle.sf_call.proofs.Laws.{given_before}
 use Rattle.sf_call.specs.declared.call.Call.{Call}
@@ -169,7 +169,7 @@ module _ (lane : LaneView) (n : ℕ) (call : lane.call ≡ Some n) where
           subst (λ k. IsGiven k lane.session given) there.1
           (subst (λ s. IsGiven c.number s given) there.0.session (given_before c.number c.session c.moment c.request given w.last.core.history is.legal (is.decided c.number c given there.0.at decided)))
 
-      pub waited_end : (a : Answer) → a ≡ record { number = n; session = lane.session; reply = given } → Ends r (step.Answered a) (at_rest lane)
+      pub waited_end : (a : AnswerView) → a ≡ record { number = n; session = lane.session; reply = given } → Ends r (step.Answered a) (at_rest lane)
       waited_end a is =
           let same = w.last.comes.0 in
           ended outcome.Waits q w (step.Answered a) r (at_rest lane)
@@ -244,7 +244,7 @@ module _ (lane : LaneView) (n : ℕ) (call : lane.call ≡ Some n) where
           pub its_given : IsGiven n lane.session given
           its_given = subst (λ k. IsGiven k lane.session given) its_turn.1 (decided_given w.mid lane its its_turn.0 undecided q ways walk free_file m (over its at_q its_turn.1) w.last.core.history w.last.core.sound r given finishes)
 
-          pub decided_end : (a : Answer) → a ≡ record { number = n; session = lane.session; reply = given } → Ends r (step.Answered a) (at_rest lane)
+          pub decided_end : (a : AnswerView) → a ≡ record { number = n; session = lane.session; reply = given } → Ends r (step.Answered a) (at_rest lane)
           decided_end a is =
               ended (outcome.Walked (walked.Ready ways)) q w (step.Answered a) r (at_rest lane)
               (decided_step w.mid lane its its_turn.0 undecided q ways walk free_file m (over its at_q its_turn.1) r given finishes a (is ∙ ap (λ k. record { number = k; session = lane.session; reply = given }) (sym its_turn.1)) (one its at_q))

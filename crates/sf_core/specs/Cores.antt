@@ -26,7 +26,7 @@ pub record CoreView : Type 0 where
 -- what a core has for a session: it never joined or has left, it is at rest, or it has an
 -- unanswered call
 pub data LaneState : Type 0 where
-  Gone : LaneState
+  NoLane : LaneState
   Idle : LaneState
   Busy : (call : Call) → LaneState
 
@@ -38,11 +38,11 @@ session_at sessions session = lookup (is_at (nat_cmp session)) sessions
 
 -- no core has a number without its call
 abbrev pub busy_with : Option Call → LaneState
-busy_with None = Gone
+busy_with None = NoLane
 busy_with (Some call) = Busy call
 
 abbrev pub lane_state_by : List (ℕ × Call) → Option (Option ℕ) → LaneState
-lane_state_by calls None = Gone
+lane_state_by calls None = NoLane
 lane_state_by calls (Some None) = Idle
 lane_state_by calls (Some (Some number)) = busy_with (call_at calls number)
 

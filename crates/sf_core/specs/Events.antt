@@ -16,7 +16,7 @@ use Rattle.sf_call.specs.declared.record.Record.{Record}
 use Rattle.sf_call.specs.declared.record.Record.TheVariants.{Did, Left}
 use Rattle.sf_call.specs.declared.call.Call.{Call}
 use Rattle.sf_call.specs.declared.call.Stage.TheVariants as stage
-use Rattle.sf_call.specs.Answers.{AnswerView as Answer}
+use Rattle.sf_call.specs.Answers.{AnswerView}
 use Rattle.sf_call.specs.declared.fault.CoreFault.{CoreFault}
 use Rattle.sf_call.specs.declared.fault.CoreFault.TheVariants as fault
 use Rattle.sf_call.specs.Changes.{moved_by}
@@ -35,7 +35,7 @@ use Rattle.sf_core.specs.declared.step.Step.{Step}
 use Rattle.sf_core.specs.declared.step.Step.TheVariants.{Moved, Blocked, Answered, Stranger}
 use Rattle.sf_core.specs.Lanes.{LaneView, at_rest}
 use Rattle.sf_core.specs.Cores.{CoreView, LaneState, call_at, lane_state, joined, last_number, most_sessions}
-use Rattle.sf_core.specs.Cores.LaneState.{Gone, Idle, Busy}
+use Rattle.sf_core.specs.Cores.LaneState.{NoLane, Idle, Busy}
 use Rattle.sf_core.specs.Histories.{IsHistory}
 use Rattle.sf_core.specs.Progress.{waiting_reply, left_of, bound_of, is_write, IsBehind, CopiesInto, IsCopying, MayDecide, did, new_call, SameCall, overtaken, names_in_records, record_number}
 
@@ -290,7 +290,7 @@ pub record AddsNothing (b : Before) (a : After) : Type 0 where
   pub lane : a.lane ≡ b.lane
 
 -- the answer is the lane's call's, and the lane is at rest
-pub record Answers (b : Before) (given : Answer) (a : After) : Type 0 where
+pub record Answers (b : Before) (given : AnswerView) (a : After) : Type 0 where
   pub session : given.session ≡ b.lane.session
   pub number : b.lane.call ≡ Some given.number
   pub lane : a.lane ≡ at_rest b.lane
@@ -351,7 +351,7 @@ pub record Walks (v : CoreView) (lane : LaneView) (most : ℕ) (c : Came) : Type
 pub record Joins (v w : CoreView) : Type 0 where
   pub few : joined v < most_sessions
   pub unspent : v.joins < last_number
-  pub was : lane_state v (v.joins + 1) ≡ Gone
+  pub was : lane_state v (v.joins + 1) ≡ NoLane
   pub own : lane_state w (v.joins + 1) ≡ Idle
   pub others : (s : ℕ) → s ≢ v.joins + 1 → lane_state w s ≡ lane_state v s
   pub joined : joined w ≡ joined v + 1
@@ -404,7 +404,7 @@ RefusesBegin v lane fault.Stranger = lane_state v lane.session ≢ Idle
 -- the session leaves
 pub record Leaves (v w : CoreView) (session : ℕ) : Type 0 where
   pub idle : lane_state v session ≡ Idle
-  pub own : lane_state w session ≡ Gone
+  pub own : lane_state w session ≡ NoLane
   pub others : (s : ℕ) → s ≢ session → lane_state w s ≡ lane_state v s
   pub joined : joined v ≡ joined w + 1
   pub drawn : w.drawn ≡ v.drawn

@@ -15,7 +15,7 @@ use Rattle.sf_call.specs.Values.{IsCall}
 use Rattle.sf_inode.specs.declared.node.Node.{Node}
 use Rattle.sf_inode.specs.declared.handle.OpenHandle.{OpenHandle}
 use Rattle.sf_inode.specs.Stores.{StoreState, holder_of, open_handle_at, blocks_left_at, is_directory_at, is_file_at}
-use Rattle.sf_copying.specs.Copies.{Copying, copying, AreCopies, Copiers as CopyingScene}
+use Rattle.sf_copying.specs.Copies.{Copying, copying, AreCopies, Copiers}
 use Rattle.sf_coupling.specs.Walks.{HeldPath, walkers_at, AreWalks}
 use Rattle.sf_walk.specs.Routes.{IsPosition, route_of, held_paths_of, namespace}
 use Rattle.sf_core.specs.Cores.{call_at, session_at, last_number}
@@ -59,7 +59,7 @@ copying_at at = None
 abbrev pub copying_in : List (ℕ × Call) → ℕ → Option Copying
 copying_in calls number = option_and_then (λ (c : Call). copying_at c.stage) (call_at calls number)
 
-abbrev pub copying_scene : StoreState → List (ℕ × Call) → CopyingScene
+abbrev pub copying_scene : StoreState → List (ℕ × Call) → Copiers
 copying_scene s calls = record {
   copying_of = copying_in calls;
   writer = writer_of_file s.nodes;

@@ -5,7 +5,7 @@ use Rattle.sf_core.specs.declared.step.Step.{Step}
 use Rattle.sf_core.specs.declared.step.Step.TheVariants.{Moved, Blocked, Answered, Stranger}
 use Rattle.sf_core.specs.Lanes.{LaneView}
 use Rattle.sf_core.specs.Cores.{CoreView, LaneState, lane_state}
-use Rattle.sf_core.specs.Cores.LaneState.{Gone, Idle, Busy}
+use Rattle.sf_core.specs.Cores.LaneState.{NoLane, Idle, Busy}
 use Rattle.sf_core.specs.Progress.{left_of}
 use Rattle.sf_core.specs.Events.{OwnCall, StepsOn}
 
@@ -32,7 +32,7 @@ IsNeverStuck v =
 
 -- how many steps are left to a session's call, if it has one
 abbrev pub steps_left_in : LaneState → ℕ
-steps_left_in Gone = 0
+steps_left_in NoLane = 0
 steps_left_in Idle = 0
 steps_left_in (Busy call) = left_of call
 

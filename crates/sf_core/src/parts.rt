@@ -25,9 +25,7 @@ use sf_book::Book;
 use sf_call::{Call, Calls, Leaf, Record, Request, Stage};
 use sf_inode::Store;
 use sf_reply::Reply;
-use sf_walk::{
-    Route, Walk, Ways, advance, decide, file_holder, holder_by, let_go, route_of,
-};
+use sf_walk::{Route, Walk, Ways, advance, decide, file_holder, holder_by, let_go, route_of};
 use std::alloc::{AllocError, Global};
 use std::marker::Model;
 

@@ -3,7 +3,7 @@ use Rattle.std.proofs.Common.{◌≡◌, ◌≢◌, ℕ, zero, suc, ◌+◌, ◌
 use Rattle.sf_field.specs.Fields.{packet}
 use Rattle.sf_reply.specs.Replies.{reply_body}
 use Rattle.sf_call.specs.declared.record.Record.{Record}
-use Rattle.sf_call.specs.Answers.{AnswerView as Answer}
+use Rattle.sf_call.specs.Answers.{AnswerView}
 use Rattle.sf_session.specs.declared.cause.Cause.{Cause}
 use Rattle.sf_field.specs.Fields.{packet}
 use Rattle.sf_reply.specs.Replies.{reply_body}
@@ -39,7 +39,7 @@ abbrev pub going : CoreView → SessionView → LaneView → Stand
 going v x lane = stand v x (state.UnderWay lane)
 
 -- a session whose call waits to be answered
-abbrev pub answered : CoreView → SessionView → LaneView → Answer → Stand
+abbrev pub answered : CoreView → SessionView → LaneView → AnswerView → Stand
 answered v x lane given = stand v x (state.Answered lane given)
 
 -- steps that moved come before further turns
@@ -129,7 +129,7 @@ moved_walk a f most w lane' many k =
 pub record CameToAnswer : Type 0 where
   pub core : CoreView
   pub lane : LaneView
-  pub answer : Answer
+  pub answer : AnswerView
 
 -- a walk that came to an answer, and the turn that is to write it
 pub answered_walk : (a : Seated) (f : Finding) (most : ℕ) (c : CameToAnswer) (r : Result Happened EngineFault) (b : Stand)
@@ -145,14 +145,14 @@ answered_walk a f most c r b k last =
     }
 
 -- that turn, where the reply was written
-pub written_turn : (a : Seated) (given : Answer) (f : Finding) (y : SessionView) (b : Stand)
+pub written_turn : (a : Seated) (given : AnswerView) (f : Finding) (y : SessionView) (b : Stand)
     → IfSome a.session.waiting (λ id. y ≡ record a.session { output = a.session.output ++ packet (reply_body id given.reply); waiting = None })
     → AddsRecords a.core b.core (λ h added. RestsOrLeaves (seated a.core y a.lane) f.closed (new_part b.core added b.session b.place)) → TurnsGive 0 (answered a.core a.session a.lane given) f (Ok happened.Wrote) b
 written_turn a given f y b wrote settles =
     one_turn (answered a.core a.session a.lane given) f happened.Wrote b (λ h is. let g = settles h is in (g.0, g.1, (refl, (y, wrote, g.2))))
 
 -- and where memory was wanting
-pub unwritten_turn : (a : Seated) (given : Answer) (f : Finding) (y : SessionView) (lane' : LaneView) → lane' ≡ a.lane → y ≡ a.session → ((id : ℕ) → reply_room < length (packet (reply_body id given.reply)))
+pub unwritten_turn : (a : Seated) (given : AnswerView) (f : Finding) (y : SessionView) (lane' : LaneView) → lane' ≡ a.lane → y ≡ a.session → ((id : ℕ) → reply_room < length (packet (reply_body id given.reply)))
     → TurnsGive 0 (answered a.core a.session a.lane given) f (Err fault.OutOfMemory) (answered a.core y lane' given)
 unwritten_turn a given f y lane' same kept long =
     let was = answered a.core a.session a.lane given in
@@ -254,7 +254,7 @@ pub record TurnAnswers (a : Stand) (f : Finding) (r : Result Happened EngineFaul
   pub fault : IfErr r (λ f. (f ≡ fault.OutOfMemory) × MayRefuseTurn a.place)
 
 -- one turn of a session whose answer waits
-pub answer_far : (a : Stand) (f : Finding) (r : Result Happened EngineFault) (b : Stand) (lane : LaneView) (given : Answer) → a.place ≡ state.Answered lane given → IsReady a → TurnAnswers a f r b → GoesFar a f.closed f.moment r b
+pub answer_far : (a : Stand) (f : Finding) (r : Result Happened EngineFault) (b : Stand) (lane : LaneView) (given : AnswerView) → a.place ≡ state.Answered lane given → IsReady a → TurnAnswers a f r b → GoesFar a f.closed f.moment r b
 answer_far a f (Ok r) b lane given waits ready t =
     let g = t.ok ready.history ready.is_history in
     let wrote = (subst (λ (o : SeatState). PlaceGives (part a.core ready.history a.session f.closed) o f.moment r (new_part b.core g.0 b.session b.place)) waits g.2).0 in

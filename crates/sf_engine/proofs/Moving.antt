@@ -7,7 +7,7 @@ use Rattle.std.proofs.lemmas.List.Sums.{sum_by-set}
 use Rattle.sf_call.specs.declared.call.Call.{Call}
 use Rattle.sf_call.specs.declared.record.Record.{Record}
 use Rattle.sf_session.specs.Sessions.{SessionView}
-use Rattle.sf_core.specs.Cores.LaneState.{Gone as nobody, Idle, Busy}
+use Rattle.sf_core.specs.Cores.LaneState.{NoLane, Idle, Busy}
 use Rattle.sf_core.specs.Cores.{CoreView, lane_state, joined}
 use Rattle.sf_core.specs.Progress.{left_of, SameCall}
 use Rattle.sf_core.specs.Histories.{IsHistory}
@@ -131,7 +131,7 @@ agrees_helped v v' s x (UnderWay id n m q moves) p b h =
       ended = h.ended;
     }
 agrees_helped v v' s x (Decided id n q given) p b h = absurd (let w : Idle ≡ Busy b.before = sym h.slot ∙ b.was in cc)
-agrees_helped v v' s x (Gone cause) p b h = absurd (let w : nobody ≡ Busy b.before = sym h.1 ∙ b.was in cc)
+agrees_helped v v' s x (Gone cause) p b h = absurd (let w : NoLane ≡ Busy b.before = sym h.1 ∙ b.was in cc)
 
 pub seat_stays : (v v' : CoreView) (s : ℕ) (t : SessionState) (p : Seat) → OtherStays v v' s → SeatAgrees v s t p → SeatAgrees v' s t p
 seat_stays v v' s t p stays h = record {
@@ -192,7 +192,7 @@ keeps_at e {more = more} is history o =
           let apart : s ≢ at + 1 = λ k. elim out' [ inl z ↦ absurd (omega (arith, k, z)) | inr lt ↦ absurd (omega (arith, k, lt, within)) ] in
           elim (o.moves.others s apart) [
             | inl same ↦ same ∙ is.agrees.nobody s out'
-            | inr b ↦ absurd (let k : nobody ≡ Busy b.before = sym (is.agrees.nobody s out') ∙ b.was in cc)
+            | inr b ↦ absurd (let k : NoLane ≡ Busy b.before = sym (is.agrees.nobody s out') ∙ b.was in cc)
           ];
     }
 

@@ -5,7 +5,7 @@ use Rattle.std.proofs.lemmas.List.Sums.{sum_by-append}
 use Rattle.sf_call.specs.declared.record.Record.{Record}
 use Rattle.sf_session.specs.Sessions.{new_session}
 use Rattle.sf_inode.specs.Stores.{StoreState}
-use Rattle.sf_core.specs.Cores.LaneState.{Gone as nobody, Idle}
+use Rattle.sf_core.specs.Cores.LaneState.{NoLane, Idle}
 use Rattle.sf_core.specs.Cores.{CoreView, lane_state, new_core}
 use Rattle.sf_core.specs.Events.{Joins}
 use Rattle.sf_core.specs.Histories.{IsHistory}
@@ -114,7 +114,7 @@ any_open_steps old new (Err f) opens w agrees =
     subst P (sym same) (refused_steps old event.Open f w agrees (open_fault w old.core old.seats f agrees opens.fault))
 
 -- a new core has nothing for anybody
-new_slots : (keep : Option ℕ) (store : StoreState) (s : ℕ) → lane_state (new_core keep store) s ≡ nobody
+new_slots : (keep : Option ℕ) (store : StoreState) (s : ℕ) → lane_state (new_core keep store) s ≡ NoLane
 new_slots keep store zero = refl
 new_slots keep store (suc s) = refl
 

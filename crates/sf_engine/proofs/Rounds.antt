@@ -8,7 +8,7 @@ use Rattle.std.proofs.lemmas.List.{length-take-le, take_more, take_all}
 use Rattle.std.proofs.lemmas.List.Sums.{sum_by_more}
 use Rattle.sf_call.specs.declared.call.Call.{Call}
 use Rattle.sf_session.specs.Sessions.{SessionView}
-use Rattle.sf_core.specs.Cores.LaneState.{Gone as nobody, Idle, Busy}
+use Rattle.sf_core.specs.Cores.LaneState.{NoLane, Idle, Busy}
 use Rattle.sf_core.specs.Cores.{CoreView, lane_state}
 use Rattle.sf_core.specs.Progress.{IsBehind}
 use Rattle.sf_core.specs.Events.{Before, After}
@@ -277,7 +277,7 @@ pub same_count : (e : EngineView) (at : ℕ) (any : Bool) (e' : EngineView) → 
 same_count e at any e' k = k.now.agrees.count ∙ k.count ∙ sym k.first.agrees.count
 
 no_seat : (e : EngineView) → IsEngine e.core e.seats → (c : Call) → lane_state e.core 0 ≡ Busy c → ⊥
-no_seat e is c busy = let no : nobody ≡ Busy c = sym (is.1.agrees.nobody 0 (inl refl)) ∙ busy in cc
+no_seat e is c busy = let no : NoLane ≡ Busy c = sym (is.1.agrees.nobody 0 (inl refl)) ∙ busy in cc
 
 pub round_start : (e : EngineView) → IsEngine e.core e.seats → RoundSoFar e 0 false e
 round_start e is = record {
@@ -297,7 +297,7 @@ busy_phase : (v : CoreView) (s : ℕ) (x : SessionView) (f : Phase) (p : SeatSta
 busy_phase v s x Resting p c h busy = absurd (let no : Idle ≡ Busy c = sym h.slot ∙ busy in cc)
 busy_phase v s x (UnderWay id n m q moves) p c h busy = refl
 busy_phase v s x (Decided id n q given) p c h busy = absurd (let no : Idle ≡ Busy c = sym h.slot ∙ busy in cc)
-busy_phase v s x (Gone cause) p c h busy = absurd (let no : nobody ≡ Busy c = sym h.1 ∙ busy in cc)
+busy_phase v s x (Gone cause) p c h busy = absurd (let no : NoLane ≡ Busy c = sym h.1 ∙ busy in cc)
 
 -- a seat that has not had its turn is as it was
 record SeatStill (e e' : EngineView) (at : ℕ) (w w' : World) (p : Seat) : Type 0 where
@@ -413,7 +413,7 @@ round_steps e at any e' k p r e'' turn =
 -- whose call the core has, its number is a session's
 within : (w : World) (e : EngineView) → Agrees w e → (s : ℕ) (c : Call) → lane_state e.core s ≡ Busy c → s ≤ length e.seats
 within w e agrees s c busy = elim (cases_lt (length w.sessions) s) [
-  | inl past ↦ absurd (let no : nobody ≡ Busy c = sym (agrees.nobody s (inr past)) ∙ busy in cc)
+  | inl past ↦ absurd (let no : NoLane ≡ Busy c = sym (agrees.nobody s (inr past)) ∙ busy in cc)
   | inr le ↦ let all = agrees.count in omega (arith, le, all)
 ]
 

@@ -13,11 +13,11 @@ use Rattle.sf_call.specs.Tree.{Tree}
 use Rattle.sf_call.specs.declared.call.Call.{Call}
 use Rattle.sf_call.specs.declared.record.Record.{Record}
 use Rattle.sf_call.specs.declared.record.Record.TheVariants.{Did, Left}
-use Rattle.sf_call.specs.Answers.{AnswerView as Answer}
+use Rattle.sf_call.specs.Answers.{AnswerView}
 use Rattle.sf_call.specs.Histories.{replay, IsAmong}
 use Rattle.sf_walk.specs.Routes.{IsPosition, route_of}
 use Rattle.sf_session.specs.Sessions.{SessionView}
-use Rattle.sf_core.specs.Cores.LaneState.{Gone as nobody, Idle, Busy}
+use Rattle.sf_core.specs.Cores.LaneState.{NoLane, Idle, Busy}
 use Rattle.sf_core.specs.Lanes.{LaneView, at_rest}
 use Rattle.sf_core.specs.Cores.{CoreView, lane_state}
 use Rattle.sf_core.specs.Progress.{waiting_reply, left_of, bound_of, is_write, IsCopying, MayDecide, did}
@@ -46,7 +46,7 @@ under_way v s x (UnderWay id n m q moves) p c here h =
     let own : h.call ≡ c = let w : Busy h.call ≡ Busy c = sym h.slot ∙ here in cc in
     (sym h.own.1 ∙ ap (λ (y : Call). y.number) own, sym h.own.2 ∙ ap (λ (y : Call). y.moment) own, sym h.own.3 ∙ ap (λ (y : Call). y.request) own)
 under_way v s x (Decided id n q given) p c here h = absurd (let w : Idle ≡ Busy c = sym h.slot ∙ here in cc)
-under_way v s x (Gone cause) p c here h = absurd (let w : nobody ≡ Busy c = sym h.1 ∙ here in cc)
+under_way v s x (Gone cause) p c here h = absurd (let w : NoLane ≡ Busy c = sym h.1 ∙ here in cc)
 
 -- a number that is no session's, or one more than a place in the list
 place_of : (s n : ℕ) → ((s ≡ 0) ⊎ (n < s)) ⊎ ((i : ℕ) × (i < n) × (s ≡ i + 1))
@@ -56,7 +56,7 @@ place_of (suc i) n = elim (cases_lt i n) [ inl lt ↦ inr (i, lt, omega arith) |
 pub others_call : (w : World) (v : CoreView) (seats : List Seat) (s other : ℕ) (c : Call) → Agrees w (record { core = v; seats = seats }) → lane_state v other ≡ Busy c → other ≢ s
     → IsOthersCall w s (other_call c.number other c.moment c.request)
 others_call w v seats s other c agrees here apart = elim (place_of other (length w.sessions)) [
-  | inl out ↦ absurd (let k : nobody ≡ Busy c = sym (agrees.nobody other out) ∙ here in cc)
+  | inl out ↦ absurd (let k : NoLane ≡ Busy c = sym (agrees.nobody other out) ∙ here in cc)
   | inr at ↦
       let i = at.0 in
       let t = get_within w.sessions i at.1 in
@@ -114,7 +114,7 @@ has_stopped e k c given at here position way undecided =
     subst (λ (r : Record). WalkHasStopped tree k.moves r) (own_record e.seat.old.core (number e.seat) e.seat.was.session k e.seat.was.place c given at here) (stops tree (route_of c.request) c.stage k.moves position moved way)
 
 -- the session's call was decided, and its answer waits
-decided_now : (e : SeatEvent) (k : Walking) (a : Answer) → (is : IsTold (in_phase e (under_way_as k))) → KeepsSession e.seat
+decided_now : (e : SeatEvent) (k : Walking) (a : AnswerView) → (is : IsTold (in_phase e (under_way_as k))) → KeepsSession e.seat
     → Moves e.seat.old.core e.seat.core (number e.seat) (with_phase e.told (under_way_as k)) (with_phase e.told (Decided k.id k.number k.request a.reply)) 0
     → lane_state e.seat.core (number e.seat) ≡ Idle → e.seat.now.place ≡ state.Answered (at_rest is.seat.at.lane) a
     → DecidesCall e.world (number e.seat) k.moves (own_did (number e.seat) k a.reply) e.added

@@ -7,11 +7,11 @@ use Rattle.sf_call.specs.declared.call.Call.{Call}
 use Rattle.sf_call.specs.declared.call.Stage.{Stage}
 use Rattle.sf_call.specs.declared.call.Stage.TheVariants as stage
 use Rattle.sf_call.specs.declared.record.Record.{Record}
-use Rattle.sf_call.specs.Answers.{AnswerView as Answer}
+use Rattle.sf_call.specs.Answers.{AnswerView}
 use Rattle.sf_call.specs.Histories.{IsLegal}
 use Rattle.sf_session.specs.Sessions.{SessionView}
 use Rattle.sf_core.specs.Lanes.{LaneView}
-use Rattle.sf_core.specs.Cores.LaneState.{Gone, Idle, Busy}
+use Rattle.sf_core.specs.Cores.LaneState.{NoLane, Idle, Busy}
 use Rattle.sf_core.specs.Cores.{CoreView, lane_state, joined}
 use Rattle.sf_core.specs.Progress.{waiting_reply, left_of, bound_of, IsCopying}
 use Rattle.sf_core.specs.Histories.{IsHistory}
@@ -22,7 +22,7 @@ use Rattle.sf_engine.specs.declared.event.Event.{Event}
 use Rattle.sf_engine.specs.declared.event.Happened.{Happened}
 use Rattle.sf_engine.specs.declared.event.EngineFault.{EngineFault}
 use Rattle.sf_engine.specs.Worlds.{TraceEntry, World, here}
-use Rattle.sf_session.specs.SessionStates.{Phase, Resting, UnderWay, Decided, Gone as left, SessionState}
+use Rattle.sf_session.specs.SessionStates.{Phase, Resting, UnderWay, Decided, Gone, SessionState}
 use Rattle.sf_session.specs.Responses.{transcript, has_begun}
 use Rattle.sf_engine.specs.Traces.{goes_on, ReachesWorld, order, IsSession, IsNoSession, Leads, Walking, walking}
 use Rattle.sf_engine.specs.Works.{Passage, IsStep, IsWork}
@@ -80,7 +80,7 @@ reply_due id reply = record { id = id; reply = reply }
 pub record HasAnswer (v : CoreView) (s : ℕ) (x : SessionView) (d : DueReply)
     (p : SeatState) : Type 0 where
   pub lane : LaneView
-  pub answer : Answer
+  pub answer : AnswerView
   pub session : lane.session ≡ s
   pub idle : lane.call ≡ None
   pub place_is : p ≡ state.Answered lane answer
@@ -95,7 +95,7 @@ PlaceAgrees v s x Resting p = HasNoCall v s x p
 PlaceAgrees v s x (UnderWay id number moment request moves) p =
     IsGoing v s x (walking id number moment request moves) p
 PlaceAgrees v s x (Decided id number request reply) p = HasAnswer v s x (reply_due id reply) p
-PlaceAgrees v s x (left cause) p = (p ≡ state.Left cause) × (lane_state v s ≡ Gone)
+PlaceAgrees v s x (Gone cause) p = (p ≡ state.Left cause) × (lane_state v s ≡ NoLane)
     × (x.ended ≢ None)
 
 pub record SeatAgrees (v : CoreView) (s : ℕ) (t : SessionState) (p : Seat) : Type 0 where
@@ -115,7 +115,7 @@ pub record Agrees (w : World) (e : EngineView) : Type 0 where
   pub each : (i : ℕ) (t : SessionState) (p : Seat) → slice_get w.sessions i ≡ Some t
       → slice_get e.seats i ≡ Some p
       → SeatAgrees e.core (i + 1) t p
-  pub nobody : (s : ℕ) → (s ≡ 0) ⊎ (length w.sessions < s) → lane_state e.core s ≡ Gone
+  pub nobody : (s : ℕ) → (s ≡ 0) ⊎ (length w.sessions < s) → lane_state e.core s ≡ NoLane
 
 -- The trace is lawful. Its order is a legal history, and the core's. What the engine keeps is what
 -- the trace leaves.
@@ -185,7 +185,7 @@ abbrev pub IsQuiet : Phase → Type 0
 IsQuiet Resting = Unit {0}
 IsQuiet (UnderWay id number moment request moves) = ⊥
 IsQuiet (Decided id number request reply) = ⊥
-IsQuiet (left cause) = Unit {0}
+IsQuiet (Gone cause) = Unit {0}
 
 -- whether that is so of all sessions, by each trace that the engine fits
 abbrev pub IsQuietBy : EngineView → Bool → Type 0

@@ -8,7 +8,7 @@ use Rattle.sf_call.specs.declared.record.Record.TheVariants.{Left}
 use Rattle.sf_call.specs.declared.request.Request.{Request}
 use Rattle.sf_call.specs.declared.call.Call.{Call}
 use Rattle.sf_call.specs.declared.fault.CoreFault.{CoreFault}
-use Rattle.sf_call.specs.Answers.{AnswerView as Answer}
+use Rattle.sf_call.specs.Answers.{AnswerView}
 use Rattle.sf_session.specs.declared.cause.Cause.TheVariants.{Closed}
 use Rattle.sf_session.specs.declared.session.Next.TheVariants as next
 use Rattle.sf_session.specs.Sessions.{SessionView, NextGives, refusal_of, reply_room}
@@ -73,7 +73,7 @@ StepGives b happened.Moved a p = MovesOn b a × (p ≡ state.UnderWay a.lane)
 StepGives b (happened.Blocked holder) a p = ((c : Call) × IsBlocked b.core a.core b.lane c holder)
     × AddsNothing b a × (p ≡ state.UnderWay a.lane)
 StepGives b happened.Decided a p =
-    (given : Answer) × ((c : Call) × (Fetches b a c given.reply ⊎ Decides b a c given.reply))
+    (given : AnswerView) × ((c : Call) × (Fetches b a c given.reply ⊎ Decides b a c given.reply))
     × Answers b given a × (p ≡ state.Answered a.lane given)
 StepGives b _ a p = ⊥
 
@@ -112,7 +112,7 @@ RestsOrLeaves b true a =
     × (a.place ≡ state.Left Closed)
 
 -- the answer that waited was written
-abbrev pub WritesAnswer : Seated → Answer → Bool → NewPart → Type 0
+abbrev pub WritesAnswer : Seated → AnswerView → Bool → NewPart → Type 0
 WritesAnswer b given closed a = (mid : SessionView)
     × IfSome b.session.waiting (λ id. mid ≡ record b.session {
       output = b.session.output ++ packet (reply_body id given.reply);

@@ -10,7 +10,7 @@ use Rattle.sf_core.specs.declared.step.Step.{Step}
 use Rattle.sf_core.specs.declared.step.Step.TheVariants.{Moved, Blocked, Answered, Stranger}
 use Rattle.sf_core.specs.Lanes.{LaneView}
 use Rattle.sf_core.specs.Cores.{CoreView, lane_state}
-use Rattle.sf_core.specs.Cores.LaneState.{Gone, Idle, Busy}
+use Rattle.sf_core.specs.Cores.LaneState.{NoLane, Idle, Busy}
 use Rattle.sf_core.specs.Progress.{new_call}
 use Rattle.sf_core.specs.Histories.{IsHistory}
 use Rattle.sf_core.specs.Owners.{OwnsCalls}
@@ -18,7 +18,7 @@ use Rattle.sf_core.specs.Events.{Before, After, Fetches, Decides, Joins, CallBeg
 use Rattle.sf_audit.specs.Audits.{call_records}
 use Rattle.sf_roll.proofs.Laws.{get_set, get_set_else}
 use Rattle.sf_noted.specs.Pages.{Page}
-use Rattle.sf_noted.specs.Pages.Presence.{Resting, UnderWay, Departed}
+use Rattle.sf_noted.specs.Pages.Presence.{BetweenCalls, Calling, Departed}
 use Rattle.sf_noted.specs.PageChanges.{page, fresh_page}
 use Rattle.sf_noted.specs.Noted.{waiting_for, waits_in, presence_in, FitsPage, PagesAgree}
 use Rattle.sf_noted.proofs.Lists.{within, one_there, at_end, length_set}
@@ -64,20 +64,20 @@ joins v w pages h a hist j =
     }
 
 -- ---- a call begins
-pub idle_there : (v : CoreView) (pages : List Page) (h : List Record) → PagesAgree v pages h → (place : ℕ) (p : Page) → slice_get pages place ≡ Some p → p.presence ≡ Resting → lane_state v (place + 1) ≡ Idle
+pub idle_there : (v : CoreView) (pages : List Page) (h : List Record) → PagesAgree v pages h → (place : ℕ) (p : Page) → slice_get pages place ≡ Some p → p.presence ≡ BetweenCalls → lane_state v (place + 1) ≡ Idle
 idle_there v pages h a place p at rests = idle_of (lane_state v (place + 1)) ((a.each place p at).presence ∙ rests)
 
 pub begins : (v w : CoreView) (lane : LaneView) (request : Request) (moment : ℕ) (pages : List Page) (h : List Record) → PagesAgree v pages h → IsHistory w h → CallBegins v w lane request moment
-    → (place : ℕ) (p : Page) → slice_get pages place ≡ Some p → lane.session ≡ place + 1 → p.presence ≡ Resting → (number : ℕ) → number ≡ w.drawn
-    → PagesAgree w (slice_set pages place (page (UnderWay number moment request) p.told)) h
+    → (place : ℕ) (p : Page) → slice_get pages place ≡ Some p → lane.session ≡ place + 1 → p.presence ≡ BetweenCalls → (number : ℕ) → number ≡ w.drawn
+    → PagesAgree w (slice_set pages place (page (Calling number moment request) p.told)) h
 begins v w lane request moment pages h a hist b place p at is rests number drawn =
     let idle = idle_there v pages h a place p at rests in
     let c = new_call (v.drawn + 1) lane.session moment request in
     let own : lane_state w (place + 1) ≡ Busy c = ap (lane_state w) (sym is) ∙ b.own in
     let f = a.each place p at in
-    sets v w pages h h a hist b.joins place p (page (UnderWay number moment request) p.told) at
+    sets v w pages h h a hist b.joins place p (page (Calling number moment request) p.told) at
     (record {
-      presence = ap presence_in own ∙ ap (λ n. UnderWay n moment request) (sym (drawn ∙ b.drawn));
+      presence = ap presence_in own ∙ ap (λ n. Calling n moment request) (sym (drawn ∙ b.drawn));
       told = f.told ∙ (ap (λ l. p.told ++ waits_in l) idle ∙ ap (λ l. p.told ++ l) (sym (ap waits_in own ∙ ap (waiting_for c) b.fresh.0)));
     })
     (λ s apart q g. fit_kept v w h s q (b.others s (λ e. apart (e ∙ is))) g)
@@ -105,7 +105,7 @@ steps b came a pages takes before after hist agrees place p p' at is fits =
     (λ s apart q f. others_step b came a takes before after hist s (λ e. apart (e ∙ is)) q f)
     (λ s less.
     let apart : s ≢ b.lane.session = λ e. let e' = e ∙ is in omega arith in
-    let gone : lane_state b.core s ≡ Gone = before.later s less in
+    let gone : lane_state b.core s ≡ NoLane = before.later s less in
     let f = others_step b came a takes before after hist s apart (page Departed []) (record { presence = ap presence_in gone; told = agrees.later s less ∙ ap waits_in (sym gone) }) in
     f.told ∙ ap waits_in (after.later s (subst (λ j. j < s) (sym stay.0) less)))
 
@@ -127,17 +127,17 @@ step_goes b came a pages takes before after hist agrees own =
       joins = agrees.joins ∙ sym stay.0;
       each = λ u q e. on (u + 1) q (agrees.each u q e);
       later = λ s less.
-          let gone : lane_state b.core s ≡ Gone = before.later s (subst (λ j. j < s) stay.0 less) in
+          let gone : lane_state b.core s ≡ NoLane = before.later s (subst (λ j. j < s) stay.0 less) in
           let f = on s (page Departed []) (record { presence = ap presence_in gone; told = agrees.later s (subst (λ j. j < s) stay.0 less) ∙ ap waits_in (sym gone) }) in
           f.told ∙ ap waits_in (after.later s less);
     }
 
 -- ---- a session leaves
-pub leaves : (v w : CoreView) (session : ℕ) (pages : List Page) (h : List Record) → PagesAgree v pages h → IsHistory w (h ++ Left session ∷ []) → Leaves v w session → (place : ℕ) (p : Page) → slice_get pages place ≡ Some p → session ≡ place + 1 → p.presence ≡ Resting
+pub leaves : (v w : CoreView) (session : ℕ) (pages : List Page) (h : List Record) → PagesAgree v pages h → IsHistory w (h ++ Left session ∷ []) → Leaves v w session → (place : ℕ) (p : Page) → slice_get pages place ≡ Some p → session ≡ place + 1 → p.presence ≡ BetweenCalls
     → PagesAgree w (slice_set pages place (page Departed p.told)) (h ++ Left session ∷ [])
 leaves v w session pages h a hist l place p at is rests =
     let idle = idle_there v pages h a place p at rests in
-    let gone : lane_state w (place + 1) ≡ Gone = ap (lane_state w) (sym is) ∙ l.own in
+    let gone : lane_state w (place + 1) ≡ NoLane = ap (lane_state w) (sym is) ∙ l.own in
     let same : (s : ℕ) → call_records s (h ++ Left session ∷ []) ≡ call_records s h = λ s. records_append s h (Left session ∷ []) ∙ append-nil (call_records s h) in
     let f = a.each place p at in
     sets v w pages h (h ++ Left session ∷ []) a hist l.joins place p (page Departed p.told) at

@@ -14,7 +14,7 @@ use Rattle.sf_core.specs.declared.step.Step.{Step}
 use Rattle.sf_core.specs.declared.step.Step.TheVariants.{Moved, Blocked, Answered, Stranger}
 use Rattle.sf_core.specs.Lanes.{LaneView}
 use Rattle.sf_core.specs.Cores.{CoreView, LaneState, lane_state}
-use Rattle.sf_core.specs.Cores.LaneState.{Gone, Idle, Busy}
+use Rattle.sf_core.specs.Cores.LaneState.{NoLane, Idle, Busy}
 use Rattle.sf_core.specs.Progress.{waiting_reply, SameCall, did}
 use Rattle.sf_core.specs.Histories.{IsHistory}
 use Rattle.sf_core.specs.Owners.{OwnsCalls}
@@ -22,7 +22,7 @@ use Rattle.sf_core.specs.Events.{Before, After, OwnCall, Fetches, IsFinished, Is
 use Rattle.sf_audit.specs.Audits.{CallRecord, call_records}
 use Rattle.sf_noted.specs.Pages.{Page}
 use Rattle.sf_noted.specs.Pages.{Presence}
-use Rattle.sf_noted.specs.Pages.Presence.{Resting, UnderWay, Departed}
+use Rattle.sf_noted.specs.Pages.Presence.{BetweenCalls, Calling, Departed}
 use Rattle.sf_noted.specs.PageChanges.{page, as_told, IsUnderWay}
 use Rattle.sf_noted.specs.Noted.{told_of, waiting_for, waits_in, presence_in, FitsPage, number_in, lane_of}
 use Rattle.sf_noted.proofs.Records.{records_append, other_did, own_record, other_record, among_behind, among_front, not_new, new_before, legal_behind, legal_front, among_last}
@@ -48,7 +48,7 @@ fit_same : (v w : CoreView) (h added : List Record) (s : ℕ) (p : Page) → cal
 fit_same v w h added s p none same f = fit_more v w h added s p [] none (ap presence_in same) (ap waits_in same ∙ sym (append-nil (waits_in (lane_state v s)))) f
 
 same_presence : (c d : Call) → SameCall c d → presence_in (Busy d) ≡ presence_in (Busy c)
-same_presence c d e = λ i. UnderWay (e.number i) (e.moment i) (e.request i)
+same_presence c d e = λ i. Calling (e.number i) (e.moment i) (e.request i)
 
 same_told : (c d : Call) (given : Reply) → SameCall c d → told_of d given ≡ told_of c given
 same_told c d given e = λ i. record { number = e.number i; request = e.request i; reply = given }
@@ -183,7 +183,7 @@ pub own_waits : (b : Before) (holder : ℕ) (a : After) → TakesStep b (Blocked
 own_waits b holder a x p f = fit_same b.core a.core b.history a.added b.lane.session p (no_added b.lane.session a.added x.1.none) (x.0.1.looks.slots b.lane.session) f
 
 -- the lane's call was answered so, and its record is the next of the session's
-fits_answer : (v w : CoreView) (h added : List Record) (s : ℕ) (p : Page) (c : Call) (given : Reply) → lane_state v s ≡ Busy c → lane_state w s ≡ Idle → waits_in (Busy c) ++ call_records s added ≡ told_of c given ∷ [] → FitsPage v h s p → FitsPage w (h ++ added) s (page Resting (p.told ++ as_told p.presence given))
+fits_answer : (v w : CoreView) (h added : List Record) (s : ℕ) (p : Page) (c : Call) (given : Reply) → lane_state v s ≡ Busy c → lane_state w s ≡ Idle → waits_in (Busy c) ++ call_records s added ≡ told_of c given ∷ [] → FitsPage v h s p → FitsPage w (h ++ added) s (page BetweenCalls (p.told ++ as_told p.presence given))
 fits_answer v w h added s p c given was now has f =
     let stands : as_told p.presence given ≡ told_of c given ∷ [] = ap (λ st. as_told st given) (sym f.presence ∙ ap presence_in was) in
     record {
@@ -192,7 +192,7 @@ fits_answer v w h added s p c given was now has f =
           ∙ (ap (λ x. p.told ++ x) (has ∙ sym stands) ∙ (sym (append-nil (p.told ++ as_told p.presence given)) ∙ ap (λ l. (p.told ++ as_told p.presence given) ++ waits_in l) (sym now)))));
     }
 
-pub own_answers : (b : Before) (given : AnswerView) (a : After) → TakesStep b (Answered given) a → (p : Page) → FitsPage b.core b.history b.lane.session p → FitsPage a.core (b.history ++ a.added) b.lane.session (page Resting (p.told ++ as_told p.presence given.reply))
+pub own_answers : (b : Before) (given : AnswerView) (a : After) → TakesStep b (Answered given) a → (p : Page) → FitsPage b.core b.history b.lane.session p → FitsPage a.core (b.history ++ a.added) b.lane.session (page BetweenCalls (p.told ++ as_told p.presence given.reply))
 own_answers b given a x p f =
     let s = b.lane.session in
     let c = x.0.0 in
@@ -204,13 +204,13 @@ own_answers b given a x p f =
     x.0.1
 
 -- ---- what a page tells of the core
-pub busy_of : (l : LaneState) (number moment : ℕ) (request : Request) → presence_in l ≡ UnderWay number moment request → (c : Call) × (l ≡ Busy c) × (c.number ≡ number)
-busy_of Gone number moment request e = absurd cc
+pub busy_of : (l : LaneState) (number moment : ℕ) (request : Request) → presence_in l ≡ Calling number moment request → (c : Call) × (l ≡ Busy c) × (c.number ≡ number)
+busy_of NoLane number moment request e = absurd cc
 busy_of Idle number moment request e = absurd cc
 busy_of (Busy c) number moment request e = (c, refl, cc)
 
-pub idle_of : (l : LaneState) → presence_in l ≡ Resting → l ≡ Idle
-idle_of Gone e = absurd cc
+pub idle_of : (l : LaneState) → presence_in l ≡ BetweenCalls → l ≡ Idle
+idle_of NoLane e = absurd cc
 idle_of Idle e = refl
 idle_of (Busy c) e = absurd cc
 
@@ -219,8 +219,8 @@ pub not_strange : (v : CoreView) (h : List Record) (lane : LaneView) (place : �
 not_strange v h lane place p owns f is has never = by_presence p.presence refl has
   where
     by_presence : (st : Presence) → p.presence ≡ st → IsUnderWay st → ⊥
-    by_presence (UnderWay number moment request) e has =
+    by_presence (Calling number moment request) e has =
         let x = busy_of (lane_state v lane.session) number moment request (f.presence ∙ e) in
         never x.0 (record { slot = x.1; session = owns.session lane.session x.0 x.1; number = ap (λ (l : LaneView). l.call) is ∙ (ap number_in e ∙ ap Some (sym x.2)) })
-    by_presence Resting e has = absurd has
+    by_presence BetweenCalls e has = absurd has
     by_presence Departed e has = absurd has

@@ -8,7 +8,7 @@ use Rattle.sf_core.specs.declared.step.Step.TheVariants.{Moved}
 use Rattle.sf_core.specs.Events.{Before, After, TakesStep, StepsOn}
 use Rattle.sf_noted.specs.Pages.{Page}
 use Rattle.sf_noted.specs.Pages.{Presence}
-use Rattle.sf_noted.specs.Pages.Presence.{Resting, UnderWay, Departed}
+use Rattle.sf_noted.specs.Pages.Presence.{BetweenCalls, Calling, Departed}
 use Rattle.sf_noted.specs.PageChanges.{page, as_told, IsUnderWay}
 use Rattle.sf_noted.specs.Noted.{number_in, begun_by, lane_of}
 
@@ -23,15 +23,15 @@ lane_seen lane place p is = ap (λ s. lane_of (s, p)) (own_place lane place p is
 abbrev lane_at : ℕ → ℕ → Presence → LaneView
 lane_at s told presence = record { session = s; call = number_in presence; begun = begun_by presence told }
 
-pub answers_lane : (s : ℕ) (p : Page) (given : Reply) → IsUnderWay p.presence → at_rest (lane_of (s, p)) ≡ lane_of (s, page Resting (p.told ++ as_told p.presence given))
+pub answers_lane : (s : ℕ) (p : Page) (given : Reply) → IsUnderWay p.presence → at_rest (lane_of (s, p)) ≡ lane_of (s, page BetweenCalls (p.told ++ as_told p.presence given))
 answers_lane s p given under_way = by_presence p.presence refl under_way
   where
-    by_presence : (presence : Presence) → p.presence ≡ presence → IsUnderWay presence → at_rest (lane_of (s, p)) ≡ lane_of (s, page Resting (p.told ++ as_told p.presence given))
-    by_presence (UnderWay number moment request) e busy =
+    by_presence : (presence : Presence) → p.presence ≡ presence → IsUnderWay presence → at_rest (lane_of (s, p)) ≡ lane_of (s, page BetweenCalls (p.told ++ as_told p.presence given))
+    by_presence (Calling number moment request) e busy =
         ap (λ x. at_rest (lane_at s (length p.told) x)) e
         ∙ (ap (λ (n : ℕ). record { session = s; call = None; begun = min n (2 ^ 64 - 1) }) (sym (length-append p.told (record { number = number; request = request; reply = given } ∷ [])))
-        ∙ sym (ap (λ x. lane_of (s, page Resting (p.told ++ as_told x given))) e))
-    by_presence Resting e busy = absurd busy
+        ∙ sym (ap (λ x. lane_of (s, page BetweenCalls (p.told ++ as_told x given))) e))
+    by_presence BetweenCalls e busy = absurd busy
     by_presence Departed e busy = absurd busy
 
 -- the lane after a step that doesn't answer its call, and its ticket
@@ -39,7 +39,7 @@ pub lane_kept : (lane lane' : LaneView) (t t' : ℕ × Page) → lane ≡ lane_o
 lane_kept lane lane' t t' is same e = same ∙ (is ∙ ap (λ (u : ℕ × Page). lane_of (u.0 + 1, u.1)) (sym e))
 
 -- and after one that does
-pub lane_answered : (lane lane' : LaneView) (t t' : ℕ × Page) (given : Reply) → lane ≡ lane_of (t.0 + 1, t.1) → IsUnderWay t.1.presence → lane' ≡ at_rest lane → t' ≡ (t.0, page Resting (t.1.told ++ as_told t.1.presence given)) → lane' ≡ lane_of (t'.0 + 1, t'.1)
+pub lane_answered : (lane lane' : LaneView) (t t' : ℕ × Page) (given : Reply) → lane ≡ lane_of (t.0 + 1, t.1) → IsUnderWay t.1.presence → lane' ≡ at_rest lane → t' ≡ (t.0, page BetweenCalls (t.1.told ++ as_told t.1.presence given)) → lane' ≡ lane_of (t'.0 + 1, t'.1)
 lane_answered lane lane' t t' given is busy rests e = rests ∙ (ap at_rest is ∙ (answers_lane (t.0 + 1) t.1 given busy ∙ ap (λ (u : ℕ × Page). lane_of (u.0 + 1, u.1)) (sym e)))
 
 -- what a step does to the lane

@@ -4,14 +4,14 @@ use Rattle.std.specs.Prelude.{slice_get}
 use Rattle.sf_reply.specs.declared.reply.Reply.{Reply}
 use Rattle.sf_call.specs.declared.record.Record.{Record}
 use Rattle.sf_core.specs.Cores.{CoreView, LaneState, lane_state}
-use Rattle.sf_core.specs.Cores.LaneState.{Gone, Idle, Busy}
+use Rattle.sf_core.specs.Cores.LaneState.{NoLane, Idle, Busy}
 use Rattle.sf_core.specs.Progress.{waiting_reply}
 use Rattle.sf_noted.specs.Pages.{Page}
 use Rattle.sf_noted.specs.Noted.{waiting_for, waits_in, presence_in, FitsPage, PagesAgree}
 use Rattle.sf_noted.specs.Visits.{MayWait, IsVisitIn}
 
 waits_so : (l : LaneState) → MayWait (presence_in l) (waits_in l)
-waits_so Gone = inl refl
+waits_so NoLane = inl refl
 waits_so Idle = inl refl
 waits_so (Busy c) = by_reply (waiting_reply c)
   where

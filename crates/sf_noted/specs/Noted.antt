@@ -7,13 +7,13 @@ use Rattle.sf_core.specs.declared.step.Step.{Step}
 use Rattle.sf_core.specs.declared.step.Step.TheVariants.{Moved, Blocked, Answered, Stranger}
 use Rattle.sf_core.specs.Lanes.{LaneView}
 use Rattle.sf_core.specs.Cores.{CoreView, LaneState, lane_state}
-use Rattle.sf_core.specs.Cores.LaneState.{Gone, Idle, Busy}
+use Rattle.sf_core.specs.Cores.LaneState.{NoLane, Idle, Busy}
 use Rattle.sf_core.specs.Progress.{waiting_reply}
 use Rattle.sf_core.specs.Histories.{IsHistory}
 use Rattle.sf_audit.specs.Audits.{CallRecord, call_records}
 use Rattle.sf_noted.specs.Pages.{Page}
 use Rattle.sf_noted.specs.Pages.{Presence}
-use Rattle.sf_noted.specs.Pages.Presence.{Resting, UnderWay, Departed}
+use Rattle.sf_noted.specs.Pages.Presence.{BetweenCalls, Calling, Departed}
 use Rattle.sf_noted.specs.PageChanges.{page, as_told}
 
 -- a call with its reply, as a session is told
@@ -26,14 +26,14 @@ waiting_for c None = []
 waiting_for c (Some given) = told_of c given ∷ []
 
 abbrev pub waits_in : LaneState → List CallRecord
-waits_in Gone = []
+waits_in NoLane = []
 waits_in Idle = []
 waits_in (Busy c) = waiting_for c (waiting_reply c)
 
 abbrev pub presence_in : LaneState → Presence
-presence_in Gone = Departed
-presence_in Idle = Resting
-presence_in (Busy c) = UnderWay c.number c.moment c.request
+presence_in NoLane = Departed
+presence_in Idle = BetweenCalls
+presence_in (Busy c) = Calling c.number c.moment c.request
 
 -- The session stands as it is noted; and its calls in the history are those that it was told, and
 -- then the one whose reply waits for it, if one does.
@@ -54,12 +54,12 @@ HasPages v pages = (h : List Record) × PagesAgree v pages h
 
 -- the number of the call under way
 abbrev pub number_in : Presence → Option ℕ
-number_in (UnderWay number moment request) = Some number
+number_in (Calling number moment request) = Some number
 number_in _ = None
 
 -- how many calls a session began that was told so many, as its lane counts them
 abbrev pub begun_by : Presence → ℕ → ℕ
-begun_by (UnderWay number moment request) told = min (told + 1) (2 ^ 64 - 1)
+begun_by (Calling number moment request) told = min (told + 1) (2 ^ 64 - 1)
 begun_by _ told = min told (2 ^ 64 - 1)
 
 abbrev pub begun_on : Page → ℕ
@@ -71,7 +71,7 @@ lane_of x = record { session = x.0; call = number_in x.1.presence; begun = begun
 
 -- a session's number, and what is noted of it once its call is answered so
 abbrev pub answered : ℕ × Page → Reply → ℕ × Page
-answered x reply = (x.0, page Resting (x.1.told ++ as_told x.1.presence reply))
+answered x reply = (x.0, page BetweenCalls (x.1.told ++ as_told x.1.presence reply))
 
 -- What a step tells: the call goes on, or was answered, and that is noted. A session is never a
 -- stranger to the core that it joined.

@@ -5,8 +5,8 @@ use Rattle.sf_audit.specs.Audits.{CallRecord}
 
 -- it has no call under way; or the call of this number, which began at this moment; or it has left
 pub data Presence : Type 0 where
-  Resting : Presence
-  UnderWay : (number moment : ℕ) → (request : Request) → Presence
+  BetweenCalls : Presence
+  Calling : (number moment : ℕ) → (request : Request) → Presence
   Departed : Presence
 
 -- how it stands, and the calls that it was told

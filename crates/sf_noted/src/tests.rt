@@ -2,7 +2,7 @@
 
 ghost use Rattle.std.specs.Prelude.{◌≡◌, ◌<◌, [], IfSome};
 ghost use Rattle.sf_core.specs.Histories.{IsHistory};
-ghost use Rattle.sf_noted.specs.Pages.Presence.{Resting};
+ghost use Rattle.sf_noted.specs.Pages.Presence.{BetweenCalls};
 ghost use Rattle.sf_noted.specs.PageChanges.{IsUnderWay};
 
 use super::*;
@@ -32,7 +32,7 @@ fn answered<B: RollName + Ledger>(
     lane: &mut NotedLane<B>,
 ) -> Option<Answer>
     requires { IsUnderWay lane.old.1.presence }
-    ensures { IfSome result (λ _. lane.new.1.presence ≡ Resting) }
+    ensures { IfSome result (λ _. lane.new.1.presence ≡ BetweenCalls) }
 {
     for _ in 0..100u32 {
         if let Step::Answered(answer) = core.step(lane) {

@@ -7,7 +7,7 @@ use Rattle.sf_field.specs.Fields.{packet}
 use Rattle.sf_reply.specs.declared.reply.Reply.{Reply}
 use Rattle.sf_reply.specs.Replies.{reply_body}
 use Rattle.sf_call.specs.declared.request.Request.{Request}
-use Rattle.sf_call.specs.Answers.{AnswerView as Answer}
+use Rattle.sf_call.specs.Answers.{AnswerView}
 use Rattle.sf_call.specs.declared.fault.CoreFault.{CoreFault}
 use Rattle.sf_call.specs.ReplyKinds.{longest_packet}
 use Rattle.sf_session.specs.declared.asking.Ask.TheVariants as ask
@@ -17,7 +17,7 @@ use Rattle.sf_session.proofs.Laws.{refusal_short}
 use Rattle.sf_session.specs.Responses.{Response, ByCall, Refused, ask_behind, packet_for}
 use Rattle.sf_session.specs.SessionStates.{HasShortPacket}
 use Rattle.sf_audit.specs.Audits.{CallRecord}
-use Rattle.sf_noted.specs.Pages.Presence.{UnderWay}
+use Rattle.sf_noted.specs.Pages.Presence.{Calling}
 use Rattle.sf_pool.specs.declared.desk.Begin.{Begin}
 use Rattle.sf_pool.specs.Desks.{DeskState, Joined, IsResting, IsLastAnswer, DeskView, Notes}
 use Rattle.sf_pool.specs.Scenes.{response_calls, Attempt, attempt, answer_attempts, BeginsCalls}
@@ -50,7 +50,7 @@ some_pushed (y ∷ ys) x e = cc
 -- From the first of these views of a desk to the second a call began, and from there to the third it was answered.
 pub record IsMade (d d1 d2 : DeskView) (request : Request) (number moment : ℕ) : Type 0 where
   pub rests : IsResting d.place
-  pub begun : d1 ≡ record d { place = Joined (UnderWay number moment request) }
+  pub begun : d1 ≡ record d { place = Joined (Calling number moment request) }
   pub answered : IsAnsweredAt d1 d2
 
 -- so it is noted behind the calls before it
@@ -82,7 +82,7 @@ made_by : {request : Request} {Asked : List Attempt → Type 0} {d d' : DeskView
 made_by v w None h short written = tt
 made_by v w (Some id) {answer = answer} h short written = (answer id, h.asks id, written, h.noted id, h.asked id, short id (ap (λ (x : SessionView). x.output) written))
 
-pub call_made : {d d1 d2 : DeskView} {request : Request} {number moment : ℕ} (Asked : List Attempt → Type 0) (answer : Answer) (v w : SessionView) → IsMade d d1 d2 request number moment → IsLastAnswer d2.calls answer.number answer.reply
+pub call_made : {d d1 d2 : DeskView} {request : Request} {number moment : ℕ} (Asked : List Attempt → Type 0) (answer : AnswerView) (v w : SessionView) → IsMade d d1 d2 request number moment → IsLastAnswer d2.calls answer.number answer.reply
     → IfSome v.waiting (λ id. w ≡ record v { output = v.output ++ packet (reply_body id answer.reply); waiting = None }) → length w.output ≤ length v.output + longest_packet → Asked (attempt request (Ok number) ∷ []) → MakesCall request Asked (talk d v) (talk d2 w)
 call_made {d = d} {d2 = d2} {request = request} {number = number} Asked answer v w made last written little asked =
     let h = noted_so made in
@@ -104,7 +104,7 @@ long None reply r enough err = tt
 long (Some id) reply (Ok x) enough err = absurd (cc)
 long (Some id) reply (Err f) enough err = lt_of_not-le (λ (le : length (packet (reply_body id reply)) ≤ reply_room). let no : false ≡ true = enough le in (cc))
 
-pub call_unanswered : {d d1 d2 : DeskView} {request : Request} {number moment : ℕ} (waiting : Option ℕ) (Asked : List Attempt → Type 0) (answer : Answer) (r : Result (Unit {0}) SessionFault) → IsMade d d1 d2 request number moment → IsLastAnswer d2.calls answer.number answer.reply
+pub call_unanswered : {d d1 d2 : DeskView} {request : Request} {number moment : ℕ} (waiting : Option ℕ) (Asked : List Attempt → Type 0) (answer : AnswerView) (r : Result (Unit {0}) SessionFault) → IsMade d d1 d2 request number moment → IsLastAnswer d2.calls answer.number answer.reply
     → IfSome waiting (λ id. length (packet (reply_body id answer.reply)) ≤ reply_room → IsOk r) → is_err r ≡ true → Asked (attempt request (Ok number) ∷ []) → FailsCall waiting request stop.OutOfMemory Asked d d2
 call_unanswered {d = d} {d2 = d2} {request = request} {number = number} waiting Asked answer r made last enough err asked =
     let h = noted_so made in

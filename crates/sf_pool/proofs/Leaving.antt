@@ -6,23 +6,23 @@ use Rattle.sf_session.specs.declared.cause.Cause.{Cause}
 use Rattle.sf_session.specs.declared.fault.ServeFault.{ServeFault}
 use Rattle.sf_session.specs.declared.fault.ServeFault.TheVariants as fault
 use Rattle.sf_session.specs.Sessions.{SessionView}
-use Rattle.sf_session.specs.SessionStates.{Phase, UnderWay as InCall, Gone as Left, SessionState}
+use Rattle.sf_session.specs.SessionStates.{Phase, UnderWay, Gone, SessionState}
 use Rattle.sf_serving.specs.Ends.{IsWhole}
 use Rattle.sf_serving.specs.Hosts.{IsLeftFor}
 use Rattle.sf_serving.specs.Serving.{LineView, Progress, Serves, IsServed, HasWrittenFor, IsStopped, IsStop}
 use Rattle.sf_pool.specs.declared.at_desk.Standing.{Standing}
 use Rattle.sf_pool.specs.declared.at_desk.Standing.TheVariants as standing
 use Rattle.sf_noted.specs.Pages.{Presence}
-use Rattle.sf_noted.specs.Pages.Presence.{UnderWay, Departed}
-use Rattle.sf_pool.specs.Desks.{DeskState, New, Refused, Joined, share_of, DeskView}
+use Rattle.sf_noted.specs.Pages.Presence.{Calling, Departed}
+use Rattle.sf_pool.specs.Desks.{DeskState, New, JoinRefused, Joined, share_of, DeskView}
 use Rattle.sf_pool.specs.Scenes.{DeskScene, state_calls, NotesCalls, IsShared, join_refusal, IsInCall, ServesDesk, HasLeft, LeavesFor, StopsDesk, IsDeskFault}
 use Rattle.sf_pool.specs.AtDesks.{IsToldAt, IsOver, IsCounted, IsAdded}
 
 shared_by : (share n old new : ℕ) → share ≡ share_of n → IsShared share old new → IsShared n old new
 shared_by share n old new e h = omega (arith, e, h)
 
-not_in_call : (place : DeskState) (f : Phase) (cause : Cause) → f ≡ Left cause → IsInCall place f → ⊥
-not_in_call place f cause e h = let no : Left cause ≡ InCall h.id h.number h.moment h.request h.moves = sym e ∙ h.waits in cc
+not_in_call : (place : DeskState) (f : Phase) (cause : Cause) → f ≡ Gone cause → IsInCall place f → ⊥
+not_in_call place f cause e h = let no : Gone cause ≡ UnderWay h.id h.number h.moment h.request h.moves = sym e ∙ h.waits in cc
 
 -- a session that was served to its end has left
 leaves_gone : (at : Standing) (d : DeskView) {t : SessionState} {cause : Cause} (old new : ℕ) → IsOver at d None → IsCounted at d t → IsWhole t cause → IsAdded at old new → (d.place ≡ Joined Departed) × IsShared (length (state_calls t)) old new
@@ -83,12 +83,12 @@ join_fault refused.Stranger failed failed' known = absurd (known refl)
 joined_not_new : (place : DeskState) (presence : Presence) → place ≡ Joined presence → place ≢ New
 joined_not_new place presence e new = let no : New ≡ Joined presence = sym new ∙ e in cc
 
-pub refused_not_new : (place : DeskState) (refusal : CoreFault) → place ≡ Refused refusal → place ≢ New
-refused_not_new place refusal e new = let no : New ≡ Refused refusal = sym new ∙ e in cc
+pub refused_not_new : (place : DeskState) (refusal : CoreFault) → place ≡ JoinRefused refusal → place ≢ New
+refused_not_new place refusal e new = let no : New ≡ JoinRefused refusal = sym new ∙ e in cc
 
 left_not_new : (d : DeskView) (t : SessionState) (old new : ℕ) → HasLeft d t old new → d.place ≢ New
 left_not_new d t old new (inl left) = joined_not_new d.place Departed left.0
-left_not_new d t old new (inr call) = joined_not_new d.place (UnderWay call.0.number call.0.moment call.0.request) call.0.placed
+left_not_new d t old new (inr call) = joined_not_new d.place (Calling call.0.number call.0.moment call.0.request) call.0.placed
 
 left_for_not_new : (f : ServeFault) (d : DeskView) (p : Progress) (old new : ℕ) → LeavesFor f d p old new → d.place ≢ New
 left_for_not_new fault.Line d p old new h = left_not_new d p.told old new h

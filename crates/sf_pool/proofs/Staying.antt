@@ -12,7 +12,7 @@ use Rattle.sf_audit.specs.declared.transcript.Transcript.{Transcript}
 use Rattle.sf_audit.specs.Audits.{CallRecord, call_record}
 use Rattle.sf_noted.specs.Pages.{Page}
 use Rattle.sf_noted.specs.Pages.{Presence}
-use Rattle.sf_noted.specs.Pages.Presence.{Resting, UnderWay, Departed}
+use Rattle.sf_noted.specs.Pages.Presence.{BetweenCalls, Calling, Departed}
 use Rattle.sf_noted.specs.PageChanges.{as_told}
 use Rattle.sf_noted.specs.Noted.{number_in, answered}
 use Rattle.sf_pool.specs.declared.desk.StepResult.{StepResult}
@@ -59,10 +59,10 @@ pub last_answered : (lane lane' : ℕ × Page) (number : ℕ) (reply : Reply) �
 last_answered lane lane' number reply own noted = subst (λ (l : ℕ × Page). IsLastAnswer l.1.told number reply) (sym noted) (by_presence lane.1.presence own)
   where
     by_presence : (presence : Presence) → number_in presence ≡ Some number → IsLastAnswer (lane.1.told ++ as_told presence reply) number reply
-    by_presence (UnderWay n moment request) e =
+    by_presence (Calling n moment request) e =
         let same : n ≡ number = cc in
         (lane.1.told, request, ap (λ (k : ℕ). lane.1.told ++ record { number = k; request = request; reply = reply } ∷ []) same)
-    by_presence Resting e = absurd (cc)
+    by_presence BetweenCalls e = absurd (cc)
     by_presence Departed e = absurd (cc)
 
 -- ---- how it ends

@@ -18,7 +18,7 @@ use Rattle.sf_session.specs.declared.session.Next.TheVariants as next
 use Rattle.sf_session.specs.Asking.{AsksFor}
 use Rattle.sf_session.specs.Sessions.{SessionView, Begins, NextGives, LocalPacket, EndsBy, new_session}
 use Rattle.sf_session.specs.Responses.{Response, Version, Locally, ask_behind, packet_for, transcript, has_begun, AreAsked}
-use Rattle.sf_session.specs.SessionStates.{Phase, Resting as AtRest, UnderWay as InCall, Decided, Gone as Left, SessionState, new_state, fed, closed_now, pending, asks_of, IsRest, IsRead, HasShortPacket}
+use Rattle.sf_session.specs.SessionStates.{Phase, Resting, UnderWay, Decided, Gone, SessionState, new_state, fed, closed_now, pending, asks_of, IsRest, IsRead, HasShortPacket}
 use Rattle.sf_session.proofs.Laws.{all_push, begun_is, begun_push, asked_push, not_closed}
 use Rattle.sf_serving.specs.declared.host.Went.{Went}
 use Rattle.sf_serving.specs.declared.host.Went.TheVariants as went
@@ -30,7 +30,7 @@ use Rattle.sf_pool.specs.declared.calling.Stop.TheVariants as stop
 use Rattle.sf_pool.specs.declared.desk.Begin.{Begin}
 use Rattle.sf_pool.specs.declared.at_desk.Standing.{Standing}
 use Rattle.sf_pool.specs.declared.at_desk.Standing.TheVariants as standing
-use Rattle.sf_noted.specs.Pages.Presence.{Resting}
+use Rattle.sf_noted.specs.Pages.Presence.{BetweenCalls}
 use Rattle.sf_pool.specs.Desks.{DeskState, Joined, IsResting, DeskView, Notes, share_of}
 use Rattle.sf_pool.specs.Scenes.{DeskScene, desk_scene, desk_held, response_calls, phase_calls, state_calls, Attempt, attempt_of, answer_attempts, phase_attempts, attempts_told, BeginsCalls, IsInCall}
 use Rattle.sf_pool.specs.AtDesks.{standing_fault, MakesCall, talk, FailsCall, IsCounted, IsToldAt, standing_after, stop_fault}
@@ -62,15 +62,15 @@ begins_more x y z {xs = xs} p q =
 
 -- ---- a session at rest
 
-rest_operations : (t : SessionState) → t.phase ≡ AtRest → state_calls t ≡ flat_map response_calls t.answers
-rest_operations t at = ap (λ (f : Phase). flat_map response_calls t.answers ++ phase_calls f) at ∙ append-nil (flat_map response_calls t.answers)
+rest_calls : (t : SessionState) → t.phase ≡ Resting → state_calls t ≡ flat_map response_calls t.answers
+rest_calls t at = ap (λ (f : Phase). flat_map response_calls t.answers ++ phase_calls f) at ∙ append-nil (flat_map response_calls t.answers)
 
-rest_attempts : (t : SessionState) → t.phase ≡ AtRest → attempts_told t ≡ flat_map answer_attempts t.answers
+rest_attempts : (t : SessionState) → t.phase ≡ Resting → attempts_told t ≡ flat_map answer_attempts t.answers
 rest_attempts t at = ap (λ (f : Phase). flat_map answer_attempts t.answers ++ phase_attempts f) at ∙ append-nil (flat_map answer_attempts t.answers)
 
 -- ---- it joins
 
-pub told_new : {start : DeskScene} {d : DeskView} {b : Option (List Begin)} {at : Standing} {v : SessionView} (session : ℕ) → b ≡ start.begins → d ≡ record start.desk { session = session; place = Joined Resting; calls = [] } → v ≡ new_session → at ≡ standing.Joined
+pub told_new : {start : DeskScene} {d : DeskView} {b : Option (List Begin)} {at : Standing} {v : SessionView} (session : ℕ) → b ≡ start.begins → d ≡ record start.desk { session = session; place = Joined BetweenCalls; calls = [] } → v ≡ new_session → at ≡ standing.Joined
     → IsToldAt start at v (desk_scene d b start.told) new_state
 told_new {start = start} {d = d} {b = b} {v = v} session none joins new at = subst (λ (s : Standing). IsToldAt start s v (desk_scene d b start.told) new_state) (sym at) (record {
   notes = record {
@@ -129,21 +129,21 @@ told_still {start = start} {at = at} {v = v} {d' = d'} {b = b} {tl = tl} {t = t}
 
 -- ---- it ends
 
-closed_operations : (t : SessionState) (f : Phase) → t.phase ≡ f → state_calls (closed_now t f) ≡ state_calls t
-closed_operations t AtRest at = ap (λ (f : Phase). flat_map response_calls t.answers ++ phase_calls f) (sym at)
-closed_operations t f at = refl
+closed_calls : (t : SessionState) (f : Phase) → t.phase ≡ f → state_calls (closed_now t f) ≡ state_calls t
+closed_calls t Resting at = ap (λ (f : Phase). flat_map response_calls t.answers ++ phase_calls f) (sym at)
+closed_calls t f at = refl
 
 closed_attempts : (t : SessionState) (f : Phase) → t.phase ≡ f → attempts_told (closed_now t f) ≡ attempts_told t
-closed_attempts t AtRest at = ap (λ (f : Phase). flat_map answer_attempts t.answers ++ phase_attempts f) (sym at)
+closed_attempts t Resting at = ap (λ (f : Phase). flat_map answer_attempts t.answers ++ phase_attempts f) (sym at)
 closed_attempts t f at = refl
 
 closed_in_call : (place : DeskState) (t : SessionState) (f : Phase) → t.phase ≡ f → IsInCall place t.phase → IsInCall place (closed_now t f).phase
-closed_in_call place t AtRest at h = absurd (let no : AtRest ≡ InCall h.id h.number h.moment h.request h.moves = sym at ∙ h.waits in cc)
+closed_in_call place t Resting at h = absurd (let no : Resting ≡ UnderWay h.id h.number h.moment h.request h.moves = sym at ∙ h.waits in cc)
 closed_in_call place t f at h = h
 
-never_rests : (t : SessionState) (f : Phase) → t.phase ≡ f → (closed_now t f).phase ≡ AtRest → ⊥
-never_rests t AtRest at e = cc
-never_rests t f at e = let no : f ≡ AtRest = sym at ∙ e in cc
+never_rests : (t : SessionState) (f : Phase) → t.phase ≡ f → (closed_now t f).phase ≡ Resting → ⊥
+never_rests t Resting at e = cc
+never_rests t f at e = let no : f ≡ Resting = sym at ∙ e in cc
 
 -- it stands otherwise, or as it did
 pub told_ended : {start : DeskScene} {at at' : Standing} {v : SessionView} {d d' : DeskView} {b b' : Option (List Begin)} {tl : Option (List ℕ)} {t : SessionState} → IsToldAt start at v (desk_scene d b tl) t → d'.calls ≡ d.calls → d'.keeps ≡ d.keeps → b' ≡ b
@@ -153,13 +153,13 @@ told_ended {start = start} {at' = at'} {v = v} {d' = d'} {b' = b'} {tl = tl} {t 
     let asked : BeginsCalls start.told tl start.begins b' (attempts_told t) = subst (λ (x : Option (List Begin)). BeginsCalls start.told tl start.begins x (attempts_told t)) (sym begins) h.notes.asked in
     record {
       notes = record {
-        noted = calls ∙ h.notes.noted ∙ sym (closed_operations t t.phase refl);
+        noted = calls ∙ h.notes.noted ∙ sym (closed_calls t t.phase refl);
         keeps = keeps ∙ h.notes.keeps;
         asked = subst (λ (l : List Attempt). BeginsCalls start.told tl start.begins b' l) (sym (closed_attempts t t.phase refl)) asked;
       };
       stands = λ rests. absurd (never_rests t t.phase refl rests);
       waits = ap transcript same.answers ∙ h.waits ∙ ap (λ (b : List ℕ). b ++ v.output) (sym same.sent);
-      counts = counts_same at' d' t (ended t) (closed_operations t t.phase refl) (closed_in_call d'.place t t.phase refl) (count h.notes.noted h.counts);
+      counts = counts_same at' d' t (ended t) (closed_calls t t.phase refl) (closed_in_call d'.place t t.phase refl) (count h.notes.noted h.counts);
     }
 
 -- ---- it goes on
@@ -194,7 +194,7 @@ goes_more {start = start} {now = now} {at = at} {t = t} h is_open read sent give
 -- ---- a packet ends it
 
 abbrev ended_by : SessionState → Cause → SessionState
-ended_by t cause = record t { unread = []; phase = Left cause }
+ended_by t cause = record t { unread = []; phase = Gone cause }
 
 ends_by : (v w : SessionView) (cause : Cause) → v.ended ≡ None → NextGives v (next.Ended cause) w → EndsBy v.begun v.unread cause
 ends_by v w cause none (inl h) = let e : None ≡ Some cause = sym none ∙ h.0 in absurd (cc)
@@ -222,7 +222,7 @@ goes_ended {start = start} {now = now} {v = v} {w = w} {cause = cause} {t = t} g
           keeps = h.notes.keeps;
           asked = subst (λ (l : List Attempt). BeginsCalls start.told now.told start.begins now.begins l) (sym attempts) h.notes.asked;
         };
-        stands = λ rests. absurd (let no : Left cause ≡ AtRest = rests in cc);
+        stands = λ rests. absurd (let no : Gone cause ≡ Resting = rests in cc);
         waits = h.waits ∙ ap (λ (b : List ℕ). t.sent ++ b) (sym (ends_output v w cause gives));
         counts = tt;
       },
@@ -298,7 +298,7 @@ goes_body {start = start} {now = now} {now' = now'} {v = v} {t = t} {asked = ask
       t',
       record {
         notes = record {
-          noted = n.noted ∙ ap (λ (l : List CallRecord). l ++ (flat_map response_calls more ++ phase_calls f)) (h.notes.noted ∙ rest_operations t rests) ∙ same_calls;
+          noted = n.noted ∙ ap (λ (l : List CallRecord). l ++ (flat_map response_calls more ++ phase_calls f)) (h.notes.noted ∙ rest_calls t rests) ∙ same_calls;
           keeps = n.keeps ∙ h.notes.keeps;
           asked = subst (λ (l : List Attempt). BeginsCalls start.told now'.told start.begins now'.begins l) same_attempts
               (begins_more start now now' begun n.begins);
@@ -333,7 +333,7 @@ goes_answered : {start now now' : DeskScene} {v w : SessionView} {t : SessionSta
 goes_answered {now = now} {now' = now'} {v = v} {w = w} {t = t} a go b shows notes keeps begins short =
     let calls : response_calls a ≡ flat_map response_calls (a ∷ []) ++ [] = sym (append-nil (flat_map response_calls (a ∷ [])) ∙ append-nil (response_calls a)) in
     let attempts : answer_attempts a ≡ flat_map answer_attempts (a ∷ []) ++ [] = sym (append-nil (flat_map answer_attempts (a ∷ [])) ∙ append-nil (answer_attempts a)) in
-    let n : Noted now now' (ask_behind a) (a ∷ []) AtRest = record {
+    let n : Noted now now' (ask_behind a) (a ∷ []) Resting = record {
       asks = refl;
       left = λ begun bytes. refl;
       noted = notes ∙ ap (λ (l : List CallRecord). now.desk.calls ++ l) calls;
@@ -402,9 +402,9 @@ goes_stopped {request = request} stop.OutOfMemory go gives same fails =
     (record { asks = refl; left = λ begun bytes. refl; noted = ap (λ (x : DeskView). x.calls) is; keeps = ap (λ (x : DeskView). x.keeps) is; begins = fails.2 }) (λ t' phase. tt)
 goes_stopped {now = now} {now' = now'} {request = request} stop.UnderWay go gives same fails =
     let is = fails.1.1 in
-    let in_call : IsInCall now'.desk.place (InCall gives.1.id fails.0 fails.1.0 request 0) =
+    let in_call : IsInCall now'.desk.place (UnderWay gives.1.id fails.0 fails.1.0 request 0) =
     record { id = gives.1.id; number = fails.0; moment = fails.1.0; request = request; moves = 0; placed = ap (λ (x : DeskView). x.place) is; waits = refl } in
-    goes_pended {f = InCall gives.1.id fails.0 fails.1.0 request 0} (stop_fault stop.UnderWay) go gives same
+    goes_pended {f = UnderWay gives.1.id fails.0 fails.1.0 request 0} (stop_fault stop.UnderWay) go gives same
     (record { asks = refl; left = λ begun bytes. refl; noted = ap (λ (x : DeskView). x.calls) is ∙ sym (append-nil now.desk.calls); keeps = ap (λ (x : DeskView). x.keeps) is; begins = fails.2 })
     (λ t' phase. subst (λ (f : Phase). IsInCall now'.desk.place f) (sym phase) in_call)
 

@@ -10,10 +10,10 @@ use Rattle.sf_session.specs.declared.fault.ServeFault.{ServeFault}
 use Rattle.sf_session.specs.declared.fault.ServeFault.TheVariants as fault
 use Rattle.sf_session.specs.Sessions.{SessionView, reply_room}
 use Rattle.sf_session.specs.Responses.{Response, ask_behind, packet_for, transcript, has_begun}
-use Rattle.sf_session.specs.SessionStates.{Resting as AtRest, SessionState, HasShortPacket}
+use Rattle.sf_session.specs.SessionStates.{Resting, SessionState, HasShortPacket}
 use Rattle.sf_serving.specs.Hosts.{most_counted}
 use Rattle.sf_audit.specs.Audits.{CallRecord}
-use Rattle.sf_noted.specs.Pages.Presence.{UnderWay, Departed}
+use Rattle.sf_noted.specs.Pages.Presence.{Calling, Departed}
 use Rattle.sf_pool.specs.declared.calling.Stop.{Stop}
 use Rattle.sf_pool.specs.declared.calling.Stop.TheVariants as stop
 use Rattle.sf_pool.specs.declared.at_desk.Standing.{Standing}
@@ -61,7 +61,7 @@ LacksReply waiting request number stop.OutOfMemory d d' = (reply : Reply) × (d'
     (record { number = number; request = request; reply = reply } ∷ []) d'.steps)
     × IsLong waiting reply
 LacksReply waiting request number stop.UnderWay d d' = (moment : ℕ)
-    × (d' ≡ after_steps (record d { place = Joined (UnderWay number moment request) }) d'.steps)
+    × (d' ≡ after_steps (record d { place = Joined (Calling number moment request) }) d'.steps)
     × (most_counted ≤ d'.steps)
 
 -- The session's call began, and has no reply. The desk was asked for it alone.
@@ -104,7 +104,7 @@ IsCounted (standing.Left share) d t = share ≡ share_of (length (state_calls t)
 pub record IsToldAt (start : DeskScene) (at : Standing) (v : SessionView) (now : DeskScene)
     (t : SessionState) : Type 0 where
   pub notes : NotesCalls start now t
-  pub stands : t.phase ≡ AtRest → GoesOnAs v t
+  pub stands : t.phase ≡ Resting → GoesOnAs v t
   pub waits : transcript t.answers ≡ t.sent ++ v.output
   pub counts : IsCounted at now.desk t
 

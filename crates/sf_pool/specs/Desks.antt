@@ -5,7 +5,7 @@ use Rattle.sf_call.specs.declared.request.Request.{Request}
 use Rattle.sf_call.specs.declared.fault.CoreFault.{CoreFault}
 use Rattle.sf_audit.specs.Audits.{CallRecord}
 use Rattle.sf_noted.specs.Pages.{Presence}
-use Rattle.sf_noted.specs.Pages.Presence.{Resting}
+use Rattle.sf_noted.specs.Pages.Presence.{BetweenCalls}
 use Rattle.sf_noted.specs.PageChanges.{as_told, IsUnderWay}
 use Rattle.sf_pool.specs.declared.desk.StepResult.{StepResult}
 use Rattle.sf_pool.specs.declared.desk.StepResult.TheVariants.{Going, Answered}
@@ -13,11 +13,11 @@ use Rattle.sf_pool.specs.declared.desk.StepResult.TheVariants.{Going, Answered}
 -- it hasn't joined; or it was refused that; or it has joined, and stands so since
 pub data DeskState : Type 0 where
   New : DeskState
-  Refused : (fault : CoreFault) → DeskState
+  JoinRefused : (fault : CoreFault) → DeskState
   Joined : (presence : Presence) → DeskState
 
 abbrev pub IsResting : DeskState → Type 0
-IsResting place = place ≡ Joined Resting
+IsResting place = place ≡ Joined BetweenCalls
 
 abbrev pub HasCallUnderWay : DeskState → Type 0
 HasCallUnderWay (Joined presence) = IsUnderWay presence
@@ -70,7 +70,7 @@ told_at _ reply = []
 
 abbrev pub answered : DeskView → Reply → DeskView
 answered d reply =
-    record d { place = Joined Resting; calls = d.calls ++ told_at d.place reply }
+    record d { place = Joined BetweenCalls; calls = d.calls ++ told_at d.place reply }
 
 -- What a step of the call under way comes to: the call goes on; or it is answered, and that is
 -- noted.

@@ -9,11 +9,11 @@ use Rattle.sf_core.specs.Cores.{CoreView}
 use Rattle.sf_core.specs.Events.{CallBegins, RefusesBegin, StepsOn}
 use Rattle.sf_noted.specs.Pages.{Page}
 use Rattle.sf_noted.specs.Pages.{Presence}
-use Rattle.sf_noted.specs.Pages.Presence.{UnderWay}
+use Rattle.sf_noted.specs.Pages.Presence.{Calling}
 use Rattle.sf_noted.specs.Noted.{lane_of}
 use Rattle.sf_pool.specs.declared.desk.StepResult.TheVariants.{Going, Answered}
 use Rattle.sf_pool.specs.declared.stay.Stepped.{Stepped}
-use Rattle.sf_pool.specs.Desks.{Refused, Joined, IsLastAnswer, DeskView}
+use Rattle.sf_pool.specs.Desks.{JoinRefused, Joined, IsLastAnswer, DeskView}
 
 -- this is the number and the page of the session at the desk
 pub record IsPageOf (d : DeskView) (x : ℕ × Page) : Type 0 where
@@ -24,11 +24,11 @@ pub record IsPageOf (d : DeskView) (x : ℕ × Page) : Type 0 where
 -- and this is what is noted of it, or why it never joined
 abbrev pub IsVisitOf : DeskView → Result (ℕ × Page) CoreFault → Type 0
 IsVisitOf d (Ok x) = IsPageOf d x
-IsVisitOf d (Err refusal) = d.place ≡ Refused refusal
+IsVisitOf d (Err refusal) = d.place ≡ JoinRefused refusal
 
 -- how many calls the session began: those that it was told, and the one under way
 abbrev pub under_way : Presence → ℕ
-under_way (UnderWay number moment request) = 1
+under_way (Calling number moment request) = 1
 under_way _ = 0
 
 abbrev pub calls_begun : Page → ℕ

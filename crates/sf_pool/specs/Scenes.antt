@@ -9,14 +9,14 @@ use Rattle.sf_call.specs.declared.fault.CoreFault.TheVariants as refused
 use Rattle.sf_session.specs.declared.cause.Cause.{Cause}
 use Rattle.sf_session.specs.declared.fault.ServeFault.{ServeFault}
 use Rattle.sf_session.specs.declared.fault.ServeFault.TheVariants as fault
-use Rattle.sf_session.specs.Responses.{Response, Version, Locally, ByCall, Refused as NotBegun}
-use Rattle.sf_session.specs.SessionStates.{Phase, Resting as AtRest, UnderWay as InCall, Decided, Gone as Left, SessionState}
+use Rattle.sf_session.specs.Responses.{Response, Version, Locally, ByCall, Refused}
+use Rattle.sf_session.specs.SessionStates.{Phase, Resting, UnderWay, Decided, Gone, SessionState}
 use Rattle.sf_serving.specs.Hosts.{most_counted}
 use Rattle.sf_serving.specs.Serving.{LineView, Progress, Serves, IsServed, HasWrittenFor}
 use Rattle.sf_audit.specs.Audits.{CallRecord}
 use Rattle.sf_pool.specs.declared.desk.Begin.{Begin}
-use Rattle.sf_noted.specs.Pages.Presence.{UnderWay, Departed}
-use Rattle.sf_pool.specs.Desks.{DeskState, Refused, Joined, DeskView, Notes, share_of}
+use Rattle.sf_noted.specs.Pages.Presence.{Calling, Departed}
+use Rattle.sf_pool.specs.Desks.{DeskState, JoinRefused, Joined, DeskView, Notes, share_of}
 
 -- A desk, the calls that it was asked to begin, where it tells them, and the moments that a clock
 -- told.
@@ -34,15 +34,15 @@ response_calls Version = []
 response_calls (Locally id reply) = []
 response_calls (ByCall id number request reply) =
     record { number = number; request = request; reply = reply } ∷ []
-response_calls (NotBegun id request refusal) = []
+response_calls (Refused id request refusal) = []
 
 -- the call whose answer waits
 abbrev pub phase_calls : Phase → List CallRecord
-phase_calls AtRest = []
-phase_calls (InCall id number moment request moves) = []
+phase_calls Resting = []
+phase_calls (UnderWay id number moment request moves) = []
 phase_calls (Decided id number request reply) =
     record { number = number; request = request; reply = reply } ∷ []
-phase_calls (Left cause) = []
+phase_calls (Gone cause) = []
 
 -- the calls that a session was answered
 abbrev pub state_calls : SessionState → List CallRecord
@@ -64,14 +64,14 @@ abbrev pub answer_attempts : Response → List Attempt
 answer_attempts Version = []
 answer_attempts (Locally id reply) = []
 answer_attempts (ByCall id number request reply) = attempt request (Ok number) ∷ []
-answer_attempts (NotBegun id request refusal) = attempt request (Err refusal) ∷ []
+answer_attempts (Refused id request refusal) = attempt request (Err refusal) ∷ []
 
 -- the call that goes on, or whose answer waits, began
 abbrev pub phase_attempts : Phase → List Attempt
-phase_attempts AtRest = []
-phase_attempts (InCall id number moment request moves) = attempt request (Ok number) ∷ []
+phase_attempts Resting = []
+phase_attempts (UnderWay id number moment request moves) = attempt request (Ok number) ∷ []
 phase_attempts (Decided id number request reply) = attempt request (Ok number) ∷ []
-phase_attempts (Left cause) = []
+phase_attempts (Gone cause) = []
 
 -- the calls that a session asked for
 abbrev pub attempts_told : SessionState → List Attempt
@@ -119,7 +119,7 @@ join_refusal refused.Stranger = fault.Stranger
 -- the session never joined: it was refused so
 abbrev pub NeverJoins : DeskView → DeskView → ServeFault → Type 0
 NeverJoins start now f = (refusal : CoreFault) × (f ≡ join_refusal refusal)
-    × (now ≡ record start { place = Refused refusal })
+    × (now ≡ record start { place = JoinRefused refusal })
 
 -- A call is under way: the one at the desk is the one that its session waits for.
 pub record IsInCall (place : DeskState) (phase : Phase) : Type 0 where
@@ -128,8 +128,8 @@ pub record IsInCall (place : DeskState) (phase : Phase) : Type 0 where
   pub moment : ℕ
   pub request : Request
   pub moves : ℕ
-  pub placed : place ≡ Joined (UnderWay number moment request)
-  pub waits : phase ≡ InCall id number moment request moves
+  pub placed : place ≡ Joined (Calling number moment request)
+  pub waits : phase ≡ UnderWay id number moment request moves
 
 -- How a desk is left whose session joined: it has left, and the calls that it was answered were
 -- added to a share; or its call has no answer after 2^64 - 1 steps.

@@ -7,10 +7,10 @@ use Rattle.sf_call.specs.declared.fault.CoreFault.{CoreFault}
 use Rattle.sf_audit.specs.declared.transcript.Transcript.{Transcript}
 use Rattle.sf_audit.specs.Audits.{CallRecord, call_record}
 use Rattle.sf_noted.specs.Pages.{Page}
-use Rattle.sf_noted.specs.Pages.Presence.{UnderWay, Departed}
+use Rattle.sf_noted.specs.Pages.Presence.{Calling, Departed}
 use Rattle.sf_pool.specs.declared.stay.Place.{Place}
 use Rattle.sf_pool.specs.declared.stay.Place.TheVariants as place
-use Rattle.sf_pool.specs.Desks.{DeskState, New, Refused, Joined, DeskView}
+use Rattle.sf_pool.specs.Desks.{DeskState, New, JoinRefused, Joined, DeskView}
 use Rattle.sf_pool.specs.OnCores.{calls_begun}
 
 -- the session's number and page, where it has a lane
@@ -42,7 +42,7 @@ abbrev pub desk_at : {B : Type 0} → Place B → Bool → ℕ → DeskView
 desk_at place.New keeps steps =
     record { session = 0; place = New; calls = []; keeps = keeps; steps = steps }
 desk_at (place.Refused fault) keeps steps =
-    record { session = 0; place = Refused fault; calls = []; keeps = keeps; steps = steps }
+    record { session = 0; place = JoinRefused fault; calls = []; keeps = keeps; steps = steps }
 desk_at (place.Joined lane) keeps steps = record {
   session = lane.0;
   place = Joined lane.1.presence;
@@ -65,7 +65,7 @@ HasDeparted _ = Unit {0}
 
 -- what the call under way asks for is at hand, and its answer has room
 abbrev pub HasRoom : DeskState → Option Request → Transcript → Type 0
-HasRoom (Joined (UnderWay number moment request)) asked t =
+HasRoom (Joined (Calling number moment request)) asked t =
     (asked ≡ Some request) × (vec_len t.calls < vec_capacity t.calls)
 HasRoom _ asked t = Unit {0}
 

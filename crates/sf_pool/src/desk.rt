@@ -3,9 +3,9 @@
 ghost use Rattle.std.specs.Prelude.{◌≡◌, ◌≢◌, ◌<◌, List, [], ◌∷◌, length, Option, None, OnErr, IfOk, IfErr};
 ghost use Rattle.sf_call.specs.declared.fault.CoreFault.TheVariants.{Stranger};
 ghost use Rattle.sf_audit.specs.Audits.{call_record};
-ghost use Rattle.sf_noted.specs.Pages.Presence.{Resting, UnderWay, Departed};
+ghost use Rattle.sf_noted.specs.Pages.Presence.{BetweenCalls, Calling, Departed};
 ghost use Rattle.sf_pool.specs.declared.desk.Begin.{Begin};
-ghost use Rattle.sf_pool.specs.Desks.{New, Refused, Joined, IsResting, HasCallUnderWay, IsLast, Notes, share_of, DeskView, Steps};
+ghost use Rattle.sf_pool.specs.Desks.{New, JoinRefused, Joined, IsResting, HasCallUnderWay, IsLast, Notes, share_of, DeskView, Steps};
 
 use sf_audit::AnsweredCall;
 use sf_call::{CoreFault, Request};
@@ -50,11 +50,11 @@ pub trait Desk {
         ensures number { IfOk result (λ session. 0 < session) }
         ensures ok { IfOk result (λ session. at self.new ≡ record (at self.old) {
           session = session;
-          place = Joined Resting;
+          place = Joined BetweenCalls;
           calls = [];
         }) }
         ensures err { IfErr result (λ fault. at self.new
-            ≡ record (at self.old) { place = Refused fault }) }
+            ≡ record (at self.old) { place = JoinRefused fault }) }
         ensures known { IfErr result (λ fault. fault ≢ Stranger) }
         ensures begins { begins self.new ≡ begins self.old };
 
@@ -63,7 +63,7 @@ pub trait Desk {
     fn begin(&mut self, request: Request, moment: u32) -> Result<u64, CoreFault>
         requires { IsResting (at self.old).place }
         ensures ok { IfOk result (λ number. at self.new
-            ≡ record (at self.old) { place = Joined (UnderWay number moment request) }) }
+            ≡ record (at self.old) { place = Joined (Calling number moment request) }) }
         ensures err { OnErr result (at self.new ≡ at self.old) }
         ensures known { IfErr result (λ fault. fault ≢ Stranger) }
         ensures asked { Notes (begins self.old) (begins self.new) (record {

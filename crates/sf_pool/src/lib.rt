@@ -11,18 +11,18 @@
 mod at_desk;
 mod calling;
 mod desk;
-mod wait_queue;
 mod lock_desk;
 mod observer;
 mod serving;
 mod stay;
+mod wait_queue;
 
 pub use desk::{Begin, Desk, StepResult};
-pub use wait_queue::WaitQueue;
 pub use lock_desk::LockDesk;
 pub use observer::StepObserver;
 pub use serving::serve;
 pub use stay::{NotJoined, Stay, Stayed, Stepped};
+pub use wait_queue::WaitQueue;
 
 #[cfg(test)]
 mod tests;

@@ -6,8 +6,8 @@ ghost use Rattle.sf_pool.specs.Desks.{New, new_desk};
 ghost use Rattle.sf_pool.specs.OnCores.{IsVisitOf, calls_begun_by};
 
 use crate::desk::{Desk, StepResult};
-use crate::wait_queue::{WaitQueue, LOOKS};
 use crate::stay::{Stay, Stayed};
+use crate::wait_queue::{LOOKS, WaitQueue};
 use sf_audit::AnsweredCall;
 use sf_call::{CoreFault, Request};
 use sf_core::Share;
@@ -202,7 +202,7 @@ impl<'a, R: Wait, B: RollName + Ledger> LockDesk<'a, R, B> {
         ensures { self.new.stay ≡ self.old.stay }
     {
         self.permit = None;
-        self.permit = Some(self.wait_queue.enter(self.rt));
+        self.permit = Some(self.wait_queue.take_permit(self.rt));
         self.lock()
     }
 

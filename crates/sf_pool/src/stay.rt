@@ -8,10 +8,10 @@ ghost use Rattle.sf_call.specs.declared.fault.CoreFault.TheVariants.{Stranger};
 ghost use Rattle.sf_core.specs.Histories.{IsHistory};
 ghost use Rattle.sf_core.specs.Events.{Joins, RefusesJoin, Leaves};
 ghost use Rattle.sf_audit.specs.Audits.{call_record};
-ghost use Rattle.sf_noted.specs.Pages.Presence.{Resting, UnderWay, Departed};
+ghost use Rattle.sf_noted.specs.Pages.Presence.{BetweenCalls, Calling, Departed};
 ghost use Rattle.sf_pool.specs.OnCores.{BeginsAt, RefusesAt, StepsAt, stepped_to, IsVisitOf, calls_begun_by};
 ghost use Rattle.sf_pool.specs.Stays.{lane_in, WasAsked, EndsAs};
-ghost use Rattle.sf_pool.specs.Desks.{New, Refused, Joined, IsResting, HasCallUnderWay, IsLast, new_desk, share_of, Steps};
+ghost use Rattle.sf_pool.specs.Desks.{New, JoinRefused, Joined, IsResting, HasCallUnderWay, IsLast, new_desk, share_of, Steps};
 
 use crate::desk::StepResult;
 use sf_audit::{AnsweredCall, Transcript};
@@ -192,10 +192,11 @@ impl<B: RollName + Ledger> Stay<B> {
         ensures number { IfOk result (λ session. 0 < session) }
         ensures ok { IfOk result (λ session. self.new ≡ record self.old {
           session = session;
-          place = Joined Resting;
+          place = Joined BetweenCalls;
           calls = [];
         }) }
-        ensures err { IfErr result (λ fault. self.new ≡ record self.old { place = Refused fault }) }
+        ensures err { IfErr result (λ fault. self.new
+            ≡ record self.old { place = JoinRefused fault }) }
         ensures known { IfErr result (λ fault. fault ≢ Stranger) }
         ensures joins { IfOk result (λ session. (session ≡ core.old.0.joins + 1)
             × Joins core.old.0 core.new.0) }
@@ -226,7 +227,7 @@ impl<B: RollName + Ledger> Stay<B> {
     ) -> Result<u64, CoreFault>
         requires { IsResting self.old.place }
         ensures ok { IfOk result (λ number. self.new
-            ≡ record self.old { place = Joined (UnderWay number moment request) }) }
+            ≡ record self.old { place = Joined (Calling number moment request) }) }
         ensures err { OnErr result (self.new ≡ self.old) }
         ensures known { IfErr result (λ fault. fault ≢ Stranger) }
         ensures begins { IfOk result (λ number. (number ≡ core.new.0.drawn)

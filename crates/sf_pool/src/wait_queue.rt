@@ -120,7 +120,7 @@ impl WaitQueue {
     }
 
     /// Waits for the leave to keep the core for many calls.
-    pub(crate) fn enter<R: Wait>(&self, rt: &R) -> MutexGuard<'_, ()> {
+    pub(crate) fn take_permit<R: Wait>(&self, rt: &R) -> MutexGuard<'_, ()> {
         self.permit.lock(rt)
     }
 }

@@ -9,7 +9,7 @@ use sf_call::{Answer, Request};
 use sf_cases::requests::mkdir;
 use sf_core::{Core, Lane, Share, Step};
 use sf_noted::{NotedCore, Page};
-use sf_pool::{Desk, WaitQueue, LockDesk, Stayed, StepResult};
+use sf_pool::{Desk, LockDesk, Stayed, StepResult, WaitQueue};
 use sf_reply::{Reply, StatusCode};
 use sf_roll::{NewRoll, RollName};
 use std::alloc::Global;

@@ -9,7 +9,7 @@ use Rattle.sf_session.specs.Asking.{path_at}
 use Rattle.sf_refusing.specs.declared.rule.RequestKind.{RequestKind}
 use Rattle.sf_refusing.specs.declared.rule.RequestKind.TheVariants as kind
 use Rattle.sf_refusing.specs.declared.rule.Rule.{Rule}
-use Rattle.sf_refusing.specs.contracts.rule.RequestKindPartialEq.TheImpl as kinds
+use Rattle.sf_refusing.specs.contracts.rule.RequestKindPartialEq.TheImpl.{ghosts}
 
 abbrev pub kind_of : WireRequest → RequestKind
 kind_of (request.Open filename flags attrs) = kind.Open
@@ -66,7 +66,7 @@ names_path paths path = list_any (λ named. same_path named path) paths
 -- whether a rule is for a request of this kind that names these paths
 abbrev pub fits : Rule → (session : ℕ) → RequestKind → List Path → Bool
 fits rule session asked paths = is_any_or rule.session (λ wanted. nat_eq wanted session)
-    && is_any_or rule.kind (λ wanted. kinds.ghosts.eq wanted asked)
+    && is_any_or rule.kind (λ wanted. ghosts.eq wanted asked)
     && is_any_or rule.path (names_path paths)
 
 -- whether it is for a session's request

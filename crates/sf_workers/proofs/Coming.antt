@@ -5,10 +5,10 @@ use Rattle.sf_session.specs.declared.fault.ServeFault.{ServeFault}
 use Rattle.sf_session.specs.declared.fault.ServeFault.TheVariants as fault
 use Rattle.sf_noted.specs.Pages.{Page}
 use Rattle.sf_noted.specs.Pages.{Presence}
-use Rattle.sf_noted.specs.Pages.Presence.{UnderWay, Departed}
+use Rattle.sf_noted.specs.Pages.Presence.{Calling, Departed}
 use Rattle.sf_session.specs.SessionStates.{SessionState}
 use Rattle.sf_serving.specs.Serving.{LineView, Progress}
-use Rattle.sf_pool.specs.Desks.{DeskState, Refused, Joined, DeskView}
+use Rattle.sf_pool.specs.Desks.{DeskState, JoinRefused, Joined, DeskView}
 use Rattle.sf_pool.specs.Scenes.{DeskScene, IsInCall, ServesDesk, NeverJoins, HasLeft, LeavesFor, StopsDesk, IsDeskFault}
 use Rattle.sf_pool.specs.OnCores.{IsPageOf, IsVisitOf}
 use Rattle.sf_workers.specs.Told.{IsSpentBy, EndsServing, CameOf}
@@ -22,7 +22,7 @@ HasJoined place = (presence : Presence) × (place ≡ Joined presence)
 
 left_joined : (desk : DeskView) (t : SessionState) (old new : ℕ) → HasLeft desk t old new → HasJoined desk.place
 left_joined desk t old new (inl left) = (Departed, left.0)
-left_joined desk t old new (inr call) = (UnderWay call.0.number call.0.moment call.0.request, call.0.placed)
+left_joined desk t old new (inr call) = (Calling call.0.number call.0.moment call.0.request, call.0.placed)
 
 left_for : (f : ServeFault) (desk : DeskView) (p : Progress) (old new : ℕ) → LeavesFor f desk p old new → HasLeft desk p.told old new
 left_for fault.Line desk p old new h = h
@@ -45,8 +45,8 @@ stands x desk t old new page (inr call) = inr (subst (λ (place : DeskState). Is
 
 -- ---- a session that never joined was refused
 
-refused_not_joined : (place : DeskState) (refusal : CoreFault) → place ≡ Refused refusal → HasJoined place → ⊥
-refused_not_joined place refusal e h = let no : Refused refusal ≡ Joined h.0 = sym e ∙ h.1 in cc
+refused_not_joined : (place : DeskState) (refusal : CoreFault) → place ≡ JoinRefused refusal → HasJoined place → ⊥
+refused_not_joined place refusal e h = let no : JoinRefused refusal ≡ Joined h.0 = sym e ∙ h.1 in cc
 
 never_joined : (start now : DeskView) (f : ServeFault) → NeverJoins start now f → HasJoined now.place → ⊥
 never_joined start now f refused h = refused_not_joined now.place refused.0 (ap (λ (d : DeskView). d.place) refused.2) h

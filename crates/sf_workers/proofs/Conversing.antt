@@ -10,11 +10,11 @@ use Rattle.sf_call.specs.declared.record.Record.{Record}
 use Rattle.sf_call.specs.declared.record.Record.TheVariants.{Did, Left}
 use Rattle.sf_session.specs.declared.asking.Ask.{Ask}
 use Rattle.sf_session.specs.Responses.{RepliedCall, Response, Version, Locally, ByCall, Refused, ask_behind, AreAsked, if_so, recorded_in, answered_in, Due, Nothing, Unrecorded, Recorded, asked_due, recorded_due}
-use Rattle.sf_session.specs.SessionStates.{Phase, Resting as AtRest, UnderWay as InCall, Decided, Gone, pending}
+use Rattle.sf_session.specs.SessionStates.{Phase, Resting, UnderWay, Decided, Gone, pending}
 use Rattle.sf_audit.specs.Audits.{CallRecord, call_records}
 use Rattle.sf_noted.specs.Pages.{Page}
 use Rattle.sf_noted.specs.Pages.{Presence}
-use Rattle.sf_noted.specs.Pages.Presence.{UnderWay, Departed}
+use Rattle.sf_noted.specs.Pages.Presence.{Calling, Departed}
 use Rattle.sf_noted.specs.Visits.{MayWait, IsVisitIn}
 use Rattle.sf_serving.specs.Serving.{LineView, Progress}
 use Rattle.sf_pool.specs.Desks.{Joined}
@@ -57,8 +57,8 @@ record DueFor (phase : Phase) (waits : List CallRecord) : Type 0 where
   calls : map replied (phase_calls phase ++ waits) ≡ recorded_due due
 
 none_waits : (phase : Phase) → DueFor phase []
-none_waits AtRest = record { due = Nothing; asked = refl; calls = refl }
-none_waits (InCall id number moment request moves) = record { due = Unrecorded id request; asked = refl; calls = refl }
+none_waits Resting = record { due = Nothing; asked = refl; calls = refl }
+none_waits (UnderWay id number moment request moves) = record { due = Unrecorded id request; asked = refl; calls = refl }
 none_waits (Decided id number request reply) =
     record { due = Recorded id (record { number = number; request = request; reply = reply }); asked = refl; calls = refl }
 none_waits (Gone cause) = record { due = Nothing; asked = refl; calls = refl }
@@ -68,18 +68,18 @@ departed_due phase waits (inl none) = subst (DueFor phase) (sym none) (none_wait
 departed_due phase waits (inr one) = subst (DueFor phase) (sym one.1) (none_waits phase)
 
 in_call_due : (id number moment : ℕ) (request : Request) (moves : ℕ) (waits : List CallRecord)
-    → MayWait (UnderWay number moment request) waits → DueFor (InCall id number moment request moves) waits
+    → MayWait (Calling number moment request) waits → DueFor (UnderWay id number moment request moves) waits
 in_call_due id number moment request moves waits (inl none) =
-    subst (DueFor (InCall id number moment request moves)) (sym none) (none_waits (InCall id number moment request moves))
+    subst (DueFor (UnderWay id number moment request moves)) (sym none) (none_waits (UnderWay id number moment request moves))
 in_call_due id number moment request moves waits (inr one) =
-    subst (DueFor (InCall id number moment request moves)) (sym one.1)
+    subst (DueFor (UnderWay id number moment request moves)) (sym one.1)
     (record { due = Recorded id (record { number = number; request = request; reply = one.0 }); asked = refl; calls = refl })
 
 due_of : (presence : Presence) (phase : Phase) (waits : List CallRecord) → (presence ≡ Departed) ⊎ IsInCall (Joined presence) phase
     → MayWait presence waits → DueFor phase waits
 due_of presence phase waits (inl gone) may = departed_due phase waits (subst (λ (p : Presence). MayWait p waits) gone may)
 due_of presence phase waits (inr call) may =
-    let same = same_presence presence (UnderWay call.number call.moment call.request) call.placed in
+    let same = same_presence presence (Calling call.number call.moment call.request) call.placed in
     subst (λ (f : Phase). DueFor f waits) (sym call.waits)
     (in_call_due call.id call.number call.moment call.request call.moves waits (subst (λ (p : Presence). MayWait p waits) same may))
 

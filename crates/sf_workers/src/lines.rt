@@ -14,7 +14,7 @@ use sf_audit::Transcript;
 use sf_core::Core;
 use sf_line::Line;
 use sf_noted::{NotedCore, Page, Visit};
-use sf_pool::{WaitQueue, StepObserver};
+use sf_pool::{StepObserver, WaitQueue};
 use sf_roll::{NewRoll, RollName};
 use sf_session::Clock;
 use std::alloc::{AllocError, Global};

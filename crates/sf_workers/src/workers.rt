@@ -14,7 +14,7 @@ use crossbeam_channel::Receiver;
 use sf_core::Share;
 use sf_line::Line;
 use sf_noted::NotedCore;
-use sf_pool::{WaitQueue, LockDesk, NotJoined, Stayed, StepObserver, serve};
+use sf_pool::{LockDesk, NotJoined, Stayed, StepObserver, WaitQueue, serve};
 use sf_roll::RollName;
 use sf_serving::new_piece;
 use sf_session::{Clock, ServeFault};
@@ -130,7 +130,14 @@ pub fn serve_line<B: RollName + Ledger, R: Wait, L: Line, C: Clock, G: StepObser
         (line_view (L.incoming line.new) (L.outgoing line.new) (L.calls line.new))) }
     ensures len { vec_len piece.new ≡ vec_len piece.old }
 {
-    let mut desk = LockDesk::new(place.rt, place.alloc, place.core, place.wait_queue, keeps, lent);
+    let mut desk = LockDesk::new(
+        place.rt,
+        place.alloc,
+        place.core,
+        place.wait_queue,
+        keeps,
+        lent,
+    );
     let mut share = Share::zero();
     let outcome = serve(
         place.alloc,

@@ -5,7 +5,7 @@ ghost use Rattle.std.specs.Prelude.{◌≡◌, vec_len};
 use super::asleep::{OPEN_A_F, SIZE_A_F, TRIES, add_write};
 use super::*;
 use sf_noted::{NotedCore, Page};
-use sf_pool::{WaitQueue, Stayed};
+use sf_pool::{Stayed, WaitQueue};
 use sf_roll::{NewRoll, RollName};
 use sf_serving::new_piece;
 use sf_workers::{Place, serve_line};

@@ -1,6 +1,6 @@
 use Rattle.std.proofs.Common.{◌≡◌, List, Option, false, IfSome, IfNone, ap, sym, subst, ◌∙◌}
 use Rattle.sf_call.specs.declared.record.Record.{Record}
-use Rattle.sf_call.specs.Answers.{AnswerView as Answer}
+use Rattle.sf_call.specs.Answers.{AnswerView}
 use Rattle.sf_session.specs.declared.session.Next.{Next}
 use Rattle.sf_session.specs.Sessions.{SessionView, NextGives}
 use Rattle.sf_core.specs.declared.step.Step.TheVariants as step
@@ -56,7 +56,7 @@ write_on-requires-clause-placed c = λ lane is.
       at = c.in-Resting.is;
     } in
     let came_to : CameToAnswer = record { core = c.call.new.self; lane = c.call.new.lane; answer = c.in-Some.answer } in
-    let made : IsAnsweredAtOnce a old.moment came_to = subst (λ (o : Option Answer). IfSome o (λ answer. AnswersAtOnce old.core.now a.lane a.request old.moment (came (step.Answered answer) c.call.new.self c.call.new.lane))) c.in-Some.is c.in-Ok-call.ensures.answered in
+    let made : IsAnsweredAtOnce a old.moment came_to = subst (λ (o : Option AnswerView). IfSome o (λ answer. AnswersAtOnce old.core.now a.lane a.request old.moment (came (step.Answered answer) c.call.new.self c.call.new.lane))) c.in-Some.is c.in-Ok-call.ensures.answered in
     subst (λ (l : LaneView). IsSeatState came_to.core a.session (state.Answered l came_to.answer)) (sym (is ∙ c.take_lane.ensures)) (placed_at_once a old.moment came_to made c.requires.ready)
 
 pub walk_on-requires-clause-ready : goal.walk_on-requires-clause-ready
@@ -70,7 +70,7 @@ walk_on-requires-clause-ready c =
       gave = subst (λ (n : Next). NextGives old.session.now n c.next.new.self) c.in-Call.is c.in-Ok.ensures.ok;
       at = c.in-Resting.is;
     } in
-    let begins = subst (λ (o : Option Answer). IfNone o (CallBegins old.core.now c.call.new.self a.lane a.request old.moment × (c.call.new.lane ≡ begun a.lane c.call.new.self.drawn) × ((h : List Record) → IsHistory old.core.now h → IsHistory c.call.new.self h))) c.in-None.is c.in-Ok-call.ensures.begun in
+    let begins = subst (λ (o : Option AnswerView). IfNone o (CallBegins old.core.now c.call.new.self a.lane a.request old.moment × (c.call.new.lane ≡ begun a.lane c.call.new.self.drawn) × ((h : List Record) → IsHistory old.core.now h → IsHistory c.call.new.self h))) c.in-None.is c.in-Ok-call.ensures.begun in
     let b : CallBegun a old.moment = record { core = c.call.new.self; begins = begins.0; history = begins.2 } in
     subst (λ (l : LaneView). IsReady (going b.core a.session l)) (sym (c.take_lane.ensures ∙ begins.1)) (can_go_on a old.moment b c.requires.ready)
 
@@ -86,7 +86,7 @@ returns-in-Some c =
       at = c.in-Resting.is;
     } in
     let came_to : CameToAnswer = record { core = c.call.new.self; lane = c.call.new.lane; answer = c.in-Some.answer } in
-    let made : IsAnsweredAtOnce a old.moment came_to = subst (λ (o : Option Answer). IfSome o (λ answer. AnswersAtOnce old.core.now a.lane a.request old.moment (came (step.Answered answer) c.call.new.self c.call.new.lane))) c.in-Some.is c.in-Ok-call.ensures.answered in
+    let made : IsAnsweredAtOnce a old.moment came_to = subst (λ (o : Option AnswerView). IfSome o (λ answer. AnswersAtOnce old.core.now a.lane a.request old.moment (came (step.Answered answer) c.call.new.self c.call.new.lane))) c.in-Some.is c.in-Ok-call.ensures.answered in
     let wrote = c.write_on.ensures c.call.new.lane (sym c.take_lane.ensures) old.moment in
     far_at_once a (finding old.closed old.moment) came_to made c.write_on.result (stand c.write_on.new.core c.write_on.new.session c.write_on.new.self) wrote
 
@@ -101,7 +101,7 @@ returns-in-None c =
       gave = subst (λ (n : Next). NextGives old.session.now n c.next.new.self) c.in-Call.is c.in-Ok.ensures.ok;
       at = c.in-Resting.is;
     } in
-    let begins = subst (λ (o : Option Answer). IfNone o (CallBegins old.core.now c.call.new.self a.lane a.request old.moment × (c.call.new.lane ≡ begun a.lane c.call.new.self.drawn) × ((h : List Record) → IsHistory old.core.now h → IsHistory c.call.new.self h))) c.in-None.is c.in-Ok-call.ensures.begun in
+    let begins = subst (λ (o : Option AnswerView). IfNone o (CallBegins old.core.now c.call.new.self a.lane a.request old.moment × (c.call.new.lane ≡ begun a.lane c.call.new.self.drawn) × ((h : List Record) → IsHistory old.core.now h → IsHistory c.call.new.self h))) c.in-None.is c.in-Ok-call.ensures.begun in
     let b : CallBegun a old.moment = record { core = c.call.new.self; begins = begins.0; history = begins.2 } in
     let end = stand c.walk_on.new.core c.walk_on.new.session c.walk_on.new.self in
     goes_far a (finding old.closed old.moment) b c.walk_on.result end

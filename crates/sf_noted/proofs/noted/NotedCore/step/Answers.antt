@@ -5,7 +5,7 @@ use Rattle.sf_core.specs.declared.step.Step.TheVariants as came
 use Rattle.sf_core.specs.Cores.{CoreView}
 use Rattle.sf_core.specs.Events.{Before, After, TakesStep}
 use Rattle.sf_noted.specs.Pages.{Page}
-use Rattle.sf_noted.specs.Pages.Presence.{Resting}
+use Rattle.sf_noted.specs.Pages.Presence.{BetweenCalls}
 use Rattle.sf_noted.specs.declared.page.PageChange.TheVariants.{Answered}
 use Rattle.sf_noted.specs.PageChanges.{page, page_after, as_told, IsUnderWay}
 use Rattle.sf_noted.specs.Noted.{FitsPage, PagesAgree, HasPages, lane_of}
@@ -51,9 +51,9 @@ invariant_of-self g c =
           let a = w.agrees.ensures in
           let takes = subst (λ (s : Step). TakesStep B s A) w.in-Answered.is x.2 in
           let fits = subst (λ s. FitsPage c.self.inside.core n.0.0 s t.1) (sym is) (n.0.1.each t.0 t.1 a.known) in
-          let now = page Resting (t.1.told ++ as_told t.1.presence given.reply) in
+          let now = page BetweenCalls (t.1.told ++ as_told t.1.presence given.reply) in
           let lines : w.change.new.self ≡ slice_set c.self.inside.keeper t.0 now =
-          w.change.ensures.all ∙ ((λ i. slice_set (a.all i) (a.ticket i).0 (page_after (a.ticket i).1 (Answered w.of.result))) ∙ ap (λ r. slice_set c.self.inside.keeper t.0 (page Resting (t.1.told ++ as_told t.1.presence r))) (w.of.ensures ∙ w.reply.ensures.reply)) in
+          w.change.ensures.all ∙ ((λ i. slice_set (a.all i) (a.ticket i).0 (page_after (a.ticket i).1 (Answered w.of.result))) ∙ ap (λ r. slice_set c.self.inside.keeper t.0 (page BetweenCalls (t.1.told ++ as_told t.1.presence r))) (w.of.ensures ∙ w.reply.ensures.reply)) in
           subst (λ s. HasPages s.core s.keeper × (s.calls.total ≡ s.core.drawn)) (sym w.self-inside-is)
           ((n.0.0 ++ x.0, subst (λ (ps : List Page). PagesAgree A.core ps (n.0.0 ++ x.0)) (sym lines) (steps B (came.Answered given) A c.self.inside.keeper takes c.owners.ensures c.owners-2.ensures x.1 n.0.1 t.0 t.1 now a.known is (own_answers B given A takes t.1 fits))), n.1 ∙ sym (joins_stay B (came.Answered given) A takes).1)
     ]
@@ -78,7 +78,7 @@ invariant_of-lane g c =
           let given = w.in-Answered.answer in
           let a = w.agrees.ensures in
           let takes = subst (λ (s : Step). TakesStep B s A) w.in-Answered.is x.2 in
-          let told = w.change.ensures.ticket ∙ ((λ i. ((a.ticket i).0, page_after (a.ticket i).1 (Answered w.of.result))) ∙ ap (λ r. (t.0, page Resting (t.1.told ++ as_told t.1.presence r))) (w.of.ensures ∙ w.reply.ensures.reply)) in
+          let told = w.change.ensures.ticket ∙ ((λ i. ((a.ticket i).0, page_after (a.ticket i).1 (Answered w.of.result))) ∙ ap (λ r. (t.0, page BetweenCalls (t.1.told ++ as_told t.1.presence r))) (w.of.ensures ∙ w.reply.ensures.reply)) in
           subst (λ l. l.lane ≡ lane_of (l.ticket.0 + 1, l.ticket.1)) (sym w.lane-inside-is) (lane_answered lane A.lane t _ given.reply c.lane.invariant busy takes.1.lane told)
     ]
 
