@@ -1,4 +1,4 @@
--- Bytes in hexadecimal digits.
+-- Bytes as hexadecimal digits.
 use Rattle.std.specs.Prelude.{◌≡◌, ◌==◌, ℕ, List, Ok, filter, not}
 use Rattle.hex.specs.Hex.{decode_of}
 

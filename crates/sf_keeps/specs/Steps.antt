@@ -1,4 +1,4 @@
--- Steps from node to node, which entries are.
+-- Entries as steps from node to node.
 use Rattle.std.specs.Prelude.{ℕ, nat_eq, ◌&&◌, if◌then◌else◌, [], ◌∷◌, Option, Some, option_and_then}
 use Rattle.sf_path.specs.Names.{Name, Path}
 use Rattle.sf_path.specs.Order.{same_name}
