@@ -2,6 +2,7 @@ pub mod Orders
 pub mod Ways
 pub mod Growth
 pub mod MovedNames
+pub mod Nested
 pub mod Ordered
 pub mod LookUps
 pub mod Leaves

@@ -13,3 +13,4 @@ pub mod Histories
 pub mod Answers
 pub mod Unanswered
 pub mod Requests
+pub mod Routes

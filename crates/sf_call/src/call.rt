@@ -1,16 +1,18 @@
 //! Calls that wait for their answers.
 
-ghost use Rattle.std.specs.Prelude.{◌≡◌, ◌<◌, ◌^◌, [], length, IfOk, OnOk, OnErr};
-ghost use Rattle.std.specs.Option.{option_copied, option_and_then};
+ghost use Rattle.std.specs.Prelude.{◌≡◌, ◌<◌, ◌^◌, [], length, IfOk, IfSome, OnOk, OnErr};
+ghost use Rattle.std.specs.Option.{option_copied, option_map, option_and_then};
 ghost use Rattle.std.specs.Ordering.{nat_cmp};
 ghost use Rattle.std.specs.Map.{lookup, remove_entry};
 ghost use Rattle.std.specs.BTreeMap.{is_at, insert_entry};
 ghost use Rattle.sf_call.specs.declared.call.Call.{Call};
 ghost use Rattle.sf_call.specs.declared.record.Record.TheVariants.{Did};
+ghost use Rattle.sf_call.specs.Routes.{route_of, route_in};
 ghost use Rattle.sf_call.specs.Unanswered.{staged, answered, gone_where_answered};
 
 use crate::record::Record;
 use crate::request::Request;
+use crate::route::{RouteKind, RoutePaths};
 use sf_reply::Reply;
 use std::alloc::{AllocError, Global};
 use std::collections::BTreeMap;
@@ -70,10 +72,12 @@ pub struct Call {
     pub reply: Option<Reply>,
 }
 
-/// A call in memory of its own, so that a map of calls moves a pointer and not the call.
+/// A call in memory of its own, so that a map of calls moves a pointer and not the call; with the
+/// kind of its route, which is found once.
 #[derive(Drop)]
 pub struct PlacedCall {
     call: Box<Call>,
+    kind: RouteKind,
 }
 
 impl Model for PlacedCall {
@@ -82,14 +86,20 @@ impl Model for PlacedCall {
     ghost Value = { Call };
 
     ghost view = { λ placed. placed.call.value };
+
+    ghost use Rattle.std.specs.Prelude.{◌≡◌};
+    ghost use Rattle.sf_call.specs.Routes.{route_of, route_kind};
+
+    ghost invariant = { λ placed. placed.kind ≡ route_kind (route_of placed.call.value.request) };
 }
 
 impl PlacedCall {
     fn new(alloc: Global, call: Call) -> Result<PlacedCall, AllocError>
         ensures { IfOk result (λ placed. placed ≡ call) }
     {
+        let kind = call.request.route_kind();
         match Box::new(alloc, call) {
-            Ok(call) => Ok(PlacedCall { call }),
+            Ok(call) => Ok(PlacedCall { call, kind }),
             Err(_) => Err(AllocError),
         }
     }
@@ -128,6 +138,13 @@ impl PlacedCall {
         ensures { result.now ≡ self.now }
     {
         self.call.as_ref()
+    }
+
+    /// The paths that the call walks.
+    pub fn route(&self) -> RoutePaths<'_>
+        ensures { route_in result ≡ route_of self.now.request }
+    {
+        self.call.as_ref().request.route(self.kind)
     }
 }
 
@@ -182,6 +199,16 @@ impl Calls {
         ensures { option_copied result ≡ lookup (is_at (nat_cmp number)) self.now }
     {
         Some(self.calls.get(&number)?.as_call())
+    }
+
+    /// The call of a number, and the paths that it walks.
+    pub fn get_with_route(&self, number: u64) -> Option<(&Call, RoutePaths<'_>)>
+        ensures call { option_map (λ found. found.0.now) result
+            ≡ lookup (is_at (nat_cmp number)) self.now }
+        ensures route { IfSome result (λ found. route_in found.1 ≡ route_of found.0.now.request) }
+    {
+        let placed = self.calls.get(&number)?;
+        Some((placed.as_call(), placed.route()))
     }
 
     /// The calls by rising number.

@@ -22,6 +22,7 @@ mod lookup;
 mod metadata;
 mod record;
 mod request;
+mod route;
 mod tree_laws;
 
 pub use answer::Answer;
@@ -38,6 +39,7 @@ pub use lookup::Lookup;
 pub use metadata::{FileType, Metadata};
 pub use record::Record;
 pub use request::Request;
+pub use route::{RouteKind, RoutePaths};
 pub use tree_laws::{
     fronts, kinds_of_replies, leaves_of_trees, limit_cases, listed_attributes, moved_names,
     open_ways, ordered_trees, told_replies,

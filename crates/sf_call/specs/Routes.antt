@@ -1,0 +1,56 @@
+-- The paths that a call walks.
+use Rattle.std.specs.Prelude.{Bool, true, false, ◌||◌, if◌then◌else◌, is_some}
+use Rattle.sf_path.specs.Names.{Path}
+use Rattle.sf_call.specs.declared.request.Request.{Request}
+use Rattle.sf_call.specs.declared.route.RouteKind.{RouteKind}
+use Rattle.sf_call.specs.declared.route.RouteKind.TheVariants as kind
+use Rattle.sf_call.specs.declared.route.RoutePaths.{RoutePaths}
+use Rattle.sf_call.specs.declared.route.RoutePaths.TheVariants as paths
+use Rattle.sf_call.specs.Requests.{Target, target_of}
+use Rattle.sf_call.specs.Requests.Target.{ByHandle, OnPath, OnPaths}
+use Rattle.sf_call.specs.Tree.{after_front, is_nil}
+
+-- no path; one; or two that part
+pub data Route : Type 0 where
+  NoPath : Route
+  Along : (path : Path) → Route
+  Between : (old : Path) → (new : Path) → Route
+
+-- one of two paths begins with the other
+abbrev pub are_nested : Path → Path → Bool
+are_nested old new = is_some (after_front old new) || is_some (after_front new old)
+
+-- one of two paths is the root
+abbrev pub is_rooted : Path → Path → Bool
+is_rooted old new = is_nil old || is_nil new
+
+-- A call on two paths walks neither with the root among them, and the old one alone where one
+-- begins with the other.
+abbrev pub route_between : Path → Path → Route
+route_between old new =
+    if is_rooted old new then NoPath else if are_nested old new then Along old else Between old new
+
+abbrev pub route_at : Target → Route
+route_at (ByHandle handle) = NoPath
+route_at (OnPath path) = Along path
+route_at (OnPaths old new) = route_between old new
+
+abbrev pub route_of : Request → Route
+route_of request = route_at (target_of request)
+
+-- no path is walked
+abbrev pub walks_nothing : Route → Bool
+walks_nothing NoPath = true
+walks_nothing route = false
+
+-- of which kind a route is
+abbrev pub route_kind : Route → RouteKind
+route_kind NoPath = kind.NoPath
+route_kind (Along path) = kind.Along
+route_kind (Between old new) = kind.Between
+
+-- a route in the code
+abbrev pub route_in : RoutePaths → Route
+route_in paths.NoPath = NoPath
+route_in (paths.Along path) = Along path.now
+route_in (paths.Between old new) = Between old.now new.now

@@ -1,0 +1,139 @@
+//! The paths that a call walks.
+
+ghost use Rattle.std.specs.Prelude.{◌≡◌, ◌≢◌, ◌⊎◌, true, false, []};
+ghost use Rattle.sf_call.specs.Routes.{are_nested, route_of, route_in, route_between, route_kind, walks_nothing};
+
+use crate::request::Request;
+use sf_path::Path;
+
+/// The paths that a call walks.
+#[derive(Clone, Copy)]
+pub enum RoutePaths<'a> {
+    /// It has none, or the root is one of two.
+    NoPath,
+    /// Its path, or the old one of two of which one begins with the other.
+    Along(&'a Path),
+    /// Both, which part.
+    Between(&'a Path, &'a Path),
+}
+
+/// Of which kind a route is.
+#[derive(Clone, Copy, Debug, PartialEq, Eq)]
+pub enum RouteKind {
+    NoPath,
+    Along,
+    Between,
+}
+
+impl Request {
+    /// Whether it walks no path: it has none, or the root is one of two.
+    pub fn walks_nothing(&self) -> bool
+        ensures { result ≡ walks_nothing (route_of self.now) }
+    {
+        match self {
+            Request::Stat(_)
+            | Request::SetStat(_, _)
+            | Request::Mkdir(_, _)
+            | Request::Rmdir(_)
+            | Request::Remove(_)
+            | Request::OpenDir(_)
+            | Request::Open(_, _, _) => false,
+            Request::Rename(old, new) | Request::PosixRename(old, new) | Request::Link(old, new) =>
+                has_root(old, new),
+            Request::Close(_)
+            | Request::FStat(_)
+            | Request::FSetStat(_, _)
+            | Request::Read { .. }
+            | Request::Write { .. }
+            | Request::ReadDir(_) => true,
+        }
+    }
+
+    /// Of which kind its route is. Two paths are compared once.
+    pub fn route_kind(&self) -> RouteKind
+        ensures { result ≡ route_kind (route_of self.now) }
+    {
+        match self {
+            Request::Stat(_)
+            | Request::SetStat(_, _)
+            | Request::Mkdir(_, _)
+            | Request::Rmdir(_)
+            | Request::Remove(_)
+            | Request::OpenDir(_)
+            | Request::Open(_, _, _) => RouteKind::Along,
+            Request::Rename(old, new) | Request::PosixRename(old, new) | Request::Link(old, new) =>
+                kind_between(old, new),
+            Request::Close(_)
+            | Request::FStat(_)
+            | Request::FSetStat(_, _)
+            | Request::Read { .. }
+            | Request::Write { .. }
+            | Request::ReadDir(_) => RouteKind::NoPath,
+        }
+    }
+
+    /// The paths of its route, which is of this kind.
+    pub fn route(&self, kind: RouteKind) -> RoutePaths<'_>
+        requires { kind ≡ route_kind (route_of self.now) }
+        ensures { route_in result ≡ route_of self.now }
+    {
+        match self {
+            Request::Stat(path)
+            | Request::SetStat(path, _)
+            | Request::Mkdir(path, _)
+            | Request::Rmdir(path)
+            | Request::Remove(path)
+            | Request::OpenDir(path)
+            | Request::Open(path, _, _) => RoutePaths::Along(path),
+            Request::Rename(old, new) | Request::PosixRename(old, new) | Request::Link(old, new) =>
+                paths_between(old, new, kind),
+            Request::Close(_)
+            | Request::FStat(_)
+            | Request::FSetStat(_, _)
+            | Request::Read { .. }
+            | Request::Write { .. }
+            | Request::ReadDir(_) => RoutePaths::NoPath,
+        }
+    }
+}
+
+/// Of which kind the route of a request of two paths is.
+fn kind_between(old: &Path, new: &Path) -> RouteKind
+    ensures { result ≡ route_kind (route_between old.now new.now) }
+{
+    if has_root(old, new) {
+        return RouteKind::NoPath;
+    }
+    if are_nested(old, new) {
+        return RouteKind::Along;
+    }
+    RouteKind::Between
+}
+
+/// The paths of a route of this kind, of a request of two.
+fn paths_between<'a>(old: &'a Path, new: &'a Path, kind: RouteKind) -> RoutePaths<'a>
+    requires { kind ≡ route_kind (route_between old.now new.now) }
+    ensures { route_in result ≡ route_between old.now new.now }
+{
+    match kind {
+        RouteKind::NoPath => RoutePaths::NoPath,
+        RouteKind::Along => RoutePaths::Along(old),
+        RouteKind::Between => RoutePaths::Between(old, new),
+    }
+}
+
+/// Whether one of the paths is the root.
+fn has_root(old: &Path, new: &Path) -> bool
+    ensures yes { result ≡ true → (old.now ≡ []) ⊎ (new.now ≡ []) }
+    ensures no { result ≡ false → (old.now ≢ []) × (new.now ≢ []) }
+{
+    old.is_root() || new.is_root()
+}
+
+/// Whether one path begins with the other.
+fn are_nested(old: &Path, new: &Path) -> bool
+    ensures { result ≡ are_nested old.now new.now }
+{
+    let alike = old.common(new);
+    alike == old.len() || alike == new.len()
+}
