@@ -20,8 +20,9 @@ use Rattle.sf_inode.specs.Stores.{StoreState, open_handle_at, holder_of, is_file
 use Rattle.sf_walk.specs.declared.finding.Ways.{Ways}
 use Rattle.sf_walk.specs.declared.finding.Located.TheVariants as located
 use Rattle.sf_walk.specs.declared.walking.Walk.TheVariants as walk
-use Rattle.sf_walk.specs.Routes.{Route, HoldsWay, route_of}
-use Rattle.sf_walk.specs.Routes.Route.{NoPath, Along, Between}
+use Rattle.sf_call.specs.Routes.{Route, route_of, walks_nothing}
+use Rattle.sf_walk.specs.Routes.{HoldsWay}
+use Rattle.sf_call.specs.Routes.Route.{NoPath, Along, Between}
 use Rattle.sf_walk.specs.Files.{IsFileFree, IsSettled, file_handle, file_holder_of, holder_by}
 use Rattle.sf_walk.specs.Steps.{walker, DecidesNow as Ready}
 use Rattle.sf_walk.specs.Ways.{no_path, AreWays, IsLocated}
@@ -30,7 +31,7 @@ use Rattle.sf_core.specs.declared.step.Step.TheVariants as step
 use Rattle.sf_core.specs.Lanes.{LaneView, at_rest}
 use Rattle.sf_core.specs.Cores.{call_at, session_at, last_number}
 use Rattle.sf_core.specs.Events.{StepsOn, AnswersAtOnce, begun, came}
-use Rattle.sf_core.specs.Progress.{waiting_reply, is_at_once, is_write, walks_nothing, overtaken, did, new_call}
+use Rattle.sf_core.specs.Progress.{waiting_reply, is_at_once, is_write, overtaken, did, new_call}
 use Rattle.sf_core.specs.Parts.{PartsView, core_of}
 use Rattle.sf_core.specs.Sound.{Sound, IsCore}
 use Rattle.sf_core.specs.Finishing.{IsSettledWhereFree}

@@ -40,8 +40,9 @@ use Rattle.sf_coupling.proofs.Laws.{begins_trans, same_or_not}
 use Rattle.sf_walk.specs.declared.finding.Ways.{Ways}
 use Rattle.sf_walk.specs.declared.finding.Located.{Located}
 use Rattle.sf_walk.specs.declared.finding.Located.TheVariants as located
-use Rattle.sf_walk.specs.Routes.{Route, PartAt, AreEnds, IsPosition, is_rooted, are_nested, route_at, route_of, reached_at, paths_on, held_path_on, held_paths_of}
-use Rattle.sf_walk.specs.Routes.Route.{NoPath, Along, Between}
+use Rattle.sf_call.specs.Routes.{Route, is_rooted, are_nested, route_at, route_of}
+use Rattle.sf_walk.specs.Routes.{PartAt, AreEnds, IsPosition, reached_at, paths_on, held_path_on, held_paths_of}
+use Rattle.sf_call.specs.Routes.Route.{NoPath, Along, Between}
 use Rattle.sf_walk.specs.Routes.IsPosition.{Starts, IsOn, IsBefore, IsApart}
 use Rattle.sf_walk.specs.Ways.{way_from, missing, IsThere, AreWays, IsLocated}
 use Rattle.sf_walk.specs.Files.{IsSettled, file_handle, cuts_file}

@@ -20,7 +20,8 @@ use Rattle.sf_coupling.specs.Walks.{HeldPath, walkers_at, AreWalks}
 use Rattle.sf_coupling.proofs.Laws.{same_or_not}
 use Rattle.sf_copying.specs.Copies.{copying, AreCopies, Changes}
 use Rattle.sf_copying.proofs.Laws.{goes_keeps, ends_keeps}
-use Rattle.sf_walk.specs.Routes.{route_of, namespace}
+use Rattle.sf_call.specs.Routes.{route_of}
+use Rattle.sf_walk.specs.Routes.{namespace}
 use Rattle.sf_walk.proofs.Laws.{IsSameGround, same_trans, same_held, leads_same, holder_freed}
 use Rattle.sf_core.specs.Cores.{call_at}
 use Rattle.sf_core.specs.Progress.{waiting_reply, IsCopying}

@@ -12,7 +12,8 @@ use Rattle.sf_coupling.specs.Walks.{Namespace, HeldPath, Holds, IsNodeOf, LeadsT
 use Rattle.sf_coupling.specs.Stepping.{TakesPath}
 use Rattle.sf_coupling.proofs.Laws.{step_keeps, takes_held, takes_new, holder_is, let_go_keeps}
 use Rattle.sf_walk.specs.declared.walking.Walk.TheVariants.{Moved}
-use Rattle.sf_walk.specs.Routes.{Route, IsPosition, held_paths_of, nodes_of, namespace}
+use Rattle.sf_call.specs.Routes.{Route}
+use Rattle.sf_walk.specs.Routes.{IsPosition, held_paths_of, nodes_of, namespace}
 use Rattle.sf_walk.specs.Steps.{Walker, entered, handed_over, let_go, AdvancesTo}
 use Rattle.sf_walk.proofs.Laws.{ground_stays, same_let_go, leads_same, moved_hands, freed_hands}
 use Rattle.sf_core.specs.Sound.{walker_of, writer_of_file}

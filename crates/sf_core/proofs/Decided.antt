@@ -17,7 +17,8 @@ use Rattle.sf_keeps.specs.Keeps.{Keeps}
 use Rattle.sf_keeps.proofs.Laws.{reached_node}
 use Rattle.sf_coupling.specs.Walks.{HeldPath, Holds, IsNodeOf, Between, IsShaped, LeadsTo, walkers_at, AreWalks, HandsOver}
 use Rattle.sf_coupling.proofs.Laws.{same_or_not, keeps_walks}
-use Rattle.sf_walk.specs.Routes.{IsPosition, route_of, held_paths_of, namespace}
+use Rattle.sf_call.specs.Routes.{route_of}
+use Rattle.sf_walk.specs.Routes.{IsPosition, held_paths_of, namespace}
 use Rattle.sf_walk.specs.Served.{IsAsBefore, NodesStay, IsRefused, IsCarriedOut}
 use Rattle.sf_walk.specs.Routes.{nodes_of}
 use Rattle.sf_walk.proofs.Laws.{same_let_go, leads_same, freed_hands}

@@ -34,7 +34,8 @@ use Rattle.sf_coupling.specs.Walks.{Holds}
 use Rattle.sf_copying.specs.Copies.{copying}
 use Rattle.sf_walk.specs.declared.finding.Ways.{Ways}
 use Rattle.sf_walk.specs.declared.walking.Walk.TheVariants as walked
-use Rattle.sf_walk.specs.Routes.{Route, HoldsWay, route_of}
+use Rattle.sf_call.specs.Routes.{Route, route_of}
+use Rattle.sf_walk.specs.Routes.{HoldsWay}
 use Rattle.sf_walk.specs.Files.{IsFileFree, IsSettled}
 use Rattle.sf_walk.specs.Served.{IsUnused}
 use Rattle.sf_walk.specs.Steps.{is_one_of, walker, LeadsNowhere, EndsAt, MayDecideAt, AreFree}

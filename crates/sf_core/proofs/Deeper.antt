@@ -10,7 +10,8 @@ use Rattle.sf_call.specs.declared.call.Stage.{Stage}
 use Rattle.sf_coupling.specs.Walks.{HeldPath, Holds, Walkers, AreWalks}
 use Rattle.sf_coupling.specs.Stepping.{IsNextTo, IsFrom}
 use Rattle.sf_coupling.proofs.Laws.{waits_at_top}
-use Rattle.sf_walk.specs.Routes.{Route, IsPosition, reached, held_path_on, held_paths_of}
+use Rattle.sf_call.specs.Routes.{Route}
+use Rattle.sf_walk.specs.Routes.{IsPosition, reached, held_path_on, held_paths_of}
 use Rattle.sf_walk.specs.Routes.IsPosition.{Starts, IsOn, IsBefore, IsApart}
 use Rattle.sf_walk.specs.Steps.{GoesFrom, LooksUp}
 use Rattle.sf_walk.specs.Steps.GoesFrom.{OnOne, Together, OldEnd, NewEnd}

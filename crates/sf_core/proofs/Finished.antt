@@ -11,7 +11,7 @@ use Rattle.sf_call.specs.Unanswered.{at_stage}
 use Rattle.sf_inode.specs.Stores.{StoreState}
 use Rattle.sf_coupling.specs.Walks.{HeldPath, Holds}
 use Rattle.sf_coupling.proofs.Laws.{same_or_not}
-use Rattle.sf_walk.specs.Routes.{route_of}
+use Rattle.sf_call.specs.Routes.{route_of}
 use Rattle.sf_walk.specs.Ways.{request_names as path_names}
 use Rattle.sf_walk.specs.Files.{cuts_file}
 use Rattle.sf_walk.specs.Served.{LookedUp, MakesLookUps, after_look_ups}

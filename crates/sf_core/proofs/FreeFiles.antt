@@ -22,8 +22,9 @@ use Rattle.sf_coupling.specs.Walks.{IsFree}
 use Rattle.sf_walk.specs.declared.finding.Ways.{Ways}
 use Rattle.sf_walk.specs.declared.finding.Located.{Located}
 use Rattle.sf_walk.specs.declared.finding.Located.TheVariants as located
-use Rattle.sf_walk.specs.Routes.{Route, IsPosition, route_of}
-use Rattle.sf_walk.specs.Routes.Route.{NoPath, Along}
+use Rattle.sf_call.specs.Routes.{Route, route_of}
+use Rattle.sf_walk.specs.Routes.{IsPosition}
+use Rattle.sf_call.specs.Routes.Route.{NoPath, Along}
 use Rattle.sf_walk.specs.Routes.IsPosition.{Starts, IsOn, IsBefore, IsApart}
 use Rattle.sf_walk.specs.Ways.{AreWays}
 use Rattle.sf_walk.specs.Files.{IsFileFree, IsSettled, file_handle, cuts_file}

@@ -15,7 +15,8 @@ use Rattle.sf_coupling.proofs.Laws.{same_or_not}
 use Rattle.sf_walk.specs.declared.finding.Ways.{Ways}
 use Rattle.sf_walk.specs.Ways.{IsLocated}
 use Rattle.sf_walk.specs.Files.{IsSettled, file_handle}
-use Rattle.sf_walk.specs.Routes.{route_of, paths_on, reached_at}
+use Rattle.sf_call.specs.Routes.{route_of}
+use Rattle.sf_walk.specs.Routes.{paths_on, reached_at}
 use Rattle.sf_walk.specs.Steps.{is_one_of}
 use Rattle.sf_core.specs.Cores.{call_at}
 use Rattle.sf_core.specs.Progress.{waiting_reply, has_passed, are_past, overtaken}

@@ -28,8 +28,9 @@ use Rattle.sf_keeps.specs.Keeps.{Keeps}
 use Rattle.sf_keeps.proofs.Laws.{reached_node, label_found, one_way}
 use Rattle.sf_coupling.specs.Walks.{HeldPath, Holds}
 use Rattle.sf_coupling.proofs.Laws.{same_or_not}
-use Rattle.sf_walk.specs.Routes.{Route, is_rooted, are_nested, route_at, route_of, held_paths_of}
-use Rattle.sf_walk.specs.Routes.Route.{NoPath, Along, Between}
+use Rattle.sf_call.specs.Routes.{Route, is_rooted, are_nested, route_at, route_of}
+use Rattle.sf_walk.specs.Routes.{held_paths_of}
+use Rattle.sf_call.specs.Routes.Route.{NoPath, Along, Between}
 use Rattle.sf_walk.specs.Steps.{is_one_of}
 use Rattle.sf_walk.specs.Served.{IsRefused, IsCarriedOut}
 use Rattle.sf_walk.proofs.Laws.{walk_same}

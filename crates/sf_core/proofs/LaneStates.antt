@@ -9,8 +9,9 @@ use Rattle.sf_call.specs.declared.call.Stage.{Stage}
 use Rattle.sf_call.specs.declared.call.Stage.TheVariants as stage
 use Rattle.sf_call.specs.Requests.{Target, target_of}
 use Rattle.sf_call.specs.Requests.Target.{ByHandle, OnPath, OnPaths}
-use Rattle.sf_walk.specs.Routes.{Route, IsPosition, is_rooted, are_nested, route_at, route_of}
-use Rattle.sf_walk.specs.Routes.Route.{NoPath, Along, Between}
+use Rattle.sf_call.specs.Routes.{Route, is_rooted, are_nested, route_at, route_of}
+use Rattle.sf_walk.specs.Routes.{IsPosition}
+use Rattle.sf_call.specs.Routes.Route.{NoPath, Along, Between}
 use Rattle.sf_walk.specs.Routes.IsPosition.{Starts, IsOn, IsBefore, IsApart}
 use Rattle.sf_walk.specs.Ways.{target_names, names_on, request_names as path_names}
 use Rattle.sf_walk.specs.Steps.{AdvancesOne}

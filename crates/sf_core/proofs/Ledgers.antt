@@ -5,7 +5,7 @@ use Rattle.sf_call.specs.declared.call.Call.{Call}
 use Rattle.sf_call.specs.declared.request.Request.{Request}
 use Rattle.sf_call.specs.Values.{IsCall}
 use Rattle.sf_coupling.proofs.Laws.{same_or_not}
-use Rattle.sf_walk.specs.Routes.{route_of}
+use Rattle.sf_call.specs.Routes.{route_of}
 use Rattle.sf_core.specs.Cores.{call_at, session_at, last_number}
 use Rattle.sf_core.specs.Progress.{waiting_reply, undecided_in, copy_of, SameCall}
 use Rattle.sf_core.specs.Parts.{PartsView}

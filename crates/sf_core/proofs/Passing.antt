@@ -12,8 +12,9 @@ use Rattle.sf_call.proofs.Laws.{append-after_front, after_front-append}
 use Rattle.sf_coupling.specs.Fronts.{IsPrefix}
 use Rattle.sf_coupling.specs.Walks.{HeldPath, Holds}
 use Rattle.sf_coupling.proofs.Laws.{fronts_meet}
-use Rattle.sf_walk.specs.Routes.{Route, held_paths_on}
-use Rattle.sf_walk.specs.Routes.Route.{NoPath, Along, Between}
+use Rattle.sf_call.specs.Routes.{Route}
+use Rattle.sf_walk.specs.Routes.{held_paths_on}
+use Rattle.sf_call.specs.Routes.Route.{NoPath, Along, Between}
 use Rattle.sf_core.specs.Progress.{has_walked, are_past}
 
 pub both_true : (a b : Bool) → (a && b) ≡ true → (a ≡ true) × (b ≡ true)

@@ -13,8 +13,8 @@ use Rattle.sf_walk.specs.declared.files.Writer.{Writer}
 use Rattle.sf_walk.specs.declared.finding.Ways.{Ways}
 use Rattle.sf_walk.specs.declared.finding.Located.TheVariants as located
 use Rattle.sf_walk.specs.Files.{HasNoWriter, IsWriter}
-use Rattle.sf_walk.specs.Routes.{Route, route_of}
-use Rattle.sf_walk.specs.Routes.Route.{NoPath, Along, Between}
+use Rattle.sf_call.specs.Routes.{Route, route_of}
+use Rattle.sf_call.specs.Routes.Route.{NoPath, Along, Between}
 use Rattle.sf_walk.specs.Ways.{way_from, missing, request_names as path_names, AreWays, IsLocated}
 use Rattle.sf_walk.specs.Served.{LookedUp, IsAsBefore, NodesStay}
 use Rattle.sf_walk.proofs.Laws.{IsSameGround, same_trans, same_held}

@@ -25,7 +25,8 @@ use Rattle.sf_keeps.specs.Keeps.{Keeps}
 use Rattle.sf_keeps.proofs.Laws.{keeps_held}
 use Rattle.sf_coupling.specs.Walks.{Holds, IsNodeOf, walkers_at, AreWalks}
 use Rattle.sf_coupling.proofs.Laws.{same_or_not}
-use Rattle.sf_walk.specs.Routes.{route_of, nodes_of, held_paths_of, namespace}
+use Rattle.sf_call.specs.Routes.{route_of}
+use Rattle.sf_walk.specs.Routes.{nodes_of, held_paths_of, namespace}
 use Rattle.sf_walk.proofs.Laws.{freed_hands}
 use Rattle.sf_walk.specs.Steps.{is_one_of, let_go, free_unless}
 use Rattle.sf_walk.specs.Served.{IsUnused, IsRefused, IsCarriedOut}

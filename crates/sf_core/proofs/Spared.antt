@@ -34,7 +34,7 @@ use Rattle.sf_call.specs.Requests.Target.{ByHandle, OnPath, OnPaths}
 use Rattle.sf_walk.specs.Ways.{way_from, missing}
 use Rattle.sf_walk.specs.Served.{IsAsBefore, NodesStay, IsRefused, IsCarriedOut}
 use Rattle.sf_walk.specs.declared.finding.Ways.{Ways}
-use Rattle.sf_walk.specs.Routes.Route.{Along}
+use Rattle.sf_call.specs.Routes.Route.{Along}
 use Rattle.sf_walk.specs.Steps.{IsFreeThere, AreFree}
 use Rattle.sf_walk.proofs.Laws.{has_entry}
 

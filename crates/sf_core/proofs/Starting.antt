@@ -15,7 +15,8 @@ use Rattle.sf_inode.specs.Stores.{StoreState}
 use Rattle.sf_keeps.specs.Keeps.{Keeps}
 use Rattle.sf_coupling.specs.Walks.{HeldPath, walkers_at, AreWalks}
 use Rattle.sf_coupling.proofs.Laws.{same_or_not}
-use Rattle.sf_walk.specs.Routes.{IsPosition, route_of, namespace}
+use Rattle.sf_call.specs.Routes.{route_of}
+use Rattle.sf_walk.specs.Routes.{IsPosition, namespace}
 use Rattle.sf_walk.proofs.Laws.{starts}
 use Rattle.sf_core.specs.Cores.{call_at, session_at, last_number}
 use Rattle.sf_core.specs.Progress.{waiting_reply, undecided_in, new_call}

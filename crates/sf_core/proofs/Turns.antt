@@ -15,7 +15,8 @@ use Rattle.sf_inode.specs.Nodes.{with_holder}
 use Rattle.sf_inode.specs.Stores.{StoreState, edited}
 use Rattle.sf_coupling.specs.Walks.{HeldPath, Holds, walkers_at}
 use Rattle.sf_walk.specs.declared.walking.Walk.TheVariants as walked
-use Rattle.sf_walk.specs.Routes.{IsPosition, nodes_of, route_of, held_paths_of, namespace}
+use Rattle.sf_call.specs.Routes.{route_of}
+use Rattle.sf_walk.specs.Routes.{IsPosition, nodes_of, held_paths_of, namespace}
 use Rattle.sf_walk.specs.Steps.{entered, handed_over, walker, AdvancesOne}
 use Rattle.sf_walk.specs.Files.{WaitsForFile, file_handle}
 use Rattle.sf_walk.proofs.Laws.{ground_stays}

@@ -12,7 +12,7 @@ use Rattle.sf_inode.specs.Stores.{StoreState}
 use Rattle.sf_walk.specs.declared.walking.Walk.{Walk}
 use Rattle.sf_walk.specs.declared.walking.Walk.TheVariants as walk
 use Rattle.sf_walk.specs.Files.{IsFileFree}
-use Rattle.sf_walk.specs.Routes.{route_of}
+use Rattle.sf_call.specs.Routes.{route_of}
 use Rattle.sf_walk.specs.Steps.{Advances, walker}
 use Rattle.sf_core.specs.declared.parts.WalkOutcome.TheVariants as outcome
 use Rattle.sf_core.specs.Cores.{call_at}

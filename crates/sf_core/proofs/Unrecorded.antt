@@ -21,7 +21,8 @@ use Rattle.sf_keeps.specs.Keeps.{Keeps}
 use Rattle.sf_keeps.proofs.Laws.{keeps_looked, keeps_held, one_way}
 use Rattle.sf_coupling.specs.Walks.{HeldPath, Holds, walkers_at, AreWalks}
 use Rattle.sf_coupling.proofs.Laws.{same_or_not}
-use Rattle.sf_walk.specs.Routes.{IsPosition, route_of, nodes_of, held_paths_of, namespace}
+use Rattle.sf_call.specs.Routes.{route_of}
+use Rattle.sf_walk.specs.Routes.{IsPosition, nodes_of, held_paths_of, namespace}
 use Rattle.sf_walk.specs.Steps.{walker, entered, LooksUp, AdvancesTo, WaitsFor}
 use Rattle.sf_walk.specs.Served.{LookedUp}
 use Rattle.sf_walk.proofs.Laws.{IsSameGround, leads_same, looked_nodes, keeps_counted}

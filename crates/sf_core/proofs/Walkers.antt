@@ -6,7 +6,8 @@ use Rattle.sf_inode.specs.Stores.{StoreState, holder_of, is_directory_at}
 use Rattle.sf_coupling.specs.Walks.{HeldPath, IsNodeOf, IsFree, HandsOver}
 use Rattle.sf_call.specs.declared.call.Stage.{Stage}
 use Rattle.sf_call.specs.declared.call.Stage.TheVariants as stage
-use Rattle.sf_walk.specs.Routes.{Route, held_paths_of}
+use Rattle.sf_call.specs.Routes.{Route}
+use Rattle.sf_walk.specs.Routes.{held_paths_of}
 use Rattle.sf_core.specs.Progress.{IsCopying}
 use Rattle.sf_core.specs.Sound.{walker_of, IsAtRest}
 

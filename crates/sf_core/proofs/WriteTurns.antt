@@ -25,8 +25,9 @@ use Rattle.sf_walk.specs.declared.finding.Located.TheVariants.{NoWay}
 use Rattle.sf_walk.specs.declared.files.Copying.{Copying}
 use Rattle.sf_walk.specs.declared.walking.Walk.TheVariants as walked
 use Rattle.sf_walk.specs.Files.{IsFileFree, IsSettled, IsWriteRequest, start_by}
-use Rattle.sf_walk.specs.Routes.{IsPosition, route_of}
-use Rattle.sf_walk.specs.Routes.Route.{NoPath}
+use Rattle.sf_call.specs.Routes.{route_of}
+use Rattle.sf_walk.specs.Routes.{IsPosition}
+use Rattle.sf_call.specs.Routes.Route.{NoPath}
 use Rattle.sf_core.specs.declared.step.Step.TheVariants as step
 use Rattle.sf_core.specs.Lanes.{LaneView}
 use Rattle.sf_core.specs.Cores.{call_at, session_at}

@@ -14,8 +14,9 @@ use Rattle.sf_laws.proofs.Laws.{never_moved}
 use Rattle.sf_copying.specs.Copies.{copying}
 use Rattle.sf_walk.specs.declared.finding.Ways.{Ways}
 use Rattle.sf_walk.specs.declared.walking.Walk.TheVariants as walked
-use Rattle.sf_walk.specs.Routes.{Route, HoldsWay, route_of}
-use Rattle.sf_walk.specs.Routes.Route.{NoPath}
+use Rattle.sf_call.specs.Routes.{Route, route_of}
+use Rattle.sf_walk.specs.Routes.{HoldsWay}
+use Rattle.sf_call.specs.Routes.Route.{NoPath}
 use Rattle.sf_walk.specs.Steps.{walker, DecidesNow}
 use Rattle.sf_walk.specs.Ways.{no_path}
 use Rattle.sf_walk.proofs.Laws.{at_once}

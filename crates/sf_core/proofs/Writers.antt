@@ -18,7 +18,8 @@ use Rattle.sf_keeps.proofs.Laws.{edited_apart, edited_itself}
 use Rattle.sf_coupling.specs.Walks.{HeldPath, IsNodeOf, HandsOver}
 use Rattle.sf_coupling.proofs.Laws.{same_or_not}
 use Rattle.sf_copying.specs.Copies.{Copying, AreCopies}
-use Rattle.sf_walk.specs.Routes.{Route, IsPosition, nodes_of}
+use Rattle.sf_call.specs.Routes.{Route}
+use Rattle.sf_walk.specs.Routes.{IsPosition, nodes_of}
 use Rattle.sf_walk.specs.Routes.IsPosition.{Starts, IsOn, IsBefore, IsApart}
 use Rattle.sf_walk.specs.Steps.{is_one_of, free_unless, let_go, entered, handed_over}
 use Rattle.sf_walk.specs.Served.{LookedUp, after_look_ups}

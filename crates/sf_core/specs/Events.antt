@@ -27,7 +27,8 @@ use Rattle.sf_call.specs.Histories.{replay, IsNewNumber, IsAmong}
 use Rattle.sf_inode.specs.Stores.{StoreState, child_of, holder_of}
 use Rattle.sf_keeps.specs.Steps.{walk}
 use Rattle.sf_coupling.specs.Walks.{HeldPath, Holds}
-use Rattle.sf_walk.specs.Routes.{IsPosition, route_of, held_paths_of}
+use Rattle.sf_call.specs.Routes.{route_of}
+use Rattle.sf_walk.specs.Routes.{IsPosition, held_paths_of}
 use Rattle.sf_walk.specs.Steps.{LooksUp, AdvancesOne}
 use Rattle.sf_walk.specs.Files.{WaitsForFile, cuts_file}
 use Rattle.sf_core.specs.Sure.{AreSure}

@@ -12,8 +12,9 @@ use Rattle.sf_call.specs.declared.call.Stage.{Stage}
 use Rattle.sf_call.specs.declared.call.Stage.TheVariants as stage
 use Rattle.sf_call.specs.Tree.{Tree, is_directory, after_front}
 use Rattle.sf_call.specs.declared.call.Reached.{Reached}
-use Rattle.sf_walk.specs.Routes.{Route, route_of, paths_on, reached_at}
-use Rattle.sf_walk.specs.Routes.Route.{NoPath, Along, Between}
+use Rattle.sf_call.specs.Routes.{Route, route_of, walks_nothing}
+use Rattle.sf_walk.specs.Routes.{paths_on, reached_at}
+use Rattle.sf_call.specs.Routes.Route.{NoPath, Along, Between}
 use Rattle.sf_walk.specs.Steps.{GoesFrom}
 use Rattle.sf_walk.specs.Files.{holder_by}
 use Rattle.sf_inode.specs.Stores.{StoreState}
@@ -24,10 +25,6 @@ use Rattle.sf_call.specs.Requests.Target.{ByHandle, OnPath, OnPaths}
 -- the reply that waits, where another call carried this one out
 unfoldable pub waiting_reply : Call → Option Reply
 waiting_reply c = c.reply
-
-abbrev pub walks_nothing : Route → Bool
-walks_nothing NoPath = true
-walks_nothing route = false
 
 -- whether a call is a WRITE
 abbrev pub is_write : Request → Bool

@@ -17,7 +17,8 @@ use Rattle.sf_inode.specs.declared.handle.OpenHandle.{OpenHandle}
 use Rattle.sf_inode.specs.Stores.{StoreState, holder_of, open_handle_at, blocks_left_at, is_directory_at, is_file_at}
 use Rattle.sf_copying.specs.Copies.{Copying, copying, AreCopies, Copiers}
 use Rattle.sf_coupling.specs.Walks.{HeldPath, walkers_at, AreWalks}
-use Rattle.sf_walk.specs.Routes.{IsPosition, route_of, held_paths_of, namespace}
+use Rattle.sf_call.specs.Routes.{route_of}
+use Rattle.sf_walk.specs.Routes.{IsPosition, held_paths_of, namespace}
 use Rattle.sf_core.specs.Cores.{call_at, session_at, last_number}
 use Rattle.sf_core.specs.Progress.{waiting_reply, undecided_in, copy_of, IsCopying}
 use Rattle.sf_core.specs.Histories.{IsHistory}

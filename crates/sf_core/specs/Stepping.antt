@@ -22,7 +22,8 @@ use Rattle.sf_walk.specs.declared.walking.Walk.{Walk}
 use Rattle.sf_walk.specs.declared.walking.Walk.TheVariants as walk
 use Rattle.sf_walk.specs.Files.{IsFileFree, WaitsForFile}
 use Rattle.sf_walk.specs.Served.{IsCarriedOut, IsRefused, IsUnused, NodesStay, may_want_memory}
-use Rattle.sf_walk.specs.Routes.{route_of, nodes_of}
+use Rattle.sf_call.specs.Routes.{route_of}
+use Rattle.sf_walk.specs.Routes.{nodes_of}
 use Rattle.sf_walk.specs.Steps.{Advances, walker, let_go}
 use Rattle.sf_core.specs.declared.parts.WalkOutcome.{WalkOutcome}
 use Rattle.sf_core.specs.declared.parts.WalkOutcome.TheVariants as outcome

@@ -7,7 +7,8 @@ ghost use Rattle.sf_inode.specs.Stores.{is_directory_at};
 ghost use Rattle.sf_inode.specs.Leaves.{AreLeaves};
 ghost use Rattle.sf_walk.specs.Files.{IsSettled};
 ghost use Rattle.sf_walk.specs.Ways.{IsLocated};
-ghost use Rattle.sf_walk.specs.Routes.{HoldsWay, route_of, route_in};
+ghost use Rattle.sf_call.specs.Routes.{route_of, route_in};
+ghost use Rattle.sf_walk.specs.Routes.{HoldsWay};
 ghost use Rattle.sf_walk.specs.Steps.{Advances, walker};
 ghost use Rattle.sf_core.specs.Cores.{call_at, session_at};
 ghost use Rattle.sf_core.specs.Sound.{IsCore};
@@ -22,10 +23,10 @@ mod writing;
 
 use crate::sessions::Sessions;
 use sf_book::Book;
-use sf_call::{Call, Calls, Leaf, Record, Request, Stage};
+use sf_call::{Call, Calls, Leaf, Record, Request, RoutePaths, Stage};
 use sf_inode::Store;
 use sf_reply::Reply;
-use sf_walk::{Route, Walk, Ways, advance, decide, file_holder, holder_by, let_go, route_of};
+use sf_walk::{Walk, Ways, advance, decide, file_holder, holder_by, let_go};
 use std::alloc::{AllocError, Global};
 use std::marker::Model;
 
@@ -211,9 +212,9 @@ impl Parts {
     pub(crate) fn is_at_once(&self, session: u64, request: &Request) -> bool
         ensures { result ≡ is_at_once self.now.store session request.now }
     {
-        let (Route::NoPath, false) = (route_of(request), is_write(request)) else {
+        if !request.walks_nothing() || is_write(request) {
             return false;
-        };
+        }
         holder_by(&self.store, session, request).is_none()
     }
 
@@ -261,7 +262,7 @@ impl Parts {
             → is_write c.request ≡ false }
     {
         let _count = self.store.look_ups();
-        let Some(call) = self.calls.get(number) else {
+        let Some((call, route)) = self.calls.get_with_route(number) else {
             return WalkOutcome::Foreign;
         };
         if call.session != session {
@@ -280,13 +281,7 @@ impl Parts {
             return WalkOutcome::Writes;
         }
         let mut stage = call.stage;
-        let walk = go_on(
-            &mut self.store,
-            call,
-            route_of(&call.request),
-            &mut stage,
-            most,
-        );
+        let walk = go_on(&mut self.store, call, route, &mut stage, most);
         self.calls.set_stage(number, stage);
         WalkOutcome::Walked(walk)
     }
@@ -359,7 +354,7 @@ fn record_of(call: Call, reply: Reply) -> Record
 
 /// Takes a call on from a stage, up to a step that doesn't move it, by so many steps at most: what
 /// came of the last one is told.
-fn go_on(store: &mut Store, call: &Call, route: Route<'_>, stage: &mut Stage, most: u64) -> Walk
+fn go_on(store: &mut Store, call: &Call, route: RoutePaths<'_>, stage: &mut Stage, most: u64) -> Walk
     requires route { route_in route ≡ route_of call.now.request }
     requires core { (p : PartsView) × (number : ℕ)
         × IsUnderWay p number store.old call.now stage.old }
@@ -379,7 +374,7 @@ fn go_on(store: &mut Store, call: &Call, route: Route<'_>, stage: &mut Stage, mo
 }
 
 /// Takes a call one step on from a stage.
-fn step(store: &mut Store, number: u64, route: Route<'_>, stage: &mut Stage) -> Walk
+fn step(store: &mut Store, number: u64, route: RoutePaths<'_>, stage: &mut Stage) -> Walk
     requires root { is_directory_at store.old.nodes store.old.root ≡ true }
     requires stands { HoldsWay store.old (route_in route) stage.old }
     ensures advances { Advances store.old store.new (walker number (route_in route.entry) stage.old)
@@ -400,7 +395,7 @@ fn step(store: &mut Store, number: u64, route: Route<'_>, stage: &mut Stage) -> 
 fn copy_of(request: &Request) -> Result<Option<Request>, AllocError>
     ensures { IfOk result (λ copy. copy ≡ copy_of (route_of request.now) request.now) }
 {
-    if let (Route::NoPath, false) = (route_of(request), is_write(request)) {
+    if request.walks_nothing() && !is_write(request) {
         return Ok(None);
     }
     Ok(Some(request.share()?))

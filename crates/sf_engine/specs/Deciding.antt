@@ -4,8 +4,9 @@ use Rattle.sf_path.specs.Names.{Path}
 use Rattle.sf_call.specs.declared.record.Record.{Record}
 use Rattle.sf_call.specs.declared.record.Record.TheVariants.{Did, Left}
 use Rattle.sf_call.specs.Tree.{Tree, is_directory}
-use Rattle.sf_walk.specs.Routes.{Route, PartAt, route_of}
-use Rattle.sf_walk.specs.Routes.Route.{NoPath, Along, Between}
+use Rattle.sf_call.specs.Routes.{Route, route_of}
+use Rattle.sf_walk.specs.Routes.{PartAt}
+use Rattle.sf_call.specs.Routes.Route.{NoPath, Along, Between}
 use Rattle.sf_core.specs.Progress.{EndsWalk}
 pub use Rattle.sf_core.specs.Sure.{IsSure}
 unfoldable pub use Rattle.sf_core.specs.Sure.{AreSure}

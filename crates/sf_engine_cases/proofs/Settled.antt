@@ -8,8 +8,8 @@ use Rattle.sf_inode.specs.Stores.{StoreState}
 use Rattle.sf_walk.specs.declared.finding.Located.{Located}
 use Rattle.sf_walk.specs.declared.finding.Ways.{Ways}
 use Rattle.sf_walk.specs.Files.{IsSettled, cuts_file}
-use Rattle.sf_walk.specs.Routes.{route_of}
-use Rattle.sf_walk.specs.Routes.Route.{Along}
+use Rattle.sf_call.specs.Routes.{route_of}
+use Rattle.sf_call.specs.Routes.Route.{Along}
 use Rattle.sf_walk.specs.Served.{LookedUp}
 use Rattle.sf_walk.specs.Ways.{AreWays, IsLocated, way_from}
 use Rattle.sf_walk.proofs.Laws.{looked_nodes, looked_root}

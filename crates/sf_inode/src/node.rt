@@ -249,27 +249,6 @@ impl Node {
         }
     }
 
-    /// Replaces bytes from an offset on; a gap before them is filled with zeros.
-    pub(crate) fn write(
-        &mut self,
-        alloc: Global,
-        offset: u64,
-        bytes: &ByteString,
-    ) -> Result<(), AllocError>
-        requires settled { blocks_left_in self.old.content ≡ 0 }
-        requires some { 0 < length bytes.now }
-        requires fits { offset + length bytes.now < 2 ^ 64 }
-        ensures ok { OnOk result (self.new
-            ≡ with_content (with_bytes (written (bytes_in self.old.content) offset bytes.now))
-            self.old) }
-        ensures err { OnErr result (self.new ≡ self.old) }
-    {
-        match &mut self.content {
-            Content::Directory(_) => Ok(()),
-            Content::File(contents) => contents.write(alloc, offset, bytes),
-        }
-    }
-
     /// Cuts the bytes at a size, or fills them up to it with zeros. It takes no memory.
     pub(crate) fn set_len(&mut self, n: u64)
         requires { blocks_left_in self.old.content ≡ 0 }

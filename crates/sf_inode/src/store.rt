@@ -411,21 +411,6 @@ impl Store {
         }
     }
 
-    /// Replaces a file's bytes from an offset on; a gap before them is filled with zeros.
-    pub fn write(&mut self, node: NodeId, offset: u64, bytes: &ByteString) -> Result<(), AllocError>
-        requires settled { blocks_left_at self.old.nodes node ≡ 0 }
-        requires some { 0 < length bytes.now }
-        requires fits { offset + length bytes.now < 2 ^ 64 }
-        ensures ok { OnOk result (self.new
-            ≡ bytes_set self.old node (written (bytes_of self.old.nodes node) offset bytes.now)) }
-        ensures err { OnErr result (self.new ≡ self.old) }
-    {
-        match self.nodes.get_mut(node) {
-            Some(it) => it.write(self.alloc, offset, bytes),
-            None => Ok(()),
-        }
-    }
-
     /// Cuts a file's bytes at a size, or fills them up to it with zeros. It takes no memory.
     pub fn set_len(&mut self, node: NodeId, n: u64)
         requires { blocks_left_at self.old.nodes node ≡ 0 }

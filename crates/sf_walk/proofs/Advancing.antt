@@ -14,8 +14,9 @@ use Rattle.sf_coupling.specs.Stepping.TakesPath.{Comes, GoesOnWith}
 use Rattle.sf_walk.specs.declared.finding.Ways.{Ways}
 use Rattle.sf_walk.specs.declared.finding.Located.{Located}
 use Rattle.sf_walk.specs.declared.finding.Located.TheVariants as located
-use Rattle.sf_walk.specs.Routes.{Route, are_nested, PartAt, AreEnds, IsPosition, reached, paths_on, held_path_on, held_paths_of, namespace, HoldsWay}
-use Rattle.sf_walk.specs.Routes.Route.{NoPath, Along, Between}
+use Rattle.sf_call.specs.Routes.{Route, are_nested}
+use Rattle.sf_walk.specs.Routes.{PartAt, AreEnds, IsPosition, reached, paths_on, held_path_on, held_paths_of, namespace, HoldsWay}
+use Rattle.sf_call.specs.Routes.Route.{NoPath, Along, Between}
 use Rattle.sf_walk.specs.Routes.IsPosition.{Starts, IsOn, IsBefore, IsApart}
 use Rattle.sf_walk.specs.Ways.{no_path, along, between, way_from}
 use Rattle.sf_walk.specs.Served.{LookedUp}

@@ -8,8 +8,8 @@ use Rattle.sf_reply.specs.declared.reply.StatusCode.TheVariants.{NoSuchFile, Fai
 use Rattle.sf_call.specs.declared.metadata.Metadata.{Metadata}
 use Rattle.sf_call.specs.declared.lookup.Lookup.{Lookup}
 use Rattle.sf_call.specs.declared.lookup.Lookup.TheVariants as lookup
-use Rattle.sf_walk.specs.Routes.{are_nested, is_rooted, route_between}
-use Rattle.sf_walk.specs.Routes.Route.{NoPath, Along, Between}
+use Rattle.sf_call.specs.Routes.{are_nested, is_rooted, route_between, route_kind}
+use Rattle.sf_call.specs.Routes.Route.{NoPath, Along, Between}
 use Rattle.sf_call.specs.Tree.{Tree, FoundObject, after_front, look_up, found_at, is_directory, is_empty}
 use Rattle.sf_call.specs.Calls.{Outcome, refuses, succeeds, moves, unless_nested, unless_root, rename_to, rename, replace_by, posix_rename}
 use Rattle.sf_inode.specs.declared.node.Node.{Node}
@@ -21,11 +21,11 @@ use Rattle.sf_keeps.specs.Steps.{walk}
 use Rattle.sf_keeps.specs.Keeps.{Keeps}
 use Rattle.sf_call.proofs.Laws.{front_itself as is_front, same_path_is}
 use Rattle.sf_keeps.proofs.Laws.{bare_found, one_node, one_way}
-use Rattle.sf_walk.specs.declared.routes.RouteKind.TheVariants as kind
+use Rattle.sf_call.specs.declared.route.RouteKind.TheVariants as kind
 use Rattle.sf_walk.specs.declared.finding.Ways.{Ways}
 use Rattle.sf_walk.specs.declared.finding.Located.{Located}
 use Rattle.sf_walk.specs.declared.finding.Located.TheVariants as located
-use Rattle.sf_walk.specs.Ways.{way_from, found_content, found_node, IsThere, kind_of, Lead, AreWays}
+use Rattle.sf_walk.specs.Ways.{way_from, found_content, found_node, IsThere, Lead, AreWays}
 use Rattle.sf_walk.specs.Renames.{may_replace, MayMove}
 use Rattle.sf_walk.proofs.Fits.{Known, no_way, name_missing, node_at, directory_says}
 use Rattle.sf_walk.proofs.Onward.{has_entry}
@@ -74,21 +74,21 @@ differ p q apart = elim (same_path p q) as (λ b. same_path p q ≡ b → b ≡ 
 
 module _ (s : StoreState) (old new : Path) (ways : Ways) (are : AreWays s (route_between old new) ways) where
   -- ---- of which kind the route is tells how the paths stand to each other
-  rooted_by : (a b : Bool) → ways.kind ≡ kind_of (if a then NoPath else if b then Along old else Between old new) → ways.kind ≡ kind.NoPath → a ≡ true
+  rooted_by : (a b : Bool) → ways.kind ≡ route_kind (if a then NoPath else if b then Along old else Between old new) → ways.kind ≡ kind.NoPath → a ≡ true
   rooted_by true b e f = refl
   rooted_by false true e f = absurd (let h : kind.Along ≡ kind.NoPath = sym e ∙ f in let x : ⊥ = cc in x)
   rooted_by false false e f = absurd (let h : kind.Between ≡ kind.NoPath = sym e ∙ f in let x : ⊥ = cc in x)
 
-  unrooted_by : (a b : Bool) → ways.kind ≡ kind_of (if a then NoPath else if b then Along old else Between old new) → (ways.kind ≡ kind.NoPath → ⊥) → a ≡ false
+  unrooted_by : (a b : Bool) → ways.kind ≡ route_kind (if a then NoPath else if b then Along old else Between old new) → (ways.kind ≡ kind.NoPath → ⊥) → a ≡ false
   unrooted_by true b e ne = absurd (ne e)
   unrooted_by false b e ne = refl
 
-  nested_by : (a b : Bool) → ways.kind ≡ kind_of (if a then NoPath else if b then Along old else Between old new) → ways.kind ≡ kind.Along → b ≡ true
+  nested_by : (a b : Bool) → ways.kind ≡ route_kind (if a then NoPath else if b then Along old else Between old new) → ways.kind ≡ kind.Along → b ≡ true
   nested_by true b e f = absurd (let h : kind.NoPath ≡ kind.Along = sym e ∙ f in let x : ⊥ = cc in x)
   nested_by false true e f = refl
   nested_by false false e f = absurd (let h : kind.Between ≡ kind.Along = sym e ∙ f in let x : ⊥ = cc in x)
 
-  apart_by : (a b : Bool) → ways.kind ≡ kind_of (if a then NoPath else if b then Along old else Between old new) → (ways.kind ≡ kind.NoPath → ⊥) → (ways.kind ≡ kind.Along → ⊥) → b ≡ false
+  apart_by : (a b : Bool) → ways.kind ≡ route_kind (if a then NoPath else if b then Along old else Between old new) → (ways.kind ≡ kind.NoPath → ⊥) → (ways.kind ≡ kind.Along → ⊥) → b ≡ false
   apart_by true b e no_path no_one = absurd (no_path e)
   apart_by false true e no_path no_one = absurd (no_one e)
   apart_by false false e no_path no_one = refl

@@ -162,28 +162,3 @@ module _ (s : StoreState) (t : Tree) (session number : ℕ) (h : OpenHandle) (o 
 shows_bytes : (s new : StoreState) (id label : ℕ) (m : Metadata) (old bytes : List ℕ) → shown_of s.nodes id ≡ Some (label, File m old) → new ≡ bytes_set s id bytes → shown_of new.nodes id ≡ Some (label, File m bytes)
 shows_bytes s new id label m old bytes shows state =
     ap (λ (x : StoreState). shown_of x.nodes id) state ∙ ap (option_map shown_node) (edited_itself (with_content (with_bytes bytes)) s id) ∙ shown_stored (node_in s.nodes id) label m old bytes shows
-
--- bytes are put into a file from there on, and it is modified: with the store between
-pub record PutsBytes (s new : StoreState) (node : ℕ) : Type 0 where
-  pub moment : ℕ
-  pub start : ℕ
-  pub bytes : List ℕ
-  pub first : StoreState
-  pub put : first ≡ bytes_set s node (written (bytes_of s.nodes node) start bytes)
-  pub marked : new ≡ edited (with_metadata (modified_at moment)) first node
-
-pub put_keeps : (s new : StoreState) (t : Tree) (f : ShownFile s) → Keeps s t → (p : PutsBytes s new f.node) → Keeps new (changed t (SetObject f.label (File (modified_at p.moment f.metadata) (written f.bytes p.start p.bytes))))
-put_keeps s new t f keeps p =
-    let id = f.node in
-    let label = f.label in
-    let m = f.metadata in
-    let now = written (bytes_of s.nodes id) p.start p.bytes in
-    let after : now ≡ written f.bytes p.start p.bytes = ap (λ (b : List ℕ). written b p.start p.bytes) (stored_bytes (node_in s.nodes id) label m f.bytes f.shows) in
-    let one = changed t (SetObject label (File m now)) in
-    let last : Object = File (modified_at p.moment m) now in
-    let keeps_first : Keeps p.first one = subst (λ (x : StoreState). Keeps x one) (sym p.put) (keeps_contents (complete now) s t id label m f.bytes keeps f.shows) in
-    let shows_first : shown_of p.first.nodes id ≡ Some (label, File m now) = shows_bytes s p.first id label m f.bytes now f.shows p.put in
-    let keeps_new : Keeps new (changed one (SetObject label last)) =
-    subst (λ (x : StoreState). Keeps x (changed one (SetObject label last))) (sym p.marked) (keeps_file (modified_at p.moment) p.first one id label m now keeps_first shows_first) in
-    subst (λ (b : List ℕ). Keeps new (changed t (SetObject label (File (modified_at p.moment m) b)))) after
-    (subst (λ (u : Tree). Keeps new u) (object_again t label (File m now) last) keeps_new)

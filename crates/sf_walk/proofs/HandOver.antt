@@ -10,7 +10,8 @@ use Rattle.sf_inode.specs.Stores.{StoreState, node_in, holder_of, edited}
 use Rattle.sf_keeps.proofs.Laws.{edited_apart, edited_itself}
 use Rattle.sf_coupling.specs.Walks.{HeldPath, Holds, IsNodeOf, HandsOver}
 use Rattle.sf_coupling.proofs.Laws.{same_or_not}
-use Rattle.sf_walk.specs.Routes.{Route, IsPosition, reached_at, paths_on, held_path_on, held_paths_on, held_paths_of, nodes_in, nodes_of}
+use Rattle.sf_call.specs.Routes.{Route}
+use Rattle.sf_walk.specs.Routes.{IsPosition, reached_at, paths_on, held_path_on, held_paths_on, held_paths_of, nodes_in, nodes_of}
 use Rattle.sf_walk.specs.Routes.IsPosition.{Starts, IsOn, IsBefore, IsApart}
 use Rattle.sf_walk.specs.Steps.{is_one_of, free_unless, let_go, handed_over}
 

@@ -25,11 +25,9 @@ pub mod Advancing
 pub mod Standing
 pub mod HandOver
 pub mod NoMoves
-pub mod Begins
 pub mod Courses
 pub mod Nowhere
 pub mod MovedEntries
 pub mod Linking
-pub mod Settled
 pub mod Spared
 pub mod Beginning

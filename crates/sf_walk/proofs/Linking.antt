@@ -28,7 +28,7 @@ use Rattle.sf_keeps.specs.Steps.{walk}
 use Rattle.sf_keeps.specs.Keeps.{Keeps}
 use Rattle.sf_keeps.proofs.Laws.{walk-append, file_in_way, reached_node, place_found, keeps_linked, edited_apart, edited_itself}
 use Rattle.sf_walk.specs.declared.finding.Located.TheVariants as located
-use Rattle.sf_walk.specs.Routes.{are_nested}
+use Rattle.sf_call.specs.Routes.{are_nested}
 use Rattle.sf_walk.specs.Ways.{last_name_of, way_from, found_content, found_node}
 use Rattle.sf_walk.specs.Served.{IsCarriedOut}
 use Rattle.sf_walk.specs.Links.{nested_code, MakesLink}

@@ -17,7 +17,7 @@ use Rattle.sf_keeps.specs.Keeps.{Keeps}
 use Rattle.sf_walk.specs.declared.finding.Ways.{Ways}
 use Rattle.sf_walk.specs.declared.finding.Located.{Located}
 use Rattle.sf_walk.specs.declared.finding.Located.TheVariants as located
-use Rattle.sf_walk.specs.Routes.{are_nested, route_between}
+use Rattle.sf_call.specs.Routes.{are_nested, route_between}
 use Rattle.sf_walk.specs.Ways.{AreWays, IsLocated}
 use Rattle.sf_walk.proofs.Courses.{AreNoRoots, old_found, new_found, old_no_way, old_missing, rename_no_way, posix_same, posix_no_way}
 use Rattle.sf_walk.proofs.NoMoves.{Stays, rooted, others_stay}

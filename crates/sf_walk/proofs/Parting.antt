@@ -7,7 +7,8 @@ use Rattle.sf_call.specs.declared.call.Reached.{Reached}
 use Rattle.sf_call.specs.declared.call.Stage.TheVariants as stage
 use Rattle.sf_call.specs.Tree.{after_front}
 use Rattle.sf_call.proofs.Laws.{same_name_is, same_name_itself}
-use Rattle.sf_walk.specs.Routes.{are_nested, PartAt}
+use Rattle.sf_call.specs.Routes.{are_nested}
+use Rattle.sf_walk.specs.Routes.{PartAt}
 use Rattle.sf_walk.specs.Further.{ComesToBoth, PartLater}
 
 get_take : (n : ℕ) (p : Path) (i : ℕ) → i < n → slice_get (take n p) i ≡ slice_get p i
@@ -59,12 +60,19 @@ parts (n ∷ p) (m ∷ q) e =
 pub part_at_first : (old new : Path) → are_nested old new ≡ false → PartLater old new 0
 part_at_first old new h = let w = parts old new h in record { count = w.0; part = w.1; later = omega arith }
 
-module _ (old new : Path) (to : Reached) (common : ℕ) (later : PartLater old new to.walked) (is : common ≡ later.count) where
-  pub comes_apart : common ≡ to.walked → ComesToBoth old new to (stage.Ends to to to)
-  comes_apart e = inr (subst (λ k. PartAt old new k) (sym is ∙ e) later.part, refl)
+-- Where the next names differ, the paths part here; where they are alike, they part later.
+module _ (old new : Path) (to : Reached) (later : PartLater old new to.walked) where
+  pub comes_apart : slice_get old to.walked ≢ slice_get new to.walked → ComesToBoth old new to (stage.Ends to to to)
+  comes_apart ne =
+      let l = later.later in
+      let not_later : to.walked < later.count → ⊥ = λ h. ne (alike_below old new later.count to.walked later.part.alike h) in
+      inr (subst (λ k. PartAt old new k) (omega (arith, l, not_later)) later.part, refl)
 
-  pub comes_before : common ≢ to.walked → ComesToBoth old new to (stage.At to.walked to.node)
-  comes_before ne = let l = later.later in inl (later.count, later.part, omega (arith, l, is, ne), refl)
+  pub comes_before : slice_get old to.walked ≡ slice_get new to.walked → ComesToBoth old new to (stage.At to.walked to.node)
+  comes_before same =
+      let l = later.later in
+      let not_here : later.count ≡ to.walked → ⊥ = λ e. later.part.apart (ap (slice_get old) e ∙ same ∙ ap (slice_get new) (sym e)) in
+      inl (later.count, later.part, omega (arith, l, not_here), refl)
 
 pub not_nothing : (p : Path) → (p ≡ [] → ⊥) → 0 < length p
 not_nothing [] ne = absurd (ne refl)

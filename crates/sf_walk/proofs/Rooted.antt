@@ -1,12 +1,12 @@
--- What a call does after its path was walked, it does from the root.
+-- What is located, a reply twice, and where memory may be wanting.
 use Rattle.std.specs.Prelude.{◌≡◌, ◌⊎◌, ◌&&◌, Bool, true, false, ℕ, IfOk, Ok, Err}
 use Rattle.std.specs.declared.result.Result.{Result}
 use Rattle.std.specs.Result.{result_map_both}
 use Rattle.std.proofs.Common.{refl, sym, subst, ◌∙◌, inl, inr}
 use Rattle.sf_path.specs.Names.{Path}
 use Rattle.sf_reply.specs.declared.reply.Reply.{Reply}
-use Rattle.sf_walk.specs.Routes.{Route}
-use Rattle.sf_walk.specs.Routes.Route.{NoPath, Along, Between}
+use Rattle.sf_call.specs.Routes.{Route}
+use Rattle.sf_call.specs.Routes.Route.{NoPath, Along, Between}
 use Rattle.sf_call.specs.Tree.{Tree}
 use Rattle.sf_call.specs.Calls.{Outcome}
 use Rattle.sf_inode.specs.Stores.{StoreState}
@@ -17,25 +17,9 @@ use Rattle.sf_walk.specs.Served.{LookedUp, IsAlike, IsRefused, IsCarriedOut}
 use Rattle.sf_walk.proofs.Looked.{way_looked}
 use Rattle.sf_walk.proofs.Holders.{alike_looked}
 
-pub located_after : (old mid : StoreState) (most : ℕ) (r : Route) (w : Ways) → LookedUp old mid most → AreWays old r w → AreWays mid r w
-located_after old mid most NoPath w looked h = (h.0, tt)
-located_after old mid most (Along p) w looked h = (h.0, sym (way_looked old mid p most w.path looked h.1))
-located_after old mid most (Between p q) w looked h = (h.0, (sym (way_looked old mid p most w.path looked h.1.0), λ there. sym (way_looked old mid q most w.new looked (h.1.1 there))))
-
 -- what is located now is what was located before
 pub way_before : (old mid : StoreState) (most : ℕ) (p : Path) (l : Located) → LookedUp old mid most → l ≡ way_from mid.nodes mid.root mid.root p → l ≡ way_from old.nodes old.root old.root p
 way_before old mid most p l looked h = h ∙ way_looked old mid p most (way_from old.nodes old.root old.root p) looked refl
-
-alike_trans : (old mid new : StoreState) → IsAlike old mid → IsAlike mid new → IsAlike old new
-alike_trans old mid new a b = record { nodes = λ id. b.nodes id ∙ a.nodes id; root = b.root ∙ a.root; sessions = b.sessions ∙ a.sessions }
-
-pub refused_after : (old mid new : StoreState) (most : ℕ) (t : Tree) (given : Reply) → LookedUp old mid most → IsRefused mid new t given → IsRefused old new t given
-refused_after old mid new most t given looked h = record { told = h.told; alike = alike_trans old mid new (alike_looked old mid most looked) h.alike; tree = h.tree }
-
-pub served_after : (old mid new : StoreState) (most : ℕ) (t : Tree) (answer : Outcome) (given : Reply) → LookedUp old mid most
-    → IsRefused mid new t given ⊎ IsCarriedOut new t answer given → IsRefused old new t given ⊎ IsCarriedOut new t answer given
-served_after old mid new most t answer given looked (inl h) = inl (refused_after old mid new most t given looked h)
-served_after old mid new most t answer given looked (inr h) = inr h
 
 -- a reply twice is a reply and its copy
 pub twice_copies : {E : Type 0} (r : Result Reply E) (both : Result (Reply × Reply) E) → both ≡ result_map_both {U = Reply × Reply} (λ (x : Reply). (x, x)) (λ (e : E). e) r → IfOk {T = Reply × Reply} both (λ p. p.1 ≡ p.0)

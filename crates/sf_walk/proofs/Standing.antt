@@ -18,8 +18,9 @@ use Rattle.sf_coupling.proofs.Laws.{same_or_not, takes_held}
 use Rattle.sf_walk.specs.declared.walking.Walk.{Walk}
 use Rattle.sf_walk.specs.declared.walking.Walk.TheVariants.{Moved, Blocked, Ready}
 use Rattle.sf_walk.specs.Served.{LookedUp, after_look_ups}
-use Rattle.sf_walk.specs.Routes.{Route, IsRoute, IsPosition, route_at, route_of, is_rooted, are_nested, held_paths_of, nodes_of, namespace, HoldsWay}
-use Rattle.sf_walk.specs.Routes.Route.{NoPath, Along, Between}
+use Rattle.sf_call.specs.Routes.{Route, route_at, route_of, is_rooted, are_nested}
+use Rattle.sf_walk.specs.Routes.{IsRoute, IsPosition, held_paths_of, nodes_of, namespace, HoldsWay}
+use Rattle.sf_call.specs.Routes.Route.{NoPath, Along, Between}
 use Rattle.sf_walk.specs.Routes.IsPosition.{Starts}
 use Rattle.sf_walk.specs.Steps.{Walker, is_one_of, free_unless, let_go, entered, handed_over, AdvancesTo, Advances}
 

@@ -1,52 +1,14 @@
--- The paths that a call walks, and where it is on them.
-use Rattle.std.specs.Prelude.{◌≡◌, ◌≢◌, ◌<◌, ◌≤◌, ◌+◌, ℕ, Bool, false, ◌||◌, if◌then◌else◌, List, [], ◌∷◌, length, take, slice_get, is_some}
+-- Where a call is on the paths that it walks.
+use Rattle.std.specs.Prelude.{◌≡◌, ◌≢◌, ◌<◌, ◌≤◌, ◌+◌, ℕ, false, List, [], ◌∷◌, length, take, slice_get}
 use Rattle.sf_path.specs.Names.{Path}
 use Rattle.sf_call.specs.declared.call.Reached.{Reached}
 use Rattle.sf_call.specs.declared.call.Stage.{Stage}
 use Rattle.sf_call.specs.declared.call.Stage.TheVariants as stage
-use Rattle.sf_call.specs.declared.request.Request.{Request}
-use Rattle.sf_call.specs.Requests.{Target, target_of}
-use Rattle.sf_call.specs.Requests.Target.{ByHandle, OnPath, OnPaths}
-use Rattle.sf_call.specs.Tree.{after_front, is_nil}
+use Rattle.sf_call.specs.Routes.{Route, are_nested}
+use Rattle.sf_call.specs.Routes.Route.{NoPath, Along, Between}
 use Rattle.sf_inode.specs.Stores.{StoreState, child_of, is_directory_at}
 use Rattle.sf_keeps.specs.Steps.{walk}
 use Rattle.sf_coupling.specs.Walks.{Namespace, HeldPath, Holds, LeadsTo}
-use Rattle.sf_walk.specs.declared.routes.Route.{Route as Borrowed}
-use Rattle.sf_walk.specs.declared.routes.Route.TheVariants as borrowed
-
--- no path; one; or two that part
-pub data Route : Type 0 where
-  NoPath : Route
-  Along : (path : Path) → Route
-  Between : (old : Path) → (new : Path) → Route
-
--- one of two paths begins with the other
-abbrev pub are_nested : Path → Path → Bool
-are_nested old new = is_some (after_front old new) || is_some (after_front new old)
-
--- one of two paths is the root
-abbrev pub is_rooted : Path → Path → Bool
-is_rooted old new = is_nil old || is_nil new
-
--- A call on two paths walks neither with the root among them, and the old one alone where one
--- begins with the other.
-abbrev pub route_between : Path → Path → Route
-route_between old new =
-    if is_rooted old new then NoPath else if are_nested old new then Along old else Between old new
-
-abbrev pub route_at : Target → Route
-route_at (ByHandle handle) = NoPath
-route_at (OnPath path) = Along path
-route_at (OnPaths old new) = route_between old new
-
-abbrev pub route_of : Request → Route
-route_of request = route_at (target_of request)
-
--- a route in the code
-abbrev pub route_in : Borrowed → Route
-route_in borrowed.NoPath = NoPath
-route_in (borrowed.Along path) = Along path.now
-route_in (borrowed.Between old new) = Between old.now new.now
 
 -- so many names are alike at the front of both paths, and the next of each are not
 pub record PartAt (old new : Path) (count : ℕ) : Type 0 where

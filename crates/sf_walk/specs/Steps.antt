@@ -15,8 +15,9 @@ use Rattle.sf_walk.specs.declared.finding.Located.{Located}
 use Rattle.sf_walk.specs.declared.finding.Located.TheVariants as located
 use Rattle.sf_walk.specs.declared.walking.Walk.{Walk}
 use Rattle.sf_walk.specs.declared.walking.Walk.TheVariants.{Moved, Blocked, Ready}
-use Rattle.sf_walk.specs.Routes.{Route, IsPosition, reached, paths_on, held_paths_of, nodes_of, namespace}
-use Rattle.sf_walk.specs.Routes.Route.{NoPath, Along, Between}
+use Rattle.sf_call.specs.Routes.{Route}
+use Rattle.sf_walk.specs.Routes.{IsPosition, reached, paths_on, held_paths_of, nodes_of, namespace}
+use Rattle.sf_call.specs.Routes.Route.{NoPath, Along, Between}
 use Rattle.sf_walk.specs.Ways.{IsThere, AreWays}
 use Rattle.sf_walk.specs.Served.{LookedUp}
 

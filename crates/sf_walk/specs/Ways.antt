@@ -12,10 +12,9 @@ use Rattle.sf_inode.specs.declared.node.Node.{Node}
 use Rattle.sf_inode.specs.declared.node.Content.{Content}
 use Rattle.sf_inode.specs.declared.node.Content.TheVariants as content
 use Rattle.sf_inode.specs.Stores.{StoreState, child_of, is_directory_at}
-use Rattle.sf_walk.specs.Routes.{Route, route_of}
-use Rattle.sf_walk.specs.Routes.Route.{NoPath, Along, Between}
-use Rattle.sf_walk.specs.declared.routes.RouteKind.{RouteKind}
-use Rattle.sf_walk.specs.declared.routes.RouteKind.TheVariants as kind
+use Rattle.sf_call.specs.Routes.{Route, route_kind, route_of}
+use Rattle.sf_call.specs.Routes.Route.{NoPath, Along, Between}
+use Rattle.sf_call.specs.declared.route.RouteKind.TheVariants as kind
 use Rattle.sf_walk.specs.declared.finding.Ways.{Ways}
 use Rattle.sf_walk.specs.declared.finding.Located.{Located}
 use Rattle.sf_walk.specs.declared.finding.Located.TheVariants as located
@@ -59,12 +58,6 @@ names_on (Between old new) = length old + length new
 abbrev pub request_names : Request → ℕ
 request_names request = target_names (target_of request)
 
--- of which kind a route is
-abbrev pub kind_of : Route → RouteKind
-kind_of NoPath = kind.NoPath
-kind_of (Along path) = kind.Along
-kind_of (Between old new) = kind.Between
-
 -- where no path is walked
 abbrev pub no_path : Ways
 no_path = record { kind = kind.NoPath; path = located.NoWay; new = located.NoWay }
@@ -93,7 +86,7 @@ Lead s (Between old new) ways = (ways.path ≡ way_from s.nodes s.root s.root ol
 
 -- what was located is of the route's kind, and where its paths lead
 abbrev pub AreWays : StoreState → Route → Ways → Type 0
-AreWays s route ways = (ways.kind ≡ kind_of route) × Lead s route ways
+AreWays s route ways = (ways.kind ≡ route_kind route) × Lead s route ways
 
 abbrev pub IsLocated : StoreState → Request → Ways → Type 0
 IsLocated s request ways = AreWays s (route_of request) ways

@@ -1,4 +1,4 @@
-//! Whole calls, from the root or from where they decide.
+//! Whole calls, from where they decide.
 
 ghost use Rattle.std.specs.Prelude.{◌≡◌, ◌⊎◌, ℕ, Some, true, false, IfOk, IsOk, OnErr};
 ghost use Rattle.std.specs.Result.{result_map_both};
@@ -8,76 +8,33 @@ ghost use Rattle.sf_call.specs.Handles.{opened};
 ghost use Rattle.sf_call.specs.Calls.{answer_to, read};
 ghost use Rattle.sf_inode.specs.declared.handle.OpenHandle.{OpenHandle};
 ghost use Rattle.sf_inode.specs.Stores.{open_handle_at, blocks_left_at};
-ghost use Rattle.sf_walk.specs.declared.finding.Ways.{Ways};
 ghost use Rattle.sf_keeps.specs.Keeps.{Keeps};
-ghost use Rattle.sf_walk.specs.Ways.{request_names, IsLocated};
-ghost use Rattle.sf_walk.specs.Files.{IsSettled};
-ghost use Rattle.sf_walk.specs.Served.{IsCarriedOut, IsRefused, IsAlike, MakesLookUps, NodesStay, IsUnused, is_success, takes_memory, may_want_memory};
+ghost use Rattle.sf_walk.specs.Ways.{IsLocated};
+ghost use Rattle.sf_walk.specs.Files.{IsSettled, IsWriteRequest};
+ghost use Rattle.sf_walk.specs.Served.{IsCarriedOut, IsRefused, IsAlike, NodesStay, IsUnused, is_success, takes_memory, may_want_memory};
 
-use crate::finding::{Ways, locate_all};
-use crate::handle_calls::{close, read, set_stat_handle, stat_handle, write};
+use crate::finding::Ways;
+use crate::handle_calls::{close, read, set_stat_handle, stat_handle};
 use crate::links::link;
 use crate::listing::read_directory;
 use crate::opening::{open, open_directory};
 use crate::path_calls::{mkdir, remove, rmdir, set_stat, stat};
 use crate::renames::{posix_rename, rename};
-use crate::routes::route_of;
 use sf_call::{Call, Request};
 use sf_inode::Store;
 use sf_reply::Reply;
 use std::alloc::AllocError;
 
-/// Answers a call whole, from the root on and without locks, whoever holds the nodes on its way.
-/// Nothing is left to be copied into a file that it reads, writes, cuts or fills up. Its number is
-/// above 0, and no label and no handle of the tree. `NoMemory` changes nothing but the count of
-/// look-ups; it is told in place of success alone, and never where a call makes nothing, and
-/// neither gives nor takes bytes or names.
-pub fn from_root(store: &mut Store, call: &Call) -> Reply
-    requires { (ways : Ways) → IsLocated store.old call.now.request ways
-        → IsSettled store.old call.now.session call.now.request ways.path }
-    ensures served { (t : Tree) → Keeps store.old t → IsUnused t call.now.number
-        → IsRefused store.old store.new t result
-        ⊎ IsCarriedOut store.new t
-        (answer_to t call.now.session call.now.number call.now.moment call.now.request) result }
-    ensures sure { (t : Tree) → Keeps store.old t → IsUnused t call.now.number
-        → may_want_memory call.now.request (answer_to t call.now.session call.now.number
-        call.now.moment call.now.request).reply ≡ false
-        → IsCarriedOut store.new t
-        (answer_to t call.now.session call.now.number call.now.moment call.now.request) result }
-    ensures look_ups { MakesLookUps store.old store.new (request_names call.now.request) }
-    ensures nodes { NodesStay call.now.number store.old store.new }
-{
-    let (reply, _) = from_root_twice(store, call);
-    reply
-}
-
-/// As `from_root`, with the reply twice, once for the call's record.
-pub fn from_root_twice(store: &mut Store, call: &Call) -> (Reply, Reply)
-    requires { (ways : Ways) → IsLocated store.old call.now.request ways
-        → IsSettled store.old call.now.session call.now.request ways.path }
-    ensures served { (t : Tree) → Keeps store.old t → IsUnused t call.now.number
-        → IsRefused store.old store.new t result.0
-        ⊎ IsCarriedOut store.new t (answer_to t call.now.session call.now.number call.now.moment
-        call.now.request) result.0 }
-    ensures copy { result.1 ≡ result.0 }
-    ensures sure { (t : Tree) → Keeps store.old t → IsUnused t call.now.number
-        → may_want_memory call.now.request (answer_to t call.now.session call.now.number
-        call.now.moment call.now.request).reply ≡ false
-        → IsCarriedOut store.new t (answer_to t call.now.session call.now.number call.now.moment
-        call.now.request) result.0 }
-    ensures look_ups { MakesLookUps store.old store.new (request_names call.now.request) }
-    ensures nodes { NodesStay call.now.number store.old store.new }
-{
-    let ways = locate_all(store, route_of(&call.request));
-    decide(store, call, ways)
-}
-
 /// Answers a call where its paths were found to lead, without a look-up: its reply twice, once for
 /// its record. A call without a path asks nothing of what was located. Nothing is left to be copied
-/// into a file that the call reads, writes, cuts or fills up; a WRITE is copied whole.
+/// into a file that the call reads, cuts or fills up. A WRITE is decided as it starts, by `start`.
+/// The call's number is above 0, and no label and no handle of the tree. `NoMemory` changes nothing;
+/// it is told in place of success alone, and never where a call makes nothing, and neither gives nor
+/// takes bytes or names.
 #[tactic(auto, using(crate::proofs::Refused::keeps_alike, crate::proofs::Trimmed::served_trimmed, crate::proofs::Trimmed::stays_trimmed, crate::proofs::Trimmed::looks_same))]
 #[inline(always)]
 pub fn decide(store: &mut Store, call: &Call, ways: Ways) -> (Reply, Reply)
+    requires not_write { IsWriteRequest call.now.request → ⊥ }
     requires located { IsLocated store.old call.now.request ways }
     requires settled { IsSettled store.old call.now.session call.now.request ways.path }
     ensures served { (t : Tree) → Keeps store.old t → IsUnused t call.now.number
@@ -105,6 +62,7 @@ pub fn decide(store: &mut Store, call: &Call, ways: Ways) -> (Reply, Reply)
 #[tactic(auto, using(crate::proofs::Holders::stays_none_new, crate::proofs::Rooted::twice_copies))]
 #[inline(always)]
 fn answer(store: &mut Store, call: &Call, ways: Ways) -> Result<(Reply, Reply), AllocError>
+    requires not_write { IsWriteRequest call.now.request → ⊥ }
     requires located { IsLocated store.old call.now.request ways }
     requires settled { IsSettled store.old call.now.session call.now.request ways.path }
     ensures served { (t : Tree) → Keeps store.old t → IsUnused t call.now.number
@@ -146,14 +104,7 @@ fn answer(store: &mut Store, call: &Call, ways: Ways) -> Result<(Reply, Reply), 
             offset,
             len,
         } => read_twice(store, session, *handle, *offset, *len),
-        Request::Write {
-            handle,
-            offset,
-            data,
-        } => {
-            let written = write(store, session, moment, *handle, *offset, data);
-            twice_ok(written)
-        }
+        Request::Write { .. } => unreachable!(),
         Request::ReadDir(handle) => read_directory(store, session, *handle),
         Request::Rename(old, new) => twice_ok(rename(store, moment, old, new, ways)),
         Request::PosixRename(old, new) => twice_ok(posix_rename(store, moment, old, new, ways)),

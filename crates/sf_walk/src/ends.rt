@@ -3,7 +3,7 @@
 ghost use Rattle.std.specs.Prelude.{◌≡◌, ◌+◌, length};
 ghost use Rattle.sf_call.specs.declared.call.Stage.TheVariants as stage;
 ghost use Rattle.sf_walk.specs.Routes.{HoldsWay};
-ghost use Rattle.sf_walk.specs.Routes.Route.{Between};
+ghost use Rattle.sf_call.specs.Routes.Route.{Between};
 ghost use Rattle.sf_walk.specs.Steps.{Advances, walker, handed_over};
 ghost use Rattle.sf_walk.specs.declared.walking.Walk.TheVariants.{Moved};
 

@@ -3,12 +3,12 @@
 ghost use Rattle.std.specs.Prelude.{◌≡◌, ◌≤◌, length, IfOk, IfErr};
 ghost use Rattle.sf_reply.specs.declared.reply.StatusCode.TheVariants.{NoSuchFile};
 ghost use Rattle.sf_walk.specs.declared.finding.Located.TheVariants.{NoWay, At};
-ghost use Rattle.sf_walk.specs.Routes.{route_in};
+ghost use Rattle.sf_call.specs.Routes.{route_in};
 ghost use Rattle.sf_walk.specs.Ways.{AreWays, IsThere, no_path, along, between, names_on, way_from};
 ghost use Rattle.sf_walk.specs.LastEntries.{IsLastEntry};
 ghost use Rattle.sf_walk.specs.Served.{LookedUp};
 
-use crate::routes::{Route, RouteKind};
+use sf_call::{RouteKind, RoutePaths};
 use sf_inode::{NodeId, Store};
 use sf_path::Path;
 use sf_reply::StatusCode;
@@ -137,14 +137,14 @@ pub fn locate(store: &mut Store, path: &Path) -> Located
 }
 
 /// Walks all paths of a route.
-pub fn locate_all(store: &mut Store, route: Route<'_>) -> Ways
+pub fn locate_all(store: &mut Store, route: RoutePaths<'_>) -> Ways
     ensures located { AreWays store.old (route_in route.entry) result }
     ensures looked { LookedUp store.old store.new (names_on (route_in route.entry)) }
 {
     match route {
-        Route::NoPath => Ways::no_path(),
-        Route::Along(path) => Ways::along(locate(store, path)),
-        Route::Between(old, new) => {
+        RoutePaths::NoPath => Ways::no_path(),
+        RoutePaths::Along(path) => Ways::along(locate(store, path)),
+        RoutePaths::Between(old, new) => {
             let path = locate(store, old);
             let new = locate(store, new);
             Ways::between(path, new)

@@ -121,49 +121,7 @@ pub(crate) fn read(
     Ok(Reply::Data(bytes))
 }
 
-/// WRITE.
-pub(crate) fn write(
-    store: &mut Store,
-    session: u64,
-    moment: u32,
-    number: u64,
-    offset: u64,
-    bytes: &ByteString,
-) -> Result<Reply, AllocError>
-    requires { (h : OpenHandle) → open_handle_at store.old session number ≡ Some h
-        → blocks_left_at store.old.nodes h.node ≡ 0 }
-    ensures served { (t : Tree) → Keeps store.old t
-        → ServesOutcome store.new t (write moment offset bytes.now (opened t session number))
-        result }
-    ensures sure { is_nil bytes.now ≡ true → IsOk result }
-    ensures err { OnErr result (store.new ≡ store.old) }
-    ensures plain { IfOk result IsPlain }
-    ensures look_ups { store.new.look_ups ≡ store.old.look_ups }
-    ensures holders { HoldersStay store.old store.new }
-{
-    let Some(handle) = store.handle(session, number) else {
-        return Ok(Reply::Status(StatusCode::Failure));
-    };
-    let node = handle.node;
-    let Some(size) = store.file_len(node) else {
-        return Ok(Reply::Status(StatusCode::Failure));
-    };
-    if !handle.marks.write {
-        return Ok(Reply::Status(StatusCode::PermissionDenied));
-    }
-    if bytes.is_empty() {
-        return Ok(Reply::Status(StatusCode::Success));
-    }
-    let start = start_of(&handle.marks, size, offset);
-    if ends_past_limit(start, bytes.len()) {
-        return Ok(Reply::Status(StatusCode::Failure));
-    }
-    put_bytes(store, moment, node, start, bytes)?;
-    Ok(Reply::Status(StatusCode::Success))
-}
-
-/// WRITE's own first step: as `write`, but that all blocks that it writes but one are still to be
-/// copied into the file.
+/// WRITE's first step: all blocks that it writes but one are still to be copied into the file.
 pub(crate) fn start_write(
     store: &mut Store,
     session: u64,
@@ -221,31 +179,6 @@ fn start_of(marks: &Marks, size: u64, offset: u64) -> u64
     ensures { result ≡ (if marks.now.append then size else offset) }
 {
     if marks.append { size } else { offset }
-}
-
-/// Puts bytes into a file, which is modified at the moment.
-fn put_bytes(
-    store: &mut Store,
-    moment: u32,
-    node: NodeId,
-    start: u64,
-    bytes: &ByteString,
-) -> Result<(), AllocError>
-    requires fits { start + length bytes.now < 2 ^ 64 }
-    requires some { 0 < length bytes.now }
-    requires file { is_file_at store.old.nodes node ≡ true }
-    requires settled { blocks_left_at store.old.nodes node ≡ 0 }
-    ensures tree { (t : Tree) (label : ℕ) (m : Metadata) (contents : List ℕ) → Keeps store.old t
-        → shown_of store.old.nodes node ≡ Some (label, File m contents)
-        → OnOk result (Keeps store.new (changed t
-        (SetObject label (File (modified_at moment m) (written contents start bytes.now))))) }
-    ensures err { OnErr result (store.new ≡ store.old) }
-    ensures look_ups { store.new.look_ups ≡ store.old.look_ups }
-    ensures holders { HoldersStay store.old store.new }
-{
-    store.write(node, start, bytes)?;
-    store.touch(node, moment);
-    Ok(())
 }
 
 /// Begins to put bytes into a file, which is modified at the moment: all of their blocks but one

@@ -2,10 +2,11 @@
 //!
 //! Start with `decide` in `calls`: where a call's path was found to lead, it gives the reply that
 //! the tree gives which the store keeps, and leaves a store that keeps the tree after it
-//! (`IsCarriedOut`, `specs/Served.antt`). `from_root` is a walk and then `decide`; `advance` in
-//! `walking` is one step of that walk, which holds the next directory before it frees the one above
-//! (`specs/Steps.antt`). Where paths lead is `way_from` in `specs/Ways.antt`. The requests are
-//! carried out in `path_calls`, `renames`, `opening`, `handle_calls` and `listing`.
+//! (`IsCarriedOut`, `specs/Served.antt`). A WRITE is decided by `start` in `files`. `advance` in
+//! `walking` is one step of a walk, which holds the next directory before it frees the one above
+//! (`specs/Steps.antt`); `locate_all` in `finding` is a whole one. Where paths lead is `way_from` in
+//! `specs/Ways.antt`. The requests are carried out in `path_calls`, `renames`, `opening`,
+//! `handle_calls` and `listing`.
 #![tactic(auto)]
 
 mod calls;
@@ -19,14 +20,12 @@ mod looking;
 mod opening;
 mod path_calls;
 mod renames;
-mod routes;
 mod sparing;
 mod walking;
 
-pub use calls::{decide, from_root, from_root_twice};
+pub use calls::decide;
 pub use files::{Copying, Writer, file_holder, holder_by, left_to_copy, start, writer_to_finish};
 pub use finding::{Located, Ways, locate, locate_all};
 pub use renames::is_move;
-pub use routes::{Route, RouteKind, route_of};
 pub use sparing::spared_file;
 pub use walking::{Walk, advance, let_go};

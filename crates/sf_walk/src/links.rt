@@ -6,14 +6,13 @@ ghost use Rattle.sf_call.specs.Tree.{Tree, found_at};
 ghost use Rattle.sf_call.specs.Calls.{Outcome, link, unless_root};
 ghost use Rattle.sf_inode.specs.Stores.{linked};
 ghost use Rattle.sf_keeps.specs.Keeps.{Keeps};
-ghost use Rattle.sf_walk.specs.Routes.{route_between};
+ghost use Rattle.sf_call.specs.Routes.{route_between};
 ghost use Rattle.sf_walk.specs.Ways.{last_name_of, AreWays};
 ghost use Rattle.sf_walk.specs.Served.{ServesOutcome, IsAlike, HoldersStay};
 ghost use Rattle.sf_walk.specs.Links.{IsLinking, IsNamed, nested_code};
 
 use crate::finding::{Located, Ways};
-use crate::routes::RouteKind;
-use sf_call::MAX_LINKS;
+use sf_call::{MAX_LINKS, RouteKind};
 use sf_inode::{NodeId, Store};
 use sf_path::Path;
 use sf_reply::{Reply, StatusCode};

@@ -10,13 +10,12 @@ ghost use Rattle.sf_call.specs.Calls.{Outcome, answer_to, rename, posix_rename, 
 ghost use Rattle.sf_inode.specs.Stores.{StoreState, relinked};
 ghost use Rattle.sf_keeps.specs.Keeps.{Keeps};
 ghost use Rattle.sf_walk.specs.Ways.{last_name_of, AreWays, IsLocated};
-ghost use Rattle.sf_walk.specs.Routes.{route_between};
+ghost use Rattle.sf_call.specs.Routes.{route_between};
 ghost use Rattle.sf_walk.specs.Served.{ServesOutcome, IsAlike, HoldersStay};
 ghost use Rattle.sf_walk.specs.Renames.{does_move, may_replace, IsCourse, AreNamed, MovesNothing, renaming};
 
 use crate::finding::{Located, Ways};
-use crate::routes::RouteKind;
-use sf_call::{Call, Request};
+use sf_call::{Call, Request, RouteKind};
 use sf_inode::{NodeId, Store};
 use sf_path::Path;
 use sf_reply::{Reply, StatusCode};

@@ -4,16 +4,16 @@ ghost use Rattle.std.specs.Prelude.{◌≡◌, ◌+◌, ◌<◌, true, [], lengt
 ghost use Rattle.sf_call.specs.declared.call.Stage.TheVariants as stage;
 ghost use Rattle.sf_inode.specs.Nodes.{with_holder};
 ghost use Rattle.sf_inode.specs.Stores.{is_directory_at, edited};
-ghost use Rattle.sf_walk.specs.Routes.{HoldsWay, route_in, reached, nodes_of};
-ghost use Rattle.sf_walk.specs.Routes.Route.{Along, Between};
+ghost use Rattle.sf_call.specs.Routes.{route_in};
+ghost use Rattle.sf_walk.specs.Routes.{HoldsWay, reached, nodes_of};
+ghost use Rattle.sf_call.specs.Routes.Route.{Along, Between};
 ghost use Rattle.sf_walk.specs.Steps.{Advances, walker, is_one_of, free_unless, let_go};
 ghost use Rattle.sf_walk.specs.Further.{LeadsOnWay, ComesToBoth, PartLater};
 
 use crate::ends::{Ends, at_ends};
 use crate::finding::{Located, Ways};
 use crate::looking::{Further, find_last, holder_there, look, other_holder};
-use crate::routes::Route;
-use sf_call::{Reached, Stage};
+use sf_call::{Reached, RoutePaths, Stage};
 use sf_inode::{NodeId, Store};
 use sf_path::Path;
 
@@ -39,19 +39,19 @@ pub enum Walk {
 /// doesn't wait for what the old one leads to.
 ///
 /// The stage that it has come to is told beside it: who makes many steps notes the last one alone.
-pub fn advance(store: &mut Store, number: u64, route: Route<'_>, at: Stage) -> Walk
+pub fn advance(store: &mut Store, number: u64, route: RoutePaths<'_>, at: Stage) -> Walk
     requires root { is_directory_at store.old.nodes store.old.root ≡ true }
     requires stands { HoldsWay store.old (route_in route) at }
     ensures { Advances store.old store.new (walker number (route_in route.entry) at) result }
 {
     match route {
-        Route::NoPath => Walk::Ready(Ways::no_path()),
-        Route::Along(path) => match at {
+        RoutePaths::NoPath => Walk::Ready(Ways::no_path()),
+        RoutePaths::Along(path) => match at {
             Stage::Fresh => first(store, number, path),
             Stage::At { walked, node } => onward(store, number, path, Reached { walked, node }),
             Stage::Ends { .. } | Stage::Copies { .. } => unreachable!(),
         },
-        Route::Between(old, new) => match at {
+        RoutePaths::Between(old, new) => match at {
             Stage::Fresh => first_of_two(store, number, old, new),
             Stage::At { walked, node } => {
                 together(store, number, old, new, Reached { walked, node })
@@ -179,7 +179,7 @@ fn arrived(old: &Path, new: &Path, to: Reached) -> Stage
     requires { PartLater old.now new.now to.walked }
     ensures { ComesToBoth old.now new.now (reached to.walked to.node) result }
 {
-    if old.common(new) == to.walked {
+    if old.name(to.walked) != new.name(to.walked) {
         return Stage::Ends {
             common: to,
             old: to,

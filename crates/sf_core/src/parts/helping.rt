@@ -8,7 +8,7 @@ ghost use Rattle.sf_call.specs.declared.call.Call.{Call};
 ghost use Rattle.sf_call.specs.Tree.{after_front};
 ghost use Rattle.sf_walk.specs.Files.{file_handle};
 ghost use Rattle.sf_walk.specs.Ways.{IsLocated};
-ghost use Rattle.sf_walk.specs.Routes.{route_of};
+ghost use Rattle.sf_call.specs.Routes.{route_of, route_in};
 ghost use Rattle.sf_core.specs.Cores.{call_at};
 ghost use Rattle.sf_core.specs.Sound.{IsCore};
 ghost use Rattle.sf_core.specs.Progress.{waiting_reply, has_passed, has_walked, overtaken, undecided_in, old_at};
@@ -16,11 +16,9 @@ ghost use Rattle.sf_core.specs.Finishing.{AreOnPaths, IsReadyToHelp, IsSettledWh
 ghost use Rattle.sf_core.specs.Stepping.{Overtakes, Helps, HelpsAll, is_move, set_back, all_set_back};
 
 use super::Parts;
-use sf_call::{Call, Calls, Record, Request, Stage};
+use sf_call::{Call, Calls, PlacedCall, Record, Request, RoutePaths, Stage};
 use sf_path::Path;
-use sf_walk::{
-    Located, Route, Ways, decide, is_move, let_go, locate_all, route_of, writer_to_finish,
-};
+use sf_walk::{Located, Ways, decide, is_move, let_go, locate_all, writer_to_finish};
 
 impl Parts {
     /// Before a call is decided that moves a path: all calls that it overtakes are set back, and
@@ -121,10 +119,10 @@ impl Parts {
             → IsReadyToHelp self.old self.new c result }
         ensures none { call_at self.old.calls number ≡ None → self.new ≡ self.old }
     {
-        let Some(call) = self.calls.get(number) else {
+        let Some((call, route)) = self.calls.get_with_route(number) else {
             return Ways::no_path();
         };
-        let ways = locate_all(&mut self.store, route_of(&call.request));
+        let ways = locate_all(&mut self.store, route);
         if let Some(writer) = writer_to_finish(&self.store, &call.request, ways.path) {
             self.finish_write(writer);
         }
@@ -150,7 +148,7 @@ fn overtaken(calls: &Calls, number: u64, old: &Path, numbers: &mut Vec<u64>)
 {
     numbers.clear();
     'calls: for (other, call) in calls.iter() {
-        if is_overtaken(call.as_call(), *other, number, old) {
+        if is_overtaken(call, *other, number, old) {
             numbers.push_reserved(*other);
         }
     }
@@ -158,21 +156,23 @@ fn overtaken(calls: &Calls, number: u64, old: &Path, numbers: &mut Vec<u64>)
 
 /// Whether a call of this number is another one, undecided, and has passed a path.
 #[tactic(auto, using(crate::proofs::Maps::reply_is))]
-fn is_overtaken(call: &Call, other: u64, number: u64, old: &Path) -> bool
+fn is_overtaken(placed: &PlacedCall, other: u64, number: u64, old: &Path) -> bool
     ensures { result
-        ≡ (not (nat_eq other number) && is_none (waiting_reply call.now)
-        && has_passed call.now old.now) }
+        ≡ (not (nat_eq other number) && is_none (waiting_reply placed.now)
+        && has_passed placed.now old.now) }
 {
-    other != number && call.reply.is_none() && has_passed(call, old)
+    let call = placed.as_call();
+    other != number && call.reply.is_none() && has_passed(call, placed.route(), old)
 }
 
 /// Whether what a call has walked begins with a path.
-fn has_passed(call: &Call, front: &Path) -> bool
+fn has_passed(call: &Call, route: RoutePaths<'_>, front: &Path) -> bool
+    requires { route_in route ≡ route_of call.now.request }
     ensures { result ≡ has_passed call.now front.now }
 {
-    match route_of(&call.request) {
-        Route::NoPath => false,
-        Route::Along(path) => match call.stage {
+    match route {
+        RoutePaths::NoPath => false,
+        RoutePaths::Along(path) => match call.stage {
             Stage::Fresh => false,
             Stage::At { walked, node: _ } => is_past(path, walked, front),
             Stage::Ends {
@@ -182,7 +182,7 @@ fn has_passed(call: &Call, front: &Path) -> bool
             } => is_past(path, common.walked, front),
             Stage::Copies { .. } => false,
         },
-        Route::Between(from, to) => match call.stage {
+        RoutePaths::Between(from, to) => match call.stage {
             Stage::Fresh => false,
             Stage::At { walked, node: _ } => is_past(from, walked, front),
             Stage::Ends { common, old, new } => {

@@ -4,7 +4,8 @@ ghost use Rattle.std.specs.Prelude.{◌≡◌, true};
 ghost use Rattle.sf_inode.specs.Stores.{StoreState, is_directory_at};
 ghost use Rattle.sf_walk.specs.declared.finding.Ways.{Ways};
 ghost use Rattle.sf_walk.specs.declared.walking.Walk.TheVariants.{Ready};
-ghost use Rattle.sf_walk.specs.Routes.{HoldsWay, route_of};
+ghost use Rattle.sf_call.specs.Routes.{route_of};
+ghost use Rattle.sf_walk.specs.Routes.{HoldsWay};
 ghost use Rattle.sf_walk.specs.Ways.{IsLocated};
 
 use super::*;

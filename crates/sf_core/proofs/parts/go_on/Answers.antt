@@ -3,7 +3,8 @@ use Rattle.sf_call.specs.declared.call.Stage.{Stage}
 use Rattle.sf_call.specs.Unanswered.{at_stage}
 use Rattle.sf_walk.specs.declared.walking.Walk.{Walk}
 use Rattle.sf_walk.specs.declared.walking.Walk.TheVariants as walk
-use Rattle.sf_walk.specs.Routes.{Route, HoldsWay, route_in}
+use Rattle.sf_call.specs.Routes.{Route, route_in}
+use Rattle.sf_walk.specs.Routes.{HoldsWay}
 use Rattle.sf_walk.specs.Steps.{Advances, walker}
 use Rattle.sf_core.specs.declared.parts.WalkOutcome.TheVariants as outcome
 use Rattle.sf_core.specs.Lanes.{LaneView}

@@ -1,5 +1,5 @@
 use Rattle.std.proofs.Common.{rules, subst}
-use Rattle.sf_walk.specs.Routes.{Route}
+use Rattle.sf_call.specs.Routes.{Route}
 use Rattle.sf_walk.specs.Ways.{AreWays}
 use Rattle.sf_engine_cases.proofs.Settled.{settled_there}
 use Rattle.sf_engine_cases.proofs.walk.at_root.Goals as goal

@@ -2,7 +2,7 @@ use Rattle.std.proofs.Common.{sym, subst, inr}
 use Rattle.sf_call.specs.declared.call.Stage.TheVariants as stage
 use Rattle.sf_walk.specs.declared.finding.Ways.{Ways}
 use Rattle.sf_walk.specs.declared.walking.Walk.{Walk}
-use Rattle.sf_walk.specs.Routes.Route.{Between}
+use Rattle.sf_call.specs.Routes.Route.{Between}
 use Rattle.sf_walk.specs.Steps.{walker, DecidesNow, Advances}
 use Rattle.sf_walk.specs.Steps.GoesFrom.{OldEnd}
 use Rattle.sf_walk.specs.Steps.MayDecideAt.{AtEnd}

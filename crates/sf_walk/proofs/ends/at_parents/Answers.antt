@@ -1,7 +1,7 @@
 use Rattle.std.proofs.Common.{sym, subst, inl}
 use Rattle.sf_call.specs.declared.call.Stage.TheVariants as stage
 use Rattle.sf_walk.specs.declared.finding.Ways.{Ways}
-use Rattle.sf_walk.specs.Routes.Route.{Between}
+use Rattle.sf_call.specs.Routes.Route.{Between}
 use Rattle.sf_walk.specs.Steps.{walker, DecidesNow}
 use Rattle.sf_walk.specs.Steps.GoesFrom.{NewEnd}
 use Rattle.sf_walk.proofs.Advancing.{decides_at_old_parent, waits_there, old_on_way, new_on_way, way_looked_up, free_before}

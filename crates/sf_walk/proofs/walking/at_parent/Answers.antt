@@ -2,7 +2,7 @@ use Rattle.std.proofs.Common.{sym, subst, inl}
 use Rattle.sf_call.specs.declared.call.Stage.TheVariants as stage
 use Rattle.sf_walk.specs.declared.finding.Ways.{Ways}
 use Rattle.sf_walk.specs.Routes.{reached}
-use Rattle.sf_walk.specs.Routes.Route.{Along}
+use Rattle.sf_call.specs.Routes.Route.{Along}
 use Rattle.sf_walk.specs.Steps.{walker, DecidesNow}
 use Rattle.sf_walk.specs.Steps.GoesFrom.{OnOne}
 use Rattle.sf_walk.specs.Steps.MayDecideAt.{AtEnd}

@@ -1,7 +1,7 @@
 use Rattle.std.proofs.Common.{[], refl, sym, subst}
 use Rattle.sf_call.specs.declared.call.Stage.TheVariants as stage
 use Rattle.sf_walk.specs.declared.finding.Ways.{Ways}
-use Rattle.sf_walk.specs.Routes.Route.{Along}
+use Rattle.sf_call.specs.Routes.Route.{Along}
 use Rattle.sf_walk.specs.Steps.{walker, DecidesNow}
 use Rattle.sf_walk.proofs.LastNames.{not_root}
 use Rattle.sf_walk.proofs.Parting.{not_nothing}

@@ -1,5 +1,5 @@
 use Rattle.std.proofs.Common.{refl}
-use Rattle.sf_walk.specs.Routes.Route.{Between}
+use Rattle.sf_call.specs.Routes.Route.{Between}
 use Rattle.sf_walk.proofs.Advancing.{waits_root, moves_first_of_two}
 use Rattle.sf_walk.proofs.walking.first_of_two.Goals as goal
 

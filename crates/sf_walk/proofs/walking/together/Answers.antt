@@ -3,7 +3,7 @@ use Rattle.sf_call.specs.declared.call.Stage.TheVariants as stage
 use Rattle.sf_inode.specs.Stores.{StoreState}
 use Rattle.sf_walk.specs.declared.finding.Ways.{Ways}
 use Rattle.sf_walk.specs.Routes.{reached, nodes_of}
-use Rattle.sf_walk.specs.Routes.Route.{Between}
+use Rattle.sf_call.specs.Routes.Route.{Between}
 use Rattle.sf_walk.specs.Steps.{walker, DecidesNow, free_unless}
 use Rattle.sf_walk.specs.Steps.GoesFrom.{Together}
 use Rattle.sf_walk.specs.Steps.MayDecideAt.{AtEnd}

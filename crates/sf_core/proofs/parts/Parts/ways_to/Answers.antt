@@ -1,7 +1,7 @@
 use Rattle.std.proofs.Common.{◌≡◌, Some, sym, ap, subst, ◌∙◌, arith}
 use Rattle.sf_call.specs.declared.call.Call.{Call}
 use Rattle.sf_inode.specs.Stores.{StoreState}
-use Rattle.sf_walk.specs.Routes.{Route, route_of}
+use Rattle.sf_call.specs.Routes.{Route, route_of}
 use Rattle.sf_walk.specs.Ways.{AreWays, names_on, request_names}
 use Rattle.sf_walk.specs.Served.{LookedUp}
 use Rattle.sf_core.specs.Cores.{call_at}

@@ -1,6 +1,6 @@
 use Rattle.std.proofs.Common.{subst}
 use Rattle.sf_walk.specs.declared.walking.Walk.{Walk}
-use Rattle.sf_walk.specs.Routes.{Route, route_of}
+use Rattle.sf_call.specs.Routes.{Route, route_of}
 use Rattle.sf_walk.specs.Steps.{walker, AdvancesTo, Advances}
 use Rattle.sf_walk.proofs.Laws.{stands_on, stands_unmoved, root_stands}
 use Rattle.sf_engine_cases.proofs.walk.walks.step.Goals as goal

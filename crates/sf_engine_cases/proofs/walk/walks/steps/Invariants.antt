@@ -1,6 +1,7 @@
 use Rattle.std.proofs.Common.{◌≡◌, true}
 use Rattle.sf_inode.specs.Stores.{is_directory_at}
-use Rattle.sf_walk.specs.Routes.{HoldsWay, route_of}
+use Rattle.sf_call.specs.Routes.{route_of}
+use Rattle.sf_walk.specs.Routes.{HoldsWay}
 use Rattle.sf_engine_cases.proofs.walk.walks.steps.Given as goal
 
 abbrev pub invariant-loop-stage : goal.invariant-loop-stage
