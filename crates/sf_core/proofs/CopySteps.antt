@@ -96,6 +96,13 @@ is_write_by (request.Link old new) e = let z : ⊥ = cc in absurd z
 pub write_is : (r : Request) → IsWriteRequest r → is_write r ≡ true
 write_is r write = let w = is_a_write r write in ap is_write w.3
 
+pub no_write : (r : Request) → is_write r ≡ false → IsWriteRequest r → ⊥
+no_write r not write = let is = write_is r write in cc
+
+-- a call that reads and sets no file by its handle is none
+pub path_no_write : (r : Request) → file_handle r ≡ None → IsWriteRequest r → ⊥
+path_no_write r none write = let w = is_a_write r write in let is = ap file_handle w.3 in cc
+
 -- the first step of a WRITE after which nothing is left to be copied
 module _ (s new : StoreState) (c : Call) (write : IsWriteRequest c.request) (settled : IsSettled s c.session c.request NoWay)
     (starts : (number offset : ℕ) (bytes : List ℕ) (h : OpenHandle) → c.request ≡ request.Write number offset bytes → open_handle_at s c.session number ≡ Some h → StartsWriting s new h offset bytes)

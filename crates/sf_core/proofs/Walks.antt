@@ -1,5 +1,5 @@
 -- What steps of the lane's call come to, one after the other.
-use Rattle.std.specs.Prelude.{◌≡◌, ◌<◌, ◌≤◌, ◌+◌, ℕ, zero, suc, true, option_and_then, is_none, IsSome, Option, Some, None, refl}
+use Rattle.std.specs.Prelude.{◌≡◌, ◌<◌, ◌≤◌, ◌+◌, ℕ, zero, suc, true, false, option_and_then, is_none, IsSome, Option, Some, None, refl}
 use Rattle.std.proofs.Common.{sym, ap, subst, ◌∙◌, arith}
 use Rattle.std.specs.Ordering.{nat_cmp}
 use Rattle.std.specs.BTreeMap.{is_at}
@@ -21,7 +21,7 @@ use Rattle.sf_core.specs.declared.parts.WalkOutcome.{WalkOutcome}
 use Rattle.sf_core.specs.declared.parts.WalkOutcome.TheVariants as outcome
 use Rattle.sf_core.specs.Lanes.{LaneView, at_rest}
 use Rattle.sf_core.specs.Cores.{CoreView, call_at}
-use Rattle.sf_core.specs.Progress.{waiting_reply, undecided_in}
+use Rattle.sf_core.specs.Progress.{waiting_reply, is_write, undecided_in}
 use Rattle.sf_core.specs.Events.{TakesMoves, Walks, came}
 use Rattle.sf_core.specs.Parts.{PartsView, core_of}
 use Rattle.sf_core.specs.Sound.{Sound, IsCore}
@@ -229,6 +229,9 @@ module _ (lane : LaneView) (n : ℕ) (call : lane.call ≡ Some n) where
 
         pub made_settled : (d : Call) → call_at m.calls n ≡ Some d → IsSettled m.store d.session d.request ways.path
         made_settled d at = subst (λ (x : Call). IsSettled m.store x.session x.request ways.path) (some_eq its d (sym at_m ∙ at)) makes.settled
+
+        pub made_not_write : ((d : Call) → call_at q.calls n ≡ Some d → is_write d.request ≡ false) → (d : Call) → call_at m.calls n ≡ Some d → is_write d.request ≡ false
+        made_not_write not d at = subst (λ (x : Call). is_write x.request ≡ false) (some_eq its d (sym at_m ∙ at)) (not its at_q)
 
         pub made_room : 0 < m.book.room
         made_room =

@@ -301,6 +301,8 @@ impl Parts {
     /// Decides a call, and writes its record.
     pub(crate) fn finish(&mut self, number: u64, ways: Ways) -> Reply
         requires there { IsSome (call_at self.old.calls number) }
+        requires not_write { (c : Call) → call_at self.old.calls number ≡ Some c
+            → is_write c.request ≡ false }
         requires located { (c : Call) → call_at self.old.calls number ≡ Some c
             → IsLocated self.old.store c.request ways }
         requires settled { (c : Call) → call_at self.old.calls number ≡ Some c
@@ -354,7 +356,13 @@ fn record_of(call: Call, reply: Reply) -> Record
 
 /// Takes a call on from a stage, up to a step that doesn't move it, by so many steps at most: what
 /// came of the last one is told.
-fn go_on(store: &mut Store, call: &Call, route: RoutePaths<'_>, stage: &mut Stage, most: u64) -> Walk
+fn go_on(
+    store: &mut Store,
+    call: &Call,
+    route: RoutePaths<'_>,
+    stage: &mut Stage,
+    most: u64,
+) -> Walk
     requires route { route_in route ≡ route_of call.now.request }
     requires core { (p : PartsView) × (number : ℕ)
         × IsUnderWay p number store.old call.now stage.old }

@@ -237,7 +237,8 @@ impl Ground {
         };
         assert!(rt; !bytes.is_empty());
         assert_eq!(rt; self.store.left(file), 0);
-        assert!(rt; self.store.write(file, offset, &bytes).is_ok());
+        assert!(rt; self.store.start_write(file, offset, &bytes).is_ok());
+        self.store.copy_rest(file);
     }
 
     /// The first four bytes of a file, or all where it has fewer.

@@ -1,9 +1,11 @@
 //! The same calls on the slow tree and on the store: each reply of one is that of the other.
 
-ghost use Rattle.std.specs.Prelude.{IsTrue};
-ghost use Rattle.sf_walk.specs.Files.{IsSettled};
+ghost use Rattle.std.specs.Prelude.{◌≡◌, IsTrue, true, false};
+ghost use Rattle.sf_call.specs.Routes.{route_of, route_in};
+ghost use Rattle.sf_walk.specs.Files.{IsSettled, IsWriteRequest};
+ghost use Rattle.sf_walk.specs.Ways.{IsLocated};
 
-use sf_call::{Call, Request, Stage};
+use sf_call::{Call, Request, RoutePaths, Stage};
 use sf_cases::requests::{
     close, link, mkdir, open, open_dir, path, posix_rename, read, read_dir, remove, rename, rmdir,
     set_handle, stat, stat_handle, write,
@@ -13,7 +15,7 @@ use sf_field::{Attrs, Owner, Times};
 use sf_inode::Store;
 use sf_plain::PlainTree;
 use sf_reply::{Listing, Reply, StatusCode};
-use sf_walk::{Located, Walk, Ways, decide, from_root, left_to_copy, let_go, locate_all, route_of};
+use sf_walk::{Located, Walk, Ways, decide, left_to_copy, let_go, locate_all, start};
 use std::alloc::Global;
 use std::process::Abort;
 use std::test::*;
@@ -179,11 +181,42 @@ fn is_settled(store: &Store, call: &Call, ways: Ways) -> bool
     }
 }
 
-/// Answers a call from the root.
+/// The paths that a request walks.
+fn route_of(request: &Request) -> RoutePaths<'_>
+    ensures { route_in result ≡ route_of request.now }
+{
+    request.route(request.route_kind())
+}
+
+/// Whether a request is a WRITE.
+fn is_write(request: &Request) -> bool
+    ensures yes { result ≡ true → IsWriteRequest request.now }
+    ensures no { result ≡ false → IsWriteRequest request.now → ⊥ }
+{
+    matches!(request, Request::Write { .. })
+}
+
+/// Decides a call where its paths lead. All blocks of a WRITE are copied then.
+fn decide_whole(store: &mut Store, call: &Call, ways: Ways) -> Reply
+    requires located { IsLocated store.old call.now.request ways }
+    requires settled { IsSettled store.old call.now.session call.now.request ways.path }
+{
+    if !is_write(&call.request) {
+        let (reply, _) = decide(store, call, ways);
+        return reply;
+    }
+    let (reply, _) = start(store, call);
+    if let Some(copying) = left_to_copy(store, call) {
+        store.copy_rest(copying.node);
+    }
+    reply
+}
+
+/// Answers a call from the root, whoever holds the nodes on its way.
 fn at_root(rt: &impl Abort, store: &mut Store, call: &Call) -> Reply {
     let ways = locate_all(store, route_of(&call.request));
     assert!(rt; is_settled(store, call, ways));
-    from_root(store, call)
+    decide_whole(store, call, ways)
 }
 
 /// Answers a call by its steps. No other call holds a node.
@@ -196,7 +229,7 @@ fn by_steps(rt: &impl Abort, store: &mut Store, call: &mut Call) -> Reply {
             Walk::Blocked(holder) => panic!(rt; "call {holder} still holds a node"),
             Walk::Ready(ways) => {
                 assert!(rt; is_settled(store, call, ways));
-                let (reply, _) = decide(store, call, ways);
+                let reply = decide_whole(store, call, ways);
                 let_go(store, call.stage, Stage::Fresh);
                 return reply;
             }

@@ -12,7 +12,7 @@ use super::*;
 use StatusCode::{Failure, Success};
 use sf_call::Reached;
 use sf_inode::NodeId;
-use sf_walk::{Route, advance, is_move, locate};
+use sf_walk::{advance, is_move, locate};
 
 /// The number of the call that takes its steps.
 const NUMBER: u64 = 20;
@@ -172,7 +172,8 @@ fn paths_lead_somewhere(rt: HostRuntime) {
 fn a_decision_is_told_twice(rt: HostRuntime) -> Result<(), Fail> {
     let mut store = Store::new(rt.alloc())?;
     let call = fresh(Request::Close(9));
-    assert!(rt; matches!(route_of(&call.request), Route::NoPath));
+    assert!(rt; matches!(route_of(&call.request), RoutePaths::NoPath));
+    assert!(rt; !is_write(&call.request));
     match decide(&mut store, &call, Ways::no_path()) {
         (Reply::Status(Failure), Reply::Status(Failure)) => Ok(()),
         replies => panic!(rt; "{replies:?}"),
@@ -192,6 +193,7 @@ fn moves(rt: &impl Abort, ground: &mut Ground, request: Request, stages: &[Stage
     ground.are_held(rt, &[ground.a, ground.c, ground.x], None);
     assert!(rt; is_move(&ground.store, &call, ways));
     assert!(rt; is_settled(&ground.store, &call, ways));
+    assert!(rt; !is_write(&call.request));
     match decide(&mut ground.store, &call, ways) {
         (Reply::Status(Success), Reply::Status(Success)) => {}
         replies => panic!(rt; "{replies:?}"),
@@ -204,7 +206,7 @@ fn a_rename_walks_with_two_ends(rt: HostRuntime) -> Result<(), Fail> {
     let mut ground = Ground::new(&rt, alloc);
     let before = ground.store.look_ups();
     let rename = rename(alloc, b"/d/a/b/x", b"/d/c/e/z")?;
-    assert!(rt; matches!(route_of(&rename), Route::Between(_, _)));
+    assert!(rt; matches!(route_of(&rename), RoutePaths::Between(_, _)));
     let path = Located::At {
         parent: ground.b,
         node: ground.x,

@@ -6,7 +6,7 @@ use Rattle.sf_core.specs.declared.parts.WalkOutcome.TheVariants as outcome
 use Rattle.sf_core.specs.Lanes.{LaneView}
 use Rattle.sf_core.specs.Stepping.{WalkState, ending}
 use Rattle.sf_core.proofs.OneBlock.{no_block}
-use Rattle.sf_core.proofs.Walks.{foreign_end, waited_given, waited_end, moved_end, blocked_end, file_end, ready_core, ready_ways, ready_room, ready_places, made_there, made_ways, made_settled, made_room, its_given, decided_end}
+use Rattle.sf_core.proofs.Walks.{foreign_end, waited_given, waited_end, moved_end, blocked_end, file_end, ready_core, ready_ways, ready_room, ready_places, made_there, made_ways, made_settled, made_not_write, made_room, its_given, decided_end}
 use Rattle.sf_core.proofs.WriteWalks.{copies_on, copies_given, copies_end, write_ready, write_there, writes_ready, writes_room, writes_given, writes_end}
 use Rattle.sf_core.proofs.cores.Core.walk.Goals as goal
 
@@ -192,3 +192,9 @@ returns-in-Writes c =
     let lane : LaneView = record { session = c.lane.inside.session; call = c.lane.inside.call; begun = c.lane.inside.begun } in
     let w = write_ready lane c.in-Some.number c.in-Some.is c.self.inside.parts c.args.most (vec_capacity c.self.inside.overtaken) c.self.invariant.1 c.args.self.now c.self.view_is c.args.lane.now c.lane.view_is c.walk_on.new.self c.in-Writes.ensures.comes in
     (writes_end lane c.in-Some.number c.in-Some.is c.self.inside.parts c.args.most (vec_capacity c.self.inside.overtaken) c.self.invariant.1 c.args.self.now c.self.view_is c.args.lane.now c.lane.view_is no_path c.walk_on.new.self w (write_there lane c.in-Some.number c.in-Some.is c.self.inside.parts c.args.most (vec_capacity c.self.inside.overtaken) c.self.invariant.1 c.args.self.now c.self.view_is c.args.lane.now c.lane.view_is c.walk_on.new.self c.in-Writes.ensures.comes) c.write_on-reply.new.self c.write_on-reply.result c.write_on-reply.ensures c.told-in-Writes.result c.told-in-Writes.new.lane c.told-in-Writes.ensures).2
+
+pub finish-reply-requires-clause-not_write : goal.finish-reply-requires-clause-not_write
+finish-reply-requires-clause-not_write c =
+    let lane : LaneView = record { session = c.lane.inside.session; call = c.lane.inside.call; begun = c.lane.inside.begun } in
+    let w = subst (λ (x : Walk). WalkState c.self.inside.parts lane.session c.in-Some.number c.args.most (ending (outcome.Walked x) c.walk_on.new.self)) c.in-Walked-Ready.field-0-is c.in-Walked-Ready.ensures.comes in
+    made_not_write lane c.in-Some.number c.in-Some.is c.self.inside.parts c.args.most (vec_capacity c.self.inside.overtaken) c.self.invariant.1 c.args.self.now c.self.view_is c.args.lane.now c.lane.view_is c.in-Walked-Ready.ways c.walk_on.new.self w c.overtake.new.self c.overtake.ensures.helped (c.in-Walked-Ready.ensures.other tt)

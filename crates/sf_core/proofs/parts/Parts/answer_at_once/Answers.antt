@@ -10,11 +10,15 @@ use Rattle.sf_core.specs.Stepping.{ServesCall, AtOnceState}
 use Rattle.sf_walk.specs.declared.finding.Located.TheVariants.{NoWay}
 use Rattle.sf_walk.specs.declared.finding.Ways.{Ways}
 use Rattle.sf_walk.specs.Files.{IsSettled}
-use Rattle.sf_core.proofs.AtOnce.{at_once_located, at_once_settled, decided_at_once}
+use Rattle.sf_core.proofs.AtOnce.{at_once_silent, at_once_located, at_once_settled, decided_at_once}
+use Rattle.sf_core.proofs.CopySteps.{no_write}
 use Rattle.sf_core.proofs.parts.Parts.answer_at_once.Goals as goal
 
 pub decide-reply-requires-clause-located : goal.decide-reply-requires-clause-located
 decide-reply-requires-clause-located c = at_once_located c.args.self.now.store c.args.session c.args.request c.requires.at_once c.self.inside.store c.no_path-ways.result c.no_path-ways.ensures
+
+pub decide-reply-requires-clause-not_write : goal.decide-reply-requires-clause-not_write
+decide-reply-requires-clause-not_write c = no_write c.args.request (at_once_silent c.args.self.now.store c.args.session c.args.request c.requires.at_once)
 
 pub decide-reply-requires-clause-settled : goal.decide-reply-requires-clause-settled
 decide-reply-requires-clause-settled c =

@@ -15,6 +15,8 @@ use Rattle.sf_core.specs.Stepping.{HelpState, freed}
 use Rattle.sf_core.proofs.Maps.{none_some}
 use Rattle.sf_core.proofs.Readying.{settled_decided}
 use Rattle.sf_core.proofs.Helped.{back_copy, requests_then, answered_request, back_same, book_same, settled_then, still_none, same_call, located_then, settled_call}
+use Rattle.sf_walk.specs.Files.{file_handle}
+use Rattle.sf_core.proofs.CopySteps.{path_no_write}
 use Rattle.sf_core.proofs.parts.Parts.help.Goals as goal
 
 some_request : (a b : Request) → Some a ≡ Some b → a ≡ b
@@ -42,6 +44,13 @@ decide-reply-requires-clause-located c =
     let at : call_at c.ways_to-ways.new.self.calls c.args.overtaken ≡ Some call = subst (λ (v : PartsView). call_at v.calls c.args.overtaken ≡ Some call) c.self.view_is (sym c.in-Some.ensures) in
     subst (λ (v : PartsView). IsLocated v.store call.request c.ways_to-ways.result) (sym c.self.view_is)
     (located_then c.args.self.now c.ways_to-ways.new.self c.args.overtaken c.ways_to-ways.result c.ways_to-ways.ensures.ready c.ways_to-ways.ensures.none c.requires.settled call at)
+
+pub decide-reply-requires-clause-not_write : goal.decide-reply-requires-clause-not_write
+decide-reply-requires-clause-not_write c =
+    let call = c.in-Some.call.now in
+    let at : call_at c.ways_to-ways.new.self.calls c.args.overtaken ≡ Some call = subst (λ (v : PartsView). call_at v.calls c.args.overtaken ≡ Some call) c.self.view_is (sym c.in-Some.ensures) in
+    let before = requests_then c.args.self.now c.ways_to-ways.new.self c.args.overtaken c.ways_to-ways.result c.ways_to-ways.ensures.ready c.ways_to-ways.ensures.none c.requires.settled c.args.overtaken call at in
+    path_no_write call.request (ap file_handle before.2 ∙ c.requires.path before.0 before.1)
 
 pub decide-reply-requires-clause-settled : goal.decide-reply-requires-clause-settled
 decide-reply-requires-clause-settled c =

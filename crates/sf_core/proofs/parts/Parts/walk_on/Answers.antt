@@ -16,7 +16,7 @@ use Rattle.sf_core.proofs.parts.Parts.walk_on.Goals as goal
 
 pub returns-in_default-clause-comes : goal.returns-in_default-clause-comes
 returns-in_default-clause-comes c =
-    let none = c.in_default.ensures ∙ ap (λ (p : PartsView). call_at p.calls c.args.number) c.self.view_is in
+    let none = c.in_default.ensures.call ∙ ap (λ (p : PartsView). call_at p.calls c.args.number) c.self.view_is in
     record {
       moves = 0;
       mid = c.args.self.now;
@@ -32,7 +32,7 @@ returns-in_default-clause-comes c =
 
 pub returns-then-call-session-clause-comes : goal.returns-then-call-session-clause-comes
 returns-then-call-session-clause-comes c =
-    let there = c.in-Some.ensures ∙ ap (λ (p : PartsView). call_at p.calls c.args.number) c.self.view_is in
+    let there = c.in-Some.ensures.call ∙ ap (λ (p : PartsView). call_at p.calls c.args.number) c.self.view_is in
     record {
       moves = 0;
       mid = c.args.self.now;
@@ -65,7 +65,7 @@ rests p core n d at some not =
 
 pub returns-in-Copies-clause-comes : goal.returns-in-Copies-clause-comes
 returns-in-Copies-clause-comes c =
-    let there = c.in-Some.ensures ∙ ap (λ (p : PartsView). call_at p.calls c.args.number) c.self.view_is in
+    let there = c.in-Some.ensures.call ∙ ap (λ (p : PartsView). call_at p.calls c.args.number) c.self.view_is in
     record {
       moves = 0;
       mid = c.args.self.now;
@@ -81,7 +81,7 @@ returns-in-Copies-clause-comes c =
 
 pub returns-then-is_some-clause-comes : goal.returns-then-is_some-clause-comes
 returns-then-is_some-clause-comes c =
-    let there = c.in-Some.ensures ∙ ap (λ (p : PartsView). call_at p.calls c.args.number) c.self.view_is in
+    let there = c.in-Some.ensures.call ∙ ap (λ (p : PartsView). call_at p.calls c.args.number) c.self.view_is in
     record {
       moves = 0;
       mid = c.args.self.now;
@@ -104,7 +104,7 @@ returns-then-is_some-clause-comes c =
 
 pub returns-in-Some-file_holder-clause-comes : goal.returns-in-Some-file_holder-clause-comes
 returns-in-Some-file_holder-clause-comes c =
-    let there = c.in-Some.ensures ∙ ap (λ (p : PartsView). call_at p.calls c.args.number) c.self.view_is in
+    let there = c.in-Some.ensures.call ∙ ap (λ (p : PartsView). call_at p.calls c.args.number) c.self.view_is in
     record {
       moves = 0;
       mid = c.args.self.now;
@@ -127,7 +127,7 @@ returns-in-Some-file_holder-clause-comes c =
 
 pub returns-then-is_write-clause-comes : goal.returns-then-is_write-clause-comes
 returns-then-is_write-clause-comes c =
-    let there = c.in-Some.ensures ∙ ap (λ (p : PartsView). call_at p.calls c.args.number) c.self.view_is in
+    let there = c.in-Some.ensures.call ∙ ap (λ (p : PartsView). call_at p.calls c.args.number) c.self.view_is in
     let free = c.in_default-file_holder.ensures.free in
     record {
       moves = 0;
@@ -153,6 +153,6 @@ returns-then-is_write-clause-comes c =
 pub returns-clause-other : goal.returns-clause-other
 returns-clause-other c = λ _ d at.
     let call = c.in-Some.call.now in
-    let there = staged_there c.self.inside.calls c.args.number c.go_on-walk.new.stage call (sym c.in-Some.ensures) in
+    let there = staged_there c.self.inside.calls c.args.number c.go_on-walk.new.stage call (sym c.in-Some.ensures.call) in
     let same : at_stage c.go_on-walk.new.stage call ≡ d = some_eq (at_stage c.go_on-walk.new.stage call) d (sym there ∙ ap (λ cs. call_at cs c.args.number) (sym c.set_stage.ensures) ∙ at) in
     ap (λ (x : Call). is_write x.request) (sym same) ∙ sym c.is_write.ensures ∙ c.if-is_write.false

@@ -23,12 +23,12 @@ returns-in-Some-writer_to_finish-clause-ready c = λ d at.
     let ways = c.locate_all-ways.result in
     let writer = c.in-Some-writer_to_finish.writer in
     let here : call_at c.self.inside.calls c.args.number ≡ Some d = subst (λ (v : PartsView). call_at v.calls c.args.number ≡ Some d) (sym c.self.view_is) at in
-    let same : call ≡ d = some_eq call d (c.in-Some.ensures ∙ here) in
+    let same : call ≡ d = some_eq call d (c.in-Some.ensures.call ∙ here) in
     let own : IsReadyToHelp inside c.finish_write.new.self call ways =
     subst (λ (q : PartsView). IsReadyToHelp inside q call ways) (sym c.finish_write.ensures)
     (ready_finished inside call ways looked (subst (λ (v : PartsView). IsSettledWhereFree v.store) (sym c.self.view_is) c.requires)
-    (subst (λ (r : Route). AreWays c.self.inside.store r ways) c.route_of.ensures c.locate_all-ways.ensures.located)
-    (looks_by c.self.inside.store looked call _ c.route_of.ensures c.locate_all-ways.ensures.looked) writer c.in-Some-writer_to_finish.ensures.some) in
+    (subst (λ (r : Route). AreWays c.self.inside.store r ways) c.in-Some.ensures.route c.locate_all-ways.ensures.located)
+    (looks_by c.self.inside.store looked call _ c.in-Some.ensures.route c.locate_all-ways.ensures.looked) writer c.in-Some-writer_to_finish.ensures.some) in
     subst (λ (v : PartsView). IsReadyToHelp v c.finish_write.new.self d ways) c.self.view_is (subst (λ (x : Call). IsReadyToHelp inside c.finish_write.new.self x ways) same own)
 
 pub returns-in_default-writer_to_finish-clause-ready : goal.returns-in_default-writer_to_finish-clause-ready
@@ -38,9 +38,9 @@ returns-in_default-writer_to_finish-clause-ready c = λ d at.
     let looked = c.locate_all-ways.new.store in
     let ways = c.locate_all-ways.result in
     let here : call_at c.self.inside.calls c.args.number ≡ Some d = subst (λ (v : PartsView). call_at v.calls c.args.number ≡ Some d) (sym c.self.view_is) at in
-    let same : call ≡ d = some_eq call d (c.in-Some.ensures ∙ here) in
+    let same : call ≡ d = some_eq call d (c.in-Some.ensures.call ∙ here) in
     let own : IsReadyToHelp inside (record inside { store = looked }) call ways =
     ready_alone inside call ways looked (subst (λ (v : PartsView). IsSettledWhereFree v.store) (sym c.self.view_is) c.requires)
-    (subst (λ (r : Route). AreWays c.self.inside.store r ways) c.route_of.ensures c.locate_all-ways.ensures.located)
-    (looks_by c.self.inside.store looked call _ c.route_of.ensures c.locate_all-ways.ensures.looked) c.in_default-writer_to_finish.ensures.none in
+    (subst (λ (r : Route). AreWays c.self.inside.store r ways) c.in-Some.ensures.route c.locate_all-ways.ensures.located)
+    (looks_by c.self.inside.store looked call _ c.in-Some.ensures.route c.locate_all-ways.ensures.looked) c.in_default-writer_to_finish.ensures.none in
     subst (λ (v : PartsView). IsReadyToHelp v (record inside { store = looked }) d ways) c.self.view_is (subst (λ (x : Call). IsReadyToHelp inside (record inside { store = looked }) x ways) same own)
