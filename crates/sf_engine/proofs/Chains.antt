@@ -25,13 +25,13 @@ use Rattle.sf_engine.specs.declared.event.EngineFault.TheVariants as fault
 use Rattle.sf_session.specs.SessionStates.{Phase, Resting, UnderWay, Decided, Gone}
 use Rattle.sf_engine.specs.Worlds.{World}
 use Rattle.sf_engine.specs.Traces.{goes_on, goes_on_at}
-use Rattle.sf_engine.specs.Turns.{AddsRecords, Seated, NewPart, part, new_part, seated, ReadGives, RestsOrLeaves, IsLaneOf, PlaceGives, IsSeatState, MayRefuseTurn, is_resting, is_under_way, is_busy, Stand, stand, IsReady, TurnGives, TurnsGive, GoesFar, Finding, finding}
+use Rattle.sf_engine.specs.Turns.{AddsRecords, ReadGives, RestsOrLeaves, IsLaneOf, GivesAt, IsSeatState, MayRefuseTurn, is_resting, is_under_way, is_busy, Stand, stand, IsReady, TurnGives, TurnsGive, GoesFar, Finding, finding}
 use Rattle.sf_engine.specs.Views.{EngineView}
 use Rattle.sf_engine.specs.Fits.{PlaceAgrees, Agrees, IsEngine, HasTurns}
 use Rattle.sf_engine.proofs.Tracing.{Steps, goes_on_trace, stays_engine}
 use Rattle.sf_engine.proofs.MovesBy.{moves_by}
 use Rattle.sf_engine.proofs.Moving.{get_set_same, set_twice}
-use Rattle.sf_engine.proofs.Seats.{SeatChange, engine, seat, changed}
+use Rattle.sf_engine.proofs.Seats.{SeatChange, engine, seat, changed, stand_before, stand_after}
 use Rattle.sf_engine.proofs.Turning.{told_at, same_engine, any_turn_steps, is_placed}
 
 -- a session whose call is under way
@@ -43,16 +43,16 @@ abbrev pub answered : CoreView → SessionView → LaneView → AnswerView → S
 answered v x lane given = stand v x (state.Answered lane given)
 
 -- steps that moved come before further turns
-moves_give : (n : ℕ) (a : Seated) (w : CoreView) (f : Finding) (k : ℕ) (r : Result Happened EngineFault) (b : Stand)
-    → TakesMoves n a.core a.lane w → TurnsGive k (going w a.session a.lane) f r b → TurnsGive (n + k) (going a.core a.session a.lane) f r b
+moves_give : (n : ℕ) (a : Stand) (lane : LaneView) (w : CoreView) (f : Finding) (k : ℕ) (r : Result Happened EngineFault) (b : Stand)
+    → TakesMoves n a.core lane w → TurnsGive k (going w a.session lane) f r b → TurnsGive (n + k) (going a.core a.session lane) f r b
 unfolding TakesMoves TurnsGive
-moves_give zero a w f k r b moved give =
-    let here = subst (λ (u : CoreView). TurnsGive k (going u a.session a.lane) f r b) moved give in
-    subst (λ (i : ℕ). TurnsGive i (going a.core a.session a.lane) f r b) (sym (zero-add k)) here
-moves_give (suc n) a w f k r b moved give =
-    let turn : TurnGives (going moved.0 a.session a.lane) f.closed f.moment happened.Moved (going w a.session a.lane) = λ h is. let s = moved.2 h is in (s.0, s.1, ((a.lane, (s.2, refl)), refl)) in
+moves_give zero a lane w f k r b moved give =
+    let here = subst (λ (u : CoreView). TurnsGive k (going u a.session lane) f r b) moved give in
+    subst (λ (i : ℕ). TurnsGive i (going a.core a.session lane) f r b) (sym (zero-add k)) here
+moves_give (suc n) a lane w f k r b moved give =
+    let turn : TurnGives (going moved.0 a.session lane) f happened.Moved (going w a.session lane) = λ h is. let s = moved.2 h is in (s.0, s.1, ((lane, (s.2, refl)), refl)) in
     let num : n + suc k ≡ suc n + k = omega arith in
-    subst (λ (i : ℕ). TurnsGive i (going a.core a.session a.lane) f r b) num (moves_give n a moved.0 f (suc k) r b moved.1 (happened.Moved, going w a.session a.lane, refl, turn, give))
+    subst (λ (i : ℕ). TurnsGive i (going a.core a.session lane) f r b) num (moves_give n a lane moved.0 f (suc k) r b moved.1 (happened.Moved, going w a.session lane, refl, turn, give))
 
 -- steps that moved leave the lane its call
 still_own : (n : ℕ) (v w : CoreView) (lane : LaneView) (x : SessionView) → TakesMoves n v lane w → IsSeatState v x (state.UnderWay lane) → IsSeatState w x (state.UnderWay lane)
@@ -73,7 +73,7 @@ still_own (suc n) v w lane x moved own =
     )
 
 -- one turn that doesn't go on
-one_turn : (a : Stand) (f : Finding) (r : Happened) (b : Stand) → TurnGives a f.closed f.moment r b → TurnsGive 0 a f (Ok r) b
+one_turn : (a : Stand) (f : Finding) (r : Happened) (b : Stand) → TurnGives a f r b → TurnsGive 0 a f (Ok r) b
 unfolding TurnsGive
 one_turn a f r b turn = turn
 
@@ -82,7 +82,7 @@ record GoingTurn (a : Stand) (f : Finding) : Type 0 where
   happened : Happened
   mid : Stand
   goes_on : goes_on happened ≡ true
-  gives : TurnGives a f.closed f.moment happened mid
+  gives : TurnGives a f happened mid
 
 -- before other turns
 turn_before : (n : ℕ) (a : Stand) (f : Finding) (r : Result Happened EngineFault) (b : Stand) → (t : GoingTurn a f) → TurnsGive n t.mid f r b → TurnsGive (suc n) a f r b
@@ -99,29 +99,29 @@ stand_eq a b c x p =
     ap (λ (z : CoreView). stand z b.session b.place) c ∙ ap (λ (z : SessionView). stand a.core z b.place) x ∙ ap (λ (z : SeatState). stand a.core a.session z) p
 
 -- a walk that was blocked
-pub blocked_walk : (a : Seated) (f : Finding) (most holder : ℕ) (w : CoreView) (lane' : LaneView) → Walks a.core a.lane most (came (step.Blocked holder) w lane')
-    → GoesFar (going a.core a.session a.lane) f.closed f.moment (Ok (happened.Blocked holder)) (going w a.session lane')
-blocked_walk a f most holder w lane' k =
-    let mid = going k.mid a.session a.lane in
+pub blocked_walk : (a : Stand) (lane : LaneView) (f : Finding) (most holder : ℕ) (w : CoreView) (lane' : LaneView) → Walks a.core lane most (came (step.Blocked holder) w lane')
+    → GoesFar (going a.core a.session lane) f (Ok (happened.Blocked holder)) (going w a.session lane')
+blocked_walk a lane f most holder w lane' k =
+    let mid = going k.mid a.session lane in
     let end = going w a.session lane' in
-    let turn : TurnGives mid f.closed f.moment (happened.Blocked holder) end = λ h is. let s = k.last h is in (s.0, s.1, ((lane', (s.2.0, s.2.1, refl)), refl)) in
+    let turn : TurnGives mid f (happened.Blocked holder) end = λ h is. let s = k.last h is in (s.0, s.1, ((lane', (s.2.0, s.2.1, refl)), refl)) in
     record {
       turns = k.moves + 0;
-      give = moves_give k.moves a k.mid f 0 (Ok (happened.Blocked holder)) end k.moved (one_turn mid f (happened.Blocked holder) end turn);
+      give = moves_give k.moves a lane k.mid f 0 (Ok (happened.Blocked holder)) end k.moved (one_turn mid f (happened.Blocked holder) end turn);
       far = λ e. absurd cc;
     }
 
 -- a walk that made all its steps
-pub moved_walk : (a : Seated) (f : Finding) (most : ℕ) (w : CoreView) (lane' : LaneView) → most ≡ 2 ^ 64 - 1 → Walks a.core a.lane most (came step.Moved w lane')
-    → GoesFar (going a.core a.session a.lane) f.closed f.moment (Ok happened.Moved) (going w a.session lane')
-moved_walk a f most w lane' many k =
-    let mid = going k.mid a.session a.lane in
+pub moved_walk : (a : Stand) (lane : LaneView) (f : Finding) (most : ℕ) (w : CoreView) (lane' : LaneView) → most ≡ 2 ^ 64 - 1 → Walks a.core lane most (came step.Moved w lane')
+    → GoesFar (going a.core a.session lane) f (Ok happened.Moved) (going w a.session lane')
+moved_walk a lane f most w lane' many k =
+    let mid = going k.mid a.session lane in
     let end = going w a.session lane' in
-    let turn : TurnGives mid f.closed f.moment happened.Moved end = λ h is. let s = k.last h is in (s.0, s.1, ((lane', (s.2, refl)), refl)) in
+    let turn : TurnGives mid f happened.Moved end = λ h is. let s = k.last h is in (s.0, s.1, ((lane', (s.2, refl)), refl)) in
     let full : k.moves + 1 ≡ 2 ^ 64 - 1 = k.full refl ∙ many in
     record {
       turns = k.moves + 0;
-      give = moves_give k.moves a k.mid f 0 (Ok happened.Moved) end k.moved (one_turn mid f happened.Moved end turn);
+      give = moves_give k.moves a lane k.mid f 0 (Ok happened.Moved) end k.moved (one_turn mid f happened.Moved end turn);
       far = λ e. omega (arith, full);
     }
 
@@ -132,30 +132,30 @@ pub record CameToAnswer : Type 0 where
   pub answer : AnswerView
 
 -- a walk that came to an answer, and the turn that is to write it
-pub answered_walk : (a : Seated) (f : Finding) (most : ℕ) (c : CameToAnswer) (r : Result Happened EngineFault) (b : Stand)
-    → Walks a.core a.lane most (came (step.Answered c.answer) c.core c.lane) → TurnsGive 0 (answered c.core a.session c.lane c.answer) f r b × (goes_on_at r ≡ false) → GoesFar (going a.core a.session a.lane) f.closed f.moment r b
-answered_walk a f most c r b k last =
-    let mid = going k.mid a.session a.lane in
+pub answered_walk : (a : Stand) (lane : LaneView) (f : Finding) (most : ℕ) (c : CameToAnswer) (r : Result Happened EngineFault) (b : Stand)
+    → Walks a.core lane most (came (step.Answered c.answer) c.core c.lane) → TurnsGive 0 (answered c.core a.session c.lane c.answer) f r b × (goes_on_at r ≡ false) → GoesFar (going a.core a.session lane) f r b
+answered_walk a lane f most c r b k last =
+    let mid = going k.mid a.session lane in
     let waits = answered c.core a.session c.lane c.answer in
-    let turn : TurnGives mid f.closed f.moment happened.Decided waits = λ h is. let s = k.last h is in (s.0, s.1, ((c.lane, (c.answer, s.2.0, s.2.1, refl)), refl)) in
+    let turn : TurnGives mid f happened.Decided waits = λ h is. let s = k.last h is in (s.0, s.1, ((c.lane, (c.answer, s.2.0, s.2.1, refl)), refl)) in
     record {
       turns = k.moves + 1;
-      give = moves_give k.moves a k.mid f 1 r b k.moved (turn_before 0 mid f r b (record { happened = happened.Decided; mid = waits; goes_on = refl; gives = turn }) last.0);
+      give = moves_give k.moves a lane k.mid f 1 r b k.moved (turn_before 0 mid f r b (record { happened = happened.Decided; mid = waits; goes_on = refl; gives = turn }) last.0);
       far = λ e. absurd (let no : false ≡ true = sym last.1 ∙ e in cc);
     }
 
 -- that turn, where the reply was written
-pub written_turn : (a : Seated) (given : AnswerView) (f : Finding) (y : SessionView) (b : Stand)
+pub written_turn : (a : Stand) (lane : LaneView) (given : AnswerView) (f : Finding) (y : SessionView) (b : Stand)
     → IfSome a.session.waiting (λ id. y ≡ record a.session { output = a.session.output ++ packet (reply_body id given.reply); waiting = None })
-    → AddsRecords a.core b.core (λ h added. RestsOrLeaves (seated a.core y a.lane) f.closed (new_part b.core added b.session b.place)) → TurnsGive 0 (answered a.core a.session a.lane given) f (Ok happened.Wrote) b
-written_turn a given f y b wrote settles =
-    one_turn (answered a.core a.session a.lane given) f happened.Wrote b (λ h is. let g = settles h is in (g.0, g.1, (refl, (y, wrote, g.2))))
+    → AddsRecords a.core b.core (λ h added. RestsOrLeaves (stand a.core y (state.Resting lane)) lane f.closed added b) → TurnsGive 0 (answered a.core a.session lane given) f (Ok happened.Wrote) b
+written_turn a lane given f y b wrote settles =
+    one_turn (answered a.core a.session lane given) f happened.Wrote b (λ h is. let g = settles h is in (g.0, g.1, (refl, (y, wrote, g.2))))
 
 -- and where memory was wanting
-pub unwritten_turn : (a : Seated) (given : AnswerView) (f : Finding) (y : SessionView) (lane' : LaneView) → lane' ≡ a.lane → y ≡ a.session → ((id : ℕ) → reply_room < length (packet (reply_body id given.reply)))
-    → TurnsGive 0 (answered a.core a.session a.lane given) f (Err fault.OutOfMemory) (answered a.core y lane' given)
-unwritten_turn a given f y lane' same kept long =
-    let was = answered a.core a.session a.lane given in
+pub unwritten_turn : (a : Stand) (lane : LaneView) (given : AnswerView) (f : Finding) (y : SessionView) (lane' : LaneView) → lane' ≡ lane → y ≡ a.session → ((id : ℕ) → reply_room < length (packet (reply_body id given.reply)))
+    → TurnsGive 0 (answered a.core a.session lane given) f (Err fault.OutOfMemory) (answered a.core y lane' given)
+unwritten_turn a lane given f y lane' same kept long =
+    let was = answered a.core a.session lane given in
     let now = answered a.core y lane' given in
     no_turn was f now (stand_eq was now refl kept (ap (λ (l : LaneView). state.Answered l given) same)) long
 
@@ -167,18 +167,18 @@ lane_same (state.Answered own given) lane other a b = a ∙ sym b
 lane_same (state.Left cause) lane other a b = absurd a
 
 -- and what this turn asks
-pub answered_placed : (a : Seated) (most : ℕ) (c : CameToAnswer) → Walks a.core a.lane most (came (step.Answered c.answer) c.core c.lane) → IsReady (going a.core a.session a.lane) → IsSeatState c.core a.session (state.Answered c.lane c.answer)
-answered_placed a most c k ready =
-    let own = still_own k.moves a.core k.mid a.lane a.session k.moved ready.placed in
+pub answered_placed : (a : Stand) (lane : LaneView) (most : ℕ) (c : CameToAnswer) → Walks a.core lane most (came (step.Answered c.answer) c.core c.lane) → IsReady (going a.core a.session lane) → IsSeatState c.core a.session (state.Answered c.lane c.answer)
+answered_placed a lane most c k ready =
+    let own = still_own k.moves a.core k.mid lane a.session k.moved ready.placed in
     let s = k.last own.0 own.2 in
     let rests = s.2.1.lane in
-    let slot : lane_state c.core a.lane.session ≡ Idle = elim s.2.0.1 [ inl f ↦ f.slot.own | inr d ↦ d.slot ] in
+    let slot : lane_state c.core lane.session ≡ Idle = elim s.2.0.1 [ inl f ↦ f.slot.own | inr d ↦ d.slot ] in
     (ap (λ (l : LaneView). l.call) rests, ap (λ (l : LaneView). lane_state c.core l.session) rests ∙ slot, ready.waits refl)
 
 -- the lane of a call under way is no stranger
-pub no_stranger : (a : Seated) (most : ℕ) (w : CoreView) (lane' : LaneView) → Walks a.core a.lane most (came step.Stranger w lane') → IsReady (going a.core a.session a.lane) → ⊥
-no_stranger a most w lane' k ready =
-    let own = still_own k.moves a.core k.mid a.lane a.session k.moved ready.placed in
+pub no_stranger : (a : Stand) (lane : LaneView) (most : ℕ) (w : CoreView) (lane' : LaneView) → Walks a.core lane most (came step.Stranger w lane') → IsReady (going a.core a.session lane) → ⊥
+no_stranger a lane most w lane' k ready =
+    let own = still_own k.moves a.core k.mid lane a.session k.moved ready.placed in
     (k.last own.0 own.2).2.0 own.1 own.3
 
 -- a session that rests has its lane in its place
@@ -189,18 +189,18 @@ resting_lane (state.Answered lane given) rests = absurd cc
 resting_lane (state.Left cause) rests = absurd cc
 
 -- what was read, as a turn, whether the session was closed or not
-read_turn : (a : Stand) (f : Finding) (r : Happened) (b : Stand) → is_resting a.place ≡ true → TurnGives a false f.moment r b → TurnGives a f.closed f.moment r b
+read_turn : (a : Stand) (f : Finding) (r : Happened) (b : Stand) → is_resting a.place ≡ true → TurnGives a (finding false f.moment) r b → TurnGives a f r b
 read_turn a f r b rests give =
     let lane = resting_lane a.place rests in
-    let P : Bool → SeatState → Type 0 = λ closed p. AddsRecords a.core b.core (λ h added. PlaceGives (part a.core h a.session closed) p f.moment r (new_part b.core added b.session b.place)) in
+    let P : Bool → SeatState → Type 0 = λ closed p. AddsRecords a.core b.core (λ h added. GivesAt p a h (finding closed f.moment) r added b) in
     subst (P f.closed) (sym lane.1) (subst (P false) lane.1 give)
 
 -- a call that has begun can go on
-pub begun_ready : (a : Stand) (m : ℕ) (b : Stand) → is_resting a.place ≡ true → IsReady a → TurnGives a false m happened.Begun b → (is_under_way b.place ≡ true) × IsReady b
+pub begun_ready : (a : Stand) (m : ℕ) (b : Stand) → is_resting a.place ≡ true → IsReady a → TurnGives a (finding false m) happened.Begun b → (is_under_way b.place ≡ true) × IsReady b
 begun_ready a m b rests ready give =
     let lane = resting_lane a.place rests in
     let g = give ready.history ready.is_history in
-    let t = subst (λ (p : SeatState). PlaceGives (part a.core ready.history a.session false) p m happened.Begun (new_part b.core g.0 b.session b.place)) lane.1 g.2 in
+    let t = subst (λ (p : SeatState). GivesAt p a ready.history (finding false m) happened.Begun g.0 b) lane.1 g.2 in
     let P : SeatState → Type 0 = λ z. (is_under_way z ≡ true) × IsReady (stand b.core b.session z) in
     let waits : b.session.waiting ≡ Some t.1.1.id = ap (λ (z : SessionView). z.waiting) t.1.1.now in
     subst P (sym t.4) (
@@ -214,8 +214,8 @@ begun_ready a m b rests ready give =
     )
 
 -- and its turns come after that one
-pub begun_far : (a : Stand) (f : Finding) (b : Stand) (last : Result Happened EngineFault) (end : Stand) → is_resting a.place ≡ true → TurnGives a false f.moment happened.Begun b
-    → GoesFar b f.closed f.moment last end → GoesFar a f.closed f.moment last end
+pub begun_far : (a : Stand) (f : Finding) (b : Stand) (last : Result Happened EngineFault) (end : Stand) → is_resting a.place ≡ true → TurnGives a (finding false f.moment) happened.Begun b
+    → GoesFar b f last end → GoesFar a f last end
 begun_far a f b last end rests give k = record {
   turns = suc k.turns;
   give = turn_before k.turns a f last end (record { happened = happened.Begun; mid = b; goes_on = refl; gives = read_turn a f happened.Begun b rests give }) k.give;
@@ -223,72 +223,65 @@ begun_far a f b last end rests give k = record {
 }
 
 -- else the session's call doesn't go on
-read_ends : (b : Seated) (m : ℕ) (r : Happened) (a : NewPart) → ReadGives b m r a → r ≢ happened.Begun → goes_on r ≡ true → ⊥
-read_ends b m happened.Begun a g other e = other refl
-read_ends b m happened.Moved a g other e = g
-read_ends b m happened.Decided a g other e = g
-read_ends b m _ a g other e = absurd cc
+read_ends : (a : Stand) (lane : LaneView) (m : ℕ) (r : Happened) (added : List Record) (b : Stand) → ReadGives a lane m r added b → r ≢ happened.Begun → goes_on r ≡ true → ⊥
+read_ends a lane m happened.Begun added b g other e = other refl
+read_ends a lane m happened.Moved added b g other e = g
+read_ends a lane m happened.Decided added b g other e = g
+read_ends a lane m _ added b g other e = absurd cc
 
 -- what else was read
-pub read_far : (a : Stand) (f : Finding) (r : Happened) (b : Stand) → is_resting a.place ≡ true → IsReady a → TurnGives a false f.moment r b → r ≢ happened.Begun → GoesFar a f.closed f.moment (Ok r) b
+pub read_far : (a : Stand) (f : Finding) (r : Happened) (b : Stand) → is_resting a.place ≡ true → IsReady a → TurnGives a (finding false f.moment) r b → r ≢ happened.Begun → GoesFar a f (Ok r) b
 read_far a f r b rests ready give other =
     let lane = resting_lane a.place rests in
     let g = give ready.history ready.is_history in
-    let read = subst (λ (p : SeatState). PlaceGives (part a.core ready.history a.session false) p f.moment r (new_part b.core g.0 b.session b.place)) lane.1 g.2 in
+    let read = subst (λ (p : SeatState). GivesAt p a ready.history (finding false f.moment) r g.0 b) lane.1 g.2 in
     record {
       turns = 0;
       give = one_turn a f r b (read_turn a f r b rests give);
-      far = λ e. absurd (read_ends (seated a.core a.session lane.0) f.moment r (new_part b.core g.0 b.session b.place) read other e);
+      far = λ e. absurd (read_ends a lane.0 f.moment r g.0 b read other e);
     }
 
 -- nothing was read, for want of memory
-pub unread_far : (a : Stand) (f : Finding) (b : Stand) → is_resting a.place ≡ true → b ≡ a → GoesFar a f.closed f.moment (Err fault.OutOfMemory) b
+pub unread_far : (a : Stand) (f : Finding) (b : Stand) → is_resting a.place ≡ true → b ≡ a → GoesFar a f (Err fault.OutOfMemory) b
 unread_far a f b rests same =
     let lane = resting_lane a.place rests in
     record { turns = 0; give = no_turn a f b same (subst MayRefuseTurn (sym lane.1) tt); far = λ e. absurd cc }
 
 -- what a turn of a session gives, or that memory was wanting
 pub record TurnAnswers (a : Stand) (f : Finding) (r : Result Happened EngineFault) (b : Stand) : Type 0 where
-  pub ok : IfOk r (λ k. TurnGives a f.closed f.moment k b)
+  pub ok : IfOk r (λ k. TurnGives a f k b)
   pub err : OnErr r ((b.place ≡ a.place) × (b.core ≡ a.core) × (b.session ≡ a.session))
   pub fault : IfErr r (λ f. (f ≡ fault.OutOfMemory) × MayRefuseTurn a.place)
 
 -- one turn of a session whose answer waits
-pub answer_far : (a : Stand) (f : Finding) (r : Result Happened EngineFault) (b : Stand) (lane : LaneView) (given : AnswerView) → a.place ≡ state.Answered lane given → IsReady a → TurnAnswers a f r b → GoesFar a f.closed f.moment r b
+pub answer_far : (a : Stand) (f : Finding) (r : Result Happened EngineFault) (b : Stand) (lane : LaneView) (given : AnswerView) → a.place ≡ state.Answered lane given → IsReady a → TurnAnswers a f r b → GoesFar a f r b
 answer_far a f (Ok r) b lane given waits ready t =
     let g = t.ok ready.history ready.is_history in
-    let wrote = (subst (λ (o : SeatState). PlaceGives (part a.core ready.history a.session f.closed) o f.moment r (new_part b.core g.0 b.session b.place)) waits g.2).0 in
+    let wrote = (subst (λ (o : SeatState). GivesAt o a ready.history f r g.0 b) waits g.2).0 in
     record { turns = 0; give = one_turn a f r b t.ok; far = λ e. absurd (let no : false ≡ true = ap goes_on (sym wrote) ∙ e in cc) }
 answer_far a f (Err e) b lane given waits ready t =
-    let P : EngineFault → Type 0 = λ z. GoesFar a f.closed f.moment (Err z) b in
+    let P : EngineFault → Type 0 = λ z. GoesFar a f (Err z) b in
     let why = t.fault in
     subst P (sym why.0) (record { turns = 0; give = no_turn a f b (stand_eq a b t.err.1 t.err.2 t.err.0) why.1; far = λ e. absurd cc })
 
 -- one turn of a session that left
-pub left_far : (v : CoreView) (x : SessionView) (cause : Cause) (closed : Bool) (m : ℕ) → GoesFar (stand v x (state.Left cause)) closed m (Ok (happened.Ended cause)) (stand v x (state.Left cause))
-left_far v x cause closed m =
+pub left_far : (v : CoreView) (x : SessionView) (cause : Cause) (f : Finding) → GoesFar (stand v x (state.Left cause)) f (Ok (happened.Ended cause)) (stand v x (state.Left cause))
+left_far v x cause f =
     let a = stand v x (state.Left cause) in
-    let turn : TurnGives a closed m (happened.Ended cause) a = λ h is. ([], subst (λ (l : List Record). IsHistory v l) (sym (append-nil h)) is, (refl, refl, refl, refl, refl)) in
-    record { turns = 0; give = one_turn a (finding closed m) (happened.Ended cause) a turn; far = λ e. absurd cc }
-
--- the session before a change of its seat, and after it
-abbrev pub stand_before : SeatChange → Stand
-stand_before s = stand s.old.core s.was.session s.was.place
-
-abbrev pub stand_after : SeatChange → Stand
-stand_after s = stand s.core s.now.session s.now.place
+    let turn : TurnGives a f (happened.Ended cause) a = λ h is. ([], subst (λ (l : List Record). IsHistory v l) (sym (append-nil h)) is, (refl, refl, refl, refl, refl)) in
+    record { turns = 0; give = one_turn a f (happened.Ended cause) a turn; far = λ e. absurd cc }
 
 -- a turn of an engine for each of a session's, and an engine stays one
 pub turns_trace : (n : ℕ) (s : SeatChange) (m : ℕ) (r : Result Happened EngineFault) → s.now.closed ≡ s.was.closed → TurnsGive n (stand_before s) (finding s.was.closed m) r (stand_after s)
     → HasTurns n s.old (event.Turn s.session m) r (changed s) × (IsEngine s.old.core s.old.seats → IsEngine s.core (slice_set s.old.seats s.at s.now))
 unfolding TurnsGive HasTurns
 turns_trace zero s m (Ok r) closed give =
-    let does = any_turn_steps s m (Ok r) (record { ok = λ h is. let g = give h is in (g.0, g.1, (g.2, closed)); err = tt; fault = tt }) in
+    let does = any_turn_steps s m (Ok r) (record { ok = give; closed = closed; err = tt; fault = tt }) in
     ((goes_on_trace s.old (event.Turn s.session m) (Ok r) (changed s) does, tt), stays_engine s.old (event.Turn s.session m) (Ok r) (changed s) does)
 turns_trace zero s m (Err f) closed give =
     let core : s.core ≡ s.old.core = ap (λ (z : Stand). z.core) give.0 in
     let same : s.now ≡ s.was = ap (λ (z : Stand). seat z.session z.place s.now.closed) give.0 ∙ ap (λ (b : Bool). seat s.was.session s.was.place b) closed in
-    let does = any_turn_steps s m (Err f) (record { ok = tt; err = (core, same); fault = (give.1, give.2) }) in
+    let does = any_turn_steps s m (Err f) (record { ok = tt; closed = closed; err = (core, same); fault = (give.1, give.2) }) in
     ((goes_on_trace s.old (event.Turn s.session m) (Err f) (changed s) does, same_engine s core same), stays_engine s.old (event.Turn s.session m) (Err f) (changed s) does)
 turns_trace (suc n) s m r closed give =
     let h : Happened = give.0 in
@@ -297,7 +290,7 @@ turns_trace (suc n) s m r closed give =
     let between : Seat = seat mid.session mid.place s.was.closed in
     let first : SeatChange = record s { core = mid.core; now = between } in
     let others : SeatChange = record { old = changed first; at = s.at; session = s.session; was = between; core = s.core; now = s.now; number = s.number; stood = get_set_same seats s.at s.was between s.stood } in
-    let does = any_turn_steps first m (Ok h) (record { ok = λ k is. let g = give.3 k is in (g.0, g.1, (g.2, refl)); err = tt; fault = tt }) in
+    let does = any_turn_steps first m (Ok h) (record { ok = give.3; closed = refl; err = tt; fault = tt }) in
     let rest = turns_trace n others m r closed give.4 in
     let once : slice_set (slice_set seats s.at between) s.at s.now ≡ slice_set seats s.at s.now = set_twice seats s.at between s.now in (
       (changed first, h, goes_on_trace s.old (event.Turn s.session m) (Ok h) (changed first) does, give.2, subst (λ (z : List Seat). HasTurns n (changed first) (event.Turn s.session m) r (engine s.core z)) once rest.0),

@@ -15,7 +15,6 @@ pub mod Feeding
 pub mod Opening
 pub mod Running
 pub mod Telling
-pub mod Quiet
 pub mod Waiting
 pub mod Orders
 pub mod Reading

@@ -19,7 +19,7 @@ use Rattle.sf_engine.specs.declared.event.Happened.{Happened}
 use Rattle.sf_engine.specs.declared.event.Happened.TheVariants as happened
 use Rattle.sf_engine.specs.declared.event.EngineFault.{EngineFault}
 use Rattle.sf_engine.specs.Traces.{goes_on_at}
-use Rattle.sf_engine.specs.Turns.{PlaceGives, IsSeatState, is_resting, Stand, stand, part, new_part, IsReady, TurnGives, TurnsGive, GoesFar, Finding, seated}
+use Rattle.sf_engine.specs.Turns.{GivesAt, IsSeatState, is_resting, Stand, stand, IsReady, TurnGives, TurnsGive, GoesFar, Finding, finding}
 use Rattle.sf_engine.proofs.Chains.{CameToAnswer, going, answered, begun_ready, begun_far, answered_walk, answered_placed}
 
 -- one step is a walk
@@ -51,27 +51,27 @@ pub record CallBegun (a : CallAsked) (m : ℕ) : Type 0 where
 abbrev pub begun_stand : (a : CallAsked) → CoreView → Stand
 begun_stand a w = going w a.session (begun a.lane w.drawn)
 
-pub begun_turn : (a : CallAsked) (m : ℕ) (b : CallBegun a m) → TurnGives a.from false m happened.Begun (begun_stand a b.core)
+pub begun_turn : (a : CallAsked) (m : ℕ) (b : CallBegun a m) → TurnGives a.from (finding false m) happened.Begun (begun_stand a b.core)
 begun_turn a m b = λ h is. (
   [],
   subst (λ (l : List Record). IsHistory b.core l) (sym (append-nil h)) (b.history h is),
-  subst (λ (p : SeatState). PlaceGives (part a.from.core h a.from.session false) p m happened.Begun (new_part b.core [] a.session (state.UnderWay (begun a.lane b.core.drawn)))) (sym a.at) (a.request, a.gave, b.begins, refl, refl),
+  subst (λ (p : SeatState). GivesAt p a.from h (finding false m) happened.Begun [] (begun_stand a b.core)) (sym a.at) (a.request, a.gave, b.begins, refl, refl),
 )
 
 pub can_go_on : (a : CallAsked) (m : ℕ) (b : CallBegun a m) → IsReady a.from → IsReady (begun_stand a b.core)
 can_go_on a m b ready = (begun_ready a.from m (begun_stand a b.core) (rests a) ready (begun_turn a m b)).1
 
-pub goes_far : (a : CallAsked) (f : Finding) (b : CallBegun a f.moment) (last : Result Happened EngineFault) (end : Stand) → GoesFar (begun_stand a b.core) f.closed f.moment last end → GoesFar a.from f.closed f.moment last end
+pub goes_far : (a : CallAsked) (f : Finding) (b : CallBegun a f.moment) (last : Result Happened EngineFault) (end : Stand) → GoesFar (begun_stand a b.core) f last end → GoesFar a.from f last end
 goes_far a f b last end far = begun_far a.from f (begun_stand a b.core) last end (rests a) (begun_turn a f.moment b) far
 
 -- it is refused
 pub refused_turn : (a : CallAsked) (m : ℕ) (f : CoreFault) (z : SessionView) → RefusesBegin a.from.core a.lane f
     → IfSome a.session.waiting (λ id. z ≡ record a.session { output = a.session.output ++ packet_of (reply_body id (refusal_of f)); waiting = None })
-    → TurnGives a.from false m happened.Wrote (stand a.from.core z (state.Resting a.lane))
+    → TurnGives a.from (finding false m) happened.Wrote (stand a.from.core z (state.Resting a.lane))
 refused_turn a m f z refused wrote = λ h is. (
   [],
   subst (λ (l : List Record). IsHistory a.from.core l) (sym (append-nil h)) is,
-  subst (λ (p : SeatState). PlaceGives (part a.from.core h a.from.session false) p m happened.Wrote (new_part a.from.core [] z (state.Resting a.lane))) (sym a.at) (inr (a.request, a.session, f, a.gave, refused, wrote), refl, refl, refl),
+  subst (λ (p : SeatState). GivesAt p a.from h (finding false m) happened.Wrote [] (stand a.from.core z (state.Resting a.lane))) (sym a.at) (inr (a.request, a.session, f, a.gave, refused, wrote), refl, refl, refl),
 )
 
 -- it is answered at once
@@ -86,10 +86,10 @@ walks a m c made = walk_of_one made.mid c.core (begun a.lane made.mid.drawn) c.l
 
 pub placed_at_once : (a : CallAsked) (m : ℕ) (c : CameToAnswer) → IsAnsweredAtOnce a m c → IsReady a.from → IsSeatState c.core a.session (state.Answered c.lane c.answer)
 unfolding began
-placed_at_once a m c made ready = answered_placed (seated made.mid a.session (begun a.lane made.mid.drawn)) 1 c (walks a m c made) (can_go_on a m (began a m c made) ready)
+placed_at_once a m c made ready = answered_placed (begun_stand a made.mid) (begun a.lane made.mid.drawn) 1 c (walks a m c made) (can_go_on a m (began a m c made) ready)
 
 pub far_at_once : (a : CallAsked) (f : Finding) (c : CameToAnswer) → IsAnsweredAtOnce a f.moment c → (last : Result Happened EngineFault) (end : Stand)
-    → TurnsGive 0 (answered c.core a.session c.lane c.answer) f last end × (goes_on_at last ≡ false) → GoesFar a.from f.closed f.moment last end
+    → TurnsGive 0 (answered c.core a.session c.lane c.answer) f last end × (goes_on_at last ≡ false) → GoesFar a.from f last end
 unfolding began
 far_at_once a f c made last end give =
-    goes_far a f (began a f.moment c made) last end (answered_walk (seated made.mid a.session (begun a.lane made.mid.drawn)) f 1 c last end (walks a f.moment c made) give)
+    goes_far a f (began a f.moment c made) last end (answered_walk (begun_stand a made.mid) (begun a.lane made.mid.drawn) f 1 c last end (walks a f.moment c made) give)

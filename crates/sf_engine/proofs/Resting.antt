@@ -26,9 +26,9 @@ use Rattle.sf_session.specs.Responses.{Response, Version, Locally, Refused, ask_
 use Rattle.sf_session.specs.SessionStates.{Resting, UnderWay, SessionState, with_phase, left_for}
 use Rattle.sf_engine.specs.Worlds.{World}
 use Rattle.sf_engine.specs.Traces.{IsAtOnce, RestLeads, calls_begun}
-use Rattle.sf_engine.specs.Turns.{seated, ReadGives}
+use Rattle.sf_engine.specs.Turns.{ReadGives}
 use Rattle.sf_engine.specs.Fits.{HasNoCall, SeatAgrees}
-use Rattle.sf_engine.proofs.Seats.{SeatEvent, IsTold, IsUnmoved, seat, number, in_phase, turn_to, left_by}
+use Rattle.sf_engine.proofs.Seats.{SeatEvent, IsTold, IsUnmoved, seat, number, in_phase, turn_to, stand_before, stand_after}
 use Rattle.sf_engine.proofs.Moving.{Moves, Turned, moves_none, here_in}
 use Rattle.sf_session.proofs.Laws.{begun_push}
 
@@ -127,7 +127,7 @@ once_refused w v lane id request core.Sessions drawn idle h = h
 once_refused w v lane id request core.Stranger drawn idle h = absurd (h idle)
 
 -- a turn of a resting session
-pub rest_turned : (e : SeatEvent) (m : ℕ) (r : Happened) → (is : IsTold (in_phase e Resting)) → e.seat.now.closed ≡ e.seat.was.closed → ReadGives (seated e.seat.old.core e.seat.was.session is.seat.at.lane) m r (left_by e)
+pub rest_turned : (e : SeatEvent) (m : ℕ) (r : Happened) → (is : IsTold (in_phase e Resting)) → e.seat.now.closed ≡ e.seat.was.closed → ReadGives (stand_before e.seat) is.seat.at.lane m r e.added (stand_after e.seat)
     → Turned (in_phase e Resting) (calls_begun r) (λ t'. RestLeads m (turn_to (in_phase e Resting) t') r)
 rest_turned e m happened.Idle is closed g =
     let h = is.seat in

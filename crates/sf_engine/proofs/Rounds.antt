@@ -7,6 +7,7 @@ use Rattle.std.proofs.lemmas.Option.{slice_get_within, get_or_from_slice_get}
 use Rattle.std.proofs.lemmas.List.{length-take-le, take_more, take_all}
 use Rattle.std.proofs.lemmas.List.Sums.{sum_by_more}
 use Rattle.sf_call.specs.declared.call.Call.{Call}
+use Rattle.sf_call.specs.declared.record.Record.{Record}
 use Rattle.sf_session.specs.Sessions.{SessionView}
 use Rattle.sf_core.specs.Cores.LaneState.{NoLane, Idle, Busy}
 use Rattle.sf_core.specs.Cores.{CoreView, lane_state}
@@ -25,9 +26,9 @@ use Rattle.sf_engine.specs.Worlds.{TraceEntry, World}
 use Rattle.sf_session.specs.SessionStates.{Phase, Resting, UnderWay, Decided, Gone, SessionState}
 use Rattle.sf_engine.specs.Traces.{IsSession, Turn, Walking, walking, StepLeads, TurnLeads, MayRefuse, MayWantMemory}
 use Rattle.sf_engine.specs.Turns.{is_under_way}
-use Rattle.sf_engine.specs.Works.{Passage, IsStep}
+use Rattle.sf_engine.specs.Works.{IsStep}
 use Rattle.sf_engine.specs.Views.{EngineView}
-use Rattle.sf_engine.specs.Fits.{IsEngine, PlaceAgrees, Agrees, Fits, GoesOnTrace, trace_entry, passage}
+use Rattle.sf_engine.specs.Fits.{IsEngine, PlaceAgrees, Agrees, Fits, GoesOnTrace, trace_entry}
 use Rattle.sf_engine.specs.Rounds.{is_unanswered, under_way_from, under_way, AreUnderWay, HasSteps, IsRound, HasRounds, bound_at, bounds, IsWithinBounds, left_to}
 use Rattle.sf_engine.proofs.Moving.{get_within, get_set_other}
 use Rattle.sf_engine.proofs.Waiting.{told_of_none}
@@ -151,51 +152,51 @@ abbrev pub StepDoes : CoreView → ℕ → CoreView → Type 0
 StepDoes v s w = (SameSlots v w × ((c : Call) → lane_state v s ≡ Busy c → Waits v c))
     ⊎ ((n : ℕ) → s < n → left_below w n < left_below v n)
 
-does : (x : Turn) (call : Walking) (s m : ℕ) (p : Passage) (h : Happened) → StepLeads x call h → IsStep (event.Turn s m) (Ok h) p → StepDoes p.old s p.new
-does x call s m p happened.Moved leads step =
+does : (x : Turn) (call : Walking) (s m : ℕ) (v : CoreView) (h added : List Record) (w : CoreView) (r : Happened) → StepLeads x call r → IsStep (event.Turn s m) (Ok r) v h added w → StepDoes v s w
+does x call s m v h added w happened.Moved leads step =
     let own : step.0.session ≡ s = step.2 in
-    let before : Before = record { core = p.old; history = p.history; lane = step.0 } in
-    let after : After = record { core = p.new; added = p.added; lane = step.1 } in
+    let before : Before = record { core = v; history = h; lane = step.0 } in
+    let after : After = record { core = w; added = added; lane = step.1 } in
     elim step.3 [
-      | inl go ↦ inr (λ n below. goes_falls p.old p.new step.0 go.0.0 go.0.1 n go.0.2 (omega (arith, below, own)))
+      | inl go ↦ inr (λ n below. goes_falls v w step.0 go.0.0 go.0.1 n go.0.2 (omega (arith, below, own)))
       | inr other ↦ elim other [
-        | inl w ↦ inr (λ n below. writes_falls before after w.0 w.1 w.2 n w.3 (omega (arith, below, own)))
-        | inr b ↦ inr (λ n below. copies_falls p.old p.new step.0 b.0.0 b.0.1 n b.0.2 (omega (arith, below, own)))
+        | inl d ↦ inr (λ n below. writes_falls before after d.0 d.1 d.2 n d.3 (omega (arith, below, own)))
+        | inr b ↦ inr (λ n below. copies_falls v w step.0 b.0.0 b.0.1 n b.0.2 (omega (arith, below, own)))
       ]
     ]
-does x call s m p (happened.Blocked holder) leads step =
+does x call s m v h added w (happened.Blocked holder) leads step =
     let own : step.0.session ≡ s = step.2 in
     let b = step.3.1 in (
-    let waits : SameSlots p.old p.new × ((c : Call) → lane_state p.old s ≡ Busy c → Waits p.old c) = (
+    let waits : SameSlots v w × ((c : Call) → lane_state v s ≡ Busy c → Waits v c) = (
       b.looks.slots,
       λ c busy.
-          let same = one_call p.old s step.0.session c step.3.0 (sym own) busy b.own.slot in
+          let same = one_call v s step.0.session c step.3.0 (sym own) busy b.own.slot in
           record { other = b.other; call = b.call; slot = b.slot; deeper = subst (λ (z : Call). IsBehind z b.call) (sym same) b.deeper },
     ) in
     inl waits
     )
-does x call s m p happened.Decided leads step =
+does x call s m v h added w happened.Decided leads step =
     let own : step.0.session ≡ s = step.2 in
-    let before : Before = record { core = p.old; history = p.history; lane = step.0 } in
-    let after : After = record { core = p.new; added = p.added; lane = step.1 } in
+    let before : Before = record { core = v; history = h; lane = step.0 } in
+    let after : After = record { core = w; added = added; lane = step.1 } in
     elim step.3.2 [
       | inl f ↦ inr (λ n below. fetches_falls before after step.3.0 step.3.1 n f (omega (arith, below, own)))
       | inr d ↦ inr (λ n below. decides_falls before after step.3.0 step.3.1 n d (omega (arith, below, own)))
     ]
-does x call s m p (happened.Opened k) leads step = absurd leads
-does x call s m p happened.Fed leads step = absurd leads
-does x call s m p happened.Wrote leads step = absurd leads
-does x call s m p happened.Begun leads step = absurd leads
-does x call s m p happened.Idle leads step = absurd leads
-does x call s m p (happened.Ended k) leads step = absurd leads
-does x call s m p happened.Closed leads step = absurd leads
-does x call s m p happened.Sent leads step = absurd leads
+does x call s m v h added w (happened.Opened k) leads step = absurd leads
+does x call s m v h added w happened.Fed leads step = absurd leads
+does x call s m v h added w happened.Wrote leads step = absurd leads
+does x call s m v h added w happened.Begun leads step = absurd leads
+does x call s m v h added w happened.Idle leads step = absurd leads
+does x call s m v h added w (happened.Ended k) leads step = absurd leads
+does x call s m v h added w happened.Closed leads step = absurd leads
+does x call s m v h added w happened.Sent leads step = absurd leads
 
-phase_does : (x : Turn) (f : Phase) (s m : ℕ) (p : Passage) (h : Happened) → is_unanswered f ≡ true → TurnLeads m x f h → IsStep (event.Turn s m) (Ok h) p → StepDoes p.old s p.new
-phase_does x Resting s m p h under leads step = absurd (let no : false ≡ true = under in cc)
-phase_does x (UnderWay id n k q moves) s m p h under leads step = does x (walking id n k q moves) s m p h leads step
-phase_does x (Decided id n q given) s m p h under leads step = absurd (let no : false ≡ true = under in cc)
-phase_does x (Gone cause) s m p h under leads step = absurd (let no : false ≡ true = under in cc)
+phase_does : (x : Turn) (f : Phase) (s m : ℕ) (v : CoreView) (h added : List Record) (w : CoreView) (r : Happened) → is_unanswered f ≡ true → TurnLeads m x f r → IsStep (event.Turn s m) (Ok r) v h added w → StepDoes v s w
+phase_does x Resting s m v h added w r under leads step = absurd (let no : false ≡ true = under in cc)
+phase_does x (UnderWay id n k q moves) s m v h added w r under leads step = does x (walking id n k q moves) s m v h added w r leads step
+phase_does x (Decided id n q given) s m v h added w r under leads step = absurd (let no : false ≡ true = under in cc)
+phase_does x (Gone cause) s m v h added w r under leads step = absurd (let no : false ≡ true = under in cc)
 
 -- a step is never refused
 never_wants : (f : Phase) → is_unanswered f ≡ true → MayWantMemory f → ⊥
@@ -248,7 +249,7 @@ stepped e e' at (Ok h) u turn =
       fits = o.1;
       count = ap (λ (z : World). length z.sessions) l.4 ∙ length-set fits.world.sessions (at + 1 - 1) l.1;
       others = λ i ne. ap (λ (z : World). slice_get z.sessions i) l.4 ∙ get_set_other fits.world.sessions (at + 1 - 1) i l.1 (λ e. ne (e ∙ num));
-      does = phase_does (record { world = fits.world; session = at + 1; told = l.0; added = o.0; now = l.1 }) l.0.phase (at + 1) 0 (passage e fits.world.records o.0 e') h still l.3 o.3;
+      does = phase_does (record { world = fits.world; session = at + 1; told = l.0; added = o.0; now = l.1 }) l.0.phase (at + 1) 0 e.core fits.world.records o.0 e'.core h still l.3 o.3;
     }
 stepped e e' at (Err f) u turn =
     let fits = u.fits in

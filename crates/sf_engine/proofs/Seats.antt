@@ -11,7 +11,7 @@ use Rattle.sf_engine.specs.declared.seat.SeatState.{SeatState}
 use Rattle.sf_session.specs.SessionStates.{Phase, UnderWay, SessionState, with_phase}
 use Rattle.sf_engine.specs.Worlds.{World}
 use Rattle.sf_engine.specs.Traces.{IsSession, Turn, Walking}
-use Rattle.sf_engine.specs.Turns.{Part, NewPart, part, new_part}
+use Rattle.sf_engine.specs.Turns.{Stand, stand}
 use Rattle.sf_engine.specs.Views.{EngineView}
 use Rattle.sf_engine.specs.Fits.{SeatAgrees, Agrees}
 
@@ -42,6 +42,13 @@ changed s = engine s.core (slice_set s.old.seats s.at s.now)
 -- the number of the session, by the seat's place
 abbrev pub number : SeatChange → ℕ
 number s = s.at + 1
+
+-- the session before a change of its seat, and after it
+abbrev pub stand_before : SeatChange → Stand
+stand_before s = stand s.old.core s.was.session s.was.place
+
+abbrev pub stand_after : SeatChange → Stand
+stand_after s = stand s.core s.now.session s.now.place
 
 -- A call as its record tells it.
 pub record CallTold : Type 0 where
@@ -83,13 +90,6 @@ turn_to e now = record {
   added = e.added;
   now = now;
 }
-
--- the core and the session before the event, and after it
-abbrev pub part_of : SeatEvent → Part
-part_of e = part e.seat.old.core e.world.records e.seat.was.session e.seat.was.closed
-
-abbrev pub left_by : SeatEvent → NewPart
-left_by e = new_part e.seat.core e.added e.seat.now.session e.seat.now.place
 
 -- before the event the engine agreed with the world, and the seat with what is told of its session
 pub record IsTold (e : SeatEvent) : Type 0 where

@@ -20,36 +20,36 @@ use Rattle.sf_reply.specs.declared.reply.Reply.{Reply}
 use Rattle.sf_reply.specs.Replies.{reply_body}
 use Rattle.sf_session.specs.Sessions.{reply_room}
 use Rattle.sf_engine.specs.Traces.{TurnLeads, walking, calls_begun, IsSession, IsNoSession, MayRefuse, MayWantMemory}
-use Rattle.sf_engine.specs.Turns.{AddsRecords, part, new_part, PlaceGives, CloseGives, IsSeatState, MayRefuseTurn}
-use Rattle.sf_engine.specs.Works.{Passage, IsStep, IsWork}
+use Rattle.sf_engine.specs.Turns.{AddsRecords, finding, GivesAt, PlaceGives, TurnGives, CloseGives, IsSeatState, MayRefuseTurn}
+use Rattle.sf_engine.specs.Works.{IsStep, IsWork}
 use Rattle.sf_engine.specs.Views.{EngineView}
-use Rattle.sf_engine.specs.Fits.{HasNoCall, IsGoing, HasAnswer, PlaceAgrees, SeatAgrees, Agrees, passage, reply_due}
+use Rattle.sf_engine.specs.Fits.{HasNoCall, IsGoing, HasAnswer, PlaceAgrees, SeatAgrees, Agrees, reply_due}
 use Rattle.sf_engine.proofs.Tracing.{Steps}
 use Rattle.sf_engine.proofs.Working.{same_work, turn_works, close_same}
-use Rattle.sf_engine.proofs.Seats.{SeatChange, SeatEvent, IsTold, engine, number, changed, in_phase, turn_to, part_of, left_by}
+use Rattle.sf_engine.proofs.Seats.{SeatChange, SeatEvent, IsTold, engine, number, changed, in_phase, turn_to, stand_before, stand_after}
 use Rattle.sf_engine.proofs.Moving.{Turned, get_within, set_same, keeps_agrees}
 use Rattle.sf_engine.proofs.Resting.{rest_turned, unchanged_turned}
 use Rattle.sf_engine.proofs.TurnsUnderWay.{step_turned}
 use Rattle.sf_engine.proofs.Writing.{CloseLeads, write_turned, close_turned}
 
 -- a turn of a session, by how far it is
-phase_turned : (e : SeatEvent) (f : Phase) (m : ℕ) (r : Happened) → IsTold (in_phase e f) → e.seat.now.closed ≡ e.seat.was.closed → PlaceGives (part_of e) e.seat.was.place m r (left_by e)
+phase_turned : (e : SeatEvent) (f : Phase) (m : ℕ) (r : Happened) → IsTold (in_phase e f) → e.seat.now.closed ≡ e.seat.was.closed → PlaceGives (stand_before e.seat) e.world.records (finding e.seat.was.closed m) r e.added (stand_after e.seat)
     → Turned (in_phase e f) (calls_begun r) (λ t'. TurnLeads m (turn_to (in_phase e f) t') f r)
 phase_turned e Resting m r is closed g =
     let at : HasNoCall e.seat.old.core (number e.seat) e.seat.was.session e.seat.was.place = is.seat.at in
-    rest_turned e m r is closed (subst (λ (z : SeatState). PlaceGives (part_of e) z m r (left_by e)) at.place_is g)
+    rest_turned e m r is closed (subst (λ (z : SeatState). GivesAt z (stand_before e.seat) e.world.records (finding e.seat.was.closed m) r e.added (stand_after e.seat)) at.place_is g)
 phase_turned e (UnderWay id n k request moves) m r is closed g =
     let at : IsGoing e.seat.old.core (number e.seat) e.seat.was.session (walking id n k request moves) e.seat.was.place = is.seat.at in
-    let g' = subst (λ (z : SeatState). PlaceGives (part_of e) z m r (left_by e)) at.place_is g in
+    let g' = subst (λ (z : SeatState). GivesAt z (stand_before e.seat) e.world.records (finding e.seat.was.closed m) r e.added (stand_after e.seat)) at.place_is g in
     step_turned e (walking id n k request moves) r is (record { session = g'.1; closed = closed }) g'.0.0 g'.0.1
 phase_turned e (Decided id n request given) m r is closed g =
     let at : HasAnswer e.seat.old.core (number e.seat) e.seat.was.session (reply_due id given) e.seat.was.place = is.seat.at in
-    let g' = subst (λ (z : SeatState). PlaceGives (part_of e) z m r (left_by e)) at.place_is g in
+    let g' = subst (λ (z : SeatState). GivesAt z (stand_before e.seat) e.world.records (finding e.seat.was.closed m) r e.added (stand_after e.seat)) at.place_is g in
     let f = Decided id n request given in
     let P : Happened → Type 0 = λ z. Turned (in_phase e f) (calls_begun z) (λ t'. TurnLeads m (turn_to (in_phase e f) t') f z) in
     subst P (sym g'.0) (write_turned e m (record { id = id; number = n; request = request; reply = given }) is closed g'.1)
 phase_turned e (Gone cause) m r is closed g =
-    let g' = subst (λ (z : SeatState). PlaceGives (part_of e) z m r (left_by e)) is.seat.at.0 g in
+    let g' = subst (λ (z : SeatState). GivesAt z (stand_before e.seat) e.world.records (finding e.seat.was.closed m) r e.added (stand_after e.seat)) is.seat.at.0 g in
     let f = Gone cause in
     let P : Happened → Type 0 = λ z. Turned (in_phase e f) (calls_begun z) (λ t'. TurnLeads m (turn_to (in_phase e f) t') f z) in
     subst P (sym g'.0) (unchanged_turned (in_phase e f) (λ t'. TurnLeads m (turn_to (in_phase e f) t') f (happened.Ended cause)) is.seat
@@ -74,9 +74,8 @@ by_number s ev r w steps = subst (λ (k : ℕ). Steps s.old (ev k) r (changed s)
 
 -- what a turn of a seat gives: records are added, or nothing changes
 pub record TurnsSeat (s : SeatChange) (m : ℕ) (r : Result Happened EngineFault) : Type 0 where
-  pub ok : IfOk r (λ k. AddsRecords s.old.core s.core (λ h added.
-      PlaceGives (part s.old.core h s.was.session s.was.closed) s.was.place m k
-      (new_part s.core added s.now.session s.now.place) × (s.now.closed ≡ s.was.closed)))
+  pub ok : IfOk r (λ k. TurnGives (stand_before s) (finding s.was.closed m) k (stand_after s))
+  pub closed : s.now.closed ≡ s.was.closed
   pub err : OnErr r ((s.core ≡ s.old.core) × (s.now ≡ s.was))
   pub fault : IfErr r (λ f. (f ≡ fault.OutOfMemory) × MayRefuseTurn s.was.place)
 
@@ -86,8 +85,8 @@ turn_steps s m r gives w agrees =
     let g = gives.ok w.records agrees.history in
     let t = told_of s w g.0 agrees in
     let e : SeatEvent = record { world = w; told = t.0; seat = s; added = g.0 } in
-    let does = turn_works (part_of e) s.was.place (number s) m t.0.phase r (left_by e) t.1.seat.at g.2.0 in
-    let o : Turned e (calls_begun r) (λ t'. TurnLeads m (turn_to e t') t.0.phase r) = phase_turned e t.0.phase m r t.1 g.2.1 g.2.0 in
+    let does = turn_works (stand_before s) w.records (finding s.was.closed m) (number s) t.0.phase r g.0 (stand_after s) t.1.seat.at g.2 in
+    let o : Turned e (calls_begun r) (λ t'. TurnLeads m (turn_to e t') t.0.phase r) = phase_turned e t.0.phase m r t.1 gives.closed g.2 in
     record {
       added = g.0;
       after = with_state w (number s) o.told g.0 (calls_begun r);
@@ -98,23 +97,23 @@ turn_steps s m r gives w agrees =
       work = does.work;
     }
 
-no_step : (ev : Event) (f : EngineFault) (p : Passage) → IsStep ev (Err f) p
-no_step event.Open f p = tt
-no_step (event.Feed s bytes) f p = tt
-no_step (event.Turn s m) f p = tt
-no_step (event.Close s) f p = tt
-no_step (event.Sent s n) f p = tt
+no_step : (ev : Event) (f : EngineFault) (v : CoreView) (h : List Record) → IsStep ev (Err f) v h [] v
+no_step event.Open f v h = tt
+no_step (event.Feed s bytes) f v h = tt
+no_step (event.Turn s m) f v h = tt
+no_step (event.Close s) f v h = tt
+no_step (event.Sent s n) f v h = tt
 
-no_work : (ev : Event) (p : Passage) → p.new.look_ups ≡ p.old.look_ups → IsWork ev p
-no_work event.Open p e = e
-no_work (event.Feed s bytes) p e = e
-no_work (event.Turn s m) p e = same_work s m p e
-no_work (event.Close s) p e = e
-no_work (event.Sent s n) p e = e
+no_work : (ev : Event) (v : CoreView) → IsWork ev v [] v
+no_work event.Open v = refl
+no_work (event.Feed s bytes) v = refl
+no_work (event.Turn s m) v = same_work s m v [] v refl
+no_work (event.Close s) v = refl
+no_work (event.Sent s n) v = refl
 
 -- a refused event changes nothing
 pub refused_steps : (e : EngineView) (ev : Event) (f : EngineFault) → (w : World) → Agrees w e → MayRefuse w ev f → Steps e ev (Err f) e w
-refused_steps e ev f w agrees may = record { added = []; after = w; leads = (may, refl, refl); records = sym (append-nil w.records); agrees = agrees; step = no_step ev f (passage e w.records [] e); work = no_work ev (passage e w.records [] e) refl }
+refused_steps e ev f w agrees may = record { added = []; after = w; leads = (may, refl, refl); records = sym (append-nil w.records); agrees = agrees; step = no_step ev f e.core w.records; work = no_work ev e.core }
 
 -- no session has this number
 pub no_session : (e : EngineView) (s : ℕ) (w : World) → Agrees w e → (s ≡ 0) ⊎ (length e.seats < s) → IsNoSession w s
@@ -167,7 +166,7 @@ is_placed w v seats at p agrees was =
 
 -- what closing a seat gives
 abbrev pub ClosesSeat : SeatChange → Type 0
-ClosesSeat s = AddsRecords s.old.core s.core (λ h added. (goes_on : Bool) × CloseGives s.old.core s.was.session s.was.place (new_part s.core added s.now.session s.now.place) goes_on × (s.now.closed ≡ (s.was.closed || goes_on)))
+ClosesSeat s = AddsRecords s.old.core s.core (λ h added. (goes_on : Bool) × CloseGives (stand_before s) added (stand_after s) goes_on × (s.now.closed ≡ (s.was.closed || goes_on)))
 
 -- closing
 pub close_steps : (s : SeatChange) → ClosesSeat s → (w : World) → Agrees w s.old → Steps s.old (event.Close s.session) (Ok happened.Closed) (changed s) w
@@ -184,5 +183,5 @@ close_steps s gives w agrees =
       records = refl;
       agrees = subst T o.lead.1 (keeps_agrees e t.1 g.1 o);
       step = tt;
-      work = close_same s.old.core s.was.session s.was.place (left_by e) g.2.0 g.2.1;
+      work = close_same s.was.place (stand_before s) g.0 (stand_after s) g.2.0 g.2.1;
     })

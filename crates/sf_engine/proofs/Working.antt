@@ -7,7 +7,6 @@ use Rattle.sf_reply.specs.declared.reply.Reply.{Reply}
 use Rattle.sf_call.specs.declared.call.Call.{Call}
 use Rattle.sf_call.specs.declared.record.Record.{Record}
 use Rattle.sf_call.specs.declared.record.Record.TheVariants.{Did, Left}
-use Rattle.sf_session.specs.Sessions.{SessionView}
 use Rattle.sf_core.specs.Lanes.{LaneView}
 use Rattle.sf_core.specs.Cores.{CoreView}
 use Rattle.sf_core.specs.Progress.{did, names_in_records}
@@ -18,20 +17,16 @@ use Rattle.sf_engine.specs.declared.event.Event.TheVariants as event
 use Rattle.sf_engine.specs.declared.event.Happened.{Happened}
 use Rattle.sf_engine.specs.declared.event.Happened.TheVariants as happened
 use Rattle.sf_session.specs.SessionStates.{Phase, Resting, UnderWay, Decided as IsDecided, Gone}
-use Rattle.sf_engine.specs.Works.{Passage, is_of_other, names_helped, IsWork, IsStep}
-use Rattle.sf_engine.specs.Turns.{Part, NewPart, Seated, ReadGives, RestsOrLeaves, StepGives, PlaceGives, CloseGives, before, after_turn, seated}
+use Rattle.sf_engine.specs.Works.{is_of_other, names_helped, IsWork, IsStep}
+use Rattle.sf_engine.specs.Turns.{Stand, stand, Finding, ReadGives, RestsOrLeaves, StepGives, GivesAt, PlaceGives, ClosesAt, before, after_turn}
 use Rattle.sf_engine.specs.Traces.{walking}
 use Rattle.sf_engine.proofs.MovesBy.{moves_by}
 use Rattle.sf_engine.specs.Fits.{HasNoCall, IsGoing, HasAnswer, PlaceAgrees, reply_due}
 
--- from a core with its history to another
-abbrev pub passing : CoreView → List Record → List Record → CoreView → Passage
-passing v h added w = record { old = v; history = h; added = added; new = w }
-
--- what is said of a turn
-pub record Works (s m : ℕ) (r : Happened) (p : Passage) : Type 0 where
-  pub step : IsStep (event.Turn s m) (Ok r) p
-  pub work : IsWork (event.Turn s m) p
+-- what is said of a turn, from a core with its history to another
+pub record Works (s m : ℕ) (r : Happened) (v : CoreView) (h added : List Record) (w : CoreView) : Type 0 where
+  pub step : IsStep (event.Turn s m) (Ok r) v h added w
+  pub work : IsWork (event.Turn s m) v added w
 
 -- another's record is one of others, and its own isn't
 other_is : (v : CoreView) (s : ℕ) (r : Record) → IsOfOther v s r → is_of_other s r ≡ true
@@ -54,11 +49,11 @@ few_helped b a c given s e d =
     ∙ ap (λ (xs : List Record). names_in_records xs) (others_kept b.core s d.helped (did c given) (subst (λ (k : ℕ). AllByRecursion (IsOfOther b.core k) d.helped) e d.of_others) (own_is s c given (d.own.session ∙ e)))
 
 -- look-ups that stay
-pub same_work : (s m : ℕ) (p : Passage) → p.new.look_ups ≡ p.old.look_ups → IsWork (event.Turn s m) p
-same_work s m p e = (omega (arith, e), omega (arith, e))
+pub same_work : (s m : ℕ) (v : CoreView) (added : List Record) (w : CoreView) → w.look_ups ≡ v.look_ups → IsWork (event.Turn s m) v added w
+same_work s m v added w e = (omega (arith, e), omega (arith, e))
 
 -- a step of a call under way
-step_works : (b : Before) (s m : ℕ) (r : Happened) (a : After) (p : SeatState) → b.lane.session ≡ s → StepGives b r a p → Works s m r (passing b.core b.history a.added a.core)
+step_works : (b : Before) (s m : ℕ) (r : Happened) (a : After) (p : SeatState) → b.lane.session ≡ s → StepGives b r a p → Works s m r b.core b.history a.added a.core
 step_works b s m happened.Moved a p e g = record {
   step = (b.lane, a.lane, e, g.0);
   work = let moves = moves_by b a g.0 in let more = moves.more in let few = moves.few in (more, omega (arith, few));
@@ -72,7 +67,7 @@ step_works b s m happened.Decided a p e g =
     let given = g.0.reply in record {
       step = (b.lane, a.lane, e, (c, given, g.1.1));
       work = elim g.1.1 [
-        | inl f ↦ same_work s m (passing b.core b.history a.added a.core) f.look_ups
+        | inl f ↦ same_work s m b.core a.added a.core f.look_ups
         | inr d ↦ (d.more, omega (arith, d.few, few_helped b a c given s e d))
       ];
     }
@@ -86,52 +81,53 @@ step_works b s m happened.Closed a p e g = absurd g
 step_works b s m happened.Sent a p e g = absurd g
 
 -- a packet that a resting session reads
-read_works : (b : Seated) (h : List Record) (s m : ℕ) (r : Happened) (a : NewPart) → b.lane.session ≡ s → ReadGives b m r a → Works s m r (passing b.core h a.added a.core)
-read_works b h s m happened.Idle a e g = record { step = (b.lane, b.lane, e, tt); work = same_work s m (passing b.core h a.added a.core) (ap (λ (z : CoreView). z.look_ups) g.1) }
-read_works b h s m happened.Wrote a e g = record { step = (b.lane, b.lane, e, tt); work = same_work s m (passing b.core h a.added a.core) (ap (λ (z : CoreView). z.look_ups) g.1) }
-read_works b h s m happened.Begun a e g = record { step = (b.lane, b.lane, e, tt); work = same_work s m (passing b.core h a.added a.core) g.2.look_ups }
-read_works b h s m (happened.Ended cause) a e g = record { step = (b.lane, b.lane, e, tt); work = same_work s m (passing b.core h a.added a.core) g.1.look_ups }
-read_works b h s m (happened.Opened k) a e g = absurd g
-read_works b h s m happened.Fed a e g = absurd g
-read_works b h s m happened.Moved a e g = absurd g
-read_works b h s m (happened.Blocked k) a e g = absurd g
-read_works b h s m happened.Decided a e g = absurd g
-read_works b h s m happened.Closed a e g = absurd g
-read_works b h s m happened.Sent a e g = absurd g
+read_works : (a : Stand) (lane : LaneView) (h : List Record) (s m : ℕ) (r : Happened) (added : List Record) (b : Stand) → lane.session ≡ s → ReadGives a lane m r added b → Works s m r a.core h added b.core
+read_works a lane h s m happened.Idle added b e g = record { step = (lane, lane, e, tt); work = same_work s m a.core added b.core (ap (λ (z : CoreView). z.look_ups) g.1) }
+read_works a lane h s m happened.Wrote added b e g = record { step = (lane, lane, e, tt); work = same_work s m a.core added b.core (ap (λ (z : CoreView). z.look_ups) g.1) }
+read_works a lane h s m happened.Begun added b e g = record { step = (lane, lane, e, tt); work = same_work s m a.core added b.core g.2.look_ups }
+read_works a lane h s m (happened.Ended cause) added b e g = record { step = (lane, lane, e, tt); work = same_work s m a.core added b.core g.1.look_ups }
+read_works a lane h s m (happened.Opened k) added b e g = absurd g
+read_works a lane h s m happened.Fed added b e g = absurd g
+read_works a lane h s m happened.Moved added b e g = absurd g
+read_works a lane h s m (happened.Blocked k) added b e g = absurd g
+read_works a lane h s m happened.Decided added b e g = absurd g
+read_works a lane h s m happened.Closed added b e g = absurd g
+read_works a lane h s m happened.Sent added b e g = absurd g
 
 -- a session that rests or leaves after a reply makes no look-up
-pub settle_same : (b : Seated) (closed : Bool) (a : NewPart) → RestsOrLeaves b closed a → a.core.look_ups ≡ b.core.look_ups
-settle_same b false a g = ap (λ (z : CoreView). z.look_ups) g.0
-settle_same b true a g = g.0.look_ups
+pub settle_same : (a : Stand) (lane : LaneView) (closed : Bool) (added : List Record) (b : Stand) → RestsOrLeaves a lane closed added b → b.core.look_ups ≡ a.core.look_ups
+settle_same a lane false added b g = ap (λ (z : CoreView). z.look_ups) g.0
+settle_same a lane true added b g = g.0.look_ups
 
-pub turn_works : (b : Part) (p : SeatState) (s m : ℕ) (f : Phase) (r : Happened) (a : NewPart) → PlaceAgrees b.core s b.session f p → PlaceGives b p m r a → Works s m r (passing b.core b.history a.added a.core)
-turn_works b p s m Resting r a h g =
-    let at : HasNoCall b.core s b.session p = h in
-    read_works (seated b.core b.session at.lane) b.history s m r a at.session (subst (λ (z : SeatState). PlaceGives b z m r a) at.place_is g)
-turn_works b p s m (UnderWay id n k q moves) r a h g =
-    let at : IsGoing b.core s b.session (walking id n k q moves) p = h in
-    let g' = subst (λ (z : SeatState). PlaceGives b z m r a) at.place_is g in
-    step_works (before b.core b.history at.lane) s m r (after_turn a.core a.added g'.0.0) a.place at.session g'.0.1
-turn_works b p s m (IsDecided id n q given) r a h g =
-    let at : HasAnswer b.core s b.session (reply_due id given) p = h in
-    let g' = subst (λ (z : SeatState). PlaceGives b z m r a) at.place_is g in
-    let P : Happened → Type 0 = λ z. Works s m z (passing b.core b.history a.added a.core) in
+-- a turn, whatever it found
+pub turn_works : (a : Stand) (h : List Record) (found : Finding) (s : ℕ) (f : Phase) (r : Happened) (added : List Record) (b : Stand) → PlaceAgrees a.core s a.session f a.place → PlaceGives a h found r added b → Works s found.moment r a.core h added b.core
+turn_works a h found s Resting r added b is g =
+    let at : HasNoCall a.core s a.session a.place = is in
+    read_works a at.lane h s found.moment r added b at.session (subst (λ (z : SeatState). GivesAt z a h found r added b) at.place_is g)
+turn_works a h found s (UnderWay id n k q moves) r added b is g =
+    let at : IsGoing a.core s a.session (walking id n k q moves) a.place = is in
+    let g' = subst (λ (z : SeatState). GivesAt z a h found r added b) at.place_is g in
+    step_works (before a.core h at.lane) s found.moment r (after_turn b.core added g'.0.0) b.place at.session g'.0.1
+turn_works a h found s (IsDecided id n q given) r added b is g =
+    let at : HasAnswer a.core s a.session (reply_due id given) a.place = is in
+    let g' = subst (λ (z : SeatState). GivesAt z a h found r added b) at.place_is g in
+    let P : Happened → Type 0 = λ z. Works s found.moment z a.core h added b.core in
     subst P (sym g'.0) (record {
       step = (at.lane, at.lane, at.session, tt);
-      work = same_work s m (passing b.core b.history a.added a.core) (settle_same (seated b.core g'.1.0 at.lane) b.closed a g'.1.2);
+      work = same_work s found.moment a.core added b.core (settle_same (stand a.core g'.1.0 (state.Resting at.lane)) at.lane found.closed added b g'.1.2);
     })
-turn_works b p s m (Gone cause) r a h g =
-    let g' = subst (λ (z : SeatState). PlaceGives b z m r a) h.0 g in
+turn_works a h found s (Gone cause) r added b is g =
+    let g' = subst (λ (z : SeatState). GivesAt z a h found r added b) is.0 g in
     let lane : LaneView = record { session = s; call = None; begun = 0 } in
-    let P : Happened → Type 0 = λ z. Works s m z (passing b.core b.history a.added a.core) in
+    let P : Happened → Type 0 = λ z. Works s found.moment z a.core h added b.core in
     subst P (sym g'.0) (record {
       step = (lane, lane, refl, tt);
-      work = same_work s m (passing b.core b.history a.added a.core) (ap (λ (z : CoreView). z.look_ups) g'.1);
+      work = same_work s found.moment a.core added b.core (ap (λ (z : CoreView). z.look_ups) g'.1);
     })
 
 -- closing makes no look-up
-pub close_same : (v : CoreView) (x : SessionView) (p : SeatState) (a : NewPart) (goes_on : Bool) → CloseGives v x p a goes_on → a.core.look_ups ≡ v.look_ups
-close_same v x (state.Resting lane) a goes_on g = settle_same (seated v x lane) true a g.0
-close_same v x (state.UnderWay lane) a goes_on g = ap (λ (z : CoreView). z.look_ups) g.0.0
-close_same v x (state.Answered lane given) a goes_on g = ap (λ (z : CoreView). z.look_ups) g.0.0
-close_same v x (state.Left cause) a goes_on g = ap (λ (z : CoreView). z.look_ups) g.0.0
+pub close_same : (p : SeatState) (a : Stand) (added : List Record) (b : Stand) (goes_on : Bool) → ClosesAt p a added b goes_on → b.core.look_ups ≡ a.core.look_ups
+close_same (state.Resting lane) a added b goes_on g = settle_same a lane true added b g.0
+close_same (state.UnderWay lane) a added b goes_on g = ap (λ (z : CoreView). z.look_ups) g.0.0
+close_same (state.Answered lane given) a added b goes_on g = ap (λ (z : CoreView). z.look_ups) g.0.0
+close_same (state.Left cause) a added b goes_on g = ap (λ (z : CoreView). z.look_ups) g.0.0

@@ -25,7 +25,7 @@ use Rattle.sf_engine.specs.Worlds.{TraceEntry, World, here}
 use Rattle.sf_session.specs.SessionStates.{Phase, Resting, UnderWay, Decided, Gone, SessionState}
 use Rattle.sf_session.specs.Responses.{transcript, has_begun}
 use Rattle.sf_engine.specs.Traces.{goes_on, ReachesWorld, order, IsSession, IsNoSession, Leads, Walking, walking}
-use Rattle.sf_engine.specs.Works.{Passage, IsStep, IsWork}
+use Rattle.sf_engine.specs.Works.{IsStep, IsWork}
 use Rattle.sf_engine.specs.Promise.{refusals}
 use Rattle.sf_engine.specs.Views.{EngineView}
 
@@ -133,11 +133,6 @@ trace_entry event result added = record { event = event; result = result; added 
 abbrev pub IsEngine : CoreView → List Seat → Type 0
 IsEngine core seats = (trace : List TraceEntry) × Fits (record { core = core; seats = seats }) trace
 
--- from an engine that fits a trace to another, which added records
-abbrev pub passage : EngineView → List Record → List Record → EngineView → Passage
-passage old history added new =
-    record { old = old.core; history = history; added = added; new = new.core }
-
 -- The engine fits each trace that it fitted, followed by the event's entry, which leads on from
 -- where the trace led. What the event did to the core is the step of the session's call, and so
 -- much work at most.
@@ -146,8 +141,8 @@ GoesOnTrace old event result new = (trace : List TraceEntry) → (fits : Fits ol
     → (added : List Record)
     × (now : Fits new (trace ++ trace_entry event result added ∷ []))
     × Leads fits.world (trace_entry event result added) now.world
-    × IsStep event result (passage old fits.world.records added new)
-    × IsWork event (passage old fits.world.records added new)
+    × IsStep event result old.core fits.world.records added new.core
+    × IsWork event old.core added new.core
 
 -- The same event again and again, say turns of a session at one moment: so many times the call goes
 -- on by it, and then a last time, which has this result. Where the last is refused, it changes
@@ -179,19 +174,6 @@ WantsBytes t = (t.phase ≡ Resting) × IsCut t.unread cut.More
 abbrev pub WantsBytesBy : EngineView → ℕ → Bool → Type 0
 WantsBytesBy e session wants = (trace : List TraceEntry) → (fits : Fits e trace)
     → IsTrue wants ↔ ((t : SessionState) × IsSession fits.world session t × WantsBytes t)
-
--- no call of a session goes on: none is under way, and no answer waits to be written
-abbrev pub IsQuiet : Phase → Type 0
-IsQuiet Resting = Unit {0}
-IsQuiet (UnderWay id number moment request moves) = ⊥
-IsQuiet (Decided id number request reply) = ⊥
-IsQuiet (Gone cause) = Unit {0}
-
--- whether that is so of all sessions, by each trace that the engine fits
-abbrev pub IsQuietBy : EngineView → Bool → Type 0
-IsQuietBy e quiet = (trace : List TraceEntry) → (fits : Fits e trace)
-    → IsTrue quiet
-    ↔ ((session : ℕ) (t : SessionState) → IsSession fits.world session t → IsQuiet t.phase)
 
 -- by each trace that the engine fits there is no such session
 abbrev pub IsUnknownSession : EngineView → ℕ → Type 0

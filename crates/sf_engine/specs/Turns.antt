@@ -32,34 +32,22 @@ abbrev pub AddsRecords : CoreView → CoreView → (List Record → List Record 
 AddsRecords v w R =
     (h : List Record) → IsHistory v h → (added : List Record) × IsHistory w (h ++ added) × R h added
 
--- a core, and a session with its lane
-pub record Seated : Type 0 where
+-- a core, with a session and its place
+pub record Stand : Type 0 where
   pub core : CoreView
-  pub session : SessionView
-  pub lane : LaneView
-
--- a core with its history, and a session that was closed or not, before an event on the session
-pub record Part : Type 0 where
-  pub core : CoreView
-  pub history : List Record
-  pub session : SessionView
-  pub closed : Bool
-
--- a core and a session after it, with the records that were added
-pub record NewPart : Type 0 where
-  pub core : CoreView
-  pub added : List Record
   pub session : SessionView
   pub place : SeatState
 
-abbrev pub seated : CoreView → SessionView → LaneView → Seated
-seated v x lane = record { core = v; session = x; lane = lane }
+abbrev pub stand : CoreView → SessionView → SeatState → Stand
+stand v x p = record { core = v; session = x; place = p }
 
-abbrev pub part : CoreView → List Record → SessionView → Bool → Part
-part v h x closed = record { core = v; history = h; session = x; closed = closed }
+-- what turns find: whether the session was closed, and the moment
+pub record Finding : Type 0 where
+  pub closed : Bool
+  pub moment : ℕ
 
-abbrev pub new_part : CoreView → List Record → SessionView → SeatState → NewPart
-new_part w added y p = record { core = w; added = added; session = y; place = p }
+abbrev pub finding : Bool → ℕ → Finding
+finding closed m = record { closed = closed; moment = m }
 
 abbrev pub before : CoreView → List Record → LaneView → Before
 before v h lane = record { core = v; history = h; lane = lane }
@@ -78,47 +66,47 @@ StepGives b happened.Decided a p =
 StepGives b _ a p = ⊥
 
 -- a packet was answered with no call: by the session alone, or since the call could not begin
-abbrev pub WritesAtOnce : Seated → SessionView → Type 0
-WritesAtOnce b y = NextGives b.session next.Local y
+abbrev pub WritesAtOnce : Stand → LaneView → SessionView → Type 0
+WritesAtOnce a lane y = NextGives a.session next.Local y
     ⊎ ((request : Request) × (mid : SessionView) × (fault : CoreFault)
-    × NextGives b.session (next.Call request) mid × RefusesBegin b.core b.lane fault
+    × NextGives a.session (next.Call request) mid × RefusesBegin a.core lane fault
     × IfSome mid.waiting (λ id. y ≡ record mid {
       output = mid.output ++ packet (reply_body id (refusal_of fault));
       waiting = None;
     }))
 
 -- what stood at the front of a resting session's bytes
-abbrev pub ReadGives : Seated → ℕ → Happened → NewPart → Type 0
-ReadGives b m happened.Idle a = NextGives b.session next.More a.session × (a.core ≡ b.core)
-    × (a.added ≡ []) × (a.place ≡ state.Resting b.lane)
-ReadGives b m happened.Wrote a =
-    WritesAtOnce b a.session × (a.core ≡ b.core) × (a.added ≡ []) × (a.place ≡ state.Resting b.lane)
-ReadGives b m happened.Begun a =
-    (request : Request) × NextGives b.session (next.Call request) a.session
-    × CallBegins b.core a.core b.lane request m
-    × (a.added ≡ []) × (a.place ≡ state.UnderWay (begun b.lane a.core.drawn))
-ReadGives b m (happened.Ended cause) a =
-    NextGives b.session (next.Ended cause) a.session × Leaves b.core a.core b.lane.session
-    × (a.added ≡ Left b.lane.session ∷ []) × (a.place ≡ state.Left cause)
-ReadGives b m _ a = ⊥
+abbrev pub ReadGives : Stand → LaneView → ℕ → Happened → List Record → Stand → Type 0
+ReadGives a lane m happened.Idle added b = NextGives a.session next.More b.session
+    × (b.core ≡ a.core) × (added ≡ []) × (b.place ≡ state.Resting lane)
+ReadGives a lane m happened.Wrote added b = WritesAtOnce a lane b.session
+    × (b.core ≡ a.core) × (added ≡ []) × (b.place ≡ state.Resting lane)
+ReadGives a lane m happened.Begun added b =
+    (request : Request) × NextGives a.session (next.Call request) b.session
+    × CallBegins a.core b.core lane request m
+    × (added ≡ []) × (b.place ≡ state.UnderWay (begun lane b.core.drawn))
+ReadGives a lane m (happened.Ended cause) added b =
+    NextGives a.session (next.Ended cause) b.session × Leaves a.core b.core lane.session
+    × (added ≡ Left lane.session ∷ []) × (b.place ≡ state.Left cause)
+ReadGives a lane m _ added b = ⊥
 
 -- after a reply: the session rests, or leaves since it was closed
-abbrev pub RestsOrLeaves : Seated → Bool → NewPart → Type 0
-RestsOrLeaves b false a =
-    (a.core ≡ b.core) × (a.added ≡ []) × (a.session ≡ b.session) × (a.place ≡ state.Resting b.lane)
-RestsOrLeaves b true a =
-    Leaves b.core a.core b.lane.session × (a.added ≡ Left b.lane.session ∷ [])
-    × (a.session ≡ record b.session { unread = []; ended = Some Closed })
-    × (a.place ≡ state.Left Closed)
+abbrev pub RestsOrLeaves : Stand → LaneView → Bool → List Record → Stand → Type 0
+RestsOrLeaves a lane false added b = (b.core ≡ a.core) × (added ≡ [])
+    × (b.session ≡ a.session) × (b.place ≡ state.Resting lane)
+RestsOrLeaves a lane true added b =
+    Leaves a.core b.core lane.session × (added ≡ Left lane.session ∷ [])
+    × (b.session ≡ record a.session { unread = []; ended = Some Closed })
+    × (b.place ≡ state.Left Closed)
 
 -- the answer that waited was written
-abbrev pub WritesAnswer : Seated → AnswerView → Bool → NewPart → Type 0
-WritesAnswer b given closed a = (mid : SessionView)
-    × IfSome b.session.waiting (λ id. mid ≡ record b.session {
-      output = b.session.output ++ packet (reply_body id given.reply);
+abbrev pub WritesAnswer : Stand → LaneView → AnswerView → Bool → List Record → Stand → Type 0
+WritesAnswer a lane given closed added b = (mid : SessionView)
+    × IfSome a.session.waiting (λ id. mid ≡ record a.session {
+      output = a.session.output ++ packet (reply_body id given.reply);
       waiting = None;
     })
-    × RestsOrLeaves (record b { session = mid }) closed a
+    × RestsOrLeaves (stand a.core mid (state.Resting lane)) lane closed added b
 
 -- what a session's state asks of the core and of the session
 abbrev pub IsSeatState : CoreView → SessionView → SeatState → Type 0
@@ -160,31 +148,39 @@ IsLaneOf (state.UnderWay own) lane = lane ≡ own
 IsLaneOf (state.Answered own given) lane = lane ≡ own
 IsLaneOf (state.Left cause) lane = ⊥
 
+-- what a turn gives at a place
+abbrev pub GivesAt : SeatState → Stand → List Record → Finding → Happened → List Record → Stand
+    → Type 0
+GivesAt (state.Resting lane) a h f r added b = ReadGives a lane f.moment r added b
+GivesAt (state.UnderWay lane) a h f r added b =
+    ((lane' : LaneView) × StepGives (before a.core h lane) r (after_turn b.core added lane')
+    b.place) × (b.session ≡ a.session)
+GivesAt (state.Answered lane given) a h f r added b =
+    (r ≡ happened.Wrote) × WritesAnswer a lane given f.closed added b
+GivesAt (state.Left cause) a h f r added b =
+    (r ≡ happened.Ended cause) × (b.core ≡ a.core) × (added ≡ []) × (b.session ≡ a.session)
+    × (b.place ≡ state.Left cause)
+
 -- what a turn gives, by the place before it
-abbrev pub PlaceGives : Part → SeatState → ℕ → Happened → NewPart → Type 0
-PlaceGives b (state.Resting lane) m r a = ReadGives (seated b.core b.session lane) m r a
-PlaceGives b (state.UnderWay lane) m r a =
-    ((lane' : LaneView) × StepGives (before b.core b.history lane) r
-    (after_turn a.core a.added lane') a.place) × (a.session ≡ b.session)
-PlaceGives b (state.Answered lane given) m r a =
-    (r ≡ happened.Wrote) × WritesAnswer (seated b.core b.session lane) given b.closed a
-PlaceGives b (state.Left cause) m r a =
-    (r ≡ happened.Ended cause) × (a.core ≡ b.core) × (a.added ≡ []) × (a.session ≡ b.session)
-    × (a.place ≡ state.Left cause)
+abbrev pub PlaceGives : Stand → List Record → Finding → Happened → List Record → Stand → Type 0
+PlaceGives a h f r added b = GivesAt a.place a h f r added b
 
 -- nothing changes but that it is told whether the session goes on to its answer first
-abbrev pub StaysAs : CoreView → SessionView → SeatState → NewPart → Type 0
-StaysAs v x p a = (a.core ≡ v) × (a.added ≡ []) × (a.session ≡ x) × (a.place ≡ p)
+abbrev pub StaysAs : Stand → List Record → Stand → Type 0
+StaysAs a added b =
+    (b.core ≡ a.core) × (added ≡ []) × (b.session ≡ a.session) × (b.place ≡ a.place)
 
--- what closing gives
-abbrev pub CloseGives : CoreView → SessionView → SeatState → NewPart → Bool → Type 0
-CloseGives v x (state.Resting lane) a goes_on = RestsOrLeaves (seated v x lane) true a
+-- what closing gives at a place
+abbrev pub ClosesAt : SeatState → Stand → List Record → Stand → Bool → Type 0
+ClosesAt (state.Resting lane) a added b goes_on = RestsOrLeaves a lane true added b
     × (goes_on ≡ false)
-CloseGives v x (state.UnderWay lane) a goes_on =
-    StaysAs v x (state.UnderWay lane) a × (goes_on ≡ true)
-CloseGives v x (state.Answered lane given) a goes_on =
-    StaysAs v x (state.Answered lane given) a × (goes_on ≡ true)
-CloseGives v x (state.Left cause) a goes_on = StaysAs v x (state.Left cause) a × (goes_on ≡ false)
+ClosesAt (state.UnderWay lane) a added b goes_on = StaysAs a added b × (goes_on ≡ true)
+ClosesAt (state.Answered lane given) a added b goes_on = StaysAs a added b × (goes_on ≡ true)
+ClosesAt (state.Left cause) a added b goes_on = StaysAs a added b × (goes_on ≡ false)
+
+-- what closing gives, by the place before it
+abbrev pub CloseGives : Stand → List Record → Stand → Bool → Type 0
+CloseGives a added b goes_on = ClosesAt a.place a added b goes_on
 
 -- bytes were fed
 pub record FeedGives (p : Seat) (bytes : List ℕ) (r : Happened) (q : Seat) : Type 0 where
@@ -233,15 +229,6 @@ MayRefuseTurn (state.Answered lane a) = (id : ℕ)
     → reply_room < length (packet (reply_body id a.reply))
 MayRefuseTurn (state.Left cause) = ⊥
 
--- a core, with a session and its place
-pub record Stand : Type 0 where
-  pub core : CoreView
-  pub session : SessionView
-  pub place : SeatState
-
-abbrev pub stand : CoreView → SessionView → SeatState → Stand
-stand v x p = record { core = v; session = x; place = p }
-
 -- what turns ask of the core and of the session
 pub record IsReady (a : Stand) : Type 0 where
   pub history : List Record
@@ -249,35 +236,25 @@ pub record IsReady (a : Stand) : Type 0 where
   pub placed : IsSeatState a.core a.session a.place
   pub waits : is_busy a.place ≡ true → IsSome a.session.waiting
 
--- a turn of a session that was closed or not, at a moment
-abbrev pub TurnGives : Stand → Bool → ℕ → Happened → Stand → Type 0
-TurnGives a closed m r b =
-    AddsRecords a.core b.core (λ h added. PlaceGives (part a.core h a.session closed) a.place m r
-    (new_part b.core added b.session b.place))
+-- a turn of a session
+abbrev pub TurnGives : Stand → Finding → Happened → Stand → Type 0
+TurnGives a f r b = AddsRecords a.core b.core (λ h added. PlaceGives a h f r added b)
 
 -- the next packet was taken, and asked for no call
 abbrev pub OtherGives : Stand → Happened → Stand → Type 0
-OtherGives a r b = ((m : ℕ) → TurnGives a false m r b) × (r ≢ happened.Begun)
-
--- what turns find: whether the session was closed, and the moment
-pub record Finding : Type 0 where
-  pub closed : Bool
-  pub moment : ℕ
-
-abbrev pub finding : Bool → ℕ → Finding
-finding closed m = record { closed = closed; moment = m }
+OtherGives a r b = ((m : ℕ) → TurnGives a (finding false m) r b) × (r ≢ happened.Begun)
 
 -- Turns, one after the other: so many after which the call goes on, and a last one that came to
 -- this. Refused, it changes nothing.
 unfoldable pub TurnsGive : ℕ → Stand → Finding → Result Happened EngineFault → Stand → Type 0
-TurnsGive zero a f (Ok r) b = TurnGives a f.closed f.moment r b
+TurnsGive zero a f (Ok r) b = TurnGives a f r b
 TurnsGive zero a f (Err e) b = (b ≡ a) × (e ≡ fault.OutOfMemory) × MayRefuseTurn a.place
 TurnsGive (suc n) a f r b = (h : Happened) × (mid : Stand) × (goes_on h ≡ true)
-    × TurnGives a f.closed f.moment h mid × TurnsGive n mid f r b
+    × TurnGives a f h mid × TurnsGive n mid f r b
 
 -- turns up to one after which the call doesn't go on, unless very many were made
-pub record GoesFar (a : Stand) (closed : Bool) (m : ℕ) (r : Result Happened EngineFault)
+pub record GoesFar (a : Stand) (f : Finding) (r : Result Happened EngineFault)
     (b : Stand) : Type 0 where
   pub turns : ℕ
-  pub give : TurnsGive turns a (finding closed m) r b
+  pub give : TurnsGive turns a f r b
   pub far : goes_on_at r ≡ true → 2 ^ 64 - 2 ≤ turns

@@ -14,13 +14,6 @@ use Rattle.sf_engine.specs.declared.event.Happened.{Happened}
 use Rattle.sf_engine.specs.declared.event.Happened.TheVariants as happened
 use Rattle.sf_engine.specs.declared.event.EngineFault.{EngineFault}
 
--- a core with its history, and the core after an event, with the records that it added
-pub record Passage : Type 0 where
-  pub old : CoreView
-  pub history : List Record
-  pub added : List Record
-  pub new : CoreView
-
 -- how many names have the paths of the records that are of other sessions' calls
 abbrev pub is_of_other : ℕ → Record → Bool
 is_of_other s (Did number session moment request given) = not (nat_eq session s)
@@ -31,10 +24,10 @@ names_helped s added = names_in_records (filter (is_of_other s) added)
 
 -- By how much look-ups rise: by two at most for a turn's step, and by the names of the paths of
 -- other sessions' calls that it carried out. No other event makes any.
-abbrev pub IsWork : Event → Passage → Type 0
-IsWork (event.Turn s m) p = (p.old.look_ups ≤ p.new.look_ups)
-    × (p.new.look_ups ≤ p.old.look_ups + (2 + names_helped s p.added))
-IsWork _ p = p.new.look_ups ≡ p.old.look_ups
+abbrev pub IsWork : Event → CoreView → List Record → CoreView → Type 0
+IsWork (event.Turn s m) old added new = (old.look_ups ≤ new.look_ups)
+    × (new.look_ups ≤ old.look_ups + (2 + names_helped s added))
+IsWork _ old added new = new.look_ups ≡ old.look_ups
 
 -- A step of a lane's call: it walks one name, or copies a block, the first with its record; or
 -- another call that looks further down, or that copies, holds what it wants; or its record was
@@ -46,12 +39,15 @@ StepsTo b happened.Decided a =
     (c : Call) × (given : Reply) × (Fetches b a c given ⊎ Decides b a c given)
 StepsTo b _ a = Unit {0}
 
--- a turn's step is one of the session's lane
-abbrev pub IsStep : Event → Result Happened EngineFault → Passage → Type 0
-IsStep (event.Turn s m) (Ok r) p = (lane : LaneView) × (lane' : LaneView) × (lane.session ≡ s)
-    × StepsTo (record { core = p.old; history = p.history; lane = lane }) r (record {
-      core = p.new;
-      added = p.added;
+-- a turn's step is one of the session's lane, from a core with its history to the core that the
+-- records were added to
+abbrev pub IsStep : Event → Result Happened EngineFault → CoreView → List Record → List Record
+    → CoreView → Type 0
+IsStep (event.Turn s m) (Ok r) old history added new =
+    (lane : LaneView) × (lane' : LaneView) × (lane.session ≡ s)
+    × StepsTo (record { core = old; history = history; lane = lane }) r (record {
+      core = new;
+      added = added;
       lane = lane';
     })
-IsStep _ _ p = Unit {0}
+IsStep _ _ old history added new = Unit {0}

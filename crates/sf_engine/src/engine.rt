@@ -12,12 +12,11 @@ ghost use Rattle.sf_engine.specs.declared.seat.Seat.{Seat};
 ghost use Rattle.sf_engine.specs.Turns.{is_under_way};
 ghost use Rattle.sf_engine.specs.Worlds.{TraceEntry};
 ghost use Rattle.sf_engine.specs.Rounds.{AreUnderWay, IsRound, HasRounds, IsWithinBounds, left_to};
-ghost use Rattle.sf_engine.specs.Fits.{IsEngine, Fits, GoesOnTrace, HasTurns, HasRun, IsSentBy, IsUnknownSession, WantsBytesBy, IsQuietBy};
+ghost use Rattle.sf_engine.specs.Fits.{IsEngine, Fits, GoesOnTrace, HasTurns, HasRun, IsSentBy, IsUnknownSession, WantsBytesBy};
 
 use crate::event::{EngineFault, Event, Happened};
 use crate::seat::{
-    Seat, are_quiet, close_seat, feed_seat, open_seat, send_seat, turn_seat, turns_seat,
-    wants_bytes,
+    Seat, close_seat, feed_seat, open_seat, send_seat, turn_seat, turns_seat, wants_bytes,
 };
 use sf_call::Leaf;
 use sf_core::Core;
@@ -166,8 +165,8 @@ impl Engine {
         feed_seat(&mut self.seats[at], bytes)
     }
 
-    /// Tells that so many bytes of a session's output were sent, as the event `Sent` does, without an
-    /// event.
+    /// Tells that so many bytes of a session's output were sent, as the event `Sent` does, without
+    /// an event.
     pub fn sent(&mut self, session: u64, n: usize) -> Result<Happened, EngineFault>
         ensures fits { GoesOnTrace self.old (Event.Sent session n) result self.new }
         ensures err { OnErr result (self.new ≡ self.old) }
@@ -275,13 +274,6 @@ impl Engine {
             return false;
         };
         wants_bytes(&self.seats[at])
-    }
-
-    /// Whether no call is under way, and no answer waits to be written.
-    pub fn is_quiet(&self) -> bool
-        ensures { IsQuietBy self.now result }
-    {
-        are_quiet(&self.seats)
     }
 
     /// Every path of the tree once, in the order of paths, with the label, the attributes and, of a

@@ -1,6 +1,6 @@
 //! One session of an engine: how far it is, and its turns.
 
-ghost use Rattle.std.specs.Prelude.{◌≡◌, ◌≢◌, ◌++◌, ◌∷◌, ◌||◌, ◌↔◌, IsTrue, All, ℕ, Bool, List, [], true, false, Some, None, IfOk, IfErr, OnErr, OnOk};
+ghost use Rattle.std.specs.Prelude.{◌≡◌, ◌≢◌, ◌++◌, ◌∷◌, ◌||◌, ◌↔◌, IsTrue, ℕ, Bool, List, [], true, false, Some, None, IfOk, IfErr, OnErr, OnOk};
 ghost use Rattle.sf_wire.specs.declared.cutting.Cut.TheVariants.{More};
 ghost use Rattle.sf_wire.specs.Packets.{IsCut};
 ghost use Rattle.sf_call.specs.declared.record.Record.{Record};
@@ -13,7 +13,7 @@ ghost use Rattle.sf_core.specs.Events.{Leaves};
 ghost use Rattle.sf_core.specs.Histories.{IsHistory};
 ghost use Rattle.sf_core.specs.Lanes.{LaneView};
 ghost use Rattle.sf_engine.specs.Traces.{goes_on_at};
-ghost use Rattle.sf_engine.specs.Turns.{AddsRecords, seated, part, new_part, RestsOrLeaves, has_lane, is_resting, is_under_way, IsLaneOf, PlaceGives, OtherGives, CloseGives, FeedGives, FeedFault, SentGives, SentFault, IsSeatState, is_busy, OpenGives, OpenFault, MayRefuseTurn, stand, IsReady, TurnsGive, GoesFar, finding};
+ghost use Rattle.sf_engine.specs.Turns.{AddsRecords, RestsOrLeaves, has_lane, is_resting, is_under_way, IsLaneOf, TurnGives, OtherGives, CloseGives, FeedGives, FeedFault, SentGives, SentFault, IsSeatState, OpenGives, OpenFault, MayRefuseTurn, stand, IsReady, TurnsGive, GoesFar, finding};
 
 use crate::event::{EngineFault, Happened};
 use sf_call::{Answer, CoreFault, Request};
@@ -79,8 +79,8 @@ fn settle(core: &mut Core, session: &mut Session, lane: Lane, closed: bool) -> S
     requires slot { lane_state core.old lane.session ≡ Idle }
     requires waiting { session.old.waiting ≡ None }
     ensures { AddsRecords core.old core.new (λ h added.
-        RestsOrLeaves (seated core.old session.old lane) closed
-        (new_part core.new added session.new result)) }
+        RestsOrLeaves (stand core.old session.old (SeatState.Resting lane)) lane closed added
+        (stand core.new session.new result)) }
 {
     if !closed {
         return SeatState::Resting(lane);
@@ -91,16 +91,6 @@ fn settle(core: &mut Core, session: &mut Session, lane: Lane, closed: bool) -> S
 }
 
 impl SeatState {
-    /// Whether its call goes on, or its answer waits.
-    fn is_busy(&self) -> bool
-        ensures { result ≡ is_busy self.now }
-    {
-        match self {
-            SeatState::Resting(_) | SeatState::Left(_) => false,
-            SeatState::UnderWay(_) | SeatState::Answered(_, _) => true,
-        }
-    }
-
     /// Whether its call is in the core.
     pub(crate) fn is_under_way(&self) -> bool
         ensures { result ≡ is_under_way self.now }
@@ -158,9 +148,8 @@ impl SeatState {
     ) -> Result<Happened, EngineFault>
         requires resting { is_resting self.old ≡ true }
         requires placed { IsSeatState core.old session.old self.old }
-        ensures ok { IfOk result (λ r. AddsRecords core.old core.new (λ h added.
-            PlaceGives (part core.old h session.old false) self.old moment r
-            (new_part core.new added session.new self.new))) }
+        ensures ok { IfOk result (λ r. TurnGives (stand core.old session.old self.old)
+            (finding false moment) r (stand core.new session.new self.new)) }
         ensures err { OnErr result ((self.new ≡ self.old) × (core.new ≡ core.old)
             × (session.new ≡ session.old)) }
         ensures fault { IfErr result (λ fault. fault ≡ EngineFault.OutOfMemory) }
@@ -195,9 +184,8 @@ impl SeatState {
         moment: u32,
     ) -> Result<Happened, EngineFault>
         requires { IsSeatState core.old session.old self.old }
-        ensures ok { IfOk result (λ r. AddsRecords core.old core.new (λ h added.
-            PlaceGives (part core.old h session.old closed) self.old moment r
-            (new_part core.new added session.new self.new))) }
+        ensures ok { IfOk result (λ r. TurnGives (stand core.old session.old self.old)
+            (finding closed moment) r (stand core.new session.new self.new)) }
         ensures err { OnErr result ((self.new ≡ self.old) × (core.new ≡ core.old)
             × (session.new ≡ session.old)) }
         ensures fault { IfErr result (λ fault. (fault ≡ EngineFault.OutOfMemory)
@@ -235,7 +223,7 @@ impl SeatState {
         moment: u32,
     ) -> Result<Happened, EngineFault>
         requires { IsReady (stand core.old session.old self.old) }
-        ensures { GoesFar (stand core.old session.old self.old) closed moment result
+        ensures { GoesFar (stand core.old session.old self.old) (finding closed moment) result
             (stand core.new session.new self.new) }
     {
         match self {
@@ -257,7 +245,7 @@ impl SeatState {
     ) -> Result<Happened, EngineFault>
         requires resting { is_resting self.old ≡ true }
         requires ready { IsReady (stand core.old session.old self.old) }
-        ensures { GoesFar (stand core.old session.old self.old) closed moment result
+        ensures { GoesFar (stand core.old session.old self.old) (finding closed moment) result
             (stand core.new session.new self.new) }
     {
         let Ok(next) = session.next() else {
@@ -294,7 +282,7 @@ impl SeatState {
         requires under_way { is_under_way self.old ≡ true }
         requires ready { IsReady (stand core.old session.old self.old) }
         ensures { (moment : ℕ)
-            → GoesFar (stand core.old session.old self.old) closed moment result
+            → GoesFar (stand core.old session.old self.old) (finding closed moment) result
             (stand core.new session.new self.new) }
     {
         let SeatState::UnderWay(lane) = self else {
@@ -345,8 +333,8 @@ impl SeatState {
     fn close(self, core: &mut Core, session: &mut Session) -> (SeatState, bool)
         requires { IsSeatState core.old session.old self }
         ensures { AddsRecords core.old core.new (λ h added.
-            CloseGives core.old session.old self (new_part core.new added session.new result.0)
-            result.1) }
+            CloseGives (stand core.old session.old self) added
+            (stand core.new session.new result.0) result.1) }
     {
         match self {
             SeatState::Resting(lane) => (settle(core, session, lane, true), false),
@@ -364,10 +352,9 @@ pub(crate) fn turn_seat(
     moment: u32,
 ) -> Result<Happened, EngineFault>
     requires { IsSeatState core.old seat.old.session seat.old.place }
-    ensures ok { IfOk result (λ r. AddsRecords core.old core.new (λ h added.
-        PlaceGives (part core.old h seat.old.session seat.old.closed) seat.old.place moment r
-        (new_part core.new added seat.new.session seat.new.place)
-        × (seat.new.closed ≡ seat.old.closed))) }
+    ensures ok { IfOk result (λ r. TurnGives (stand core.old seat.old.session seat.old.place)
+        (finding seat.old.closed moment) r (stand core.new seat.new.session seat.new.place)) }
+    ensures closed { seat.new.closed ≡ seat.old.closed }
     ensures err { OnErr result ((core.new ≡ core.old) × (seat.new ≡ seat.old)) }
     ensures fault { IfErr result (λ fault. (fault ≡ EngineFault.OutOfMemory)
         × MayRefuseTurn seat.old.place) }
@@ -384,8 +371,8 @@ pub(crate) fn turns_seat(
     moment: u32,
 ) -> Result<Happened, EngineFault>
     requires { IsReady (stand core.old seat.old.session seat.old.place) }
-    ensures turns { GoesFar (stand core.old seat.old.session seat.old.place) seat.old.closed moment
-        result
+    ensures turns { GoesFar (stand core.old seat.old.session seat.old.place)
+        (finding seat.old.closed moment) result
         (stand core.new seat.new.session seat.new.place) }
     ensures closed { seat.new.closed ≡ seat.old.closed }
 {
@@ -404,19 +391,12 @@ pub(crate) fn wants_bytes(seat: &Seat) -> bool
     }
 }
 
-/// Whether no session's call goes on.
-pub(crate) fn are_quiet(seats: &[Seat]) -> bool
-    ensures { IsTrue result ↔ All (λ seat. is_busy seat.place ≡ false) seats.now }
-{
-    seats.iter().all(|seat| !seat.place.is_busy())
-}
-
 /// Closes a session. It leaves at once if it rests, and else once its call's reply is written.
 pub(crate) fn close_seat(core: &mut Core, seat: &mut Seat)
     requires { IsSeatState core.old seat.old.session seat.old.place }
     ensures { AddsRecords core.old core.new (λ h added. (goes_on : Bool)
-        × CloseGives core.old seat.old.session seat.old.place
-        (new_part core.new added seat.new.session seat.new.place) goes_on
+        × CloseGives (stand core.old seat.old.session seat.old.place) added
+        (stand core.new seat.new.session seat.new.place) goes_on
         × (seat.new.closed ≡ (seat.old.closed || goes_on))) }
 {
     let place = mem::replace(&mut seat.place, SeatState::Left(Cause::Closed));

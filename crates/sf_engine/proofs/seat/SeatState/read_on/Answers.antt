@@ -42,7 +42,7 @@ returns-in-Err c =
     let turn = refused_turn a old.moment c.in-Err.fault c.refuse.new.self c.in-Err.ensures.fault c.refuse.ensures in
     let end = stand c.call.new.self c.refuse.new.self (state.Resting c.call.new.lane) in
     let moved : stand old.core.now c.refuse.new.self (state.Resting a.lane) ≡ end = λ i. stand (sym same.0 i) c.refuse.new.self (state.Resting (sym same.1 i)) in
-    read_far a.from (finding old.closed old.moment) happened.Wrote end c.requires.resting c.requires.ready (subst (λ (b : Stand). TurnGives a.from false old.moment happened.Wrote b) moved turn) (λ e. cc)
+    read_far a.from (finding old.closed old.moment) happened.Wrote end c.requires.resting c.requires.ready (subst (λ (b : Stand). TurnGives a.from (finding false old.moment) happened.Wrote b) moved turn) (λ e. cc)
 
 pub write_on-requires-clause-placed : goal.write_on-requires-clause-placed
 write_on-requires-clause-placed c = λ lane is.
@@ -105,4 +105,4 @@ returns-in-None c =
     let b : CallBegun a old.moment = record { core = c.call.new.self; begins = begins.0; history = begins.2 } in
     let end = stand c.walk_on.new.core c.walk_on.new.session c.walk_on.new.self in
     goes_far a (finding old.closed old.moment) b c.walk_on.result end
-    (subst (λ (l : LaneView). GoesFar (going b.core a.session l) old.closed old.moment c.walk_on.result end) (c.take_lane.ensures ∙ begins.1) (c.walk_on.ensures old.moment))
+    (subst (λ (l : LaneView). GoesFar (going b.core a.session l) (finding old.closed old.moment) c.walk_on.result end) (c.take_lane.ensures ∙ begins.1) (c.walk_on.ensures old.moment))

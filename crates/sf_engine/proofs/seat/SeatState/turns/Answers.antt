@@ -16,5 +16,5 @@ returns-in-Answered c =
 pub returns-in-Left : goal.returns-in-Left
 returns-in-Left c =
     let old = c.args in
-    let P : SeatState → Type 0 = λ p. GoesFar (stand old.core.now old.session.now p) old.closed old.moment (Ok (happened.Ended c.in-Left.cause)) (stand old.core.now old.session.now (state.Left c.in-Left.cause)) in
-    subst P (sym c.in-Left.is) (left_far old.core.now old.session.now c.in-Left.cause old.closed old.moment)
+    let P : SeatState → Type 0 = λ p. GoesFar (stand old.core.now old.session.now p) (finding old.closed old.moment) (Ok (happened.Ended c.in-Left.cause)) (stand old.core.now old.session.now (state.Left c.in-Left.cause)) in
+    subst P (sym c.in-Left.is) (left_far old.core.now old.session.now c.in-Left.cause (finding old.closed old.moment))
