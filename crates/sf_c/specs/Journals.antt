@@ -11,7 +11,7 @@ use Rattle.sf_engine.specs.Promise.{LogEntry, IsKnown, AreTurns, WaitsForBytes}
 use Rattle.sf_engine.specs.Views.{EngineView}
 use Rattle.sf_engine.specs.contracts.promise.EngineSftp.TheImpl.{ghosts}
 use Rattle.sf_refusing.specs.declared.refusals.Refusals.{Refusals}
-use Rattle.sf_refusing.specs.Journal.{Act, Came, Went, Did, log_of, came_in, taken_in}
+use Rattle.sf_refusing.specs.Journal.{Act, Received, Delivered, Did, log_of, received_in, taken_in}
 use Rattle.sf_refusing.specs.Refusing.{Have, IsOwn, IsFed, IsTurn, IsNextOutput, MayRefuseFeed, MayRefuseSent}
 use Rattle.sf_c.specs.declared.turns.Settled.{Settled}
 use Rattle.sf_c.specs.Numbers.{IsNumber, IsFresh, leads_on, replies_of}
@@ -37,13 +37,13 @@ InBoth before rules Leads after rules' =
 -- The engine was asked whether it takes bytes, and they came; or they were refused.
 abbrev pub ComeBytes : ℕ → List ℕ → Result Happened EngineFault → List Act → List Act → Type 0
 ComeBytes session bytes (Ok h) journal acts = (asked : LogEntry) × IsFed session [] asked
-    × (asked.result ≡ Ok h) × (acts ≡ Did asked ∷ Came session bytes ∷ [])
+    × (asked.result ≡ Ok h) × (acts ≡ Did asked ∷ Received session bytes ∷ [])
 ComeBytes session bytes (Err f) journal acts =
     MayRefuseFeed (log_of journal) session f × (acts ≡ [])
 
 abbrev pub GoBytes : ℕ → ℕ → Result Happened EngineFault → List Act → List Act → Type 0
 GoBytes session count (Ok h) journal acts = (h ≡ happened.Sent)
-    × ((told : List LogEntry) × (acts ≡ map Did told ++ Went session count ∷ []))
+    × ((told : List LogEntry) × (acts ≡ map Did told ++ Delivered session count ∷ []))
 GoBytes session count (Err f) journal acts =
     MayRefuseSent journal session count f × (acts ≡ [])
 
@@ -128,7 +128,7 @@ Settles most session moment n moved old r new r' = (settled : Settled)
 abbrev pub WantsBytes : EngineView → Refusals → ℕ → Bool → Type 0
 WantsBytes engine r session wants = (journal : List Act) → Have ghosts.has_log engine r journal
     → IsOwn session journal → IsTrue wants ↔ (WaitsForBytes (log_of journal) session
-    × ((held : List ℕ) → came_in session journal ≡ taken_in session journal ++ held
+    × ((held : List ℕ) → received_in session journal ≡ taken_in session journal ++ held
     → IsCut held cut.More))
 
 -- what waits to be sent next to a session

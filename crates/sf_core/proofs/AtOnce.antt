@@ -30,7 +30,7 @@ use Rattle.sf_walk.proofs.Laws.{at_once, nowhere_stays, stands_fresh}
 use Rattle.sf_core.specs.declared.step.Step.TheVariants as step
 use Rattle.sf_core.specs.Lanes.{LaneView, at_rest}
 use Rattle.sf_core.specs.Cores.{call_at, session_at, last_number}
-use Rattle.sf_core.specs.Events.{StepsOn, AnswersAtOnce, begun, came}
+use Rattle.sf_core.specs.Events.{StepsOn, AnswersAtOnce, begun, walk_end}
 use Rattle.sf_core.specs.Progress.{waiting_reply, is_at_once, is_write, overtaken, did, new_call}
 use Rattle.sf_core.specs.Parts.{PartsView, core_of}
 use Rattle.sf_core.specs.Sound.{Sound, IsCore}
@@ -180,7 +180,7 @@ module _ (lane : LaneView) (p q : PartsView) (core : IsCore p) (request : Reques
     steps : IsStep at.mid its_lane (step.Answered a) q (at_rest its_lane)
     steps = decided_step at.mid its_lane its turn undecided at.mid nowhere walked free at.mid over q given at.finished a is (no_block at.mid.store its given (at_once_silent p.store lane.session request once))
 
-    pub answered_at_once : AnswersAtOnce (core_of p) lane request moment (came (step.Answered a) (core_of q) (at_rest its_lane))
+    pub answered_at_once : AnswersAtOnce (core_of p) lane request moment (walk_end (step.Answered a) (core_of q) (at_rest its_lane))
     answered_at_once = record {
       mid = core_of at.mid;
       begins = begun_told p at.mid core.history core.sound lane.session request moment at.begun idle unspent lane.call lane.begun;

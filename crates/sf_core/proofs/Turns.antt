@@ -256,7 +256,7 @@ module _ (p : PartsView) (lane : LaneView) (c : Call) (turn : IsTurn p lane c) w
             let held_paths : (n : ℕ) (x : Call) → call_at p.calls n ≡ Some x → held_paths_in p.calls n ≡ held_paths_of (route_of x.request) x.stage = λ n x at. ap (λ (o : Option Call). option_map_or held_paths_at o []) at in
             let none = not_decided h sound d.0 wants.0 d.1 d.2 in
             told_by h sound holder d.0 d.1 w.advances.other (inl none)
-            (inl (record { held_path = wants.0; looks = wants.1; leads = wants.2; held = wants.3 ∙ ap Some (sym (sound.ledger.calls holder d.0 d.1).is_number); came = inl d.2 })) (
+            (inl (record { held_path = wants.0; looks = wants.1; leads = wants.2; held = wants.3 ∙ ap Some (sym (sound.ledger.calls holder d.0 d.1).is_number); stands = inl d.2 })) (
               not_copying p h sound c.number c turn.at undecided,
               inr (looks_deeper (walkers_at (namespace p.store) (held_paths_in p.calls) (walker_of p.store.nodes)) sound.coupled.walks
                   (record { number = c.number; route = route_of c.request; at = c.stage; holds = held_paths c.number c turn.at; position = sound.coupled.positions c.number c turn.at undecided })
@@ -271,7 +271,7 @@ module _ (p : PartsView) (lane : LaneView) (c : Call) (turn : IsTurn p lane c) w
               looks = w.advances.looks;
               leads = w.advances.leads;
               held = w.advances.held ∙ ap Some (sym (sound.ledger.calls holder f.0 f.2).is_number);
-              came = inr (subst (λ (g : Stage). CopiesInto g w.advances.node) (sym f.3) refl);
+              stands = inr (subst (λ (g : Stage). CopiesInto g w.advances.node) (sym f.3) refl);
             }))
             (not_copying p h sound c.number c turn.at undecided, inl copies) looks_few
       ]

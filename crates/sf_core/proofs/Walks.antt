@@ -22,7 +22,7 @@ use Rattle.sf_core.specs.declared.parts.WalkOutcome.TheVariants as outcome
 use Rattle.sf_core.specs.Lanes.{LaneView, at_rest}
 use Rattle.sf_core.specs.Cores.{CoreView, call_at}
 use Rattle.sf_core.specs.Progress.{waiting_reply, is_write, undecided_in}
-use Rattle.sf_core.specs.Events.{TakesMoves, Walks, came}
+use Rattle.sf_core.specs.Events.{TakesMoves, Walks, walk_end}
 use Rattle.sf_core.specs.Parts.{PartsView, core_of}
 use Rattle.sf_core.specs.Sound.{Sound, IsCore}
 use Rattle.sf_core.specs.Stepping.{is_move, Walked, CallStep, Moved, WalkState, ending, FetchState, Overtakes, FinishState}
@@ -104,7 +104,7 @@ module _ (lane : LaneView) (n : ℕ) (call : lane.call ≡ Some n) where
   module _ (p : PartsView) (most places : ℕ) (fit : undecided_in p.calls ≤ places) (v : CoreView) (ev : core_of p ≡ v) (l : LaneView) (el : lane ≡ l) where
     -- what it leaves
     abbrev pub Ends : PartsView → Step → LaneView → Type 0
-    Ends q s lane' = IsCore q × (undecided_in q.calls ≤ places) × Walks v l most (came s (core_of q) lane')
+    Ends q s lane' = IsCore q × (undecided_in q.calls ≤ places) × Walks v l most (walk_end s (core_of q) lane')
 
     -- after steps that moved, one more
     pub ended_by : (k : ℕ) (mid r : PartsView) (s : Step) (lane' : LaneView) → k < most → TakesMoves k (core_of p) lane (core_of mid) → IsCore mid → undecided_in mid.calls ≤ places → IsStep mid lane s r lane' → r.drawn ≡ mid.drawn → (s ≡ step.Moved → k + 1 ≡ most)
@@ -112,7 +112,7 @@ module _ (lane : LaneView) (n : ℕ) (call : lane.call ≡ Some n) where
     ended_by k mid r s lane' few moved core fits last drawn full = (
       core_after mid r _ core last,
       places_after mid r _ core last drawn places fits,
-      subst (λ (x : CoreView). Walks x l most (came s (core_of r) lane')) ev (subst (λ (x : LaneView). Walks (core_of p) x most (came s (core_of r) lane')) el (record {
+      subst (λ (x : CoreView). Walks x l most (walk_end s (core_of r) lane')) ev (subst (λ (x : LaneView). Walks (core_of p) x most (walk_end s (core_of r) lane')) el (record {
         moves = k;
         mid = core_of mid;
         few = few;

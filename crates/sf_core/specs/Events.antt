@@ -96,7 +96,7 @@ pub record HoldsWanted (s : StoreState) (c d : Call) : Type 0 where
   pub looks : LooksUp (route_of c.request) c.stage held_path.path
   pub leads : walk (child_of s.nodes) s.root held_path.path ≡ Some held_path.node
   pub held : holder_of s.nodes held_path.node ≡ Some d.number
-  pub came : Holds (held_paths_of (route_of d.request) d.stage) held_path
+  pub stands : Holds (held_paths_of (route_of d.request) d.stage) held_path
       ⊎ CopiesInto d.stage held_path.node
 
 -- another call copies into the file that the call's handle opens
@@ -323,14 +323,14 @@ StepsOn v lane s w lane' =
       lane = lane';
     })
 
--- what steps came to: the last one, and the core and the session's lane after it
-pub record Came : Type 0 where
+-- what steps walk_end to: the last one, and the core and the session's lane after it
+pub record WalkEnd : Type 0 where
   pub step : Step
   pub core : CoreView
   pub lane : LaneView
 
-abbrev pub came : Step → CoreView → LaneView → Came
-came s w lane = record { step = s; core = w; lane = lane }
+abbrev pub walk_end : Step → CoreView → LaneView → WalkEnd
+walk_end s w lane = record { step = s; core = w; lane = lane }
 
 -- so many steps, one after the other, each of which moved
 unfoldable pub TakesMoves : ℕ → CoreView → LaneView → CoreView → Type 0
@@ -340,7 +340,7 @@ TakesMoves (suc n) v lane w =
 
 -- Walking on, by so many steps at most: all moved but the last, and this one too only where no more
 -- were to be made.
-pub record Walks (v : CoreView) (lane : LaneView) (most : ℕ) (c : Came) : Type 0 where
+pub record Walks (v : CoreView) (lane : LaneView) (most : ℕ) (c : WalkEnd) : Type 0 where
   pub moves : ℕ
   pub mid : CoreView
   pub few : moves < most
@@ -389,7 +389,7 @@ begun lane number =
 
 -- a call begins, and its first step answers it
 pub record AnswersAtOnce (v : CoreView) (lane : LaneView) (request : Request) (moment : ℕ)
-    (c : Came) : Type 0 where
+    (c : WalkEnd) : Type 0 where
   pub mid : CoreView
   pub begins : CallBegins v mid lane request moment
   pub history : (h : List Record) → IsHistory v h → IsHistory mid h

@@ -14,7 +14,7 @@ ghost use Rattle.sf_core.specs.Stuck.{IsNeverStuck};
 ghost use Rattle.sf_core.specs.Owners.{OwnsCalls};
 ghost use Rattle.sf_core.specs.declared.step.Step.TheVariants.{Answered};
 ghost use Rattle.sf_core.specs.Writing.{ReportsStep};
-ghost use Rattle.sf_core.specs.Events.{StepsOn, Walks, Joins, CallBegins, begun, AnswersAtOnce, Leaves, RefusesJoin, RefusesBegin, came};
+ghost use Rattle.sf_core.specs.Events.{StepsOn, Walks, Joins, CallBegins, begun, AnswersAtOnce, Leaves, RefusesJoin, RefusesBegin, walk_end};
 
 use crate::lane::{Lane, Share};
 use crate::parts::{Parts, WalkOutcome};
@@ -172,7 +172,7 @@ impl Core {
         requires { lane.old.call ≡ None }
         ensures answered { IfOk result (λ made. IfSome made (λ answer.
             AnswersAtOnce self.old lane.old request moment
-            (came (Answered answer) self.new lane.new))) }
+            (walk_end (Answered answer) self.new lane.new))) }
         ensures begun { IfOk result (λ made. IfNone made
             (CallBegins self.old self.new lane.old request moment
             × (lane.new ≡ begun lane.old self.new.drawn)
@@ -226,12 +226,12 @@ impl Core {
     }
 
     /// Steps of the lane's call, one after the other, up to one that doesn't move, and `most` at
-    /// most: what came of the last one is told. Between them nothing comes from other sessions.
+    /// most: what walk_end of the last one is told. Between them nothing comes from other sessions.
     #[inline(always)]
     pub fn walk(&mut self, lane: &mut Lane, most: u64) -> Step
         requires call { IsSome lane.old.call }
         requires some { 0 < most }
-        ensures { Walks self.old lane.old most (came result self.new lane.new) }
+        ensures { Walks self.old lane.old most (walk_end result self.new lane.new) }
     {
         let Some(number) = lane.call else {
             return Step::Stranger;
@@ -331,7 +331,7 @@ impl Core {
     }
 }
 
-/// What steps of a WRITE came to: it is answered, and the lane is at rest; or it has more to copy.
+/// What steps of a WRITE walk_end to: it is answered, and the lane is at rest; or it has more to copy.
 fn told(lane: &mut Lane, number: u64, reply: Option<Reply>) -> Step
     requires { (given : Reply) → reply ≡ Some given → IsGiven number lane.old.session given }
     ensures { ReportsStep number lane.old reply result lane.new }

@@ -12,7 +12,7 @@ use Rattle.sf_core.specs.declared.step.Step.TheVariants as step
 use Rattle.sf_core.specs.Lanes.{LaneView}
 use Rattle.sf_core.specs.Cores.LaneState.{Idle}
 use Rattle.sf_core.specs.Cores.{CoreView, lane_state}
-use Rattle.sf_core.specs.Events.{TakesMoves, Walks, came}
+use Rattle.sf_core.specs.Events.{TakesMoves, Walks, walk_end}
 use Rattle.sf_core.specs.Histories.{IsHistory}
 use Rattle.sf_engine.specs.declared.seat.Seat.{Seat}
 use Rattle.sf_engine.specs.declared.seat.SeatState.{SeatState}
@@ -99,7 +99,7 @@ stand_eq a b c x p =
     ap (λ (z : CoreView). stand z b.session b.place) c ∙ ap (λ (z : SessionView). stand a.core z b.place) x ∙ ap (λ (z : SeatState). stand a.core a.session z) p
 
 -- a walk that was blocked
-pub blocked_walk : (a : Stand) (lane : LaneView) (f : Finding) (most holder : ℕ) (w : CoreView) (lane' : LaneView) → Walks a.core lane most (came (step.Blocked holder) w lane')
+pub blocked_walk : (a : Stand) (lane : LaneView) (f : Finding) (most holder : ℕ) (w : CoreView) (lane' : LaneView) → Walks a.core lane most (walk_end (step.Blocked holder) w lane')
     → GoesFar (going a.core a.session lane) f (Ok (happened.Blocked holder)) (going w a.session lane')
 blocked_walk a lane f most holder w lane' k =
     let mid = going k.mid a.session lane in
@@ -112,7 +112,7 @@ blocked_walk a lane f most holder w lane' k =
     }
 
 -- a walk that made all its steps
-pub moved_walk : (a : Stand) (lane : LaneView) (f : Finding) (most : ℕ) (w : CoreView) (lane' : LaneView) → most ≡ 2 ^ 64 - 1 → Walks a.core lane most (came step.Moved w lane')
+pub moved_walk : (a : Stand) (lane : LaneView) (f : Finding) (most : ℕ) (w : CoreView) (lane' : LaneView) → most ≡ 2 ^ 64 - 1 → Walks a.core lane most (walk_end step.Moved w lane')
     → GoesFar (going a.core a.session lane) f (Ok happened.Moved) (going w a.session lane')
 moved_walk a lane f most w lane' many k =
     let mid = going k.mid a.session lane in
@@ -125,15 +125,15 @@ moved_walk a lane f most w lane' many k =
       far = λ e. omega (arith, full);
     }
 
--- where a walk came to an answer: the core, the lane and the answer then
+-- where a walk walk_end to an answer: the core, the lane and the answer then
 pub record CameToAnswer : Type 0 where
   pub core : CoreView
   pub lane : LaneView
   pub answer : AnswerView
 
--- a walk that came to an answer, and the turn that is to write it
+-- a walk that walk_end to an answer, and the turn that is to write it
 pub answered_walk : (a : Stand) (lane : LaneView) (f : Finding) (most : ℕ) (c : CameToAnswer) (r : Result Happened EngineFault) (b : Stand)
-    → Walks a.core lane most (came (step.Answered c.answer) c.core c.lane) → TurnsGive 0 (answered c.core a.session c.lane c.answer) f r b × (goes_on_at r ≡ false) → GoesFar (going a.core a.session lane) f r b
+    → Walks a.core lane most (walk_end (step.Answered c.answer) c.core c.lane) → TurnsGive 0 (answered c.core a.session c.lane c.answer) f r b × (goes_on_at r ≡ false) → GoesFar (going a.core a.session lane) f r b
 answered_walk a lane f most c r b k last =
     let mid = going k.mid a.session lane in
     let waits = answered c.core a.session c.lane c.answer in
@@ -167,7 +167,7 @@ lane_same (state.Answered own given) lane other a b = a ∙ sym b
 lane_same (state.Left cause) lane other a b = absurd a
 
 -- and what this turn asks
-pub answered_placed : (a : Stand) (lane : LaneView) (most : ℕ) (c : CameToAnswer) → Walks a.core lane most (came (step.Answered c.answer) c.core c.lane) → IsReady (going a.core a.session lane) → IsSeatState c.core a.session (state.Answered c.lane c.answer)
+pub answered_placed : (a : Stand) (lane : LaneView) (most : ℕ) (c : CameToAnswer) → Walks a.core lane most (walk_end (step.Answered c.answer) c.core c.lane) → IsReady (going a.core a.session lane) → IsSeatState c.core a.session (state.Answered c.lane c.answer)
 answered_placed a lane most c k ready =
     let own = still_own k.moves a.core k.mid lane a.session k.moved ready.placed in
     let s = k.last own.0 own.2 in
@@ -176,7 +176,7 @@ answered_placed a lane most c k ready =
     (ap (λ (l : LaneView). l.call) rests, ap (λ (l : LaneView). lane_state c.core l.session) rests ∙ slot, ready.waits refl)
 
 -- the lane of a call under way is no stranger
-pub no_stranger : (a : Stand) (lane : LaneView) (most : ℕ) (w : CoreView) (lane' : LaneView) → Walks a.core lane most (came step.Stranger w lane') → IsReady (going a.core a.session lane) → ⊥
+pub no_stranger : (a : Stand) (lane : LaneView) (most : ℕ) (w : CoreView) (lane' : LaneView) → Walks a.core lane most (walk_end step.Stranger w lane') → IsReady (going a.core a.session lane) → ⊥
 no_stranger a lane most w lane' k ready =
     let own = still_own k.moves a.core k.mid lane a.session k.moved ready.placed in
     (k.last own.0 own.2).2.0 own.1 own.3

@@ -11,7 +11,7 @@ use Rattle.sf_core.specs.declared.step.Step.{Step}
 use Rattle.sf_core.specs.declared.step.Step.TheVariants as step
 use Rattle.sf_core.specs.Lanes.{LaneView}
 use Rattle.sf_core.specs.Cores.{CoreView}
-use Rattle.sf_core.specs.Events.{CallBegins, begun, AnswersAtOnce, RefusesBegin, StepsOn, TakesMoves, Walks, came}
+use Rattle.sf_core.specs.Events.{CallBegins, begun, AnswersAtOnce, RefusesBegin, StepsOn, TakesMoves, Walks, walk_end}
 use Rattle.sf_core.specs.Histories.{IsHistory}
 use Rattle.sf_engine.specs.declared.seat.SeatState.{SeatState}
 use Rattle.sf_engine.specs.declared.seat.SeatState.TheVariants as state
@@ -23,7 +23,7 @@ use Rattle.sf_engine.specs.Turns.{GivesAt, IsSeatState, is_resting, Stand, stand
 use Rattle.sf_engine.proofs.Chains.{CameToAnswer, going, answered, begun_ready, begun_far, answered_walk, answered_placed}
 
 -- one step is a walk
-walk_of_one : (v w : CoreView) (lane lane' : LaneView) (s : Step) → StepsOn v lane s w lane' → Walks v lane 1 (came s w lane')
+walk_of_one : (v w : CoreView) (lane lane' : LaneView) (s : Step) → StepsOn v lane s w lane' → Walks v lane 1 (walk_end s w lane')
 unfolding TakesMoves
 walk_of_one v w lane lane' s on = record { moves = 0; mid = v; few = omega arith; moved = refl; last = on; full = λ e. refl }
 
@@ -76,12 +76,12 @@ refused_turn a m f z refused wrote = λ h is. (
 
 -- it is answered at once
 abbrev pub IsAnsweredAtOnce : CallAsked → ℕ → CameToAnswer → Type 0
-IsAnsweredAtOnce a m c = AnswersAtOnce a.from.core a.lane a.request m (came (step.Answered c.answer) c.core c.lane)
+IsAnsweredAtOnce a m c = AnswersAtOnce a.from.core a.lane a.request m (walk_end (step.Answered c.answer) c.core c.lane)
 
 began : (a : CallAsked) (m : ℕ) (c : CameToAnswer) → IsAnsweredAtOnce a m c → CallBegun a m
 began a m c made = record { core = made.mid; begins = made.begins; history = made.history }
 
-walks : (a : CallAsked) (m : ℕ) (c : CameToAnswer) (made : IsAnsweredAtOnce a m c) → Walks made.mid (begun a.lane made.mid.drawn) 1 (came (step.Answered c.answer) c.core c.lane)
+walks : (a : CallAsked) (m : ℕ) (c : CameToAnswer) (made : IsAnsweredAtOnce a m c) → Walks made.mid (begun a.lane made.mid.drawn) 1 (walk_end (step.Answered c.answer) c.core c.lane)
 walks a m c made = walk_of_one made.mid c.core (begun a.lane made.mid.drawn) c.lane (step.Answered c.answer) made.steps
 
 pub placed_at_once : (a : CallAsked) (m : ℕ) (c : CameToAnswer) → IsAnsweredAtOnce a m c → IsReady a.from → IsSeatState c.core a.session (state.Answered c.lane c.answer)

@@ -16,7 +16,7 @@ use Rattle.sf_engine.specs.declared.event.Happened.TheVariants as happened
 use Rattle.sf_session.specs.Responses.{Response, ByCall, AreAsked, RepliedCall, Due, asked_due}
 use Rattle.sf_engine.specs.Promise.{LogEntry, opened_in, MayWrite, EndsIn, IsAnswered, IsKept}
 use Rattle.sf_engine.specs.Examples.{init_packet, mkdir, made}
-use Rattle.sf_engine.specs.Overtaking.{came}
+use Rattle.sf_engine.specs.Overtaking.{done_entry}
 use Rattle.sf_engine.specs.Wrong.{turned, begun_with, shared_record, unsent_request, early_record, other_reply, idle_turn}
 
 -- what is so of session 1 at the end of a log
@@ -68,7 +68,7 @@ no_idle_turn bytes is kept =
     let log = idle_turn bytes in
     let x = at_end log kept (omega arith) in
     let ends : EndsIn 1 happened.Idle log = record {
-      front = came event.Open (happened.Opened 1) [] [] ∷ came (event.Feed 1 bytes) happened.Fed [] [] ∷ [];
+      front = done_entry event.Open (happened.Opened 1) [] [] ∷ done_entry (event.Feed 1 bytes) happened.Fed [] [] ∷ [];
       last = turned happened.Idle [] [];
       moment = 100;
       parts = refl;

@@ -58,33 +58,33 @@ made_inside = Did 2 2 101 inner ok
 abbrev pub renamed : Record
 renamed = Did 3 1 102 rename ok
 
--- an event that came to this, added these records, and wrote this
-abbrev pub came : Event → Happened → List Record → List Response → LogEntry
-came ev result added wrote = log_entry ev (Ok result) added wrote
+-- an event that done_entry to this, added these records, and wrote this
+abbrev pub done_entry : Event → Happened → List Record → List Response → LogEntry
+done_entry ev result added wrote = log_entry ev (Ok result) added wrote
 
 abbrev pub overtaking : (first second : Vec ℕ Global) → List LogEntry
 overtaking first second =
-    came event.Open (happened.Opened 1) [] []
-    ∷ came event.Open (happened.Opened 2) [] []
-    ∷ came (event.Feed 1 first) happened.Fed [] []
-    ∷ came (event.Feed 2 second) happened.Fed [] []
-    ∷ came (event.Turn 1 100) happened.Wrote [] (Version ∷ [])
-    ∷ came (event.Turn 2 100) happened.Wrote [] (Version ∷ [])
+    done_entry event.Open (happened.Opened 1) [] []
+    ∷ done_entry event.Open (happened.Opened 2) [] []
+    ∷ done_entry (event.Feed 1 first) happened.Fed [] []
+    ∷ done_entry (event.Feed 2 second) happened.Fed [] []
+    ∷ done_entry (event.Turn 1 100) happened.Wrote [] (Version ∷ [])
+    ∷ done_entry (event.Turn 2 100) happened.Wrote [] (Version ∷ [])
     -- call 1 begins, takes the root, and makes `/a`
-    ∷ came (event.Turn 1 100) happened.Begun [] []
-    ∷ came (event.Turn 1 100) happened.Moved [] []
-    ∷ came (event.Turn 1 100) happened.Decided (made ∷ []) []
-    ∷ came (event.Turn 1 100) happened.Wrote [] (ByCall 7 1 mkdir ok ∷ [])
+    ∷ done_entry (event.Turn 1 100) happened.Begun [] []
+    ∷ done_entry (event.Turn 1 100) happened.Moved [] []
+    ∷ done_entry (event.Turn 1 100) happened.Decided (made ∷ []) []
+    ∷ done_entry (event.Turn 1 100) happened.Wrote [] (ByCall 7 1 mkdir ok ∷ [])
     -- call 2 begins, takes the root, and walks to `/a`
-    ∷ came (event.Turn 2 101) happened.Begun [] []
-    ∷ came (event.Turn 2 101) happened.Moved [] []
-    ∷ came (event.Turn 2 101) happened.Moved [] []
+    ∷ done_entry (event.Turn 2 101) happened.Begun [] []
+    ∷ done_entry (event.Turn 2 101) happened.Moved [] []
+    ∷ done_entry (event.Turn 2 101) happened.Moved [] []
     -- call 3 begins, takes the root, and renames: call 2 is carried out before
-    ∷ came (event.Turn 1 102) happened.Begun [] []
-    ∷ came (event.Turn 1 102) happened.Moved [] []
-    ∷ came (event.Turn 1 102) happened.Decided (made_inside ∷ renamed ∷ []) []
-    ∷ came (event.Turn 1 102) happened.Wrote [] (ByCall 9 3 rename ok ∷ [])
+    ∷ done_entry (event.Turn 1 102) happened.Begun [] []
+    ∷ done_entry (event.Turn 1 102) happened.Moved [] []
+    ∷ done_entry (event.Turn 1 102) happened.Decided (made_inside ∷ renamed ∷ []) []
+    ∷ done_entry (event.Turn 1 102) happened.Wrote [] (ByCall 9 3 rename ok ∷ [])
     -- call 2 is told that it was decided, and its reply is written
-    ∷ came (event.Turn 2 103) happened.Decided [] []
-    ∷ came (event.Turn 2 103) happened.Wrote [] (ByCall 8 2 inner ok ∷ [])
+    ∷ done_entry (event.Turn 2 103) happened.Decided [] []
+    ∷ done_entry (event.Turn 2 103) happened.Wrote [] (ByCall 8 2 inner ok ∷ [])
     ∷ []

@@ -11,16 +11,16 @@ use Rattle.sf_engine.specs.declared.event.Happened.TheVariants as happened
 use Rattle.sf_session.specs.Responses.{Response, Version, ByCall}
 use Rattle.sf_engine.specs.Promise.{LogEntry}
 use Rattle.sf_engine.specs.Examples.{mkdir, made}
-use Rattle.sf_engine.specs.Overtaking.{ok, came}
+use Rattle.sf_engine.specs.Overtaking.{ok, done_entry}
 
 -- a turn of session 1 at the moment 100
 abbrev pub turned : Happened → List Record → List Response → LogEntry
-turned result added wrote = came (event.Turn 1 100) result added wrote
+turned result added wrote = done_entry (event.Turn 1 100) result added wrote
 
 -- the session has opened, was fed these bytes, and was answered VERSION
 abbrev pub begun_with : Vec ℕ Global → List LogEntry
 begun_with bytes =
-    came event.Open (happened.Opened 1) [] [] ∷ came (event.Feed 1 bytes) happened.Fed [] []
+    done_entry event.Open (happened.Opened 1) [] [] ∷ done_entry (event.Feed 1 bytes) happened.Fed [] []
     ∷ turned happened.Wrote [] (Version ∷ []) ∷ []
 
 -- its first call is decided, and this reply is written
@@ -49,5 +49,5 @@ other_reply bytes = begun_with bytes ++ first_call (ByCall 7 1 mkdir (reply.Stat
 
 -- a turn that is idle while a whole packet is unread: INIT
 abbrev pub idle_turn : Vec ℕ Global → List LogEntry
-idle_turn bytes = came event.Open (happened.Opened 1) [] []
-    ∷ came (event.Feed 1 bytes) happened.Fed [] [] ∷ turned happened.Idle [] [] ∷ []
+idle_turn bytes = done_entry event.Open (happened.Opened 1) [] []
+    ∷ done_entry (event.Feed 1 bytes) happened.Fed [] [] ∷ turned happened.Idle [] [] ∷ []

@@ -26,7 +26,7 @@ use Rattle.sf_refusing.specs.declared.given.GivenRule.{GivenRule}
 use Rattle.sf_refusing.specs.declared.passage.Passage.{Passage}
 use Rattle.sf_refusing.specs.Rules.{kind_of, paths_of, fits}
 use Rattle.sf_refusing.specs.Counting.{is_ready, counted_if}
-use Rattle.sf_refusing.specs.Journal.{Act, Ruled, Did, Passed, Refused, Packet, log_of, came_in, taken_in, taken_by, rules_in, since_given, fits_asked, fits_packet, counts, refuses}
+use Rattle.sf_refusing.specs.Journal.{Act, Ruled, Did, Passed, Refused, Packet, log_of, received_in, taken_in, taken_by, rules_in, since_given, fits_asked, fits_packet, counts, refuses}
 use Rattle.sf_refusing.specs.Refusing.{IsFed, IsUnruled, MayPass, MayRefuse, IsOwn, Serves, AreGiven, MovesOn}
 use Rattle.sf_refusing.specs.Fronts.{IsAt, Stands, Leaves}
 use Rattle.std.proofs.lemmas.Option.{slice_get_within}
@@ -64,8 +64,8 @@ done_nothing {E} has_log engine journal s p rules r moves S = ([], moves, nothin
 
 -- less than a packet is held
 pub none_held : {E : Type 0} (has_log : E → List LogEntry → Type 0) (engine : E) (journal : List Act) (s : ℕ) (p : Passage) (rules : List GivenRule) → Stands has_log engine journal s p rules → IsCut p.held.items cut.More → MovesOn journal s (Ok false) []
-none_held {E} has_log engine journal s p rules S more = λ waits own held came.
-    let is : p.held.items ≡ held = append_cancel_left (taken_in s journal) p.held.items held (sym (S.at.served own).came ∙ came) in
+none_held {E} has_log engine journal s p rules S more = λ waits own held received.
+    let is : p.held.items ≡ held = append_cancel_left (taken_in s journal) p.held.items held (sym (S.at.served own).received ∙ received) in
     subst (λ (b : List ℕ). IsCut b cut.More) is more
 
 -- what no rule is asked about was passed on

@@ -2,7 +2,7 @@
 use Rattle.std.proofs.Common.{◌≡◌, ℕ, ◌+◌, ◌<◌, ◌≤◌, ◌++◌, ◌∙◌, List, Bool, Result, Ok, Err, length, refl, ap, subst, arith, inl, inr, length-append}
 use Rattle.std.specs.Global.{Vec}
 use Rattle.std.specs.Prelude.{IfErr}
-use Rattle.sf_refusing.specs.Journal.{Act, log_of, sent_in, went_in}
+use Rattle.sf_refusing.specs.Journal.{Act, log_of, sent_in, delivered_in}
 use Rattle.sf_refusing.specs.Refusing.{IsServed, Serves, MayRefuseFeed, MayRefuseSent}
 use Rattle.sf_engine.specs.declared.event.Event.TheVariants as event
 use Rattle.sf_engine.specs.declared.event.EngineFault.{EngineFault}
@@ -41,7 +41,7 @@ pub sent_refused : (journal : List Act) (s n k : ℕ) (held output : List ℕ) (
 sent_refused journal s n k held output begun fault.NoSuchSession all S may = may
 sent_refused journal s n k held output begun fault.NotSent all S may = λ own.
     let T : IsServed journal s held output = S.served own in
-    let waits : length (sent_in s journal) ≡ went_in s journal + (length output + length T.unsent) =
+    let waits : length (sent_in s journal) ≡ delivered_in s journal + (length output + length T.unsent) =
     ap (λ (b : List ℕ). length b) T.waits ∙ omega (arith, length-append (T.gone ++ output) T.unsent, length-append T.gone output, T.count) in
     omega (arith, waits, all, may, ap (λ (b : List ℕ). length b) T.in_engine.packets, length-append T.in_engine.sent T.unsent, T.in_engine.count)
 sent_refused journal s n k held output begun fault.OutOfMemory all S may = absurd may

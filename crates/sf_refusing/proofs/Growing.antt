@@ -13,7 +13,7 @@ use Rattle.sf_engine.specs.declared.event.EngineFault.{EngineFault}
 use Rattle.sf_session.specs.Responses.{Response, packet_for, transcript, if_so}
 use Rattle.sf_engine.specs.Promise.{LogEntry, fed_by, written_by, written_in, sent_at, sent_of, IsUnsent}
 use Rattle.sf_refusing.specs.declared.rule.Rule.{Rule}
-use Rattle.sf_refusing.specs.Journal.{Act, Ruled, Came, Went, Did, Apart, Passed, Refused, Packet, logged, log_of, came_by, came_in, taken_by, taken_in, sent_by, sent_in, went_by, went_in, rules_in, since_given, counts, counted, refused_by, refused_in}
+use Rattle.sf_refusing.specs.Journal.{Act, Ruled, Received, Delivered, Did, Apart, Passed, Refused, Packet, logged, log_of, received_by, received_in, taken_by, taken_in, sent_by, sent_in, delivered_by, delivered_in, rules_in, since_given, counts, counted, refused_by, refused_in}
 use Rattle.sf_refusing.specs.Refusing.{MayHappen, AllMayHappen, IsOwn, IsNotApart, IsServed, Serves}
 
 -- ---- lists
@@ -100,18 +100,18 @@ happened_more front (x ∷ acts) act h may = (
 
 -- ---- a session
 
-pub grown : (journal : List Act) (s : ℕ) (act : Act) (held held' output output' unsent' extra : List ℕ) (S : IsServed journal s held output) → held ++ came_by s act ≡ taken_by s act ++ held' → IsUnsent (log_of journal ++ logged act) s unsent' → length extra ≡ went_by s act → (output ++ S.unsent) ++ sent_by s act ≡ extra ++ (output' ++ unsent')
+pub grown : (journal : List Act) (s : ℕ) (act : Act) (held held' output output' unsent' extra : List ℕ) (S : IsServed journal s held output) → held ++ received_by s act ≡ taken_by s act ++ held' → IsUnsent (log_of journal ++ logged act) s unsent' → length extra ≡ delivered_by s act → (output ++ S.unsent) ++ sent_by s act ≡ extra ++ (output' ++ unsent')
     → IsServed (journal ++ act ∷ []) s held' output'
 grown journal s act held held' output output' unsent' extra S c U n w = record {
-  came =
-      more (came_by s) journal act ∙ ap (λ (b : List ℕ). b ++ came_by s act) S.came
-      ∙ append_assoc (taken_in s journal) held (came_by s act) ∙ ap (λ (b : List ℕ). taken_in s journal ++ b) c
+  received =
+      more (received_by s) journal act ∙ ap (λ (b : List ℕ). b ++ received_by s act) S.received
+      ∙ append_assoc (taken_in s journal) held (received_by s act) ∙ ap (λ (b : List ℕ). taken_in s journal ++ b) c
       ∙ sym (append_assoc (taken_in s journal) (taken_by s act) held')
       ∙ ap (λ (b : List ℕ). b ++ held') (sym (more (taken_by s) journal act));
   unsent = unsent';
   in_engine = subst (λ (l : List LogEntry). IsUnsent l s unsent') (sym (more logged journal act)) U;
   gone = S.gone ++ extra;
-  count = omega (arith, length-append S.gone extra, S.count, n, sum_by_push (went_by s) journal act);
+  count = omega (arith, length-append S.gone extra, S.count, n, sum_by_push (delivered_by s) journal act);
   waits =
       more (sent_by s) journal act ∙ ap (λ (b : List ℕ). b ++ sent_by s act) S.waits
       ∙ ap (λ (b : List ℕ). b ++ sent_by s act) (append_assoc S.gone output S.unsent)
@@ -131,53 +131,53 @@ begun_now journal s act some =
     ∙ ap (λ (b : List ℕ). nat_lt 0 (length b)) (sym (more (taken_by s) journal act))
 
 -- an entry by which nothing of the session goes in or is gone
-pub entry_served : (journal : List Act) (s : ℕ) (act : Act) (e : LogEntry) (held output : List ℕ) → logged act ≡ e ∷ [] → came_by s act ≡ [] → taken_by s act ≡ [] → went_by s act ≡ 0 → sent_by s act ≡ transcript (written_by s e.event e.wrote) → sent_at s e.event e.result ≡ 0 → IsServed journal s held output
+pub entry_served : (journal : List Act) (s : ℕ) (act : Act) (e : LogEntry) (held output : List ℕ) → logged act ≡ e ∷ [] → received_by s act ≡ [] → taken_by s act ≡ [] → delivered_by s act ≡ 0 → sent_by s act ≡ transcript (written_by s e.event e.wrote) → sent_at s e.event e.result ≡ 0 → IsServed journal s held output
     → IsServed (journal ++ act ∷ []) s held output
-entry_served journal s act e held output is came taken went wrote zero_sent S =
+entry_served journal s act e held output is received taken delivered wrote zero_sent S =
     let t : List ℕ = transcript (written_by s e.event e.wrote) in
     let le : sent_at s e.event e.result ≤ length S.unsent = omega (arith, zero_sent) in
     let U : IsUnsent (log_of journal ++ e ∷ []) s (S.unsent ++ t) =
     subst (λ (n : ℕ). IsUnsent (log_of journal ++ e ∷ []) s (drop n S.unsent ++ t)) zero_sent
     (unsent_more (log_of journal) e s S.unsent S.in_engine le) in
     grown journal s act held held output output (S.unsent ++ t) [] S
-    (ap (λ (b : List ℕ). held ++ b) came ∙ append-nil held ∙ ap (λ (b : List ℕ). b ++ held) (sym taken))
+    (ap (λ (b : List ℕ). held ++ b) received ∙ append-nil held ∙ ap (λ (b : List ℕ). b ++ held) (sym taken))
     (subst (λ (l : List LogEntry). IsUnsent (log_of journal ++ l) s (S.unsent ++ t)) (sym is) U)
-    (sym went)
+    (sym delivered)
     (ap (λ (b : List ℕ). (output ++ S.unsent) ++ b) wrote ∙ append_assoc output S.unsent t)
 
 -- an act that doesn't concern the session
-pub other_served : (journal : List Act) (s : ℕ) (act : Act) (held output : List ℕ) → logged act ≡ [] → came_by s act ≡ [] → taken_by s act ≡ [] → went_by s act ≡ 0 → sent_by s act ≡ [] → IsServed journal s held output
+pub other_served : (journal : List Act) (s : ℕ) (act : Act) (held output : List ℕ) → logged act ≡ [] → received_by s act ≡ [] → taken_by s act ≡ [] → delivered_by s act ≡ 0 → sent_by s act ≡ [] → IsServed journal s held output
     → IsServed (journal ++ act ∷ []) s held output
-other_served journal s act held output is came taken went wrote S =
+other_served journal s act held output is received taken delivered wrote S =
     grown journal s act held held output output S.unsent [] S
-    (ap (λ (b : List ℕ). held ++ b) came ∙ append-nil held ∙ ap (λ (b : List ℕ). b ++ held) (sym taken))
+    (ap (λ (b : List ℕ). held ++ b) received ∙ append-nil held ∙ ap (λ (b : List ℕ). b ++ held) (sym taken))
     (subst (λ (l : List LogEntry). IsUnsent l s S.unsent) (sym (ap (λ (l : List LogEntry). log_of journal ++ l) is ∙ append-nil (log_of journal))) S.in_engine)
-    (sym went)
+    (sym delivered)
     (ap (λ (b : List ℕ). (output ++ S.unsent) ++ b) wrote ∙ append-nil (output ++ S.unsent))
 
 -- bytes come
-pub came_served : (journal : List Act) (s : ℕ) (bytes held output : List ℕ) → IsServed journal s held output
-    → IsServed (journal ++ Came s bytes ∷ []) s (held ++ bytes) output
-came_served journal s bytes held output S =
-    grown journal s (Came s bytes) held (held ++ bytes) output output S.unsent [] S
+pub received_served : (journal : List Act) (s : ℕ) (bytes held output : List ℕ) → IsServed journal s held output
+    → IsServed (journal ++ Received s bytes ∷ []) s (held ++ bytes) output
+received_served journal s bytes held output S =
+    grown journal s (Received s bytes) held (held ++ bytes) output output S.unsent [] S
     (ap (λ (b : List ℕ). held ++ b) (own_so s bytes))
     (subst (λ (l : List LogEntry). IsUnsent l s S.unsent) (sym (append-nil (log_of journal))) S.in_engine)
     refl
     (append-nil (output ++ S.unsent))
 
 -- bytes go in
-pub fed_served : (journal : List Act) (s : ℕ) (act : Act) (e : LogEntry) (front held output : List ℕ) → logged act ≡ e ∷ [] → came_by s act ≡ [] → taken_by s act ≡ front → went_by s act ≡ 0 → sent_by s act ≡ transcript (written_by s e.event e.wrote) → sent_at s e.event e.result ≡ 0 → IsServed journal s (front ++ held) output
+pub fed_served : (journal : List Act) (s : ℕ) (act : Act) (e : LogEntry) (front held output : List ℕ) → logged act ≡ e ∷ [] → received_by s act ≡ [] → taken_by s act ≡ front → delivered_by s act ≡ 0 → sent_by s act ≡ transcript (written_by s e.event e.wrote) → sent_at s e.event e.result ≡ 0 → IsServed journal s (front ++ held) output
     → IsServed (journal ++ act ∷ []) s held output
-fed_served journal s act e front held output is came taken went wrote zero_sent S =
+fed_served journal s act e front held output is received taken delivered wrote zero_sent S =
     let t : List ℕ = transcript (written_by s e.event e.wrote) in
     let le : sent_at s e.event e.result ≤ length S.unsent = omega (arith, zero_sent) in
     let U : IsUnsent (log_of journal ++ e ∷ []) s (S.unsent ++ t) =
     subst (λ (n : ℕ). IsUnsent (log_of journal ++ e ∷ []) s (drop n S.unsent ++ t)) zero_sent
     (unsent_more (log_of journal) e s S.unsent S.in_engine le) in
     grown journal s act (front ++ held) held output output (S.unsent ++ t) [] S
-    (ap (λ (b : List ℕ). (front ++ held) ++ b) came ∙ append-nil (front ++ held) ∙ ap (λ (b : List ℕ). b ++ held) (sym taken))
+    (ap (λ (b : List ℕ). (front ++ held) ++ b) received ∙ append-nil (front ++ held) ∙ ap (λ (b : List ℕ). b ++ held) (sym taken))
     (subst (λ (l : List LogEntry). IsUnsent (log_of journal ++ l) s (S.unsent ++ t)) (sym is) U)
-    (sym went)
+    (sym delivered)
     (ap (λ (b : List ℕ). (output ++ S.unsent) ++ b) wrote ∙ append_assoc output S.unsent t)
 
 -- The first bytes of what the engine has to send wait here, and the rest there.
@@ -206,10 +206,10 @@ moved_served journal s e held output u n fed wrote sent le U S =
     }
 
 -- bytes are gone
-pub went_served : (journal : List Act) (s n : ℕ) (front held output : List ℕ) → length front ≡ n → IsServed journal s held (front ++ output)
-    → IsServed (journal ++ Went s n ∷ []) s held output
-went_served journal s n front held output count S =
-    grown journal s (Went s n) held held (front ++ output) output S.unsent front S
+pub delivered_served : (journal : List Act) (s n : ℕ) (front held output : List ℕ) → length front ≡ n → IsServed journal s held (front ++ output)
+    → IsServed (journal ++ Delivered s n ∷ []) s held output
+delivered_served journal s n front held output count S =
+    grown journal s (Delivered s n) held held (front ++ output) output S.unsent front S
     (append-nil held)
     (subst (λ (l : List LogEntry). IsUnsent l s S.unsent) (sym (append-nil (log_of journal))) S.in_engine)
     (count ∙ sym (ap (λ (b : Bool). if b then n else 0) (eq-eqb s s refl)))
@@ -222,8 +222,8 @@ since_more [] number rule since act h = absurd cc
 since_more (Ruled r ∷ journal) zero rule since act h =
     ap (λ (g : Option (Rule × List Act)). option_map (λ (x : Rule × List Act). (x.0, x.1 ++ act ∷ [])) g) h
 since_more (Ruled r ∷ journal) (suc number) rule since act h = since_more journal number rule since act h
-since_more (Came s bytes ∷ journal) number rule since act h = since_more journal number rule since act h
-since_more (Went s n ∷ journal) number rule since act h = since_more journal number rule since act h
+since_more (Received s bytes ∷ journal) number rule since act h = since_more journal number rule since act h
+since_more (Delivered s n ∷ journal) number rule since act h = since_more journal number rule since act h
 since_more (Did e ∷ journal) number rule since act h = since_more journal number rule since act h
 since_more (Apart e ∷ journal) number rule since act h = since_more journal number rule since act h
 since_more (Passed p e ∷ journal) number rule since act h = since_more journal number rule since act h
@@ -232,8 +232,8 @@ since_more (Refused p id by code e ∷ journal) number rule since act h = since_
 pub since_new : (journal : List Act) (rule : Rule) → since_given (journal ++ Ruled rule ∷ []) (length (rules_in journal)) ≡ Some (rule, [])
 since_new [] rule = refl
 since_new (Ruled r ∷ journal) rule = since_new journal rule
-since_new (Came s bytes ∷ journal) rule = since_new journal rule
-since_new (Went s n ∷ journal) rule = since_new journal rule
+since_new (Received s bytes ∷ journal) rule = since_new journal rule
+since_new (Delivered s n ∷ journal) rule = since_new journal rule
 since_new (Did e ∷ journal) rule = since_new journal rule
 since_new (Apart e ∷ journal) rule = since_new journal rule
 since_new (Passed p e ∷ journal) rule = since_new journal rule
@@ -243,8 +243,8 @@ pub since_none : (journal : List Act) (number : ℕ) → length (rules_in journa
 since_none [] number h = refl
 since_none (Ruled r ∷ journal) zero h = absurd (omega (arith, h))
 since_none (Ruled r ∷ journal) (suc number) h = since_none journal number (omega (arith, h))
-since_none (Came s bytes ∷ journal) number h = since_none journal number h
-since_none (Went s n ∷ journal) number h = since_none journal number h
+since_none (Received s bytes ∷ journal) number h = since_none journal number h
+since_none (Delivered s n ∷ journal) number h = since_none journal number h
 since_none (Did e ∷ journal) number h = since_none journal number h
 since_none (Apart e ∷ journal) number h = since_none journal number h
 since_none (Passed p e ∷ journal) number h = since_none journal number h

@@ -18,10 +18,10 @@ use Rattle.sf_engine.specs.Promise.{LogEntry, log_entry, fed_by, written_by, wri
 use Rattle.sf_refusing.specs.declared.given.GivenRule.{GivenRule}
 use Rattle.sf_refusing.specs.declared.passage.Passage.{Passage}
 use Rattle.sf_refusing.specs.declared.refusals.Refusals.{Refusals}
-use Rattle.sf_refusing.specs.Journal.{Act, Came, Went, Did, logged, log_of, came_in, taken_in, sent_in, went_in}
+use Rattle.sf_refusing.specs.Journal.{Act, Received, Delivered, Did, logged, log_of, received_in, taken_in, sent_in, delivered_in}
 use Rattle.sf_refusing.specs.Refusing.{IsFed, IsOwn, IsServed, Serves, AreGiven, AllMayHappen, HasJournal, Have, NoneIsHeld, PassesOn, MovesOn, IsRefusal, IsTurn, IsNextOutput}
 use Rattle.sf_refusing.specs.Fronts.{IsAt, Stands, Changes, Leaves}
-use Rattle.sf_refusing.proofs.Growing.{more, own_so, other_so, own_front, happened_more, begun_stays, came_served, other_served, IsMoved, moved_served, went_served, same_unsent, entry_served}
+use Rattle.sf_refusing.proofs.Growing.{more, own_so, other_so, own_front, happened_more, begun_stays, received_served, other_served, IsMoved, moved_served, delivered_served, same_unsent, entry_served}
 use Rattle.sf_refusing.proofs.Counts.{rules_stay}
 use Rattle.sf_refusing.proofs.Steps.{IsPlain, plain_turn, plain_probe, plain_turns, plain_has, plain_all, log_done, other_serves, changed_has}
 
@@ -74,13 +74,13 @@ pushed_has r r' journal p passages rules held output begun H =
 
 -- ---- bytes come
 
-pub came_has : (r r' : Refusals) (journal : List Act) (s at : ℕ) (p p' : Passage) (bytes : List ℕ) → HasJournal r journal → slice_get r.passages.items at ≡ Some p → at + 1 ≡ s → r'.passages.items ≡ slice_set r.passages.items at p' → r'.rules.items ≡ r.rules.items → p'.held.items ≡ p.held.items ++ bytes → p'.output.items ≡ p.output.items → p'.begun ≡ p.begun → HasJournal r' (journal ++ Came s bytes ∷ [])
-came_has r r' journal s at p p' bytes H here number set rules held output begun =
-    let act : Act = Came s bytes in
+pub received_has : (r r' : Refusals) (journal : List Act) (s at : ℕ) (p p' : Passage) (bytes : List ℕ) → HasJournal r journal → slice_get r.passages.items at ≡ Some p → at + 1 ≡ s → r'.passages.items ≡ slice_set r.passages.items at p' → r'.rules.items ≡ r.rules.items → p'.held.items ≡ p.held.items ++ bytes → p'.output.items ≡ p.output.items → p'.begun ≡ p.begun → HasJournal r' (journal ++ Received s bytes ∷ [])
+received_has r r' journal s at p p' bytes H here number set rules held output begun =
+    let act : Act = Received s bytes in
     let S : IsAt journal s p = subst (λ (n : ℕ). IsAt journal n p) number (H.each at p here) in
     let now : Serves (journal ++ act ∷ []) s (p.held.items ++ bytes) p.output.items p.begun = record {
       begun_is = begun_stays journal s act p.begun refl S.begun_is;
-      served = λ own. came_served journal s bytes p.held.items p.output.items (S.served (own_front s journal act own));
+      served = λ own. received_served journal s bytes p.held.items p.output.items (S.served (own_front s journal act own));
     } in
     changed_has r r' journal (journal ++ act ∷ []) s at p p' H here number set (record {
       happened = happened_more [] journal act H.happened tt;
@@ -131,13 +131,13 @@ next_first journal s held output some S = record {
 }
 
 -- what waits here goes first
-pub went_has : (r r' : Refusals) (journal : List Act) (s at n : ℕ) (p p' : Passage) (front : List ℕ) → HasJournal r journal → slice_get r.passages.items at ≡ Some p → at + 1 ≡ s → r'.passages.items ≡ slice_set r.passages.items at p' → r'.rules.items ≡ r.rules.items → length front ≡ n → p.output.items ≡ front ++ p'.output.items → p'.held.items ≡ p.held.items → p'.begun ≡ p.begun → HasJournal r' (journal ++ Went s n ∷ [])
-went_has r r' journal s at n p p' front H here number set rules count output held begun =
-    let act : Act = Went s n in
+pub delivered_has : (r r' : Refusals) (journal : List Act) (s at n : ℕ) (p p' : Passage) (front : List ℕ) → HasJournal r journal → slice_get r.passages.items at ≡ Some p → at + 1 ≡ s → r'.passages.items ≡ slice_set r.passages.items at p' → r'.rules.items ≡ r.rules.items → length front ≡ n → p.output.items ≡ front ++ p'.output.items → p'.held.items ≡ p.held.items → p'.begun ≡ p.begun → HasJournal r' (journal ++ Delivered s n ∷ [])
+delivered_has r r' journal s at n p p' front H here number set rules count output held begun =
+    let act : Act = Delivered s n in
     let S : IsAt journal s p = subst (λ (n : ℕ). IsAt journal n p) number (H.each at p here) in
     let now : Serves (journal ++ act ∷ []) s p.held.items p'.output.items p.begun = record {
       begun_is = begun_stays journal s act p.begun refl S.begun_is;
-      served = λ own. went_served journal s n front p.held.items p'.output.items count
+      served = λ own. delivered_served journal s n front p.held.items p'.output.items count
           (subst (λ (o : List ℕ). IsServed journal s p.held.items o) output (S.served (own_front s journal act own)));
     } in
     changed_has r r' journal (journal ++ act ∷ []) s at p p' H here number set (record {
@@ -199,48 +199,48 @@ sent_is : (s k : ℕ) (e : LogEntry) → IsGone s k e → (other : ℕ) → sent
 sent_is s k e G other =
     ap (λ (ev : Event). sent_at other ev e.result) G.event ∙ ap (λ (r : Result Happened EngineFault). sent_at other (event.Sent s k) r) G.result
 
-sent_serves : (journal : List Act) (s n k : ℕ) (e : LogEntry) (held output : List ℕ) (begun : Bool) → IsGone s k e → n ≡ length output + k → ((u : List ℕ) → IsUnsent (log_of journal) s u → k ≤ length u) → Serves journal s held output begun → Serves ((journal ++ Did e ∷ []) ++ Went s n ∷ []) s held [] begun
+sent_serves : (journal : List Act) (s n k : ℕ) (e : LogEntry) (held output : List ℕ) (begun : Bool) → IsGone s k e → n ≡ length output + k → ((u : List ℕ) → IsUnsent (log_of journal) s u → k ≤ length u) → Serves journal s held output begun → Serves ((journal ++ Did e ∷ []) ++ Delivered s n ∷ []) s held [] begun
 sent_serves journal s n k e held output begun G count there S =
     let fed : fed_by s e.event e.result ≡ [] = ap (λ (ev : Event). fed_by s ev e.result) G.event in
     let written : written_by s e.event e.wrote ≡ [] = ap (λ (ev : Event). written_by s ev e.wrote) G.event in
     let sent : sent_at s e.event e.result ≡ k = sent_is s k e G s ∙ ap (λ (b : Bool). if b then k else 0) (eq-eqb s s refl) in
     let mid : List Act = journal ++ Did e ∷ [] in
     record {
-      begun_is = begun_stays mid s (Went s n) begun refl (begun_stays journal s (Did e) begun fed S.begun_is);
+      begun_is = begun_stays mid s (Delivered s n) begun refl (begun_stays journal s (Did e) begun fed S.begun_is);
       served = λ own.
-          let own_mid : IsOwn s mid = own_front s mid (Went s n) own in
+          let own_mid : IsOwn s mid = own_front s mid (Delivered s n) own in
           let T : IsServed journal s held output = S.served (own_front s journal (Did e) own_mid) in
           let u : List ℕ = T.unsent in
           let le : k ≤ length u = there u T.in_engine in
           let M : IsMoved mid s held (output ++ take k u) (drop k u) = moved_served journal s e held output u k fed written sent le T.in_engine T in
           let gone : length (output ++ take k u) ≡ n = omega (arith, length-append output (take k u), length-take-le k u le, count) in
-          went_served mid s n (output ++ take k u) held [] gone (subst (λ (o : List ℕ). IsServed mid s held o) (sym (append-nil (output ++ take k u))) M.served);
+          delivered_served mid s n (output ++ take k u) held [] gone (subst (λ (o : List ℕ). IsServed mid s held o) (sym (append-nil (output ++ take k u))) M.served);
     }
 
-others_sent : (journal : List Act) (s n k : ℕ) (e : LogEntry) → IsGone s k e → (other : ℕ) (held output : List ℕ) (begun : Bool) → other ≢ s → Serves journal other held output begun → Serves ((journal ++ Did e ∷ []) ++ Went s n ∷ []) other held output begun
+others_sent : (journal : List Act) (s n k : ℕ) (e : LogEntry) → IsGone s k e → (other : ℕ) (held output : List ℕ) (begun : Bool) → other ≢ s → Serves journal other held output begun → Serves ((journal ++ Did e ∷ []) ++ Delivered s n ∷ []) other held output begun
 others_sent journal s n k e G other held output begun ne serves =
     let apart : s ≡ other → ⊥ = λ same. ne (sym same) in
     let fed : fed_by other e.event e.result ≡ [] = ap (λ (ev : Event). fed_by other ev e.result) G.event in
     let sent : sent_at other e.event e.result ≡ 0 = sent_is s k e G other ∙ ap (λ (b : Bool). if b then k else 0) (ne_eqb s other apart) in
-    other_serves (journal ++ Did e ∷ []) other (Went s n) held output begun refl refl refl (ap (λ (b : Bool). if b then n else 0) (ne_eqb s other apart)) refl
+    other_serves (journal ++ Did e ∷ []) other (Delivered s n) held output begun refl refl refl (ap (λ (b : Bool). if b then n else 0) (ne_eqb s other apart)) refl
     (record {
       begun_is = begun_stays journal other (Did e) begun fed serves.begun_is;
       served = λ own. entry_served journal other (Did e) e held output refl refl fed refl refl sent (serves.served (own_front other journal (Did e) own));
     })
 
-sent_happened : (journal : List Act) (s n k : ℕ) (e : LogEntry) → IsGone s k e → AllMayHappen [] journal → AllMayHappen [] ((journal ++ Did e ∷ []) ++ Went s n ∷ [])
+sent_happened : (journal : List Act) (s n k : ℕ) (e : LogEntry) → IsGone s k e → AllMayHappen [] journal → AllMayHappen [] ((journal ++ Did e ∷ []) ++ Delivered s n ∷ [])
 sent_happened journal s n k e G H =
-    happened_more [] (journal ++ Did e ∷ []) (Went s n)
+    happened_more [] (journal ++ Did e ∷ []) (Delivered s n)
     (happened_more [] journal (Did e) H (λ other. inl (ap (λ (ev : Event). fed_by other ev e.result) G.event))) tt
 
-sent_rules : (journal : List Act) (s n : ℕ) (e : LogEntry) (rules : List GivenRule) → AreGiven journal rules → AreGiven ((journal ++ Did e ∷ []) ++ Went s n ∷ []) rules
+sent_rules : (journal : List Act) (s n : ℕ) (e : LogEntry) (rules : List GivenRule) → AreGiven journal rules → AreGiven ((journal ++ Did e ∷ []) ++ Delivered s n ∷ []) rules
 sent_rules journal s n e rules A =
-    rules_stay (journal ++ Did e ∷ []) rules (Went s n) (rules_stay journal rules (Did e) A refl (λ number rule. refl) (λ number. refl)) refl (λ number rule. refl) (λ number. refl)
+    rules_stay (journal ++ Did e ∷ []) rules (Delivered s n) (rules_stay journal rules (Did e) A refl (λ number rule. refl) (λ number. refl)) refl (λ number rule. refl) (λ number. refl)
 
 -- of a session with a passage, and without one
-pub sent_has : (r r' : Refusals) (journal : List Act) (s at n k : ℕ) (e : LogEntry) (p p' : Passage) → HasJournal r journal → slice_get r.passages.items at ≡ Some p → at + 1 ≡ s → r'.passages.items ≡ slice_set r.passages.items at p' → r'.rules.items ≡ r.rules.items → IsGone s k e → n ≡ length p.output.items + k → ((u : List ℕ) → IsUnsent (log_of journal) s u → k ≤ length u) → p'.output.items ≡ [] → p'.held.items ≡ p.held.items → p'.begun ≡ p.begun → HasJournal r' ((journal ++ Did e ∷ []) ++ Went s n ∷ [])
+pub sent_has : (r r' : Refusals) (journal : List Act) (s at n k : ℕ) (e : LogEntry) (p p' : Passage) → HasJournal r journal → slice_get r.passages.items at ≡ Some p → at + 1 ≡ s → r'.passages.items ≡ slice_set r.passages.items at p' → r'.rules.items ≡ r.rules.items → IsGone s k e → n ≡ length p.output.items + k → ((u : List ℕ) → IsUnsent (log_of journal) s u → k ≤ length u) → p'.output.items ≡ [] → p'.held.items ≡ p.held.items → p'.begun ≡ p.begun → HasJournal r' ((journal ++ Did e ∷ []) ++ Delivered s n ∷ [])
 sent_has r r' journal s at n k e p p' H here number set rules G count there output held begun =
-    let after : List Act = (journal ++ Did e ∷ []) ++ Went s n ∷ [] in
+    let after : List Act = (journal ++ Did e ∷ []) ++ Delivered s n ∷ [] in
     let S : IsAt journal s p = subst (λ (n : ℕ). IsAt journal n p) number (H.each at p here) in
     let now : Serves after s p.held.items [] p.begun = sent_serves journal s n k e p.held.items p.output.items p.begun G count there S in
     changed_has r r' journal after s at p p' H here number set (record {
@@ -252,13 +252,13 @@ sent_has r r' journal s at n k e p p' H here number set rules G count there outp
       others = others_sent journal s n k e G;
     })
 
-pub sent_none : (r : Refusals) (journal : List Act) (s n : ℕ) (e : LogEntry) → HasJournal r journal → (s ≡ 0) ⊎ (length r.passages.items < s) → IsGone s n e → ((u : List ℕ) → IsUnsent (log_of journal) s u → n ≤ length u) → HasJournal r ((journal ++ Did e ∷ []) ++ Went s n ∷ [])
+pub sent_none : (r : Refusals) (journal : List Act) (s n : ℕ) (e : LogEntry) → HasJournal r journal → (s ≡ 0) ⊎ (length r.passages.items < s) → IsGone s n e → ((u : List ℕ) → IsUnsent (log_of journal) s u → n ≤ length u) → HasJournal r ((journal ++ Did e ∷ []) ++ Delivered s n ∷ [])
 sent_none r journal s n e H none G there = record {
   happened = sent_happened journal s n n e G H.happened;
   each = λ i p at. others_sent journal s n n e G (i + 1) p.held.items p.output.items p.begun
       (λ same. elim none [ inl z ↦ omega (arith, z, same) | inr lt ↦ omega (arith, lt, same, slice_get_within r.passages.items i p at) ]) (H.each i p at);
   others = λ t apart. elim (cases_eq t s) [
-    | inl same ↦ subst (λ (x : ℕ). Serves ((journal ++ Did e ∷ []) ++ Went s n ∷ []) x [] [] false) (sym same) (sent_serves journal s n n e [] [] false G (omega arith) there (H.others s none))
+    | inl same ↦ subst (λ (x : ℕ). Serves ((journal ++ Did e ∷ []) ++ Delivered s n ∷ []) x [] [] false) (sym same) (sent_serves journal s n n e [] [] false G (omega arith) there (H.others s none))
     | inr ne ↦ others_sent journal s n n e G t [] [] false ne (H.others t apart)
   ];
   rules = sent_rules journal s n e r.rules.items H.rules;
@@ -268,8 +268,8 @@ sent_none r journal s n e H none G there = record {
 
 -- a session without a passage holds nothing
 pub nothing_held : (journal : List Act) (s : ℕ) → Serves journal s [] [] false → NoneIsHeld journal s
-nothing_held journal s S = λ waits own held came.
-    let is : [] ≡ held = append_cancel_left (taken_in s journal) [] held (sym (S.served own).came ∙ came) in
+nothing_held journal s S = λ waits own held received.
+    let is : [] ≡ held = append_cancel_left (taken_in s journal) [] held (sym (S.served own).received ∙ received) in
     subst (λ (b : List ℕ). IsCut b cut.More) is (inl (omega arith))
 
 pub have_still : {E : Type 0} (has_log : E → List LogEntry → Type 0) (engine : E) (r : Refusals) (journal : List Act) → Have has_log engine r journal → Have has_log engine r (journal ++ [])
@@ -294,18 +294,18 @@ on_ok_from (Err e) P f = tt
 
 pub one_turn : (s m : ℕ) (r : Result Happened EngineFault) (e : LogEntry) → e.event ≡ event.Turn s m → e.result ≡ r → AreTurns (event.Turn s m) r (e ∷ [])
 unfolding AreTurns
-one_turn s m r e is came = (is, came)
+one_turn s m r e is received = (is, received)
 
-pub log_went : (journal : List Act) (e : LogEntry) (s n : ℕ) → log_of journal ++ e ∷ [] ≡ log_of ((journal ++ Did e ∷ []) ++ Went s n ∷ [])
-log_went journal e s n =
-    sym (more logged (journal ++ Did e ∷ []) (Went s n) ∙ append-nil (log_of (journal ++ Did e ∷ [])) ∙ more logged journal (Did e))
+pub log_delivered : (journal : List Act) (e : LogEntry) (s n : ℕ) → log_of journal ++ e ∷ [] ≡ log_of ((journal ++ Did e ∷ []) ++ Delivered s n ∷ [])
+log_delivered journal e s n =
+    sym (more logged (journal ++ Did e ∷ []) (Delivered s n) ∙ append-nil (log_of (journal ++ Did e ∷ [])) ∙ more logged journal (Did e))
 
-pub log_came : (journal : List Act) (e : LogEntry) (s : ℕ) (bytes : List ℕ) → log_of journal ++ e ∷ [] ≡ log_of ((journal ++ Did e ∷ []) ++ Came s bytes ∷ [])
-log_came journal e s bytes =
-    sym (more logged (journal ++ Did e ∷ []) (Came s bytes) ∙ append-nil (log_of (journal ++ Did e ∷ [])) ∙ more logged journal (Did e))
+pub log_received : (journal : List Act) (e : LogEntry) (s : ℕ) (bytes : List ℕ) → log_of journal ++ e ∷ [] ≡ log_of ((journal ++ Did e ∷ []) ++ Received s bytes ∷ [])
+log_received journal e s bytes =
+    sym (more logged (journal ++ Did e ∷ []) (Received s bytes) ∙ append-nil (log_of (journal ++ Did e ∷ [])) ∙ more logged journal (Did e))
 
-pub log_went_alone : (journal : List Act) (s n : ℕ) → log_of journal ≡ log_of (journal ++ Went s n ∷ [])
-log_went_alone journal s n = sym (more logged journal (Went s n) ∙ append-nil (log_of journal))
+pub log_delivered_alone : (journal : List Act) (s n : ℕ) → log_of journal ≡ log_of (journal ++ Delivered s n ∷ [])
+log_delivered_alone journal s n = sym (more logged journal (Delivered s n) ∙ append-nil (log_of journal))
 
 -- a passage of the same bytes
 pub kept_has : (r r' : Refusals) (journal : List Act) (s at : ℕ) (p p' : Passage) → HasJournal r journal → slice_get r.passages.items at ≡ Some p → at + 1 ≡ s → r'.passages.items ≡ slice_set r.passages.items at p' → r'.rules.items ≡ r.rules.items → p'.held.items ≡ p.held.items → p'.output.items ≡ p.output.items → p'.begun ≡ p.begun → HasJournal r' journal
@@ -320,6 +320,6 @@ kept_has r r' journal s at p p' H here number set rules held output begun =
     })
 
 -- what is held is told by what came
-pub held_more : (journal : List Act) (s : ℕ) (held output : List ℕ) → IsServed journal s held output → IsCut held cut.More → (other : List ℕ) → came_in s journal ≡ taken_in s journal ++ other → IsCut other cut.More
-held_more journal s held output S more other came =
-    subst (λ (b : List ℕ). IsCut b cut.More) (append_cancel_left (taken_in s journal) held other (sym S.came ∙ came)) more
+pub held_more : (journal : List Act) (s : ℕ) (held output : List ℕ) → IsServed journal s held output → IsCut held cut.More → (other : List ℕ) → received_in s journal ≡ taken_in s journal ++ other → IsCut other cut.More
+held_more journal s held output S more other received =
+    subst (λ (b : List ℕ). IsCut b cut.More) (append_cancel_left (taken_in s journal) held other (sym S.received ∙ received)) more

@@ -23,10 +23,10 @@ use Rattle.sf_refusing.specs.declared.rule.Rule.{Rule}
 use Rattle.sf_refusing.specs.declared.given.GivenRule.{GivenRule}
 use Rattle.sf_refusing.specs.declared.passage.Passage.{Passage}
 use Rattle.sf_refusing.specs.declared.refusals.Refusals.{Refusals}
-use Rattle.sf_refusing.specs.Journal.{Act, Ruled, Came, Went, Did, Apart, Passed, Refused, Packet, logged, log_of, came_by, taken_by, taken_in, sent_by, went_by, ruled, counts, refused_by, fits_packet}
+use Rattle.sf_refusing.specs.Journal.{Act, Ruled, Received, Delivered, Did, Apart, Passed, Refused, Packet, logged, log_of, received_by, taken_by, taken_in, sent_by, delivered_by, ruled, counts, refused_by, fits_packet}
 use Rattle.sf_refusing.specs.Refusing.{IsFed, IsUnruled, MayPass, MayRefuse, MayHappen, AllMayHappen, IsOwn, IsServed, Serves, AreGiven, HasJournal}
 use Rattle.sf_refusing.specs.Fronts.{IsAt, Stands, Changes, Leaves}
-use Rattle.sf_refusing.proofs.Growing.{more, own_so, other_so, none_so, own_front, happened_more, begun_stays, begun_now, entry_served, other_served, came_served, fed_served, IsMoved, moved_served, went_served, same_unsent, unsent_more, grown, get_set_same, get_set_other, some_same}
+use Rattle.sf_refusing.proofs.Growing.{more, own_so, other_so, none_so, own_front, happened_more, begun_stays, begun_now, entry_served, other_served, received_served, fed_served, IsMoved, moved_served, delivered_served, same_unsent, unsent_more, grown, get_set_same, get_set_other, some_same}
 use Rattle.sf_refusing.proofs.Counts.{rules_stay}
 
 -- ---- an event by which nothing goes in or is gone
@@ -98,25 +98,25 @@ none_sent : (s : ℕ) (bytes : List ℕ) (e : LogEntry) → IsFed s bytes e → 
 none_sent s bytes e F other = ap (λ (ev : Event). sent_at other ev e.result) F.event
 
 -- an act that feeds the engine the front of what is held, for the session, and for others
-fed_serves : (journal : List Act) (s : ℕ) (act : Act) (e : LogEntry) (front held output : List ℕ) (begun : Bool) → logged act ≡ e ∷ [] → came_by s act ≡ [] → taken_by s act ≡ front → went_by s act ≡ 0 → sent_by s act ≡ transcript (written_by s e.event e.wrote) → sent_at s e.event e.result ≡ 0 → 0 < length front → Serves journal s (front ++ held) output begun
+fed_serves : (journal : List Act) (s : ℕ) (act : Act) (e : LogEntry) (front held output : List ℕ) (begun : Bool) → logged act ≡ e ∷ [] → received_by s act ≡ [] → taken_by s act ≡ front → delivered_by s act ≡ 0 → sent_by s act ≡ transcript (written_by s e.event e.wrote) → sent_at s e.event e.result ≡ 0 → 0 < length front → Serves journal s (front ++ held) output begun
     → Serves (journal ++ act ∷ []) s held output true
-fed_serves journal s act e front held output begun is came taken went wrote sent some S = record {
+fed_serves journal s act e front held output begun is received taken delivered wrote sent some S = record {
   begun_is = begun_now journal s act (omega (arith, some, ap (λ (b : List ℕ). length b) taken));
-  served = λ own. fed_served journal s act e front held output is came taken went wrote sent (S.served (own_front s journal act own));
+  served = λ own. fed_served journal s act e front held output is received taken delivered wrote sent (S.served (own_front s journal act own));
 }
 
-entry_serves : (journal : List Act) (s : ℕ) (act : Act) (e : LogEntry) (held output : List ℕ) (begun : Bool) → logged act ≡ e ∷ [] → came_by s act ≡ [] → taken_by s act ≡ [] → went_by s act ≡ 0 → sent_by s act ≡ transcript (written_by s e.event e.wrote) → sent_at s e.event e.result ≡ 0 → Serves journal s held output begun
+entry_serves : (journal : List Act) (s : ℕ) (act : Act) (e : LogEntry) (held output : List ℕ) (begun : Bool) → logged act ≡ e ∷ [] → received_by s act ≡ [] → taken_by s act ≡ [] → delivered_by s act ≡ 0 → sent_by s act ≡ transcript (written_by s e.event e.wrote) → sent_at s e.event e.result ≡ 0 → Serves journal s held output begun
     → Serves (journal ++ act ∷ []) s held output begun
-entry_serves journal s act e held output begun is came taken went wrote sent S = record {
+entry_serves journal s act e held output begun is received taken delivered wrote sent S = record {
   begun_is = begun_stays journal s act begun taken S.begun_is;
-  served = λ own. entry_served journal s act e held output is came taken went wrote sent (S.served (own_front s journal act own));
+  served = λ own. entry_served journal s act e held output is received taken delivered wrote sent (S.served (own_front s journal act own));
 }
 
-pub other_serves : (journal : List Act) (s : ℕ) (act : Act) (held output : List ℕ) (begun : Bool) → logged act ≡ [] → came_by s act ≡ [] → taken_by s act ≡ [] → went_by s act ≡ 0 → sent_by s act ≡ [] → Serves journal s held output begun
+pub other_serves : (journal : List Act) (s : ℕ) (act : Act) (held output : List ℕ) (begun : Bool) → logged act ≡ [] → received_by s act ≡ [] → taken_by s act ≡ [] → delivered_by s act ≡ 0 → sent_by s act ≡ [] → Serves journal s held output begun
     → Serves (journal ++ act ∷ []) s held output begun
-other_serves journal s act held output begun is came taken went wrote S = record {
+other_serves journal s act held output begun is received taken delivered wrote S = record {
   begun_is = begun_stays journal s act begun taken S.begun_is;
-  served = λ own. other_served journal s act held output is came taken went wrote (S.served (own_front s journal act own));
+  served = λ own. other_served journal s act held output is received taken delivered wrote (S.served (own_front s journal act own));
 }
 
 -- nothing happens
@@ -152,11 +152,11 @@ some_packet : (body : List ℕ) → 0 < length (packet body)
 some_packet body = grind (arith, common_steps)
 
 -- another session's request is refused
-refused_serves : (journal : List Act) (s : ℕ) (act : Act) (e : LogEntry) (held output : List ℕ) (begun : Bool) → logged act ≡ e ∷ [] → came_by s act ≡ [] → taken_by s act ≡ [] → went_by s act ≡ 0 → sent_by s act ≡ [] → written_by s e.event e.wrote ≡ [] → sent_at s e.event e.result ≡ 0 → Serves journal s held output begun
+refused_serves : (journal : List Act) (s : ℕ) (act : Act) (e : LogEntry) (held output : List ℕ) (begun : Bool) → logged act ≡ e ∷ [] → received_by s act ≡ [] → taken_by s act ≡ [] → delivered_by s act ≡ 0 → sent_by s act ≡ [] → written_by s e.event e.wrote ≡ [] → sent_at s e.event e.result ≡ 0 → Serves journal s held output begun
     → Serves (journal ++ act ∷ []) s held output begun
 unfolding transcript
-refused_serves journal s act e held output begun is came taken went wrote none sent S =
-    entry_serves journal s act e held output begun is came taken went (wrote ∙ ap (λ (ws : List Response). transcript ws) (sym none)) sent S
+refused_serves journal s act e held output begun is received taken delivered wrote none sent S =
+    entry_serves journal s act e held output begun is received taken delivered (wrote ∙ ap (λ (ws : List Response). transcript ws) (sym none)) sent S
 
 -- a packet is passed on
 pub passed_leaves : {E : Type 0} (has_log : E → List LogEntry → Type 0) (engine engine' : E) (journal : List Act) (p p' : Passage) (rules rules' : List GivenRule) (e : LogEntry) (one : Packet) → Stands has_log engine journal one.session p rules → MayPass journal one e → has_log engine' (log_of journal ++ e ∷ []) → p.held.items ≡ packet one.body ++ p'.held.items → p'.output.items ≡ p.output.items → p'.begun ≡ true → AreGiven (journal ++ Passed one e ∷ []) rules'

@@ -25,8 +25,8 @@ pub record Packet : Type 0 where
 -- waits here now, before the status.
 pub data Act : Type 0 where
   Ruled : (rule : Rule) → Act
-  Came : (session : ℕ) → (bytes : List ℕ) → Act
-  Went : (session count : ℕ) → Act
+  Received : (session : ℕ) → (bytes : List ℕ) → Act
+  Delivered : (session count : ℕ) → Act
   Did : (entry : LogEntry) → Act
   Apart : (entry : LogEntry) → Act
   Passed : (packet : Packet) → (entry : LogEntry) → Act
@@ -48,12 +48,12 @@ log_of journal = flat_map logged journal
 -- ---- one session
 
 -- the bytes that came for it
-abbrev pub came_by : ℕ → Act → List ℕ
-came_by session (Came s bytes) = if_so (nat_eq s session) bytes
-came_by session act = []
+abbrev pub received_by : ℕ → Act → List ℕ
+received_by session (Received s bytes) = if_so (nat_eq s session) bytes
+received_by session act = []
 
-abbrev pub came_in : ℕ → List Act → List ℕ
-came_in session journal = flat_map (came_by session) journal
+abbrev pub received_in : ℕ → List Act → List ℕ
+received_in session journal = flat_map (received_by session) journal
 
 -- those of them that the engine was fed, and the packets that were refused
 abbrev pub taken_by : ℕ → Act → List ℕ
@@ -78,12 +78,12 @@ abbrev pub sent_in : ℕ → List Act → List ℕ
 sent_in session journal = flat_map (sent_by session) journal
 
 -- how many bytes of it are gone
-abbrev pub went_by : ℕ → Act → ℕ
-went_by session (Went s count) = if nat_eq s session then count else 0
-went_by session act = 0
+abbrev pub delivered_by : ℕ → Act → ℕ
+delivered_by session (Delivered s count) = if nat_eq s session then count else 0
+delivered_by session act = 0
 
-abbrev pub went_in : ℕ → List Act → ℕ
-went_in session journal = sum_by (went_by session) journal
+abbrev pub delivered_in : ℕ → List Act → ℕ
+delivered_in session journal = sum_by (delivered_by session) journal
 
 -- ---- one rule
 

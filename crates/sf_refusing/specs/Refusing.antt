@@ -21,7 +21,7 @@ use Rattle.sf_refusing.specs.declared.rule.Rule.{Rule}
 use Rattle.sf_refusing.specs.declared.given.GivenRule.{GivenRule}
 use Rattle.sf_refusing.specs.declared.passage.Passage.{Passage}
 use Rattle.sf_refusing.specs.declared.refusals.Refusals.{Refusals}
-use Rattle.sf_refusing.specs.Journal.{Packet, Act, Ruled, Came, Went, Did, Apart, Passed, Refused, log_of, came_in, taken_in, sent_in, went_in, rules_in, since_given, counted, refused_in, refuses}
+use Rattle.sf_refusing.specs.Journal.{Packet, Act, Ruled, Received, Delivered, Did, Apart, Passed, Refused, log_of, received_in, taken_in, sent_in, delivered_in, rules_in, since_given, counted, refused_in, refuses}
 
 -- ---- what may happen
 
@@ -96,11 +96,11 @@ IsOwn session journal = AllByRecursion (IsNotApart session) journal
 -- What came for it was fed to the engine, or refused, in order, but for what is held. What it is
 -- sent has gone, or waits here, or in the engine.
 pub record IsServed (journal : List Act) (session : ℕ) (held output : List ℕ) : Type 0 where
-  pub came : came_in session journal ≡ taken_in session journal ++ held
+  pub received : received_in session journal ≡ taken_in session journal ++ held
   pub unsent : List ℕ
   pub in_engine : IsUnsent (log_of journal) session unsent
   pub gone : List ℕ
-  pub count : length gone ≡ went_in session journal
+  pub count : length gone ≡ delivered_in session journal
   pub waits : sent_in session journal ≡ gone ++ output ++ unsent
 
 -- So it is, if its bytes come and go here alone.
@@ -148,7 +148,7 @@ Have has_log engine refusals journal =
 -- Where the session waits for bytes, less than a packet is held of what came for it.
 abbrev pub NoneIsHeld : List Act → ℕ → Type 0
 NoneIsHeld journal session = WaitsForBytes (log_of journal) session → IsOwn session journal
-    → (held : List ℕ) → came_in session journal ≡ taken_in session journal ++ held
+    → (held : List ℕ) → received_in session journal ≡ taken_in session journal ++ held
     → IsCut held cut.More
 
 -- what stood at the front was passed on
@@ -188,7 +188,7 @@ IsTurn journal session AreMade r acts = ((r ≡ Ok happened.Wrote) × IsRefusal 
 pub record IsNextOutput (journal : List Act) (session : ℕ) (output : List ℕ) : Type 0 where
   pub gone : List ℕ
   pub later : List ℕ
-  pub count : length gone ≡ went_in session journal
+  pub count : length gone ≡ delivered_in session journal
   pub waits : sent_in session journal ≡ gone ++ output ++ later
   pub last : output ≡ [] → later ≡ []
 
@@ -204,5 +204,5 @@ MayRefuseFeed log session f = ⊥
 abbrev pub MayRefuseSent : List Act → ℕ → ℕ → EngineFault → Type 0
 MayRefuseSent journal session count fault.NoSuchSession = ¬ IsKnown (log_of journal) session
 MayRefuseSent journal session count fault.NotSent = IsOwn session journal
-    → length (sent_in session journal) < went_in session journal + count
+    → length (sent_in session journal) < delivered_in session journal + count
 MayRefuseSent journal session count f = ⊥

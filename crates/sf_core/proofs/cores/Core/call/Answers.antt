@@ -1,7 +1,7 @@
 use Rattle.std.proofs.Common.{◌≡◌, ◌+◌, ◌∙◌, refl, ap, sym, subst, arith}
 use Rattle.sf_call.specs.Histories.{IsGiven}
 use Rattle.sf_core.specs.Cores.{CoreView}
-use Rattle.sf_core.specs.Events.{AnswersAtOnce, begun, came}
+use Rattle.sf_core.specs.Events.{AnswersAtOnce, begun, walk_end}
 use Rattle.sf_core.specs.Lanes.{LaneView, at_rest}
 use Rattle.sf_core.specs.Parts.{core_of}
 use Rattle.sf_core.specs.Progress.{undecided_in}
@@ -58,8 +58,8 @@ returns-clause-answered c =
     let a = c.new-answer.result in
     let rests : at_rest (begun lane (p.drawn + 1)) ≡ new =
     λ i. record { session = c.lane.inside.session; call = sym (ap (λ (l : LaneView). l.call) c.lane.view_is ∙ c.requires) i; begun = sym c.saturating_add-lane-inside.ensures i } in
-    subst (λ (v : CoreView). AnswersAtOnce v c.args.lane.now c.args.request c.args.moment (came (Answered a) (core_of q) new)) c.self.view_is
-    (subst (λ (l : LaneView). AnswersAtOnce (core_of p) l c.args.request c.args.moment (came (Answered a) (core_of q) new)) c.lane.view_is
-    (subst (λ (l : LaneView). AnswersAtOnce (core_of p) lane c.args.request c.args.moment (came (Answered a) (core_of q) l)) rests
+    subst (λ (v : CoreView). AnswersAtOnce v c.args.lane.now c.args.request c.args.moment (walk_end (Answered a) (core_of q) new)) c.self.view_is
+    (subst (λ (l : LaneView). AnswersAtOnce (core_of p) l c.args.request c.args.moment (walk_end (Answered a) (core_of q) new)) c.lane.view_is
+    (subst (λ (l : LaneView). AnswersAtOnce (core_of p) lane c.args.request c.args.moment (walk_end (Answered a) (core_of q) l)) rests
     (answered_at_once lane p q c.self.invariant.0 c.args.request c.args.moment c.in-Ok.reply once (c.if-not-is_idle.ensures.0 refl) (omega (arith, c.drawn.ensures, c.if-drawn-ge-LAST_NUMBER.false)) c.look_ups-count.ensures.fits at
     a (c.new-answer.ensures ∙ ap (λ k. record { number = k; session = lane.session; reply = c.in-Ok.reply }) number))))

@@ -5,7 +5,7 @@ use Rattle.sf_session.specs.declared.session.Next.{Next}
 use Rattle.sf_session.specs.Sessions.{SessionView, NextGives}
 use Rattle.sf_core.specs.declared.step.Step.TheVariants as step
 use Rattle.sf_core.specs.Lanes.{LaneView}
-use Rattle.sf_core.specs.Events.{CallBegins, begun, AnswersAtOnce, came}
+use Rattle.sf_core.specs.Events.{CallBegins, begun, AnswersAtOnce, walk_end}
 use Rattle.sf_core.specs.Histories.{IsHistory}
 use Rattle.sf_engine.specs.declared.event.Happened.TheVariants as happened
 use Rattle.sf_engine.specs.declared.seat.SeatState.TheVariants as state
@@ -56,7 +56,7 @@ write_on-requires-clause-placed c = λ lane is.
       at = c.in-Resting.is;
     } in
     let came_to : CameToAnswer = record { core = c.call.new.self; lane = c.call.new.lane; answer = c.in-Some.answer } in
-    let made : IsAnsweredAtOnce a old.moment came_to = subst (λ (o : Option AnswerView). IfSome o (λ answer. AnswersAtOnce old.core.now a.lane a.request old.moment (came (step.Answered answer) c.call.new.self c.call.new.lane))) c.in-Some.is c.in-Ok-call.ensures.answered in
+    let made : IsAnsweredAtOnce a old.moment came_to = subst (λ (o : Option AnswerView). IfSome o (λ answer. AnswersAtOnce old.core.now a.lane a.request old.moment (walk_end (step.Answered answer) c.call.new.self c.call.new.lane))) c.in-Some.is c.in-Ok-call.ensures.answered in
     subst (λ (l : LaneView). IsSeatState came_to.core a.session (state.Answered l came_to.answer)) (sym (is ∙ c.take_lane.ensures)) (placed_at_once a old.moment came_to made c.requires.ready)
 
 pub walk_on-requires-clause-ready : goal.walk_on-requires-clause-ready
@@ -86,7 +86,7 @@ returns-in-Some c =
       at = c.in-Resting.is;
     } in
     let came_to : CameToAnswer = record { core = c.call.new.self; lane = c.call.new.lane; answer = c.in-Some.answer } in
-    let made : IsAnsweredAtOnce a old.moment came_to = subst (λ (o : Option AnswerView). IfSome o (λ answer. AnswersAtOnce old.core.now a.lane a.request old.moment (came (step.Answered answer) c.call.new.self c.call.new.lane))) c.in-Some.is c.in-Ok-call.ensures.answered in
+    let made : IsAnsweredAtOnce a old.moment came_to = subst (λ (o : Option AnswerView). IfSome o (λ answer. AnswersAtOnce old.core.now a.lane a.request old.moment (walk_end (step.Answered answer) c.call.new.self c.call.new.lane))) c.in-Some.is c.in-Ok-call.ensures.answered in
     let wrote = c.write_on.ensures c.call.new.lane (sym c.take_lane.ensures) old.moment in
     far_at_once a (finding old.closed old.moment) came_to made c.write_on.result (stand c.write_on.new.core c.write_on.new.session c.write_on.new.self) wrote
 

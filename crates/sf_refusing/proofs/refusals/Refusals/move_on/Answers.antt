@@ -16,7 +16,7 @@ returns-in_default g c = λ journal H.
 pub returns-then-not-waits : goal.returns-then-not-waits
 returns-then-not-waits g c = λ journal H. (
   [],
-  (λ waits own held came. absurd (both_ways c.wants_bytes-waits.result c.if-not-waits.true ((c.wants_bytes-waits.ensures (log_of journal) H.1).1 waits))),
+  (λ waits own held received. absurd (both_ways c.wants_bytes-waits.result c.if-not-waits.true ((c.wants_bytes-waits.ensures (log_of journal) H.1).1 waits))),
   have_still g.E.Sftp.has_log c.args.engine.now c.args.self.now journal H,
 )
 

@@ -13,7 +13,7 @@ unfolding transcript
 none_serves s = record {
   begun_is = refl;
   served = λ own. record {
-    came = refl;
+    received = refl;
     unsent = [];
     in_engine = record { sent = []; count = refl; packets = refl };
     gone = [];

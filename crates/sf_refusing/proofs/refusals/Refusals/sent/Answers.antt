@@ -10,11 +10,11 @@ use Rattle.sf_engine.specs.declared.event.Happened.{Happened}
 use Rattle.sf_engine.specs.declared.event.EngineFault.{EngineFault}
 use Rattle.sf_engine.specs.declared.event.Event.TheVariants as event
 use Rattle.sf_engine.specs.Promise.{LogEntry, log_entry, MayComeTo}
-use Rattle.sf_refusing.specs.Journal.{Act, Went, log_of}
+use Rattle.sf_refusing.specs.Journal.{Act, Delivered, log_of}
 use Rattle.sf_refusing.specs.Refusing.{Have, MayRefuseSent}
 use Rattle.sf_refusing.specs.Fronts.{IsAt}
 use Rattle.sf_refusing.proofs.Faults.{on_err_from, sent_refused}
-use Rattle.sf_refusing.proofs.Sessions.{on_err, on_ok_from, kept_has, have_still, went_has, IsGone, were_there, sent_has, sent_none, were_sent, log_went, log_went_alone}
+use Rattle.sf_refusing.proofs.Sessions.{on_err, on_ok_from, kept_has, have_still, delivered_has, IsGone, were_there, sent_has, sent_none, were_sent, log_delivered, log_delivered_alone}
 use Rattle.sf_refusing.proofs.refusals.Refusals.sent.Goals as goal
 
 pub returns-in_default-clause-ok : goal.returns-in_default-clause-ok
@@ -30,7 +30,7 @@ returns-in_default-clause-ok g c = on_ok_from c.apply.result _ (λ h is journal 
       e ∷ [],
       (
         sent_none c.args.self.now journal s n e H.0 none G (λ u U. were_there (log_of journal) s n e G lawful.comes u U),
-        subst (λ (l : List LogEntry). g.E.Sftp.has_log c.apply.new.self l) (log_went journal e s n) on.2,
+        subst (λ (l : List LogEntry). g.E.Sftp.has_log c.apply.new.self l) (log_delivered journal e s n) on.2,
       ),
     ))
 
@@ -47,9 +47,9 @@ returns-then-count-waiting-clause-ok g c = λ journal H.
       refl,
       [],
       (
-        went_has c.args.self.now now (journal ++ []) s c.in-Some.at n p p' (take n p.output.items) still.0 here c.in-Some.ensures.some.0 refl refl (length-take-le n p.output.items le)
+        delivered_has c.args.self.now now (journal ++ []) s c.in-Some.at n p p' (take n p.output.items) still.0 here c.in-Some.ensures.some.0 refl refl (length-take-le n p.output.items le)
             (sym (take-append-drop n p.output.items) ∙ ap (λ (b : List ℕ). take n p.output.items ++ b) (sym c.advance.ensures.items)) refl refl,
-        subst (λ (l : List LogEntry). g.E.Sftp.has_log c.args.engine.now l) (log_went_alone (journal ++ []) s n) still.1,
+        subst (λ (l : List LogEntry). g.E.Sftp.has_log c.args.engine.now l) (log_delivered_alone (journal ++ []) s n) still.1,
       ),
     )
 
@@ -80,7 +80,7 @@ returns-clause-ok g c = λ journal H.
       e ∷ [],
       (
         sent_has c.args.self.now now journal s c.in-Some.at n k e p p' H.0 here c.in-Some.ensures.some.0 refl refl G (omega (arith, c.len-waiting.ensures.value, c.if-count-waiting.false)) (λ u U. were_there (log_of journal) s k e G lawful.comes u U) c.clear.ensures.items refl refl,
-        subst (λ (l : List LogEntry). g.E.Sftp.has_log c.apply-2.new.self l) (log_went journal e s n) on.2,
+        subst (λ (l : List LogEntry). g.E.Sftp.has_log c.apply-2.new.self l) (log_delivered journal e s n) on.2,
       ),
     )
 

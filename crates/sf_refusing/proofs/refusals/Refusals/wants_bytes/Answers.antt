@@ -28,7 +28,7 @@ returns-in_default g c = λ journal H own.
     let at : IsAt journal c.args.session p = subst (λ (n : ℕ). IsAt journal n p) c.in-Some.ensures.some.0 (H.0.each c.in-Some.at p here) in (
       (λ yes. absurd (false≢true yes)),
       (λ both.
-          let more : IsCut p.held.items cut.More = both.1 p.held.items (at.served own).came in
+          let more : IsCut p.held.items cut.More = both.1 p.held.items (at.served own).received in
           absurd (c.in_default.not-More (c.cut.ensures.only cut.More (subst (λ (b : List ℕ). IsCut b cut.More) (sym c.as_slice.ensures) more)))),
     )
 
