@@ -2,8 +2,9 @@
 //!
 //! Start with `serve_one` in `on_engine.rt`: it serves a session by an engine that may have others,
 //! with the one loop of `sf_serving`, whose host is the engine here. `specs/OnEngine.antt` says
-//! what it did to its line, its clock and its engine. `serve_alone` in `own_engine.rt` has an engine
-//! of its own, so that what it promises speaks of bytes and moments alone (`specs/Talks.antt`).
+//! what it did to its line, its clock and its engine. `serve_alone` in `own_engine.rt` has an
+//! engine of its own, so that what it promises speaks of bytes and moments alone
+//! (`specs/Talks.antt`).
 //! `alone_law.rt` is the law of one session alone, and `specs/Alone.antt` says what one tree
 //! answers to it.
 #![tactic(auto)]

@@ -323,7 +323,7 @@ StepsOn v lane s w lane' =
       lane = lane';
     })
 
--- what steps walk_end to: the last one, and the core and the session's lane after it
+-- what steps come to: the last one, and the core and the session's lane after it
 pub record WalkEnd : Type 0 where
   pub step : Step
   pub core : CoreView

@@ -226,7 +226,7 @@ impl Core {
     }
 
     /// Steps of the lane's call, one after the other, up to one that doesn't move, and `most` at
-    /// most: what walk_end of the last one is told. Between them nothing comes from other sessions.
+    /// most: what came of the last one is told. Between them nothing comes from other sessions.
     #[inline(always)]
     pub fn walk(&mut self, lane: &mut Lane, most: u64) -> Step
         requires call { IsSome lane.old.call }
@@ -331,7 +331,7 @@ impl Core {
     }
 }
 
-/// What steps of a WRITE walk_end to: it is answered, and the lane is at rest; or it has more to copy.
+/// What steps of a WRITE came to: it is answered, and the lane is at rest; or it has more to copy.
 fn told(lane: &mut Lane, number: u64, reply: Option<Reply>) -> Step
     requires { (given : Reply) → reply ≡ Some given → IsGiven number lane.old.session given }
     ensures { ReportsStep number lane.old reply result lane.new }

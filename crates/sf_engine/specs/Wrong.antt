@@ -20,7 +20,8 @@ turned result added wrote = done_entry (event.Turn 1 100) result added wrote
 -- the session has opened, was fed these bytes, and was answered VERSION
 abbrev pub begun_with : Vec ℕ Global → List LogEntry
 begun_with bytes =
-    done_entry event.Open (happened.Opened 1) [] [] ∷ done_entry (event.Feed 1 bytes) happened.Fed [] []
+    done_entry event.Open (happened.Opened 1) [] []
+    ∷ done_entry (event.Feed 1 bytes) happened.Fed [] []
     ∷ turned happened.Wrote [] (Version ∷ []) ∷ []
 
 -- its first call is decided, and this reply is written

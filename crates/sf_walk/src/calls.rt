@@ -28,9 +28,9 @@ use std::alloc::AllocError;
 /// Answers a call where its paths were found to lead, without a look-up: its reply twice, once for
 /// its record. A call without a path asks nothing of what was located. Nothing is left to be copied
 /// into a file that the call reads, cuts or fills up. A WRITE is decided as it starts, by `start`.
-/// The call's number is above 0, and no label and no handle of the tree. `NoMemory` changes nothing;
-/// it is told in place of success alone, and never where a call makes nothing, and neither gives nor
-/// takes bytes or names.
+/// The call's number is above 0, and no label and no handle of the tree. `NoMemory` changes
+/// nothing; it is told in place of success alone, and never where a call makes nothing, and neither
+/// gives nor takes bytes or names.
 #[tactic(auto, using(crate::proofs::Refused::keeps_alike, crate::proofs::Trimmed::served_trimmed, crate::proofs::Trimmed::stays_trimmed, crate::proofs::Trimmed::looks_same))]
 #[inline(always)]
 pub fn decide(store: &mut Store, call: &Call, ways: Ways) -> (Reply, Reply)

@@ -4,8 +4,8 @@
 //! the tree gives which the store keeps, and leaves a store that keeps the tree after it
 //! (`IsCarriedOut`, `specs/Served.antt`). A WRITE is decided by `start` in `files`. `advance` in
 //! `walking` is one step of a walk, which holds the next directory before it frees the one above
-//! (`specs/Steps.antt`); `locate_all` in `finding` is a whole one. Where paths lead is `way_from` in
-//! `specs/Ways.antt`. The requests are carried out in `path_calls`, `renames`, `opening`,
+//! (`specs/Steps.antt`); `locate_all` in `finding` is a whole one. Where paths lead is `way_from`
+//! in `specs/Ways.antt`. The requests are carried out in `path_calls`, `renames`, `opening`,
 //! `handle_calls` and `listing`.
 #![tactic(auto)]
 
