@@ -125,13 +125,13 @@ moved_walk a lane f most w lane' many k =
       far = λ e. omega (arith, full);
     }
 
--- where a walk walk_end to an answer: the core, the lane and the answer then
+-- where a walk comes to an answer: the core, the lane and the answer then
 pub record CameToAnswer : Type 0 where
   pub core : CoreView
   pub lane : LaneView
   pub answer : AnswerView
 
--- a walk that walk_end to an answer, and the turn that is to write it
+-- a walk that comes to an answer, and the turn that is to write it
 pub answered_walk : (a : Stand) (lane : LaneView) (f : Finding) (most : ℕ) (c : CameToAnswer) (r : Result Happened EngineFault) (b : Stand)
     → Walks a.core lane most (walk_end (step.Answered c.answer) c.core c.lane) → TurnsGive 0 (answered c.core a.session c.lane c.answer) f r b × (goes_on_at r ≡ false) → GoesFar (going a.core a.session lane) f r b
 answered_walk a lane f most c r b k last =
