@@ -123,7 +123,7 @@ sent_is : (h : Happened) → (let r : Result Happened EngineFault = Ok h in r �
 sent_is h is = cc
 
 pub sent_so : (s n : ℕ) (old new : EngineView) (r r' : Refusals) (result : Result Happened EngineFault)
-    → OnOk result ((journal : List Act) → Have ghosts.has_log old r journal → (result ≡ Ok happened.Sent) × (told : List LogEntry) × Have ghosts.has_log new r' (journal ++ map Did told ++ Delivered s n ∷ []))
+    → OnOk result ((journal : List Act) → Have ghosts.has_log old r journal → (result ≡ Ok happened.Sent) × (entries : List LogEntry) × Have ghosts.has_log new r' (journal ++ map Did entries ++ Delivered s n ∷ []))
     → OnErr result ((new ≡ old) × ((journal : List Act) → HasJournal r journal → HasJournal r' journal))
     → IfErr result (λ f. (journal : List Act) → Have ghosts.has_log old r journal → MayRefuseSent journal s n f)
     → OnErr result (new ≡ old) × GoesOn (GoBytes s n result) old r new r'

@@ -43,7 +43,7 @@ ComeBytes session bytes (Err f) journal acts =
 
 abbrev pub GoBytes : ℕ → ℕ → Result Happened EngineFault → List Act → List Act → Type 0
 GoBytes session count (Ok h) journal acts = (h ≡ happened.Sent)
-    × ((told : List LogEntry) × (acts ≡ map Did told ++ Delivered session count ∷ []))
+    × ((entries : List LogEntry) × (acts ≡ map Did entries ++ Delivered session count ∷ []))
 GoBytes session count (Err f) journal acts =
     MayRefuseSent journal session count f × (acts ≡ [])
 

@@ -17,39 +17,39 @@ use Rattle.sf_call.specs.declared.record.Record.TheVariants as record_of
 use Rattle.sf_engine.specs.Promise.{LogEntry, linearization}
 use Rattle.sf_engine.specs.Views.{EngineView}
 use Rattle.sf_engine.specs.contracts.promise.EngineSftp.TheImpl.{ghosts}
-use Rattle.sf_c.specs.declared.told.Attributes.{Attributes}
-use Rattle.sf_c.specs.declared.told.AskedParts.{AskedParts}
-use Rattle.sf_c.specs.declared.told.Answered.{Answered}
-use Rattle.sf_c.specs.declared.told.RecordParts.{RecordParts}
-use Rattle.sf_c.specs.declared.told.Recounted.{Recounted}
+use Rattle.sf_c.specs.declared.record_parts.Attributes.{Attributes}
+use Rattle.sf_c.specs.declared.record_parts.AskedParts.{AskedParts}
+use Rattle.sf_c.specs.declared.record_parts.Answered.{Answered}
+use Rattle.sf_c.specs.declared.record_parts.RecordParts.{RecordParts}
+use Rattle.sf_c.specs.declared.record_parts.Recounted.{Recounted}
 
 -- the flag of each part that is given, and its numbers
-abbrev pub size_told : Option ℕ → ℕ × ℕ
-size_told (Some size) = (1, size)
-size_told None = (0, 0)
+abbrev pub size_parts : Option ℕ → ℕ × ℕ
+size_parts (Some size) = (1, size)
+size_parts None = (0, 0)
 
-abbrev pub owner_told : Option Owner → ℕ × ℕ × ℕ
-owner_told (Some owner) = (2, owner.uid, owner.gid)
-owner_told None = (0, 0, 0)
+abbrev pub owner_parts : Option Owner → ℕ × ℕ × ℕ
+owner_parts (Some owner) = (2, owner.uid, owner.gid)
+owner_parts None = (0, 0, 0)
 
-abbrev pub permissions_told : Option ℕ → ℕ × ℕ
-permissions_told (Some permissions) = (4, permissions)
-permissions_told None = (0, 0)
+abbrev pub permissions_parts : Option ℕ → ℕ × ℕ
+permissions_parts (Some permissions) = (4, permissions)
+permissions_parts None = (0, 0)
 
-abbrev pub times_told : Option Times → ℕ × ℕ × ℕ
-times_told (Some times) = (8, times.atime, times.mtime)
-times_told None = (0, 0, 0)
+abbrev pub times_parts : Option Times → ℕ × ℕ × ℕ
+times_parts (Some times) = (8, times.atime, times.mtime)
+times_parts None = (0, 0, 0)
 
-abbrev pub attributes_told : Attrs → Attributes
-attributes_told attrs = record {
-  size = (size_told attrs.size).1;
-  given = (size_told attrs.size).0 + (owner_told attrs.owner).0
-      + (permissions_told attrs.permissions).0 + (times_told attrs.times).0;
-  uid = (owner_told attrs.owner).1;
-  gid = (owner_told attrs.owner).2;
-  permissions = (permissions_told attrs.permissions).1;
-  atime = (times_told attrs.times).1;
-  mtime = (times_told attrs.times).2;
+abbrev pub attributes_parts : Attrs → Attributes
+attributes_parts attrs = record {
+  size = (size_parts attrs.size).1;
+  given = (size_parts attrs.size).0 + (owner_parts attrs.owner).0
+      + (permissions_parts attrs.permissions).0 + (times_parts attrs.times).0;
+  uid = (owner_parts attrs.owner).1;
+  gid = (owner_parts attrs.owner).2;
+  permissions = (permissions_parts attrs.permissions).1;
+  atime = (times_parts attrs.times).1;
+  mtime = (times_parts attrs.times).2;
 }
 
 abbrev pub no_attributes : Attributes
@@ -82,38 +82,38 @@ at_place kind handle offset length =
     record (by_handle kind handle) { offset = offset; length = length }
 
 abbrev pub with_attributes : ℕ → Attrs → AskedParts
-with_attributes kind attrs = record (plainly kind) { attributes = attributes_told attrs }
+with_attributes kind attrs = record (plainly kind) { attributes = attributes_parts attrs }
 
-abbrev pub asked_told : Request → AskedParts
-asked_told (request.Open path flags attrs) =
+abbrev pub asked_parts : Request → AskedParts
+asked_parts (request.Open path flags attrs) =
     record (with_attributes 3 attrs) { flags = bits_of flags }
-asked_told (request.Close handle) = by_handle 4 handle
-asked_told (request.Read handle offset len) = at_place 5 handle offset len
-asked_told (request.Write handle offset written) = at_place 6 handle offset (length written)
-asked_told (request.FStat handle) = by_handle 8 handle
-asked_told (request.SetStat path attrs) = with_attributes 9 attrs
-asked_told (request.FSetStat handle attrs) =
+asked_parts (request.Close handle) = by_handle 4 handle
+asked_parts (request.Read handle offset len) = at_place 5 handle offset len
+asked_parts (request.Write handle offset written) = at_place 6 handle offset (length written)
+asked_parts (request.FStat handle) = by_handle 8 handle
+asked_parts (request.SetStat path attrs) = with_attributes 9 attrs
+asked_parts (request.FSetStat handle attrs) =
     record (with_attributes 10 attrs) { handle = handle }
-asked_told (request.OpenDir path) = plainly 11
-asked_told (request.ReadDir handle) = by_handle 12 handle
-asked_told (request.Remove path) = plainly 13
-asked_told (request.Mkdir path attrs) = with_attributes 14 attrs
-asked_told (request.Rmdir path) = plainly 15
-asked_told (request.Stat path) = plainly 17
-asked_told (request.Rename old new) = plainly 18
-asked_told (request.PosixRename old new) = plainly 201
-asked_told (request.Link old new) = plainly 202
+asked_parts (request.OpenDir path) = plainly 11
+asked_parts (request.ReadDir handle) = by_handle 12 handle
+asked_parts (request.Remove path) = plainly 13
+asked_parts (request.Mkdir path attrs) = with_attributes 14 attrs
+asked_parts (request.Rmdir path) = plainly 15
+asked_parts (request.Stat path) = plainly 17
+asked_parts (request.Rename old new) = plainly 18
+asked_parts (request.PosixRename old new) = plainly 201
+asked_parts (request.Link old new) = plainly 202
 
 abbrev pub answer : ℕ → Answered
 answer kind = record { attributes = no_attributes; handle = 0; names = 0; kind = kind; status = 0 }
 
-abbrev pub answered_told : Reply → Answered
-answered_told (reply.Status code) = record (answer 101) { status = number_of code }
-answered_told reply.NoMemory = record (answer 100) { status = 4 }
-answered_told (reply.Handle handle) = record (answer 102) { handle = handle }
-answered_told (reply.Data bytes) = answer 103
-answered_told (reply.Names entries) = record (answer 104) { names = length entries }
-answered_told (reply.Attrs attrs) = record (answer 105) { attributes = attributes_told attrs }
+abbrev pub answered_parts : Reply → Answered
+answered_parts (reply.Status code) = record (answer 101) { status = number_of code }
+answered_parts reply.NoMemory = record (answer 100) { status = 4 }
+answered_parts (reply.Handle handle) = record (answer 102) { handle = handle }
+answered_parts (reply.Data bytes) = answer 103
+answered_parts (reply.Names entries) = record (answer 104) { names = length entries }
+answered_parts (reply.Attrs attrs) = record (answer 105) { attributes = attributes_parts attrs }
 
 -- the texts of its paths, in their order
 abbrev pub first_text : Request → List ℕ
@@ -136,43 +136,43 @@ second_text (request.Link old new) = text_of new
 second_text _ = []
 
 -- the bytes of a WRITE
-abbrev pub data_told : Request → List ℕ
-data_told (request.Write handle offset written) = written
-data_told _ = []
+abbrev pub data_parts : Request → List ℕ
+data_parts (request.Write handle offset written) = written
+data_parts _ = []
 
 -- the names of a listing, each with a byte 0 behind it
-abbrev pub name_told : Entry → List ℕ
-name_told entry = entry.filename ++ 0 ∷ []
+abbrev pub name_parts : Entry → List ℕ
+name_parts entry = entry.filename ++ 0 ∷ []
 
-abbrev pub names_told : List Entry → List ℕ
-names_told entries = flat_map name_told entries
+abbrev pub names_parts : List Entry → List ℕ
+names_parts entries = flat_map name_parts entries
 
 -- the bytes of a reply
 abbrev pub answer_bytes : Reply → List ℕ
 answer_bytes (reply.Data bytes) = bytes
-answer_bytes (reply.Names entries) = names_told entries
+answer_bytes (reply.Names entries) = names_parts entries
 answer_bytes _ = []
 
 -- What is told of a call: its numbers, the bytes of its parts one behind another, and how many each
 -- has.
 abbrev pub IsRecounted : ℕ → ℕ → ℕ → Request → Reply → Recounted → Type 0
 IsRecounted number session moment q a r =
-    (r.told ≡ record {
+    (r.parts ≡ record {
       number = number;
       session = session;
-      asked = asked_told q;
-      answered = answered_told a;
+      asked = asked_parts q;
+      answered = answered_parts a;
       path = length (first_text q);
       new_path = length (second_text q);
-      written = length (data_told q);
+      written = length (data_parts q);
       answer = length (answer_bytes a);
       moment = moment;
     })
-    × (r.bytes.items ≡ ((first_text q ++ second_text q) ++ data_told q) ++ answer_bytes a)
+    × (r.bytes.items ≡ ((first_text q ++ second_text q) ++ data_parts q) ++ answer_bytes a)
 
 -- of a session that left
-abbrev pub left_told : ℕ → RecordParts
-left_told session = record {
+abbrev pub left_parts : ℕ → RecordParts
+left_parts session = record {
   number = 0;
   session = session;
   asked = plainly 0;
@@ -186,12 +186,12 @@ left_told session = record {
 
 abbrev pub Recounts : Record → Recounted → Type 0
 Recounts (record_of.Did number session moment q a) r = IsRecounted number session moment q a r
-Recounts (record_of.Left session) r = (r.told ≡ left_told session) × (r.bytes.items ≡ [])
+Recounts (record_of.Left session) r = (r.parts ≡ left_parts session) × (r.bytes.items ≡ [])
 
 -- The record at a place was told, and its bytes copied as far as there is room.
 abbrev pub TellsParts : EngineView → ℕ → List ℕ → RecordParts → List ℕ → Type 0
-TellsParts engine at old told new = (kept : Record) × (r : Recounted)
-    × (slice_get engine.core.records at ≡ Some kept) × Recounts kept r × (told ≡ r.told)
+TellsParts engine at old parts new = (kept : Record) × (r : Recounted)
+    × (slice_get engine.core.records at ≡ Some kept) × Recounts kept r × (parts ≡ r.parts)
     × (new ≡ take (length old) r.bytes.items ++ drop (length r.bytes.items) old)
 
 -- the records that are kept are the last of each log that the engine has, or all
@@ -202,8 +202,8 @@ KeepsLastRecords engine = (log : List LogEntry) → ghosts.has_log engine log
 -- how many records are kept; the one at a place was told, or there is none there, or no memory to
 -- tell it
 abbrev pub TellsRecord : EngineView → ℕ → RecordParts → List ℕ → ℤ → RecordParts → List ℕ → Type 0
-TellsRecord engine at before old n told new =
-    ((n ≡ pos (length engine.core.records)) × TellsParts engine at old told new)
+TellsRecord engine at before old n parts new =
+    ((n ≡ pos (length engine.core.records)) × TellsParts engine at old parts new)
     ⊎ (((n ≡ negsuc 0)
     ⊎ ((n ≡ pos (length engine.core.records)) × (slice_get engine.core.records at ≡ None)))
-    × (told ≡ before) × (new ≡ old))
+    × (parts ≡ before) × (new ≡ old))

@@ -6,7 +6,7 @@ use Rattle.sf_call.specs.Leaves.{Leaf, contents_of}
 use Rattle.sf_engine.specs.Views.{EngineView}
 use Rattle.sf_asking.specs.Logs.{HasTree}
 use Rattle.sf_c.specs.declared.leaves.LeafParts.{LeafParts}
-use Rattle.sf_c.specs.Records.{attributes_told}
+use Rattle.sf_c.specs.Records.{attributes_parts}
 
 -- the engine's tree is kept, or there was no memory for it
 abbrev pub TakesTree : EngineView → ℤ → Option (List Leaf) → Type 0
@@ -14,26 +14,26 @@ TakesTree engine n kept = ((n ≡ negsuc 0) × (kept ≡ None))
     ⊎ ((leaves : List Leaf) × (n ≡ pos 0) × (kept ≡ Some leaves) × HasTree engine leaves)
 
 -- the numbers of a leaf, and how long the text of its path is
-abbrev pub leaf_told : Leaf → LeafParts
-leaf_told leaf = record {
-  attributes = attributes_told (attrs_of leaf.1.1);
+abbrev pub leaf_parts : Leaf → LeafParts
+leaf_parts leaf = record {
+  attributes = attributes_parts (attrs_of leaf.1.1);
   label = leaf.1.0;
   path = length (text_of leaf.0);
 }
 
 -- The leaf at a place was told, and the text of its path copied as far as there is room.
 abbrev pub TellsPath : List Leaf → ℕ → List ℕ → LeafParts → List ℕ → Type 0
-TellsPath leaves at old told new = (leaf : Leaf) × (slice_get leaves at ≡ Some leaf)
-    × (told ≡ leaf_told leaf)
+TellsPath leaves at old parts new = (leaf : Leaf) × (slice_get leaves at ≡ Some leaf)
+    × (parts ≡ leaf_parts leaf)
     × (new ≡ take (length old) (text_of leaf.0) ++ drop (length (text_of leaf.0)) old)
 
 -- how many leaves there are; the one at a place was told, or there is none there, or no memory to
 -- tell it
 abbrev pub TellsLeaf : List Leaf → ℕ → LeafParts → List ℕ → ℤ → LeafParts → List ℕ → Type 0
-TellsLeaf leaves at before old n told new =
-    ((n ≡ pos (length leaves)) × TellsPath leaves at old told new)
+TellsLeaf leaves at before old n parts new =
+    ((n ≡ pos (length leaves)) × TellsPath leaves at old parts new)
     ⊎ (((n ≡ negsuc 0) ⊎ ((n ≡ pos (length leaves)) × (slice_get leaves at ≡ None)))
-    × (told ≡ before) × (new ≡ old))
+    × (parts ≡ before) × (new ≡ old))
 
 -- the bytes of a file; none of a directory, or where there is no leaf
 abbrev pub bytes_of_object : Option (List ℕ) → List ℕ

@@ -4,10 +4,10 @@ ghost use Rattle.std.specs.Prelude.{◌≡◌, ◌<◌, ◌≤◌, ◌+◌, ◌-
 ghost use Rattle.std.specs.Option.{option_copied};
 ghost use Rattle.sf_path.specs.Names.{text_of};
 ghost use Rattle.sf_asking.specs.Logs.{HasTree};
-ghost use Rattle.sf_c.specs.Trees.{leaf_told, bytes_at, bytes_of_object, IsFilled, ReadsBytes, ReadsLeaf, HasGap, TellsGap, TellsLeaf};
+ghost use Rattle.sf_c.specs.Trees.{leaf_parts, bytes_at, bytes_of_object, IsFilled, ReadsBytes, ReadsLeaf, HasGap, TellsGap, TellsLeaf};
 
 use crate::copy_front;
-use crate::told::{Attributes, attributes_told};
+use crate::record_parts::{Attributes, attributes_parts};
 use sf_block::WholeContents;
 use sf_call::Leaf;
 use sf_engine::Engine;
@@ -82,12 +82,12 @@ pub fn tree_of(engine: &Engine, alloc: Global) -> Result<Box<Leaves, Global>, Al
 }
 
 /// The numbers of a leaf whose path has a text of so many bytes.
-fn leaf_told(leaf: &Leaf, path: usize) -> LeafParts
+fn leaf_parts(leaf: &Leaf, path: usize) -> LeafParts
     requires { path ≡ length (text_of leaf.now.0) }
-    ensures { result ≡ leaf_told leaf.now }
+    ensures { result ≡ leaf_parts leaf.now }
 {
     LeafParts {
-        attributes: attributes_told(&leaf.attrs()),
+        attributes: attributes_parts(&leaf.attrs()),
         label: leaf.label(),
         path: path as u64,
     }
@@ -98,10 +98,10 @@ pub fn copy_leaf(
     alloc: Global,
     leaves: &Leaves,
     at: u64,
-    told: &mut LeafParts,
+    parts: &mut LeafParts,
     room: &mut [u8],
 ) -> i64
-    ensures { TellsLeaf leaves.now at told.old room.old result told.new room.new }
+    ensures { TellsLeaf leaves.now at parts.old room.old result parts.new room.new }
 {
     let Some(leaf) = leaves.get(at) else {
         return leaves.len() as i64;
@@ -109,7 +109,7 @@ pub fn copy_leaf(
     let Ok(text) = leaf.path().text(alloc) else {
         return -1;
     };
-    *told = leaf_told(leaf, text.len());
+    *parts = leaf_parts(leaf, text.len());
     copy_front(room, &text);
     leaves.len() as i64
 }

@@ -28,7 +28,7 @@ mod leaves;
 mod making;
 mod number;
 mod rules;
-mod told;
+mod record_parts;
 mod turns;
 
 use held::Held;
@@ -40,7 +40,7 @@ use rules::{RuleParts, give_rule, tell_refused};
 use sf_engine::{Engine, Event};
 use sf_refusing::Refusals;
 use std::alloc::{AllocError, Global};
-use told::{RecordParts, recount};
+use record_parts::{RecordParts, recount};
 use turns::{apply, feed, sent, settle_at, turn};
 
 /// Makes an engine that keeps the last `keep` records, or all of them.
@@ -323,7 +323,7 @@ pub extern "C" fn lucernetick_refused(
 ) -> i64
     requires { IsSome refusing.old.refusals }
     ensures same { refusing.new.refusals ≡ refusing.old.refusals }
-    ensures told { IfSome refusing.old.refusals (λ r. TellsRefused r number result) }
+    ensures tells { IfSome refusing.old.refusals (λ r. TellsRefused r number result) }
 {
     let refusals = refusing.take(alloc);
     let count = tell_refused(&refusals, number);
@@ -336,10 +336,10 @@ fn copy_record(
     alloc: Global,
     engine: &Engine,
     at: u64,
-    told: &mut RecordParts,
+    parts: &mut RecordParts,
     room: &mut [u8],
 ) -> i64
-    ensures { TellsRecord engine.now at told.old room.old result told.new room.new }
+    ensures { TellsRecord engine.now at parts.old room.old result parts.new room.new }
 {
     let records = engine.core().history();
     let Some(record) = records.get(at as usize) else {
@@ -348,7 +348,7 @@ fn copy_record(
     let Ok(recounted) = recount(alloc, record) else {
         return -1;
     };
-    *told = recounted.told;
+    *parts = recounted.parts;
     copy_front(room, &recounted.bytes);
     records.len() as i64
 }
@@ -359,17 +359,17 @@ pub extern "C" fn lucernetick_call(
     alloc: Global,
     held: &mut Held,
     at: u64,
-    told: &mut RecordParts,
+    parts: &mut RecordParts,
     room: &mut [u8],
 ) -> i64
     requires { IsSome held.old.engine }
     ensures same { held.new.engine ≡ held.old.engine }
-    ensures told { IfSome held.old.engine
-        (λ e. TellsRecord e at told.old room.old result told.new room.new) }
+    ensures tells { IfSome held.old.engine
+        (λ e. TellsRecord e at parts.old room.old result parts.new room.new) }
     ensures last { IfSome held.old.engine KeepsLastRecords }
 {
     let engine = held.take(alloc);
-    let number = copy_record(alloc, &engine, at, told, room);
+    let number = copy_record(alloc, &engine, at, parts, room);
     held.put(engine);
     number
 }
@@ -457,16 +457,16 @@ pub extern "C" fn lucernetick_tree_leaf(
     alloc: Global,
     kept: &mut Kept,
     at: u64,
-    told: &mut LeafParts,
+    parts: &mut LeafParts,
     room: &mut [u8],
 ) -> i64
     requires { IsSome kept.old.tree }
     ensures same { kept.new.tree ≡ kept.old.tree }
-    ensures told { IfSome kept.old.tree
-        (λ t. TellsLeaf t at told.old room.old result told.new room.new) }
+    ensures tells { IfSome kept.old.tree
+        (λ t. TellsLeaf t at parts.old room.old result parts.new room.new) }
 {
     let leaves = kept.take(alloc);
-    let number = copy_leaf(alloc, &leaves, at, told, room);
+    let number = copy_leaf(alloc, &leaves, at, parts, room);
     kept.put(leaves);
     number
 }

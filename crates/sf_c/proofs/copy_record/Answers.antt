@@ -17,6 +17,6 @@ returns c =
     let shown : to_z w64 (length records) ≡ pos (length records) = search rules in
     let n = subst (λ (l : List Record). to_z w64 (length records) ≡ pos (length l)) same shown in
     let there = subst (λ (l : List Record). slice_get l c.args.at ≡ Some kept) same (slice_get_read records (length records) c.args.at kept refl look.3.0 look.1) in
-    let told : Recounts kept r = c.in-Ok.ensures in
+    let recount : Recounts kept r = c.in-Ok.ensures in
     let copied = subst (λ (l : List ℕ). c.copy_front.new.room ≡ take (length c.args.room.now) l ++ drop (length l) c.args.room.now) c.deref.ensures.value c.copy_front.ensures in
-    inl (n, (kept, r, there, told, refl, copied))
+    inl (n, (kept, r, there, recount, refl, copied))

@@ -1,7 +1,7 @@
 //! The records that an engine keeps, as numbers and bytes.
 
 ghost use Rattle.std.specs.Prelude.{◌≡◌, ◌≤◌, IfOk};
-ghost use Rattle.sf_c.specs.Records.{size_told, owner_told, permissions_told, times_told, attributes_told, plainly, by_handle, at_place, with_attributes, asked_told, answer, answered_told, first_text, second_text, data_told, names_told, answer_bytes, left_told, IsRecounted, Recounts};
+ghost use Rattle.sf_c.specs.Records.{size_parts, owner_parts, permissions_parts, times_parts, attributes_parts, plainly, by_handle, at_place, with_attributes, asked_parts, answer, answered_parts, first_text, second_text, data_parts, names_parts, answer_bytes, left_parts, IsRecounted, Recounts};
 
 use sf_call::{Record, Request};
 use sf_field::{Attrs, Owner, Times};
@@ -59,8 +59,8 @@ pub struct RecordParts {
     pub moment: u32,
 }
 
-fn size_told(size: Option<u64>) -> (u32, u64)
-    ensures is { result ≡ size_told size }
+fn size_parts(size: Option<u64>) -> (u32, u64)
+    ensures is { result ≡ size_parts size }
     ensures few { result.0 ≤ 1 }
 {
     match size {
@@ -69,8 +69,8 @@ fn size_told(size: Option<u64>) -> (u32, u64)
     }
 }
 
-fn owner_told(owner: Option<Owner>) -> (u32, u32, u32)
-    ensures is { result ≡ owner_told owner }
+fn owner_parts(owner: Option<Owner>) -> (u32, u32, u32)
+    ensures is { result ≡ owner_parts owner }
     ensures few { result.0 ≤ 2 }
 {
     match owner {
@@ -79,8 +79,8 @@ fn owner_told(owner: Option<Owner>) -> (u32, u32, u32)
     }
 }
 
-fn permissions_told(permissions: Option<u32>) -> (u32, u32)
-    ensures is { result ≡ permissions_told permissions }
+fn permissions_parts(permissions: Option<u32>) -> (u32, u32)
+    ensures is { result ≡ permissions_parts permissions }
     ensures few { result.0 ≤ 4 }
 {
     match permissions {
@@ -89,8 +89,8 @@ fn permissions_told(permissions: Option<u32>) -> (u32, u32)
     }
 }
 
-fn times_told(times: Option<Times>) -> (u32, u32, u32)
-    ensures is { result ≡ times_told times }
+fn times_parts(times: Option<Times>) -> (u32, u32, u32)
+    ensures is { result ≡ times_parts times }
     ensures few { result.0 ≤ 8 }
 {
     match times {
@@ -100,13 +100,13 @@ fn times_told(times: Option<Times>) -> (u32, u32, u32)
 }
 
 /// Attributes as C has them: a bit of `given` for each that is there, and 0 for one that isn't.
-pub fn attributes_told(attrs: &Attrs) -> Attributes
-    ensures { result ≡ attributes_told attrs.now }
+pub fn attributes_parts(attrs: &Attrs) -> Attributes
+    ensures { result ≡ attributes_parts attrs.now }
 {
-    let (has_size, size) = size_told(attrs.size);
-    let (has_owner, uid, gid) = owner_told(attrs.owner);
-    let (has_permissions, permissions) = permissions_told(attrs.permissions);
-    let (has_times, atime, mtime) = times_told(attrs.times);
+    let (has_size, size) = size_parts(attrs.size);
+    let (has_owner, uid, gid) = owner_parts(attrs.owner);
+    let (has_permissions, permissions) = permissions_parts(attrs.permissions);
+    let (has_times, atime, mtime) = times_parts(attrs.times);
     Attributes {
         size,
         given: has_size + has_owner + has_permissions + has_times,
@@ -169,14 +169,14 @@ fn with_attributes(kind: u32, attrs: &Attrs) -> AskedParts
     ensures { result ≡ with_attributes kind attrs.now }
 {
     AskedParts {
-        attributes: attributes_told(attrs),
+        attributes: attributes_parts(attrs),
         ..plainly(kind)
     }
 }
 
 /// The numbers of a request. Both renames and links by extensions have types of their own.
-fn asked_told(request: &Request) -> AskedParts
-    ensures { result ≡ asked_told request.now }
+fn asked_parts(request: &Request) -> AskedParts
+    ensures { result ≡ asked_parts request.now }
 {
     match request {
         Request::Open(_, flags, attrs) => AskedParts {
@@ -226,8 +226,8 @@ fn answer(kind: u32) -> Answered
 }
 
 /// The numbers of a reply. Want of memory is the status FAILURE, with a type of its own.
-fn answered_told(reply: &Reply) -> Answered
-    ensures { result ≡ answered_told reply.now }
+fn answered_parts(reply: &Reply) -> Answered
+    ensures { result ≡ answered_parts reply.now }
 {
     match reply {
         Reply::Status(code) => Answered {
@@ -248,7 +248,7 @@ fn answered_told(reply: &Reply) -> Answered
             ..answer(104)
         },
         Reply::Attrs(attrs) => Answered {
-            attributes: attributes_told(attrs),
+            attributes: attributes_parts(attrs),
             ..answer(105)
         },
     }
@@ -286,8 +286,8 @@ fn second_text(alloc: Global, request: &Request) -> Result<Vec<u8>, AllocError>
 }
 
 /// The bytes of a WRITE.
-fn data_told(request: &Request) -> &[u8]
-    ensures { result.now ≡ data_told request.now }
+fn data_parts(request: &Request) -> &[u8]
+    ensures { result.now ≡ data_parts request.now }
 {
     match request {
         Request::Write { data, .. } => data.as_slice(),
@@ -296,8 +296,8 @@ fn data_told(request: &Request) -> &[u8]
 }
 
 /// The names of a listing, each with a byte 0 behind it, which no name has.
-fn names_told(alloc: Global, entries: &[Entry]) -> Result<Vec<u8>, AllocError>
-    ensures { IfOk result (λ bytes. bytes.items ≡ names_told entries.now) }
+fn names_parts(alloc: Global, entries: &[Entry]) -> Result<Vec<u8>, AllocError>
+    ensures { IfOk result (λ bytes. bytes.items ≡ names_parts entries.now) }
 {
     let mut bytes = Vec::new(alloc);
     for entry in entries {
@@ -313,7 +313,7 @@ fn answer_bytes(alloc: Global, reply: &Reply) -> Result<Vec<u8>, AllocError>
 {
     match reply {
         Reply::Data(bytes) => Vec::from_slice(alloc, bytes.as_slice()),
-        Reply::Names(listing) => names_told(alloc, listing.as_slice()),
+        Reply::Names(listing) => names_parts(alloc, listing.as_slice()),
         _ => Ok(Vec::new(alloc)),
     }
 }
@@ -321,12 +321,12 @@ fn answer_bytes(alloc: Global, reply: &Reply) -> Result<Vec<u8>, AllocError>
 /// A record's parts, one behind another, and its numbers with how long each part is.
 #[derive(Drop)]
 pub struct Recounted {
-    pub told: RecordParts,
+    pub parts: RecordParts,
     pub bytes: Vec<u8>,
 }
 
 /// What is told of a call.
-fn call_told(
+fn call_parts(
     alloc: Global,
     number: u64,
     session: u64,
@@ -339,23 +339,23 @@ fn call_told(
     let mut bytes = first_text(alloc, request)?;
     let path = bytes.len();
     let new = second_text(alloc, request)?;
-    let data = data_told(request);
+    let data = data_parts(request);
     let read = answer_bytes(alloc, reply)?;
     bytes.extend_from_slice(&new)?;
     bytes.extend_from_slice(data)?;
     bytes.extend_from_slice(&read)?;
-    let told = RecordParts {
+    let parts = RecordParts {
         number,
         session,
-        asked: asked_told(request),
-        answered: answered_told(reply),
+        asked: asked_parts(request),
+        answered: answered_parts(reply),
         path: path as u64,
         new_path: new.len() as u64,
         written: data.len() as u64,
         answer: read.len() as u64,
         moment,
     };
-    Ok(Recounted { told, bytes })
+    Ok(Recounted { parts, bytes })
 }
 
 /// What is told of a record.
@@ -369,17 +369,17 @@ pub fn recount(alloc: Global, record: &Record) -> Result<Recounted, AllocError>
             moment,
             request,
             reply,
-        } => call_told(alloc, *number, *session, *moment, request, reply),
+        } => call_parts(alloc, *number, *session, *moment, request, reply),
         Record::Left { session } => Ok(Recounted {
-            told: left_told(*session),
+            parts: left_parts(*session),
             bytes: Vec::new(alloc),
         }),
     }
 }
 
 /// A session that left: the number of its record is 0, as no call's is.
-fn left_told(session: u64) -> RecordParts
-    ensures { result ≡ left_told session }
+fn left_parts(session: u64) -> RecordParts
+    ensures { result ≡ left_parts session }
 {
     RecordParts {
         number: 0,
