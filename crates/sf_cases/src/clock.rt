@@ -9,7 +9,7 @@ use sf_session::Clock;
 pub struct StillClock;
 
 impl Clock for StillClock {
-    ghost told = { λ _. None };
+    ghost moments = { λ _. None };
 
     fn now(&mut self) -> u32 {
         100
@@ -35,7 +35,7 @@ impl RisingClock {
 }
 
 impl Clock for RisingClock {
-    ghost told = { λ _. None };
+    ghost moments = { λ _. None };
 
     fn now(&mut self) -> u32 {
         let moment = self.next;

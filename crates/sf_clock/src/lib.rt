@@ -21,7 +21,7 @@ impl<'a, R> SystemClock<'a, R> {
 }
 
 impl<R: std::rt::Clock> Clock for SystemClock<'_, R> {
-    ghost told = { λ _. None };
+    ghost moments = { λ _. None };
 
     fn now(&mut self) -> u32 {
         moment(self.runtime.since_1970().ok())

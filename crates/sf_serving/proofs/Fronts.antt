@@ -45,9 +45,9 @@ begun_more written answers answers' begun more =
 
 -- a session goes on: more was fed, read, answered or written
 pub record IsOnward (p p' : Progress) : Type 0 where
-  pub stream : IsFront p.told.stream p'.told.stream
-  pub bodies : IsFront p.told.bodies p'.told.bodies
-  pub answers : IsFront p.told.answers p'.told.answers
+  pub stream : IsFront p.state.stream p'.state.stream
+  pub bodies : IsFront p.state.bodies p'.state.bodies
+  pub answers : IsFront p.state.answers p'.state.answers
   pub written : IsFront p.written p'.written
 
 pub prompt_further : (p p' : Progress) (log : List LineCall) → IsOnward p p' → IsPrompt p log → IsPrompt p' log
@@ -58,11 +58,11 @@ prompt_further p p' log further prompt before later n same =
       rest = h.rest;
       bodies = h.bodies;
       answers = h.answers;
-      was_read = front_of h.read p.told.stream p'.told.stream h.was_read further.stream;
+      was_read = front_of h.read p.state.stream p'.state.stream h.was_read further.stream;
       count = h.count;
       cut = h.cut;
-      were_asked = front_of h.bodies p.told.bodies p'.told.bodies h.were_asked further.bodies;
-      were_answered = front_of h.answers p.told.answers p'.told.answers h.were_answered further.answers;
+      were_asked = front_of h.bodies p.state.bodies p'.state.bodies h.were_asked further.bodies;
+      were_answered = front_of h.answers p.state.answers p'.state.answers h.were_answered further.answers;
       each = h.each;
       were_written = front_of (transcript h.answers) p.written p'.written h.were_written further.written;
       wrote = h.wrote;

@@ -14,10 +14,10 @@ use Rattle.sf_session.specs.declared.fault.ServeFault.{ServeFault}
 use Rattle.sf_session.specs.declared.fault.ServeFault.TheVariants as serve
 use Rattle.sf_session.specs.Responses.{transcript}
 use Rattle.sf_session.specs.SessionStates.{SessionState, new_state, fed, IsRead}
-use Rattle.sf_serving.specs.declared.host.Went.{Went}
-use Rattle.sf_serving.specs.declared.host.Went.TheVariants as went
+use Rattle.sf_serving.specs.declared.host.SessionStep.{SessionStep}
+use Rattle.sf_serving.specs.declared.host.SessionStep.TheVariants as step
 use Rattle.sf_serving.specs.Ends.{IsWhole}
-use Rattle.sf_serving.specs.Hosts.{most_counted, IsOpen, HasSent, Waits, IsFurther, WentTo, with_sent, ended, IsHostFault}
+use Rattle.sf_serving.specs.Hosts.{most_counted, IsOpen, HasSent, Waits, IsFurther, IsSessionStep, with_sent, ended, IsHostFault}
 use Rattle.sf_serving.specs.Serving.{LineView, Progress, progress, ServedSoFar, Serves, IsInStep, GoesOn, Rests, IsServed, HasWritten, HasWrittenFor, IsSpentFor, IsStopped, IsStop}
 use Rattle.sf_serving.specs.Rounds.{IsPieceWritten, WritesByPieces, all_sent, SendsAll, SendsSome, EndsByCause, Stops, HasStopped}
 use Rattle.sf_serving.proofs.Fronts.{none_written, taken_more, all_more}
@@ -108,7 +108,7 @@ stranger_stop f failed failed' s is h = subst (λ (x : ServeFault). IsStop x fai
 
 -- ---- what is spent
 
-spent_for : (f : ServeFault) (w w' : ℕ) (p p' : Progress) → w' ≡ w → p'.told.stream ≡ p.told.stream → IsSpentFor f w p → IsSpentFor f w' p'
+spent_for : (f : ServeFault) (w w' : ℕ) (p p' : Progress) → w' ≡ w → p'.state.stream ≡ p.state.stream → IsSpentFor f w p → IsSpentFor f w' p'
 spent_for serve.NumbersSpent w w' p p' same stream (inl h) = inl (subst (λ (b : List ℕ). most_counted ≤ length b) (sym stream) h)
 spent_for serve.NumbersSpent w w' p p' same stream (inr h) = inr (subst (λ (k : ℕ). most_counted ≤ k) (sym same) h)
 spent_for f w w' p p' same stream h = tt
@@ -120,37 +120,37 @@ host_spent f w s p h = tt
 -- ---- the session goes on
 
 -- what its host makes of what it was told, having gone on
-abbrev pub Goes : (held : ℕ) → (T T' : SessionState → Type 0) → Result Went ServeFault → Type 0
-Goes held T T' r = (t : SessionState) → T t → IsOpen t → IsRead t → HasSent t → (t' : SessionState) × T' t' × IsFurther held t t' × WentTo r t t'
+abbrev pub Goes : (held : ℕ) → (T T' : SessionState → Type 0) → Result SessionStep ServeFault → Type 0
+Goes held T T' r = (t : SessionState) → T t → IsOpen t → IsRead t → HasSent t → (t' : SessionState) × T' t' × IsFurther held t t' × IsSessionStep r t t'
 
 -- so many answers were there before
-abbrev pub GoneTo : ℕ → Result Went ServeFault → SessionState → Type 0
-GoneTo k (Ok went.Waits) t = Waits t
-GoneTo k (Ok went.Answered) t = IsOpen t × (k < length t.answers)
-GoneTo k (Ok (went.Ended cause)) t = IsWhole t cause × (cause ≢ Closed)
+abbrev pub GoneTo : ℕ → Result SessionStep ServeFault → SessionState → Type 0
+GoneTo k (Ok step.Waits) t = Waits t
+GoneTo k (Ok step.Answered) t = IsOpen t × (k < length t.answers)
+GoneTo k (Ok (step.Ended cause)) t = IsWhole t cause × (cause ≢ Closed)
 GoneTo k (Err f) t = Unit {0}
 
-pub record HasGone (n k : ℕ) (r : Result Went ServeFault) (p : Progress) : Type 0 where
+pub record HasGone (n k : ℕ) (r : Result SessionStep ServeFault) (p : Progress) : Type 0 where
   pub fed : p.unfed ≡ []
   pub in_step : IsInStep p
-  pub long : n ≤ length p.told.stream
-  pub to : GoneTo k r p.told
+  pub long : n ≤ length p.state.stream
+  pub to : GoneTo k r p.state
 
 -- it goes on, and has so many answers
 abbrev pub GoesOnBy : ℕ → ℕ → Progress → Type 0
-GoesOnBy n k p = GoesOn n p × (k ≤ length p.told.answers)
+GoesOnBy n k p = GoesOn n p × (k ≤ length p.state.answers)
 
-gone_to : (k : ℕ) (r : Result Went ServeFault) (t t' : SessionState) → k ≤ length t.answers → WentTo r t t' → GoneTo k r t'
-gone_to k (Ok went.Waits) t t' few to = to
-gone_to k (Ok went.Answered) t t' few to = (to.0, omega (arith, few, to.1))
-gone_to k (Ok (went.Ended cause)) t t' few to = to
+gone_to : (k : ℕ) (r : Result SessionStep ServeFault) (t t' : SessionState) → k ≤ length t.answers → IsSessionStep r t t' → GoneTo k r t'
+gone_to k (Ok step.Waits) t t' few to = to
+gone_to k (Ok step.Answered) t t' few to = (to.0, omega (arith, few, to.1))
+gone_to k (Ok (step.Ended cause)) t t' few to = to
 gone_to k (Err f) t t' few to = tt
 
-pub gone : {held : ℕ} (T T' : SessionState → Type 0) (from now : LineView) (n k : ℕ) (r : Result Went ServeFault) → Goes held T T' r → Serves held T from now (GoesOnBy n k) → Serves held T' from now (HasGone n k r)
+pub gone : {held : ℕ} (T T' : SessionState → Type 0) (from now : LineView) (n k : ℕ) (r : Result SessionStep ServeFault) → Goes held T T' r → Serves held T from now (GoesOnBy n k) → Serves held T' from now (HasGone n k r)
 gone T T' from now n k r goes serves =
     let p = serves.0 in
     let on = serves.3.0 in
-    let g = goes p.told serves.1 on.is_open serves.2.bodies on.sent in
+    let g = goes p.state serves.1 on.is_open serves.2.bodies on.sent in
     let further = g.2 in (
       progress g.0 p.unfed p.written,
       g.1,
@@ -159,7 +159,7 @@ gone T T' from now n k r goes serves =
         fed = on.fed;
         in_step = on.in_step ∙ sym further.sent;
         long = subst (λ (b : List ℕ). n ≤ length b) (sym further.stream) on.long;
-        to = gone_to k r p.told g.0 serves.3.1 g.3;
+        to = gone_to k r p.state g.0 serves.3.1 g.3;
       },
     )
 
@@ -167,23 +167,23 @@ pub gone_stops : {held : ℕ} (T : SessionState → Type 0) {from now : LineView
 gone_stops T w s {f = f} why serves = (serves.0, serves.1, serves.2, ((λ no. serves.3.in_step), host_spent f w s serves.0 why))
 
 -- what waited was sent
-abbrev pub SentGone : ℕ → ℕ → Option (List ℕ) → Went → Progress → Type 0
-SentGone n k incoming went.Waits p = Rests n p
-SentGone n k incoming went.Answered p = GoesOnBy n (k + 1) p
-SentGone n k incoming (went.Ended cause) p = EndsByCause incoming cause p
+abbrev pub SentGone : ℕ → ℕ → Option (List ℕ) → SessionStep → Progress → Type 0
+SentGone n k incoming step.Waits p = Rests n p
+SentGone n k incoming step.Answered p = GoesOnBy n (k + 1) p
+SentGone n k incoming (step.Ended cause) p = EndsByCause incoming cause p
 
 open_sent : (t : SessionState) → IsOpen t → IsOpen (with_sent t)
 open_sent t h = record { rests = h.rests; closed = h.closed }
 
-goes_sent : (n : ℕ) (p : Progress) → p.unfed ≡ [] → n ≤ length p.told.stream → IsOpen p.told → GoesOn n (all_sent p)
-goes_sent n p fed long is_open = record { is_open = open_sent p.told is_open; fed = fed; sent = refl; in_step = refl; long = long }
+goes_sent : (n : ℕ) (p : Progress) → p.unfed ≡ [] → n ≤ length p.state.stream → IsOpen p.state → GoesOn n (all_sent p)
+goes_sent n p fed long is_open = record { is_open = open_sent p.state is_open; fed = fed; sent = refl; in_step = refl; long = long }
 
-sent_gone : (n k : ℕ) (incoming : Option (List ℕ)) (r : Went) (p : Progress) → HasGone n k (Ok r) p → SentGone n k incoming r (all_sent p)
-sent_gone n k incoming went.Waits p h = (goes_sent n p h.fed h.long h.to.0, (open_sent p.told h.to.0, h.to.1))
-sent_gone n k incoming went.Answered p h = (goes_sent n p h.fed h.long h.to.0, omega (arith, h.to.1))
-sent_gone n k incoming (went.Ended cause) p h = record {
+sent_gone : (n k : ℕ) (incoming : Option (List ℕ)) (r : SessionStep) (p : Progress) → HasGone n k (Ok r) p → SentGone n k incoming r (all_sent p)
+sent_gone n k incoming step.Waits p h = (goes_sent n p h.fed h.long h.to.0, (open_sent p.state h.to.0, h.to.1))
+sent_gone n k incoming step.Answered p h = (goes_sent n p h.fed h.long h.to.0, omega (arith, h.to.1))
+sent_gone n k incoming (step.Ended cause) p h = record {
   fed = h.fed;
-  whole = gone_whole (with_sent p.told) cause (sent_whole p.told cause h.to.0);
+  whole = gone_whole (with_sent p.state) cause (sent_whole p.state cause h.to.0);
   sent = refl;
   in_step = refl;
   at_end = λ e. absurd (h.to.1 e);
@@ -202,12 +202,12 @@ pub fails_so : {held : ℕ} {T T' : SessionState → Type 0} {from old new : Lin
 fails_so {from = from} to sends step so serves =
     let p = serves.0 in
     let s = sends from p serves.1 serves.2 (step p serves.3) in
-    (progress p.told p.unfed s.0, to p.told serves.1, s.1, so (progress p.told p.unfed s.0))
+    (progress p.state p.unfed s.0, to p.state serves.1, s.1, so (progress p.state p.unfed s.0))
 
 -- it went on so, and all that waited was sent
-pub went_sent : {held : ℕ} {T M : SessionState → Type 0} (T' : SessionState → Type 0) {from old new : LineView} {n k : ℕ} (incoming : Option (List ℕ)) {r r' : Went} → Goes held T M (Ok r) → SendsAll held M T' old new → r ≡ r' → Serves held T from old (GoesOnBy n k) → Serves held T' from new (SentGone n k incoming r')
-went_sent {held = held} {T = T} {M = M} T' {from = from} {old = old} {new = new} {n = n} {k = k} incoming {r = r} goes sends same serves =
-    subst (λ (w : Went). Serves held T' from new (SentGone n k incoming w)) same
+pub step_sent : {held : ℕ} {T M : SessionState → Type 0} (T' : SessionState → Type 0) {from old new : LineView} {n k : ℕ} (incoming : Option (List ℕ)) {r r' : SessionStep} → Goes held T M (Ok r) → SendsAll held M T' old new → r ≡ r' → Serves held T from old (GoesOnBy n k) → Serves held T' from new (SentGone n k incoming r')
+step_sent {held = held} {T = T} {M = M} T' {from = from} {old = old} {new = new} {n = n} {k = k} incoming {r = r} goes sends same serves =
+    subst (λ (w : SessionStep). Serves held T' from new (SentGone n k incoming w)) same
     (sends_so M T' sends (λ p h. (h.in_step, sent_gone n k incoming r p h)) (gone T M from old n k (Ok r) goes serves))
 
 pub stops_line : (p : Progress) → Stops serve.Line 0 p
@@ -217,24 +217,24 @@ stops_line p = ((λ no. absurd (no refl)), tt)
 pub goes_spent : {held : ℕ} (T : SessionState → Type 0) (from now : LineView) (n k w : ℕ) → most_counted ≤ k → Serves held T from now (GoesOnBy n k) → Serves held T from now (Stops serve.NumbersSpent w)
 goes_spent T from now n k w most serves =
     let p = serves.0 in
-    let long : length p.told.answers ≤ length p.told.stream = long_answers p.told serves.3.0.is_open.rests serves.2.bodies in
+    let long : length p.state.answers ≤ length p.state.stream = long_answers p.state serves.3.0.is_open.rests serves.2.bodies in
     (p, serves.1, serves.2, ((λ no. serves.3.0.in_step), inl (omega (arith, most, serves.3.1, long))))
 
 -- ---- a round
 
 -- bytes were read, and are not fed yet
 pub record HasRead (n : ℕ) (bytes : List ℕ) (p : Progress) : Type 0 where
-  pub is_open : IsOpen p.told
+  pub is_open : IsOpen p.state
   pub unfed : p.unfed ≡ bytes
-  pub sent : HasSent p.told
+  pub sent : HasSent p.state
   pub in_step : IsInStep p
-  pub long : n ≤ length p.told.stream
+  pub long : n ≤ length p.state.stream
 
 pub has_read : {held : ℕ} (T : SessionState → Type 0) (from now now' : LineView) (n k : ℕ) (bytes : List ℕ) → Serves held T from now (Rests n) → IsReadBy now now' k bytes → Serves held T from now' (HasRead n bytes)
 has_read T from now now' n k bytes serves by =
     let p = serves.0 in
     let on = serves.3.0 in (
-      progress p.told bytes p.written,
+      progress p.state bytes p.written,
       serves.1,
       read_serves serves.2 serves.3 by,
       record { is_open = on.is_open; unfed = refl; sent = on.sent; in_step = on.in_step; long = on.long },
@@ -245,16 +245,16 @@ pub has_fed : {held : ℕ} (T T' : SessionState → Type 0) (from now : LineView
 has_fed {held = held} T T' from now n bytes some feeds serves =
     let p = serves.0 in
     let read = serves.3 in
-    let S : ServedSoFar held from now (progress p.told bytes p.written) = subst (λ (b : List ℕ). ServedSoFar held from now (progress p.told b p.written)) read.unfed serves.2 in (
-      progress (fed p.told bytes) [] p.written,
-      feeds p.told serves.1 read.is_open,
-      fed_serves from now p.told bytes p.written S read.is_open,
+    let S : ServedSoFar held from now (progress p.state bytes p.written) = subst (λ (b : List ℕ). ServedSoFar held from now (progress p.state b p.written)) read.unfed serves.2 in (
+      progress (fed p.state bytes) [] p.written,
+      feeds p.state serves.1 read.is_open,
+      fed_serves from now p.state bytes p.written S read.is_open,
       record {
         is_open = record { rests = read.is_open.rests; closed = read.is_open.closed };
         fed = refl;
         sent = read.sent;
         in_step = read.in_step;
-        long = omega (arith, read.long, some, length-append p.told.stream bytes);
+        long = omega (arith, read.long, some, length-append p.state.stream bytes);
       },
     )
 
@@ -269,7 +269,7 @@ pub read_by : (now now' : LineView) (k : ℕ) (buffer : List ℕ) → Consumes n
 read_by now now' k buffer consumes within filled same logs = record { consumes = consumes; count = omega (arith, length-take k buffer, within); short = omega (arith, within, filled); same = same; logs = logs }
 
 pub read_stops : {held : ℕ} (T T' : SessionState → Type 0) (from now : LineView) (n w : ℕ) (bytes : List ℕ) → ((t : SessionState) → T t → T' t) → Serves held T from now (HasRead n bytes) → Serves held T' from now (Stops serve.OutOfMemory w)
-read_stops T T' from now n w bytes to serves = (serves.0, to serves.0.told serves.1, serves.2, ((λ no. serves.3.in_step), tt))
+read_stops T T' from now n w bytes to serves = (serves.0, to serves.0.state serves.1, serves.2, ((λ no. serves.3.in_step), tt))
 
 pub rest_stops : {held : ℕ} (T : SessionState → Type 0) {from now now' : LineView} {n : ℕ} (w : ℕ) → Serves held T from now (Rests n) → Keeps now.incoming now'.incoming → now'.outgoing ≡ now.outgoing → Logs now.calls now'.calls [] → Serves held T from now' (Stops serve.Line w)
 rest_stops T {from = from} {now = now} {now' = now'} w serves kept same logs = (serves.0, serves.1, still_serves from now now' serves.0 serves.2 kept same logs, ((λ no. absurd (no refl)), tt))
@@ -279,10 +279,10 @@ pub read_none : {held : ℕ} (T : SessionState → Type 0) {from now now' : Line
 read_none T {now = now} {now' = now'} {k = k} buffer serves none by at_end =
     let p = serves.0 in
     let nothing : IsReadBy now now' k [] = subst (λ (b : List ℕ). IsReadBy now now' k b) (ap (λ (x : ℕ). take x buffer) none) by in (
-      progress p.told [] p.written,
+      progress p.state [] p.written,
       serves.1,
       read_serves serves.2 serves.3 nothing,
-      record { fed = refl; whole = closed_whole p.told serves.2.bodies serves.3.1; sent = serves.3.0.sent; in_step = serves.3.0.in_step; at_end = λ e. at_end },
+      record { fed = refl; whole = closed_whole p.state serves.2.bodies serves.3.1; sent = serves.3.0.sent; in_step = serves.3.0.in_step; at_end = λ e. at_end },
     )
 
 pub rounds_spent : {held : ℕ} (T : SessionState → Type 0) (from now : LineView) (n w : ℕ) → most_counted ≤ n → Serves held T from now (Rests n) → Serves held T from now (Stops serve.NumbersSpent w)
@@ -300,9 +300,9 @@ stopped_sent f w w' p other same h = (h.0 other, ((λ no. (refl, refl)), spent_f
 -- ---- it ends
 
 -- that it is ended is of no matter to what was sent
-written_ended : (p : Progress) → HasWritten p → HasWritten (progress (ended p.told) p.unfed p.written)
+written_ended : (p : Progress) → HasWritten p → HasWritten (progress (ended p.state) p.unfed p.written)
 written_ended p h =
-    let same = ended_same p.told in
+    let same = ended_same p.state in
     (same.sent ∙ h.0 ∙ ap transcript (sym same.answers), h.1 ∙ sym same.sent)
 
 written_for : (f : ServeFault) (failed failed' : ℕ) (s : Type 0) (p : Progress) → IsStop f failed failed' s → (f ≢ serve.Line → HasWritten p) → HasWrittenFor f failed failed' p
@@ -317,20 +317,20 @@ strange_for serve.Sessions failed failed' s p why h = absurd why
 strange_for f failed failed' s p why h = inr (h (λ e. cc))
 
 abbrev over : Progress → Progress
-over p = progress (ended p.told) p.unfed p.written
+over p = progress (ended p.state) p.unfed p.written
 
 -- what is so of a session that ends, from what was so before
 pub ends_so : {held : ℕ} (T T' : SessionState → Type 0) (from now : LineView) (P Q : Progress → Type 0) → ((t : SessionState) → T t → T' (ended t)) → ((p : Progress) → P p → Q (over p)) → Serves held T from now P → Serves held T' from now Q
 ends_so T T' from now P Q ends so serves =
-    let p = serves.0 in (over p, ends p.told serves.1, ended_serves from now p.told p.unfed p.written serves.2, so p serves.3)
+    let p = serves.0 in (over p, ends p.state serves.1, ended_serves from now p.state p.unfed p.written serves.2, so p serves.3)
 
 pub stopped_ended : {f : ServeFault} {failed failed' w w' : ℕ} (s : Type 0) (p : Progress) → w' ≡ w → IsStop f failed failed' s → HasStopped f w p → IsStopped f failed failed' w' (over p)
 stopped_ended {f = f} {failed = failed} {failed' = failed'} {w = w} {w' = w'} s p same why h =
-    record { written = written_for f failed failed' s (over p) why (λ no. written_ended p (h.0 no)); spent = spent_for f w w' p (over p) same (ended_same p.told).stream h.1; closed = ended_none p.told }
+    record { written = written_for f failed failed' s (over p) why (λ no. written_ended p (h.0 no)); spent = spent_for f w w' p (over p) same (ended_same p.state).stream h.1; closed = ended_none p.state }
 
 -- the core doesn't know the session
 pub stopped_strange : (g : ServeFault) (failed failed' w : ℕ) (p : Progress) → g ≡ serve.Stranger → Rose failed failed' ⊎ HasWritten (over p) → IsStopped g failed failed' w (over p)
-stopped_strange g failed failed' w p is written = subst (λ (x : ServeFault). IsStopped x failed failed' w (over p)) (sym is) (record { written = written; spent = tt; closed = ended_none p.told })
+stopped_strange g failed failed' w p is written = subst (λ (x : ServeFault). IsStopped x failed failed' w (over p)) (sym is) (record { written = written; spent = tt; closed = ended_none p.state })
 
 pub strange_stopped : (f : ServeFault) (failed failed' w : ℕ) (s : Type 0) (p : Progress) → IsStop f failed failed' s → HasStopped f w p → Rose failed failed' ⊎ HasWritten (over p)
 strange_stopped f failed failed' w s p why h = strange_for f failed failed' s (over p) why (λ no. written_ended p (h.0 no))

@@ -47,7 +47,7 @@ cuts_of (body ∷ bodies) rest bs c = (flat_map packet bodies ++ rest, bs.0, app
 -- before a read all is prompt
 prompt_now : {held : ℕ} (from now : LineView) (n : ℕ) (p : Progress) → (S : ServedSoFar held from now p) → Rests n p → IsPromptAt p S.log
 prompt_now from now n p S rests =
-    let t = p.told in
+    let t = p.state in
     let at : t.phase ≡ Resting = rests.1.0.rests in
     let asked : AreAsked false t.bodies (map ask_behind t.answers) = rest_asked t at S.bodies in
     let all : p.written ≡ transcript t.answers = rests.0.in_step ∙ rests.0.sent in
@@ -241,9 +241,9 @@ pub record IsReadBy (now now' : LineView) (n : ℕ) (bytes : List ℕ) : Type 0 
   pub logs : Logs now.calls now'.calls (Read n ∷ [])
 
 -- they are not fed yet
-pub read_serves : {held : ℕ} {from now now' : LineView} {k n : ℕ} {p : Progress} {bytes : List ℕ} → ServedSoFar held from now p → Rests k p → IsReadBy now now' n bytes → ServedSoFar held from now' (progress p.told bytes p.written)
+pub read_serves : {held : ℕ} {from now now' : LineView} {k n : ℕ} {p : Progress} {bytes : List ℕ} → ServedSoFar held from now p → Rests k p → IsReadBy now now' n bytes → ServedSoFar held from now' (progress p.state bytes p.written)
 read_serves {from = from} {now = now} {now' = now'} {k = k} {n = n} {p = p} {bytes = bytes} S rests by =
-    let t = p.told in
+    let t = p.state in
     let none : t.stream ++ p.unfed ≡ t.stream = ap (λ (b : List ℕ). t.stream ++ b) rests.0.fed ∙ append-nil t.stream in
     let before : Consumes from.incoming now.incoming t.stream = subst (λ (b : List ℕ). Consumes from.incoming now.incoming b) none S.read in
     let gave : given S.log ≡ length t.stream = S.gave ∙ ap (λ (b : List ℕ). length b) none in
@@ -268,7 +268,7 @@ read_serves {from = from} {now = now} {now' = now'} {k = k} {n = n} {p = p} {byt
 pub still_serves : {held : ℕ} (from now now' : LineView) (p : Progress) → ServedSoFar held from now p → Keeps now.incoming now'.incoming → now'.outgoing ≡ now.outgoing → Logs now.calls now'.calls [] → ServedSoFar held from now' p
 still_serves from now now' p S kept same logs = record {
   bodies = S.bodies;
-  read = Consumes-kept from.incoming now.incoming now'.incoming (p.told.stream ++ p.unfed) S.read kept;
+  read = Consumes-kept from.incoming now.incoming now'.incoming (p.state.stream ++ p.unfed) S.read kept;
   wrote = subst (λ (o : Option (List ℕ)). Appends from.outgoing o p.written) (sym same) S.wrote;
   begun = S.begun;
   log = S.log;
@@ -281,16 +281,16 @@ still_serves from now now' p S kept same logs = record {
 }
 
 -- the line took a front of what waits
-pub wrote_serves : {held : ℕ} {from now now' : LineView} {p : Progress} {output sent : List ℕ} (rest : List ℕ) → ServedSoFar held from now p → IsInStep p → transcript p.told.answers ≡ p.told.sent ++ output → output ≡ sent ++ rest → WritesByPieces now now' sent
-    → ServedSoFar held from now' (progress p.told p.unfed (p.written ++ sent))
+pub wrote_serves : {held : ℕ} {from now now' : LineView} {p : Progress} {output sent : List ℕ} (rest : List ℕ) → ServedSoFar held from now p → IsInStep p → transcript p.state.answers ≡ p.state.sent ++ output → output ≡ sent ++ rest → WritesByPieces now now' sent
+    → ServedSoFar held from now' (progress p.state p.unfed (p.written ++ sent))
 wrote_serves {from = from} {now = now} {now' = now'} {p = p} {output = output} {sent = sent} rest S step waits whole w =
-    let p' = progress p.told p.unfed (p.written ++ sent) in
+    let p' = progress p.state p.unfed (p.written ++ sent) in
     let none : given w.writes ≡ 0 = writes_give_none w.writes w.pieces in
-    let all : transcript p.told.answers ≡ (p.written ++ sent) ++ rest =
+    let all : transcript p.state.answers ≡ (p.written ++ sent) ++ rest =
     waits ∙ ap (λ (b : List ℕ). b ++ output) (sym step) ∙ ap (λ (b : List ℕ). p.written ++ b) whole ∙ sym (append_assoc p.written sent rest) in
     record {
       bodies = S.bodies;
-      read = subst (λ (o : Option (List ℕ)). Consumes from.incoming o (p.told.stream ++ p.unfed)) (sym w.incoming) S.read;
+      read = subst (λ (o : Option (List ℕ)). Consumes from.incoming o (p.state.stream ++ p.unfed)) (sym w.incoming) S.read;
       wrote = Appends-trans from.outgoing now.outgoing now'.outgoing p.written sent S.wrote w.appended;
       begun = (rest, all);
       log = S.log ++ w.writes;
@@ -298,15 +298,15 @@ wrote_serves {from = from} {now = now} {now' = now'} {p = p} {output = output} {
       gave = omega (arith, given_more S.log w.writes, none, S.gave);
       took = omega (arith, taken_more S.log w.writes, w.took, S.took, length-append p.written sent);
       pieces = all_more _ S.log w.writes S.pieces (written_pieces w.writes w.pieces);
-      prompt = prompt_further p p' (S.log ++ w.writes) (record { stream = front_all p.told.stream; bodies = front_all p.told.bodies; answers = front_all p.told.answers; written = (sent, refl) })
+      prompt = prompt_further p p' (S.log ++ w.writes) (record { stream = front_all p.state.stream; bodies = front_all p.state.bodies; answers = front_all p.state.answers; written = (sent, refl) })
           (prompt_writes p S.log w.writes S.prompt w.pieces);
-      batches = batches_calls p.told.answers S.log w.writes S.batches;
+      batches = batches_calls p.state.answers S.log w.writes S.batches;
     }
 
 -- all that waited was written, and told as sent
-pub sent_all_serves : {held : ℕ} (from now now' : LineView) (p : Progress) (output : List ℕ) → ServedSoFar held from now p → IsInStep p → transcript p.told.answers ≡ p.told.sent ++ output → WritesByPieces now now' output
-    → ServedSoFar held from now' (progress (with_sent p.told) p.unfed (transcript p.told.answers))
+pub sent_all_serves : {held : ℕ} (from now now' : LineView) (p : Progress) (output : List ℕ) → ServedSoFar held from now p → IsInStep p → transcript p.state.answers ≡ p.state.sent ++ output → WritesByPieces now now' output
+    → ServedSoFar held from now' (progress (with_sent p.state) p.unfed (transcript p.state.answers))
 sent_all_serves {held = held} from now now' p output S step waits w =
-    let all : p.written ++ output ≡ transcript p.told.answers = ap (λ (b : List ℕ). b ++ output) step ∙ sym waits in
+    let all : p.written ++ output ≡ transcript p.state.answers = ap (λ (b : List ℕ). b ++ output) step ∙ sym waits in
     let wrote = wrote_serves [] S step waits (sym (append-nil output)) w in
-    sent_serves from now' p.told p.unfed (transcript p.told.answers) (subst (λ (b : List ℕ). ServedSoFar held from now' (progress p.told p.unfed b)) all wrote)
+    sent_serves from now' p.state p.unfed (transcript p.state.answers) (subst (λ (b : List ℕ). ServedSoFar held from now' (progress p.state p.unfed b)) all wrote)

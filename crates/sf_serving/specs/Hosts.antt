@@ -7,8 +7,8 @@ use Rattle.sf_session.specs.declared.fault.ServeFault.{ServeFault}
 use Rattle.sf_session.specs.declared.fault.ServeFault.TheVariants as fault
 use Rattle.sf_session.specs.Responses.{Response, transcript}
 use Rattle.sf_session.specs.SessionStates.{Resting, SessionState, closed_now, IsRead, HasShortPacket}
-use Rattle.sf_serving.specs.declared.host.Went.{Went}
-use Rattle.sf_serving.specs.declared.host.Went.TheVariants as went
+use Rattle.sf_serving.specs.declared.host.SessionStep.{SessionStep}
+use Rattle.sf_serving.specs.declared.host.SessionStep.TheVariants as step
 use Rattle.sf_serving.specs.Ends.{IsWhole}
 
 abbrev pub IsFront : {A : Type 0} → List A → List A → Type 0
@@ -48,11 +48,11 @@ pub record IsFurther (held : ℕ) (t t' : SessionState) : Type 0 where
 
 -- Having gone on, the session waits for bytes; it was answered more; or it has left, and all of its
 -- stream was answered.
-abbrev pub WentTo : Result Went ServeFault → SessionState → SessionState → Type 0
-WentTo (Ok went.Waits) t t' = Waits t'
-WentTo (Ok went.Answered) t t' = IsOpen t' × (length t.answers < length t'.answers)
-WentTo (Ok (went.Ended cause)) t t' = IsWhole t' cause × (cause ≢ Closed)
-WentTo (Err f) t t' = Unit {0}
+abbrev pub IsSessionStep : Result SessionStep ServeFault → SessionState → SessionState → Type 0
+IsSessionStep (Ok step.Waits) t t' = Waits t'
+IsSessionStep (Ok step.Answered) t t' = IsOpen t' × (length t.answers < length t'.answers)
+IsSessionStep (Ok (step.Ended cause)) t t' = IsWhole t' cause × (cause ≢ Closed)
+IsSessionStep (Err f) t t' = Unit {0}
 
 -- all that waited was sent
 abbrev pub with_sent : SessionState → SessionState

@@ -35,25 +35,25 @@ WritesFront start now bytes =
 
 -- after what waited was written, and told as sent
 abbrev pub all_sent : Progress → Progress
-all_sent p = progress (with_sent p.told) p.unfed (with_sent p.told).sent
+all_sent p = progress (with_sent p.state) p.unfed (with_sent p.state).sent
 
 abbrev pub SendsAll : (held : ℕ) → (Tells Tells' : SessionState → Type 0) → LineView → LineView
     → Type 0
 SendsAll held Tells Tells' old new =
-    (from : LineView) (p : Progress) → Tells p.told → ServedSoFar held from old p → IsInStep p
-    → Tells' (with_sent p.told) × ServedSoFar held from new (all_sent p)
+    (from : LineView) (p : Progress) → Tells p.state → ServedSoFar held from old p → IsInStep p
+    → Tells' (with_sent p.state) × ServedSoFar held from new (all_sent p)
 
 -- after a beginning of it was written, and not told
 abbrev pub SendsSome : (held : ℕ) → (SessionState → Type 0) → LineView → LineView → Type 0
 SendsSome held Tells old new =
-    (from : LineView) (p : Progress) → Tells p.told → ServedSoFar held from old p → IsInStep p
-    → (written : List ℕ) × ServedSoFar held from new (progress p.told p.unfed written)
+    (from : LineView) (p : Progress) → Tells p.state → ServedSoFar held from old p → IsInStep p
+    → (written : List ℕ) × ServedSoFar held from new (progress p.state p.unfed written)
 
 -- It ends by this cause, once it ends.
 pub record EndsByCause (incoming : Option (List ℕ)) (cause : Cause) (p : Progress) : Type 0 where
   pub fed : p.unfed ≡ []
-  pub whole : IsWhole (ended p.told) cause
-  pub sent : HasSent p.told
+  pub whole : IsWhole (ended p.state) cause
+  pub sent : HasSent p.state
   pub in_step : IsInStep p
   pub at_end : cause ≡ Closed → IsAtEnd incoming
 

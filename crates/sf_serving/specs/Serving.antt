@@ -27,12 +27,12 @@ line_view incoming outgoing calls =
 
 -- what a session was told, what was read and has not been fed, and what was written
 pub record Progress : Type 0 where
-  pub told : SessionState
+  pub state : SessionState
   pub unfed : List ℕ
   pub written : List ℕ
 
 abbrev pub progress : SessionState → List ℕ → List ℕ → Progress
-progress told unfed written = record { told = told; unfed = unfed; written = written }
+progress state unfed written = record { state = state; unfed = unfed; written = written }
 
 -- By these calls whole packets were read, and less than one more; the packets' replies were
 -- written, and no more.
@@ -41,11 +41,11 @@ pub record IsPromptAt (p : Progress) (calls : List LineCall) : Type 0 where
   pub rest : List ℕ
   pub bodies : List (List ℕ)
   pub answers : List Response
-  pub was_read : IsFront read p.told.stream
+  pub was_read : IsFront read p.state.stream
   pub count : length read ≡ given calls
   pub cut : Cuts read bodies (More rest)
-  pub were_asked : IsFront bodies p.told.bodies
-  pub were_answered : IsFront answers p.told.answers
+  pub were_asked : IsFront bodies p.state.bodies
+  pub were_answered : IsFront answers p.state.answers
   pub each : length answers ≡ length bodies
   pub were_written : IsFront (transcript answers) p.written
   pub wrote : length (transcript answers) ≡ taken calls
@@ -84,51 +84,51 @@ pub record AreBatched (held : ℕ) (answers : List Response) (log : List LineCal
 -- what was written is a beginning of its transcript, and was written promptly, both in pieces of at
 -- most 65536 bytes. No more waited at a time than `held` bytes and one reply.
 pub record ServedSoFar (held : ℕ) (start now : LineView) (p : Progress) : Type 0 where
-  pub bodies : IsRead p.told
-  pub read : Consumes start.incoming now.incoming (p.told.stream ++ p.unfed)
+  pub bodies : IsRead p.state
+  pub read : Consumes start.incoming now.incoming (p.state.stream ++ p.unfed)
   pub wrote : Appends start.outgoing now.outgoing p.written
-  pub begun : IsFront p.written (transcript p.told.answers)
+  pub begun : IsFront p.written (transcript p.state.answers)
   pub log : List LineCall
   pub logged : Logs start.calls now.calls log
-  pub gave : given log ≡ length (p.told.stream ++ p.unfed)
+  pub gave : given log ≡ length (p.state.stream ++ p.unfed)
   pub took : taken log ≡ length p.written
   pub pieces : AllByRecursion IsPiece log
   pub prompt : IsPrompt p log
-  pub batches : AreBatched held p.told.answers log
+  pub batches : AreBatched held p.state.answers log
 
 -- a session was served so far, and was told by its host what it was told
 abbrev pub Serves : (held : ℕ) → (SessionState → Type 0) → LineView → LineView
     → (Progress → Type 0) → Type 0
 Serves held Tells start now P =
-    (p : Progress) × Tells p.told × ServedSoFar held start now p × P p
+    (p : Progress) × Tells p.state × ServedSoFar held start now p × P p
 
 -- all that was written was told to the host as sent
 abbrev pub IsInStep : Progress → Type 0
-IsInStep p = p.written ≡ p.told.sent
+IsInStep p = p.written ≡ p.state.sent
 
 -- A session that takes bytes, and may have packets unread. So many bytes were fed at least.
 pub record GoesOn (n : ℕ) (p : Progress) : Type 0 where
-  pub is_open : IsOpen p.told
+  pub is_open : IsOpen p.state
   pub fed : p.unfed ≡ []
-  pub sent : HasSent p.told
+  pub sent : HasSent p.state
   pub in_step : IsInStep p
-  pub long : n ≤ length p.told.stream
+  pub long : n ≤ length p.state.stream
 
 -- and waits for bytes
 abbrev pub Rests : ℕ → Progress → Type 0
-Rests n p = GoesOn n p × Waits p.told
+Rests n p = GoesOn n p × Waits p.state
 
 -- It was served to its end: it has left for this cause, and was sent its whole transcript.
 pub record IsServed (incoming : Option (List ℕ)) (cause : Cause) (p : Progress) : Type 0 where
   pub fed : p.unfed ≡ []
-  pub whole : IsWhole p.told cause
-  pub sent : HasSent p.told
+  pub whole : IsWhole p.state cause
+  pub sent : HasSent p.state
   pub in_step : IsInStep p
   pub at_end : cause ≡ Closed → IsAtEnd incoming
 
 -- all that it was answered was written
 abbrev pub HasWritten : Progress → Type 0
-HasWritten p = HasSent p.told × IsInStep p
+HasWritten p = HasSent p.state × IsInStep p
 
 -- what was written where serving stops: all, unless the line failed
 abbrev pub HasWrittenFor : ServeFault → (failed failed' : ℕ) → Progress → Type 0
@@ -141,14 +141,14 @@ HasWrittenFor fault.NumbersSpent failed failed' p = HasWritten p
 -- numbers are spent only where so many bytes were read, or its host did so much
 abbrev pub IsSpentFor : ServeFault → (work : ℕ) → Progress → Type 0
 IsSpentFor fault.NumbersSpent work p =
-    (most_counted ≤ length p.told.stream) ⊎ (most_counted ≤ work)
+    (most_counted ≤ length p.state.stream) ⊎ (most_counted ≤ work)
 IsSpentFor _ work p = Unit {0}
 
 -- Serving has stopped: the session takes no more bytes.
 pub record IsStopped (f : ServeFault) (failed failed' work : ℕ) (p : Progress) : Type 0 where
   pub written : HasWrittenFor f failed failed' p
   pub spent : IsSpentFor f work p
-  pub closed : TakesNone p.told
+  pub closed : TakesNone p.state
 
 -- why serving stops: the line's failures rose, or it is its host's fault
 abbrev pub IsStop : ServeFault → (failed failed' : ℕ) → (strange : Type 0) → Type 0

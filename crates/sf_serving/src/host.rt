@@ -5,14 +5,14 @@ ghost use Rattle.sf_session.specs.declared.fault.ServeFault.{ServeFault};
 ghost use Rattle.sf_session.specs.declared.fault.ServeFault.TheVariants.{Stranger};
 ghost use Rattle.sf_session.specs.SessionStates.{SessionState, fed, IsRead};
 ghost use Rattle.sf_session.specs.Responses.{transcript};
-ghost use Rattle.sf_serving.specs.Hosts.{IsOpen, HasSent, IsFurther, WentTo, with_sent, ended, IsHostFault};
+ghost use Rattle.sf_serving.specs.Hosts.{IsOpen, HasSent, IsFurther, IsSessionStep, with_sent, ended, IsHostFault};
 
 use sf_session::{Cause, Clock, ServeFault};
 use std::alloc::AllocError;
 
 /// How far a session went on.
 #[derive(Clone, Copy, Debug, PartialEq, Eq)]
-pub enum Went {
+pub enum SessionStep {
     /// No whole packet is unread.
     Waits,
     /// Replies wait to be sent.
@@ -52,39 +52,39 @@ pub trait Host<P> {
         requires sound { sound self.old place.old }
         requires within { n ≤ vec_len piece.now }
         ensures sound { sound self.new place.new }
-        ensures fed { OnOk result ((start : Start) (told : Option (List ℕ)) (t : SessionState)
-            → serves start self.old place.old told t → IsOpen t
-            → serves start self.new place.new told (fed t (take n piece.now.items))) }
-        ensures err { OnErr result ((start : Start) (told : Option (List ℕ)) (t : SessionState)
-            → serves start self.old place.old told t → serves start self.new place.new told t) };
+        ensures fed { OnOk result ((start : Start) (moments : Option (List ℕ)) (t : SessionState)
+            → serves start self.old place.old moments t → IsOpen t
+            → serves start self.new place.new moments (fed t (take n piece.now.items))) }
+        ensures err { OnErr result ((start : Start) (moments : Option (List ℕ)) (t : SessionState)
+            → serves start self.old place.old moments t → serves start self.new place.new moments t) };
 
     /// Answers packets that are unread: none, one, or as many as it likes. Where it waits for bytes
     /// nobody else waits for it.
-    fn go_on<C: Clock>(&mut self, place: &mut P, clock: &mut C) -> Result<Went, ServeFault>
+    fn go_on<C: Clock>(&mut self, place: &mut P, clock: &mut C) -> Result<SessionStep, ServeFault>
         requires { sound self.old place.old }
         ensures sound { sound self.new place.new }
-        ensures went { (start : Start) (t : SessionState)
-            → serves start self.old place.old (C.told clock.old) t
+        ensures step { (start : Start) (t : SessionState)
+            → serves start self.old place.old (C.moments clock.old) t
             → IsOpen t → IsRead t → HasSent t → (t' : SessionState)
-            × serves start self.new place.new (C.told clock.new) t'
-            × IsFurther held t t' × WentTo result t t' }
-        ensures rests { IfOk result (λ went. went ≡ Went.Waits → rests self.new place.new) }
+            × serves start self.new place.new (C.moments clock.new) t'
+            × IsFurther held t t' × IsSessionStep result t t' }
+        ensures rests { IfOk result (λ step. step ≡ SessionStep.Waits → rests self.new place.new) }
         ensures fault { IfErr result (λ fault. IsHostFault fault (work self.new place.new)
             (strange self.new place.new)) };
 
     /// What waits to be sent.
     fn output<'a>(&'a self, place: &'a P) -> &'a [u8]
-        ensures { (start : Start) (told : Option (List ℕ)) (t : SessionState)
-            → serves start self.now place.now told t
+        ensures { (start : Start) (moments : Option (List ℕ)) (t : SessionState)
+            → serves start self.now place.now moments t
             → transcript t.answers ≡ t.sent ++ result.now };
 
     /// All that waits was sent.
     fn sent(&mut self, place: &mut P)
         requires { sound self.old place.old }
         ensures sound { sound self.new place.new }
-        ensures sent { (start : Start) (told : Option (List ℕ)) (t : SessionState)
-            → serves start self.old place.old told t
-            → serves start self.new place.new told (with_sent t) }
+        ensures sent { (start : Start) (moments : Option (List ℕ)) (t : SessionState)
+            → serves start self.old place.old moments t
+            → serves start self.new place.new moments (with_sent t) }
         ensures work { work self.new place.new ≡ work self.old place.old }
         ensures strange { strange self.old place.old → strange self.new place.new };
 
@@ -92,9 +92,9 @@ pub trait Host<P> {
     fn end(&mut self, place: &mut P) -> Result<(), ServeFault>
         requires { sound self.old place.old }
         ensures left { OnOk result (left self.new place.new None) }
-        ensures ended { (start : Start) (told : Option (List ℕ)) (t : SessionState)
-            → serves start self.old place.old told t
-            → serves start self.new place.new told (ended t) }
+        ensures ended { (start : Start) (moments : Option (List ℕ)) (t : SessionState)
+            → serves start self.old place.old moments t
+            → serves start self.new place.new moments (ended t) }
         ensures fault { IfErr result (λ fault. (fault ≡ Stranger) × strange self.new place.new
             × left self.new place.new (Some fault)) }
         ensures work { work self.new place.new ≡ work self.old place.old }

@@ -14,6 +14,6 @@ mod observer;
 mod serving;
 
 pub use batch_law::batches;
-pub use host::{Host, Went};
+pub use host::{Host, SessionStep};
 pub use observer::{CallObserver, NoObserver, ObservedCall};
 pub use serving::{new_piece, serve_session};

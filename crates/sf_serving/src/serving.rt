@@ -7,7 +7,7 @@ ghost use Rattle.sf_serving.specs.Hosts.{IsLeftFor};
 ghost use Rattle.sf_serving.specs.Serving.{LineView, line_view, Progress, ServedSoFar, Serves, GoesOn, Rests, IsServed, IsStopped, IsStop};
 ghost use Rattle.sf_serving.specs.Rounds.{WritesByPieces, WritesFront, SendsAll, SendsSome, IsRounded, EndsByCause, Stops, HasStopped};
 
-use crate::host::{Host, Went};
+use crate::host::{Host, SessionStep};
 use sf_line::{Line, LineFault};
 use sf_session::{Cause, Clock, ServeFault};
 use std::alloc::{AllocError, Global};
@@ -45,13 +45,13 @@ fn write_pieces<L: Line>(line: &mut L, bytes: &[u8]) -> Result<(), LineFault>
 fn send<P, H: Host<P>, L: Line>(host: &mut H, place: &mut P, line: &mut L) -> Result<(), LineFault>
     requires { H.sound host.old place.old }
     ensures sound { H.sound host.new place.new }
-    ensures sent { OnOk result ((start : H.Start) (told : Option (List ℕ))
-        → SendsAll H.held (H.serves start host.old place.old told)
-        (H.serves start host.new place.new told)
+    ensures sent { OnOk result ((start : H.Start) (moments : Option (List ℕ))
+        → SendsAll H.held (H.serves start host.old place.old moments)
+        (H.serves start host.new place.new moments)
         (line_view (L.incoming line.old) (L.outgoing line.old) (L.calls line.old))
         (line_view (L.incoming line.new) (L.outgoing line.new) (L.calls line.new))) }
-    ensures some { OnErr result ((start : H.Start) (told : Option (List ℕ))
-        → SendsSome H.held (H.serves start host.old place.old told)
+    ensures some { OnErr result ((start : H.Start) (moments : Option (List ℕ))
+        → SendsSome H.held (H.serves start host.old place.old moments)
         (line_view (L.incoming line.old) (L.outgoing line.old) (L.calls line.old))
         (line_view (L.incoming line.new) (L.outgoing line.new) (L.calls line.new))) }
     ensures same { OnErr result ((host.new ≡ host.old) × (place.new ≡ place.old)) }
@@ -76,15 +76,15 @@ fn drain<P, H: Host<P>, L: Line, C: Clock>(
     requires { H.sound host.old place.old }
     ensures sound { H.sound host.new place.new }
     ensures drained { IfOk result (λ ended. (start : H.Start) (from : LineView) (n : ℕ)
-        → Serves H.held (H.serves start host.old place.old (C.told clock.old)) from
+        → Serves H.held (H.serves start host.old place.old (C.moments clock.old)) from
         (line_view (L.incoming line.old) (L.outgoing line.old) (L.calls line.old)) (GoesOn n)
-        → Serves H.held (H.serves start host.new place.new (C.told clock.new)) from
+        → Serves H.held (H.serves start host.new place.new (C.moments clock.new)) from
         (line_view (L.incoming line.new) (L.outgoing line.new) (L.calls line.new))
         (IsRounded n (L.incoming line.new) ended)) }
     ensures stops { IfErr result (λ fault. (start : H.Start) (from : LineView) (n : ℕ)
-        → Serves H.held (H.serves start host.old place.old (C.told clock.old)) from
+        → Serves H.held (H.serves start host.old place.old (C.moments clock.old)) from
         (line_view (L.incoming line.old) (L.outgoing line.old) (L.calls line.old)) (GoesOn n)
-        → Serves H.held (H.serves start host.new place.new (C.told clock.new)) from
+        → Serves H.held (H.serves start host.new place.new (C.moments clock.new)) from
         (line_view (L.incoming line.new) (L.outgoing line.new) (L.calls line.new))
         (Stops fault (H.work host.new place.new))) }
     ensures failures { L.failed line.old ≤ L.failed line.new }
@@ -92,12 +92,12 @@ fn drain<P, H: Host<P>, L: Line, C: Clock>(
         (H.strange host.new place.new)) }
 {
     for turn in 0..u64::MAX {
-        let went = host.go_on(place, clock)?;
+        let step = host.go_on(place, clock)?;
         send(host, place, line)?;
-        match went {
-            Went::Waits => return Ok(None),
-            Went::Ended(cause) => return Ok(Some(cause)),
-            Went::Answered => {}
+        match step {
+            SessionStep::Waits => return Ok(None),
+            SessionStep::Ended(cause) => return Ok(Some(cause)),
+            SessionStep::Answered => {}
         }
     }
     Err(ServeFault::NumbersSpent)
@@ -115,15 +115,15 @@ fn round<P, H: Host<P>, L: Line, C: Clock>(
     requires room { vec_len piece.old ≡ PIECE }
     ensures sound { H.sound host.new place.new }
     ensures rounded { IfOk result (λ ended. (start : H.Start) (from : LineView) (n : ℕ)
-        → Serves H.held (H.serves start host.old place.old (C.told clock.old)) from
+        → Serves H.held (H.serves start host.old place.old (C.moments clock.old)) from
         (line_view (L.incoming line.old) (L.outgoing line.old) (L.calls line.old)) (Rests n)
-        → Serves H.held (H.serves start host.new place.new (C.told clock.new)) from
+        → Serves H.held (H.serves start host.new place.new (C.moments clock.new)) from
         (line_view (L.incoming line.new) (L.outgoing line.new) (L.calls line.new))
         (IsRounded (n + 1) (L.incoming line.new) ended)) }
     ensures stops { IfErr result (λ fault. (start : H.Start) (from : LineView) (n : ℕ)
-        → Serves H.held (H.serves start host.old place.old (C.told clock.old)) from
+        → Serves H.held (H.serves start host.old place.old (C.moments clock.old)) from
         (line_view (L.incoming line.old) (L.outgoing line.old) (L.calls line.old)) (Rests n)
-        → Serves H.held (H.serves start host.new place.new (C.told clock.new)) from
+        → Serves H.held (H.serves start host.new place.new (C.moments clock.new)) from
         (line_view (L.incoming line.new) (L.outgoing line.new) (L.calls line.new))
         (Stops fault (H.work host.new place.new))) }
     ensures len { vec_len piece.new ≡ vec_len piece.old }
@@ -151,15 +151,15 @@ fn rounds<P, H: Host<P>, L: Line, C: Clock>(
     requires room { vec_len piece.old ≡ PIECE }
     ensures sound { H.sound host.new place.new }
     ensures ends { IfOk result (λ cause. (start : H.Start) (from : LineView)
-        → Serves H.held (H.serves start host.old place.old (C.told clock.old)) from
+        → Serves H.held (H.serves start host.old place.old (C.moments clock.old)) from
         (line_view (L.incoming line.old) (L.outgoing line.old) (L.calls line.old)) (Rests 0)
-        → Serves H.held (H.serves start host.new place.new (C.told clock.new)) from
+        → Serves H.held (H.serves start host.new place.new (C.moments clock.new)) from
         (line_view (L.incoming line.new) (L.outgoing line.new) (L.calls line.new))
         (EndsByCause (L.incoming line.new) cause)) }
     ensures stops { IfErr result (λ fault. (start : H.Start) (from : LineView)
-        → Serves H.held (H.serves start host.old place.old (C.told clock.old)) from
+        → Serves H.held (H.serves start host.old place.old (C.moments clock.old)) from
         (line_view (L.incoming line.old) (L.outgoing line.old) (L.calls line.old)) (Rests 0)
-        → Serves H.held (H.serves start host.new place.new (C.told clock.new)) from
+        → Serves H.held (H.serves start host.new place.new (C.moments clock.new)) from
         (line_view (L.incoming line.new) (L.outgoing line.new) (L.calls line.new))
         (Stops fault (H.work host.new place.new))) }
     ensures len { vec_len piece.new ≡ vec_len piece.old }
@@ -186,11 +186,11 @@ fn send_last<P, H: Host<P>, L: Line>(
 ) -> ServeFault
     requires { H.sound host.old place.old }
     ensures sound { H.sound host.new place.new }
-    ensures stopped { (start : H.Start) (told : Option (List ℕ)) (from : LineView)
-        → Serves H.held (H.serves start host.old place.old told) from
+    ensures stopped { (start : H.Start) (moments : Option (List ℕ)) (from : LineView)
+        → Serves H.held (H.serves start host.old place.old moments) from
         (line_view (L.incoming line.old) (L.outgoing line.old) (L.calls line.old))
         (Stops fault (H.work host.old place.old))
-        → Serves H.held (H.serves start host.new place.new told) from
+        → Serves H.held (H.serves start host.new place.new moments) from
         (line_view (L.incoming line.new) (L.outgoing line.new) (L.calls line.new))
         (HasStopped result (H.work host.new place.new)) }
     ensures fault { (before : ℕ) → before ≤ L.failed line.old
@@ -215,13 +215,13 @@ fn stop<P, H: Host<P>, L: Line>(
 ) -> ServeFault
     requires { H.sound host.old place.old }
     ensures left { IsLeftFor (H.left host.new place.new) result }
-    ensures stopped { (start : H.Start) (told : Option (List ℕ)) (from : LineView) (before : ℕ)
+    ensures stopped { (start : H.Start) (moments : Option (List ℕ)) (from : LineView) (before : ℕ)
         → before ≤ L.failed line.old
         → IsStop fault before (L.failed line.old) (H.strange host.old place.old)
-        → Serves H.held (H.serves start host.old place.old told) from
+        → Serves H.held (H.serves start host.old place.old moments) from
         (line_view (L.incoming line.old) (L.outgoing line.old) (L.calls line.old))
         (Stops fault (H.work host.old place.old))
-        → Serves H.held (H.serves start host.new place.new told) from
+        → Serves H.held (H.serves start host.new place.new moments) from
         (line_view (L.incoming line.new) (L.outgoing line.new) (L.calls line.new))
         (IsStopped result before (L.failed line.new) (H.work host.new place.new)) }
     ensures fault { (before : ℕ) → before ≤ L.failed line.old
@@ -249,15 +249,15 @@ pub fn serve_session<P, H: Host<P>, L: Line, C: Clock>(
     requires sound { H.sound host.old place.old }
     requires room { vec_len piece.old ≡ 65536 }
     ensures served { IfOk result (λ cause. (start : H.Start) (from : LineView)
-        → Serves H.held (H.serves start host.old place.old (C.told clock.old)) from
+        → Serves H.held (H.serves start host.old place.old (C.moments clock.old)) from
         (line_view (L.incoming line.old) (L.outgoing line.old) (L.calls line.old)) (Rests 0)
-        → Serves H.held (H.serves start host.new place.new (C.told clock.new)) from
+        → Serves H.held (H.serves start host.new place.new (C.moments clock.new)) from
         (line_view (L.incoming line.new) (L.outgoing line.new) (L.calls line.new))
         (IsServed (L.incoming line.new) cause)) }
     ensures stopped { IfErr result (λ fault. (start : H.Start) (from : LineView)
-        → Serves H.held (H.serves start host.old place.old (C.told clock.old)) from
+        → Serves H.held (H.serves start host.old place.old (C.moments clock.old)) from
         (line_view (L.incoming line.old) (L.outgoing line.old) (L.calls line.old)) (Rests 0)
-        → Serves H.held (H.serves start host.new place.new (C.told clock.new)) from
+        → Serves H.held (H.serves start host.new place.new (C.moments clock.new)) from
         (line_view (L.incoming line.new) (L.outgoing line.new) (L.calls line.new))
         (IsStopped fault (L.failed line.old) (L.failed line.new) (H.work host.new place.new))) }
     ensures left { OnOk result (H.left host.new place.new None) }

@@ -5,10 +5,10 @@ ghost use Rattle.std.specs.Io.KnownBytes.{Appends};
 
 /// Tells moments, in seconds since 1970.
 pub trait Clock {
-    /// The moments that it told, where it keeps them. A clock that keeps them goes on keeping them.
-    ghost told: { Self → Option (List ℕ) };
+    /// The moments that it gave, where it keeps them. A clock that keeps them goes on keeping them.
+    ghost moments: { Self → Option (List ℕ) };
 
     /// The moment now.
     fn now(&mut self) -> u32
-        ensures { Appends (told self.old) (told self.new) (result ∷ []) };
+        ensures { Appends (moments self.old) (moments self.new) (result ∷ []) };
 }

@@ -17,21 +17,21 @@ returns-then-n-eq0-clause-rounded g c = λ start from n serves.
 
 pub returns-in_err-feed-clause-stops : goal.returns-in_err-feed-clause-stops
 returns-in_err-feed-clause-stops g c = if_err_at c.from_residual-in_err-feed.result OutOfMemory _ c.from_residual-in_err-feed.ensures.1 (λ start from n serves.
-    read_stops _ (g.H.Host.serves start c.feed.new.self c.feed.new.place (g.C.Clock.told c.args.clock.now)) from _ n (g.H.Host.work c.feed.new.self c.feed.new.place) (take c.in_ok-n.n c.read.new.buffer)
-    (c.in_err-feed.ensures.err start (g.C.Clock.told c.args.clock.now)) (has_read _ from _ (line_view _ _ _) n c.in_ok-n.n (take c.in_ok-n.n c.read.new.buffer) serves
+    read_stops _ (g.H.Host.serves start c.feed.new.self c.feed.new.place (g.C.Clock.moments c.args.clock.now)) from _ n (g.H.Host.work c.feed.new.self c.feed.new.place) (take c.in_ok-n.n c.read.new.buffer)
+    (c.in_err-feed.ensures.err start (g.C.Clock.moments c.args.clock.now)) (has_read _ from _ (line_view _ _ _) n c.in_ok-n.n (take c.in_ok-n.n c.read.new.buffer) serves
     (read_by _ (line_view _ _ _) c.in_ok-n.n c.read.new.buffer c.in_ok-n.ensures.taken c.in_ok-n.ensures.within (c.read.auto.buffer ∙ c.deref_mut.ensures.len ∙ c.requires.room) c.in_ok-n.ensures.outgoing c.in_ok-n.ensures.calls)))
 
 pub returns-clause-rounded : goal.returns-clause-rounded
 returns-clause-rounded g c = if_ok_more c.drain.result _ _ c.drain.ensures.drained (λ ended drained start from n serves. drained start from (n + 1)
     (was_fed _ c.read.new.buffer c.args.piece.now.items serves
     (read_by _ (line_view _ _ _) c.in_ok-n.n c.read.new.buffer c.in_ok-n.ensures.taken c.in_ok-n.ensures.within (c.read.auto.buffer ∙ c.deref_mut.ensures.len ∙ c.requires.room) c.in_ok-n.ensures.outgoing c.in_ok-n.ensures.calls)
-    (c.read.auto.buffer ∙ c.deref_mut.ensures.len) (omega (arith, c.if-n-eq0.false)) (λ t tells is_open. c.in_ok-feed.ensures.fed start (g.C.Clock.told c.args.clock.now) t tells is_open)))
+    (c.read.auto.buffer ∙ c.deref_mut.ensures.len) (omega (arith, c.if-n-eq0.false)) (λ t tells is_open. c.in_ok-feed.ensures.fed start (g.C.Clock.moments c.args.clock.now) t tells is_open)))
 
 pub returns-clause-stops : goal.returns-clause-stops
 returns-clause-stops g c = if_err_more c.drain.result _ _ c.drain.ensures.stops (λ fault stops start from n serves. stops start from (n + 1)
     (was_fed _ c.read.new.buffer c.args.piece.now.items serves
     (read_by _ (line_view _ _ _) c.in_ok-n.n c.read.new.buffer c.in_ok-n.ensures.taken c.in_ok-n.ensures.within (c.read.auto.buffer ∙ c.deref_mut.ensures.len ∙ c.requires.room) c.in_ok-n.ensures.outgoing c.in_ok-n.ensures.calls)
-    (c.read.auto.buffer ∙ c.deref_mut.ensures.len) (omega (arith, c.if-n-eq0.false)) (λ t tells is_open. c.in_ok-feed.ensures.fed start (g.C.Clock.told c.args.clock.now) t tells is_open)))
+    (c.read.auto.buffer ∙ c.deref_mut.ensures.len) (omega (arith, c.if-n-eq0.false)) (λ t tells is_open. c.in_ok-feed.ensures.fed start (g.C.Clock.moments c.args.clock.now) t tells is_open)))
 
 pub returns-clause-fault : goal.returns-clause-fault
 returns-clause-fault g c = if_err_more c.drain.result _ _ c.drain.ensures.fault (λ fault why. stop_since fault _ _ _ _ c.in_ok-n.ensures.failures c.drain.ensures.failures why)

@@ -15,7 +15,7 @@ pub returns-in-Ok-Some-clause-ends : goal.returns-in-Ok-Some-clause-ends
 returns-in-Ok-Some-clause-ends g c = λ start from serves.
     let i = g.L.Line.incoming c.round.new.line in
     let now = line_view i (g.L.Line.outgoing c.round.new.line) (g.L.Line.calls c.round.new.line) in
-    let T = g.H.Host.serves start c.round.new.host c.round.new.place (g.C.Clock.told c.round.new.clock) in
+    let T = g.H.Host.serves start c.round.new.host c.round.new.place (g.C.Clock.moments c.round.new.clock) in
     subst (λ (z : Option Cause). Serves g.H.Host.held T from now (IsRounded (c.loop-count.count + 1) i z)) c.in-Ok-Some.field-0-is
     (c.in-Ok-Some.ensures.rounded start from c.loop-count.count (c.loop-count.invariant.serves start from serves))
 
@@ -32,7 +32,7 @@ loop-count-preserved g c = record {
   serves = λ start from serves.
       let i = g.L.Line.incoming c.round.new.line in
       let now = line_view i (g.L.Line.outgoing c.round.new.line) (g.L.Line.calls c.round.new.line) in
-      let T = g.H.Host.serves start c.round.new.host c.round.new.place (g.C.Clock.told c.round.new.clock) in
+      let T = g.H.Host.serves start c.round.new.host c.round.new.place (g.C.Clock.moments c.round.new.clock) in
       subst (λ (z : Option Cause). Serves g.H.Host.held T from now (IsRounded (c.loop-count.count + 1) i z)) c.in-Ok-None.field-0-is
       (c.in-Ok-None.ensures.rounded start from c.loop-count.count (c.loop-count.invariant.serves start from serves));
   failures = omega (arith, c.loop-count.invariant.failures, c.round.ensures.failures);

@@ -9,7 +9,7 @@ invariant-loop-count g l = record {
   sound : g.H.Host.sound l.host l.place;
   room : vec_len l.piece ≡ 65536;
   serves : (start : g.H.Host.Start) (from : LineView)
-      → Serves g.H.Host.held (g.H.Host.serves start l.initial.host l.initial.place (g.C.Clock.told l.initial.clock)) from (line_view (g.L.Line.incoming l.initial.line) (g.L.Line.outgoing l.initial.line) (g.L.Line.calls l.initial.line)) (Rests 0)
-      → Serves g.H.Host.held (g.H.Host.serves start l.host l.place (g.C.Clock.told l.clock)) from (line_view (g.L.Line.incoming l.line) (g.L.Line.outgoing l.line) (g.L.Line.calls l.line)) (Rests l.count);
+      → Serves g.H.Host.held (g.H.Host.serves start l.initial.host l.initial.place (g.C.Clock.moments l.initial.clock)) from (line_view (g.L.Line.incoming l.initial.line) (g.L.Line.outgoing l.initial.line) (g.L.Line.calls l.initial.line)) (Rests 0)
+      → Serves g.H.Host.held (g.H.Host.serves start l.host l.place (g.C.Clock.moments l.clock)) from (line_view (g.L.Line.incoming l.line) (g.L.Line.outgoing l.line) (g.L.Line.calls l.line)) (Rests l.count);
   failures : g.L.Line.failed l.initial.line ≤ g.L.Line.failed l.line;
 }

@@ -3,13 +3,13 @@ use Rattle.sf_serving.proofs.Rounds.{stop_until, stranger_stop, ends_so, stopped
 use Rattle.sf_serving.proofs.serving.stop.Goals as goal
 
 pub returns-in-Ok-clause-stopped : goal.returns-in-Ok-clause-stopped
-returns-in-Ok-clause-stopped g c = λ start told from before earlier why serves.
-    ends_so _ _ from _ _ _ (c.end.ensures.ended start told) (λ p h. stopped_ended _ p c.end.ensures.work (c.send_last-answered.ensures.fault before earlier why) h) (c.send_last-answered.ensures.stopped start told from serves)
+returns-in-Ok-clause-stopped g c = λ start moments from before earlier why serves.
+    ends_so _ _ from _ _ _ (c.end.ensures.ended start moments) (λ p h. stopped_ended _ p c.end.ensures.work (c.send_last-answered.ensures.fault before earlier why) h) (c.send_last-answered.ensures.stopped start moments from serves)
 
 pub returns-in-Err-clause-stopped : goal.returns-in-Err-clause-stopped
-returns-in-Err-clause-stopped g c = λ start told from before earlier why serves.
-    ends_so _ _ from _ _ _ (c.end.ensures.ended start told)
-    (λ p h. stopped_strange c.in-Err.strange before _ _ p c.in-Err.ensures.fault.0 (strange_stopped c.send_last-answered.result before _ _ _ p (c.send_last-answered.ensures.fault before earlier why) h)) (c.send_last-answered.ensures.stopped start told from serves)
+returns-in-Err-clause-stopped g c = λ start moments from before earlier why serves.
+    ends_so _ _ from _ _ _ (c.end.ensures.ended start moments)
+    (λ p h. stopped_strange c.in-Err.strange before _ _ p c.in-Err.ensures.fault.0 (strange_stopped c.send_last-answered.result before _ _ _ p (c.send_last-answered.ensures.fault before earlier why) h)) (c.send_last-answered.ensures.stopped start moments from serves)
 
 pub returns-in-Ok-clause-fault : goal.returns-in-Ok-clause-fault
 returns-in-Ok-clause-fault g c = λ before earlier why. stop_until c.send_last-answered.result before _ _ _ _ (omega arith) c.end.ensures.strange (c.send_last-answered.ensures.fault before earlier why)
