@@ -10,7 +10,7 @@ ghost use Rattle.sf_serving.specs.Hosts.{IsOpen, HasSent, IsFurther, IsSessionSt
 use sf_session::{Cause, Clock, ServeFault};
 use std::alloc::AllocError;
 
-/// How far a session went on.
+/// What a session's going on came to.
 #[derive(Clone, Copy, Debug, PartialEq, Eq)]
 pub enum SessionStep {
     /// No whole packet is unread.
@@ -26,7 +26,7 @@ pub trait Host<P> {
     /// What is known of the place when serving starts.
     ghost Start: { Type 0 };
 
-    /// Since the start, after the clock's tellings, the session was told this.
+    /// Since the start, after the clock's moments, the session is in this state.
     ghost serves: { Start → Self → P → Option (List ℕ) → SessionState → Type 0 };
 
     /// It answers only where at most so many bytes wait to be sent.
@@ -56,7 +56,8 @@ pub trait Host<P> {
             → serves start self.old place.old moments t → IsOpen t
             → serves start self.new place.new moments (fed t (take n piece.now.items))) }
         ensures err { OnErr result ((start : Start) (moments : Option (List ℕ)) (t : SessionState)
-            → serves start self.old place.old moments t → serves start self.new place.new moments t) };
+            → serves start self.old place.old moments t
+            → serves start self.new place.new moments t) };
 
     /// Answers packets that are unread: none, one, or as many as it likes. Where it waits for bytes
     /// nobody else waits for it.
