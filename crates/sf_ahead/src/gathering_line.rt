@@ -8,8 +8,8 @@ use crate::duplex::Duplex;
 use sf_line::{Line, LineFault};
 use std::alloc::{AllocError, Global};
 
-/// How many bytes are gathered at most: as many as a desk counts before it lets go of the core
-/// for a write.
+/// How many bytes are gathered at most: as many as the host of a lane counts before it lets go of
+/// the core for a write.
 const ROOM: usize = 16384;
 
 /// A line that reads ahead, and gathers what is written: that is sent before the line reads, once

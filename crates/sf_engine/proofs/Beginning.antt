@@ -19,7 +19,7 @@ use Rattle.sf_session.specs.Responses.{ByCall}
 use Rattle.sf_engine.specs.Traces.{Turn, Walking, walking, StepLeads, TurnLeads, RestLeads, IsCallUnderWay, IsHelpedRecord, DecidesCall, Happens, LeadsBy, Leads, Runs, ReachesWorld, order, IsSession, calls_begun, leaving, left_by_close}
 use Rattle.sf_engine.specs.Fits.{trace_entry}
 use Rattle.sf_engine.specs.Laws.{Began, begins_at, FollowsBeginning}
-use Rattle.sf_engine.proofs.Seats.{CallTold, record_of, turn_in, under_way_as}
+use Rattle.sf_engine.proofs.HostedChanges.{CallTold, record_of, turn_in, under_way_as}
 use Rattle.sf_engine.proofs.Moving.{get_set_same, get_set_other}
 use Rattle.sf_engine.proofs.Tracing.{Runs-push, runs_nil}
 use Rattle.sf_engine.proofs.Orders.{leads_records}

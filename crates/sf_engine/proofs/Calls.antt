@@ -22,7 +22,7 @@ use Rattle.sf_session.specs.Responses.{Response, Version, Locally, ByCall, Refus
 use Rattle.sf_session.specs.SessionStates.{Phase, Resting, UnderWay, Decided, Gone, SessionState, new_state, left_if_closed, with_answer, closed_now, fed, sent_more}
 use Rattle.sf_engine.specs.Traces.{Turn, Walking, walking, IsSession, IsCallUnderWay, IsHelpedRecord, IsAtOnce, DecidesCall, CarriesOut, RestLeads, StepLeads, TurnLeads, Happens, LeadsBy, Leads, Runs, ReachesWorld, order, calls_begun, leaving, left_by_close}
 use Rattle.sf_engine.specs.Promised.{replied, IsAbove, HasCalls, HaveCalls, CallsIn}
-use Rattle.sf_engine.proofs.Seats.{CallTold, record_of, under_way_as}
+use Rattle.sf_engine.proofs.HostedChanges.{CallTold, record_of, under_way_as}
 use Rattle.sf_engine.proofs.Moving.{get_set_same, get_set_other}
 use Rattle.sf_session.proofs.Laws.{all_push}
 use Rattle.sf_engine.proofs.Orders.{leads_records}

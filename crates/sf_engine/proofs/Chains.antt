@@ -14,9 +14,9 @@ use Rattle.sf_core.specs.Cores.LaneState.{Idle}
 use Rattle.sf_core.specs.Cores.{CoreView, lane_state}
 use Rattle.sf_core.specs.Events.{TakesMoves, Walks, walk_end}
 use Rattle.sf_core.specs.Histories.{IsHistory}
-use Rattle.sf_engine.specs.declared.seat.Seat.{Seat}
-use Rattle.sf_engine.specs.declared.seat.SeatState.{SeatState}
-use Rattle.sf_engine.specs.declared.seat.SeatState.TheVariants as state
+use Rattle.sf_engine.specs.declared.hosted.HostedSession.{HostedSession}
+use Rattle.sf_engine.specs.declared.hosted.HostedState.{HostedState}
+use Rattle.sf_engine.specs.declared.hosted.HostedState.TheVariants as state
 use Rattle.sf_engine.specs.declared.event.Event.TheVariants as event
 use Rattle.sf_engine.specs.declared.event.Happened.{Happened}
 use Rattle.sf_engine.specs.declared.event.Happened.TheVariants as happened
@@ -25,13 +25,13 @@ use Rattle.sf_engine.specs.declared.event.EngineFault.TheVariants as fault
 use Rattle.sf_session.specs.SessionStates.{Phase, Resting, UnderWay, Decided, Gone}
 use Rattle.sf_engine.specs.Worlds.{World}
 use Rattle.sf_engine.specs.Traces.{goes_on, goes_on_at}
-use Rattle.sf_engine.specs.Turns.{AddsRecords, ReadGives, RestsOrLeaves, IsLaneOf, GivesAt, IsSeatState, MayRefuseTurn, is_resting, is_under_way, is_busy, Stand, stand, IsReady, TurnGives, TurnsGive, GoesFar, Finding, finding}
+use Rattle.sf_engine.specs.Turns.{AddsRecords, ReadGives, RestsOrLeaves, IsLaneOf, GivesAt, IsHostedState, MayRefuseTurn, is_resting, is_under_way, is_busy, Stand, stand, IsReady, TurnGives, TurnsGive, GoesFar, Finding, finding}
 use Rattle.sf_engine.specs.Views.{EngineView}
 use Rattle.sf_engine.specs.Fits.{PlaceAgrees, Agrees, IsEngine, HasTurns}
 use Rattle.sf_engine.proofs.Tracing.{Steps, goes_on_trace, stays_engine}
 use Rattle.sf_engine.proofs.MovesBy.{moves_by}
 use Rattle.sf_engine.proofs.Moving.{get_set_same, set_twice}
-use Rattle.sf_engine.proofs.Seats.{SeatChange, engine, seat, changed, stand_before, stand_after}
+use Rattle.sf_engine.proofs.HostedChanges.{HostedChange, engine, hosted_session, changed, stand_before, stand_after}
 use Rattle.sf_engine.proofs.Turning.{told_at, same_engine, any_turn_steps, is_placed}
 
 -- a session whose call is under way
@@ -55,9 +55,9 @@ moves_give (suc n) a lane w f k r b moved give =
     subst (λ (i : ℕ). TurnsGive i (going a.core a.session lane) f r b) num (moves_give n a lane moved.0 f (suc k) r b moved.1 (happened.Moved, going w a.session lane, refl, turn, give))
 
 -- steps that moved leave the lane its call
-still_own : (n : ℕ) (v w : CoreView) (lane : LaneView) (x : SessionView) → TakesMoves n v lane w → IsSeatState v x (state.UnderWay lane) → IsSeatState w x (state.UnderWay lane)
+still_own : (n : ℕ) (v w : CoreView) (lane : LaneView) (x : SessionView) → TakesMoves n v lane w → IsHostedState v x (state.UnderWay lane) → IsHostedState w x (state.UnderWay lane)
 unfolding TakesMoves
-still_own zero v w lane x moved own = subst (λ (u : CoreView). IsSeatState u x (state.UnderWay lane)) (sym moved) own
+still_own zero v w lane x moved own = subst (λ (u : CoreView). IsHostedState u x (state.UnderWay lane)) (sym moved) own
 still_own (suc n) v w lane x moved own =
     let was = still_own n v moved.0 lane x moved.1 own in
     let s = moved.2 was.0 was.2 in
@@ -96,7 +96,7 @@ no_turn a f b same may = (same, refl, may)
 
 stand_eq : (a b : Stand) → b.core ≡ a.core → b.session ≡ a.session → b.place ≡ a.place → b ≡ a
 stand_eq a b c x p =
-    ap (λ (z : CoreView). stand z b.session b.place) c ∙ ap (λ (z : SessionView). stand a.core z b.place) x ∙ ap (λ (z : SeatState). stand a.core a.session z) p
+    ap (λ (z : CoreView). stand z b.session b.place) c ∙ ap (λ (z : SessionView). stand a.core z b.place) x ∙ ap (λ (z : HostedState). stand a.core a.session z) p
 
 -- a walk that was blocked
 pub blocked_walk : (a : Stand) (lane : LaneView) (f : Finding) (most holder : ℕ) (w : CoreView) (lane' : LaneView) → Walks a.core lane most (walk_end (step.Blocked holder) w lane')
@@ -160,14 +160,14 @@ unwritten_turn a lane given f y lane' same kept long =
     no_turn was f now (stand_eq was now refl kept (ap (λ (l : LaneView). state.Answered l given) same)) long
 
 -- a place has one lane
-pub lane_same : (p : SeatState) (lane other : LaneView) → IsLaneOf p lane → IsLaneOf p other → lane ≡ other
+pub lane_same : (p : HostedState) (lane other : LaneView) → IsLaneOf p lane → IsLaneOf p other → lane ≡ other
 lane_same (state.Resting own) lane other a b = a ∙ sym b
 lane_same (state.UnderWay own) lane other a b = a ∙ sym b
 lane_same (state.Answered own given) lane other a b = a ∙ sym b
 lane_same (state.Left cause) lane other a b = absurd a
 
 -- and what this turn asks
-pub answered_placed : (a : Stand) (lane : LaneView) (most : ℕ) (c : CameToAnswer) → Walks a.core lane most (walk_end (step.Answered c.answer) c.core c.lane) → IsReady (going a.core a.session lane) → IsSeatState c.core a.session (state.Answered c.lane c.answer)
+pub answered_placed : (a : Stand) (lane : LaneView) (most : ℕ) (c : CameToAnswer) → Walks a.core lane most (walk_end (step.Answered c.answer) c.core c.lane) → IsReady (going a.core a.session lane) → IsHostedState c.core a.session (state.Answered c.lane c.answer)
 answered_placed a lane most c k ready =
     let own = still_own k.moves a.core k.mid lane a.session k.moved ready.placed in
     let s = k.last own.0 own.2 in
@@ -182,7 +182,7 @@ no_stranger a lane most w lane' k ready =
     (k.last own.0 own.2).2.0 own.1 own.3
 
 -- a session that rests has its lane in its place
-resting_lane : (p : SeatState) → is_resting p ≡ true → (lane : LaneView) × (p ≡ state.Resting lane)
+resting_lane : (p : HostedState) → is_resting p ≡ true → (lane : LaneView) × (p ≡ state.Resting lane)
 resting_lane (state.Resting lane) rests = (lane, refl)
 resting_lane (state.UnderWay lane) rests = absurd cc
 resting_lane (state.Answered lane given) rests = absurd cc
@@ -192,7 +192,7 @@ resting_lane (state.Left cause) rests = absurd cc
 read_turn : (a : Stand) (f : Finding) (r : Happened) (b : Stand) → is_resting a.place ≡ true → TurnGives a (finding false f.moment) r b → TurnGives a f r b
 read_turn a f r b rests give =
     let lane = resting_lane a.place rests in
-    let P : Bool → SeatState → Type 0 = λ closed p. AddsRecords a.core b.core (λ h added. GivesAt p a h (finding closed f.moment) r added b) in
+    let P : Bool → HostedState → Type 0 = λ closed p. AddsRecords a.core b.core (λ h added. GivesAt p a h (finding closed f.moment) r added b) in
     subst (P f.closed) (sym lane.1) (subst (P false) lane.1 give)
 
 -- a call that has begun can go on
@@ -200,8 +200,8 @@ pub begun_ready : (a : Stand) (m : ℕ) (b : Stand) → is_resting a.place ≡ t
 begun_ready a m b rests ready give =
     let lane = resting_lane a.place rests in
     let g = give ready.history ready.is_history in
-    let t = subst (λ (p : SeatState). GivesAt p a ready.history (finding false m) happened.Begun g.0 b) lane.1 g.2 in
-    let P : SeatState → Type 0 = λ z. (is_under_way z ≡ true) × IsReady (stand b.core b.session z) in
+    let t = subst (λ (p : HostedState). GivesAt p a ready.history (finding false m) happened.Begun g.0 b) lane.1 g.2 in
+    let P : HostedState → Type 0 = λ z. (is_under_way z ≡ true) × IsReady (stand b.core b.session z) in
     let waits : b.session.waiting ≡ Some t.1.1.id = ap (λ (z : SessionView). z.waiting) t.1.1.now in
     subst P (sym t.4) (
       refl,
@@ -234,7 +234,7 @@ pub read_far : (a : Stand) (f : Finding) (r : Happened) (b : Stand) → is_resti
 read_far a f r b rests ready give other =
     let lane = resting_lane a.place rests in
     let g = give ready.history ready.is_history in
-    let read = subst (λ (p : SeatState). GivesAt p a ready.history (finding false f.moment) r g.0 b) lane.1 g.2 in
+    let read = subst (λ (p : HostedState). GivesAt p a ready.history (finding false f.moment) r g.0 b) lane.1 g.2 in
     record {
       turns = 0;
       give = one_turn a f r b (read_turn a f r b rests give);
@@ -257,7 +257,7 @@ pub record TurnAnswers (a : Stand) (f : Finding) (r : Result Happened EngineFaul
 pub answer_far : (a : Stand) (f : Finding) (r : Result Happened EngineFault) (b : Stand) (lane : LaneView) (given : AnswerView) → a.place ≡ state.Answered lane given → IsReady a → TurnAnswers a f r b → GoesFar a f r b
 answer_far a f (Ok r) b lane given waits ready t =
     let g = t.ok ready.history ready.is_history in
-    let wrote = (subst (λ (o : SeatState). GivesAt o a ready.history f r g.0 b) waits g.2).0 in
+    let wrote = (subst (λ (o : HostedState). GivesAt o a ready.history f r g.0 b) waits g.2).0 in
     record { turns = 0; give = one_turn a f r b t.ok; far = λ e. absurd (let no : false ≡ true = ap goes_on (sym wrote) ∙ e in cc) }
 answer_far a f (Err e) b lane given waits ready t =
     let P : EngineFault → Type 0 = λ z. GoesFar a f (Err z) b in
@@ -272,29 +272,29 @@ left_far v x cause f =
     record { turns = 0; give = one_turn a f (happened.Ended cause) a turn; far = λ e. absurd cc }
 
 -- a turn of an engine for each of a session's, and an engine stays one
-pub turns_trace : (n : ℕ) (s : SeatChange) (m : ℕ) (r : Result Happened EngineFault) → s.now.closed ≡ s.was.closed → TurnsGive n (stand_before s) (finding s.was.closed m) r (stand_after s)
-    → HasTurns n s.old (event.Turn s.session m) r (changed s) × (IsEngine s.old.core s.old.seats → IsEngine s.core (slice_set s.old.seats s.at s.now))
+pub turns_trace : (n : ℕ) (s : HostedChange) (m : ℕ) (r : Result Happened EngineFault) → s.now.closed ≡ s.was.closed → TurnsGive n (stand_before s) (finding s.was.closed m) r (stand_after s)
+    → HasTurns n s.old (event.Turn s.session m) r (changed s) × (IsEngine s.old.core s.old.hosted → IsEngine s.core (slice_set s.old.hosted s.at s.now))
 unfolding TurnsGive HasTurns
 turns_trace zero s m (Ok r) closed give =
     let does = any_turn_steps s m (Ok r) (record { ok = give; closed = closed; err = tt; fault = tt }) in
     ((goes_on_trace s.old (event.Turn s.session m) (Ok r) (changed s) does, tt), stays_engine s.old (event.Turn s.session m) (Ok r) (changed s) does)
 turns_trace zero s m (Err f) closed give =
     let core : s.core ≡ s.old.core = ap (λ (z : Stand). z.core) give.0 in
-    let same : s.now ≡ s.was = ap (λ (z : Stand). seat z.session z.place s.now.closed) give.0 ∙ ap (λ (b : Bool). seat s.was.session s.was.place b) closed in
+    let same : s.now ≡ s.was = ap (λ (z : Stand). hosted_session z.session z.place s.now.closed) give.0 ∙ ap (λ (b : Bool). hosted_session s.was.session s.was.place b) closed in
     let does = any_turn_steps s m (Err f) (record { ok = tt; closed = closed; err = (core, same); fault = (give.1, give.2) }) in
     ((goes_on_trace s.old (event.Turn s.session m) (Err f) (changed s) does, same_engine s core same), stays_engine s.old (event.Turn s.session m) (Err f) (changed s) does)
 turns_trace (suc n) s m r closed give =
     let h : Happened = give.0 in
     let mid : Stand = give.1 in
-    let seats = s.old.seats in
-    let between : Seat = seat mid.session mid.place s.was.closed in
-    let first : SeatChange = record s { core = mid.core; now = between } in
-    let others : SeatChange = record { old = changed first; at = s.at; session = s.session; was = between; core = s.core; now = s.now; number = s.number; stood = get_set_same seats s.at s.was between s.stood } in
+    let hosted = s.old.hosted in
+    let between : HostedSession = hosted_session mid.session mid.place s.was.closed in
+    let first : HostedChange = record s { core = mid.core; now = between } in
+    let others : HostedChange = record { old = changed first; at = s.at; session = s.session; was = between; core = s.core; now = s.now; number = s.number; stood = get_set_same hosted s.at s.was between s.stood } in
     let does = any_turn_steps first m (Ok h) (record { ok = give.3; closed = refl; err = tt; fault = tt }) in
     let rest = turns_trace n others m r closed give.4 in
-    let once : slice_set (slice_set seats s.at between) s.at s.now ≡ slice_set seats s.at s.now = set_twice seats s.at between s.now in (
-      (changed first, h, goes_on_trace s.old (event.Turn s.session m) (Ok h) (changed first) does, give.2, subst (λ (z : List Seat). HasTurns n (changed first) (event.Turn s.session m) r (engine s.core z)) once rest.0),
-      λ is. subst (λ (z : List Seat). IsEngine s.core z) once (rest.1 (stays_engine s.old (event.Turn s.session m) (Ok h) (changed first) does is)),
+    let once : slice_set (slice_set hosted s.at between) s.at s.now ≡ slice_set hosted s.at s.now = set_twice hosted s.at between s.now in (
+      (changed first, h, goes_on_trace s.old (event.Turn s.session m) (Ok h) (changed first) does, give.2, subst (λ (z : List HostedSession). HasTurns n (changed first) (event.Turn s.session m) r (engine s.core z)) once rest.0),
+      λ is. subst (λ (z : List HostedSession). IsEngine s.core z) once (rest.1 (stays_engine s.old (event.Turn s.session m) (Ok h) (changed first) does is)),
     )
 
 -- turns of a session that there is not
@@ -303,12 +303,12 @@ unfolding HasTurns
 no_turns e s m f does = (goes_on_trace e (event.Turn s m) (Err f) e does, refl)
 
 -- a session of an engine is ready for its turns
-pub is_ready : (w : World) (v : CoreView) (seats : List Seat) (at : ℕ) (p : Seat) → Agrees w (engine v seats) → slice_get seats at ≡ Some p → IsReady (stand v p.session p.place)
-is_ready w v seats at p agrees was =
-    let t = told_at w v seats at p agrees was in
-    record { history = w.records; is_history = agrees.history; placed = is_placed w v seats at p agrees was; waits = waits v (at + 1) p.session t.0.phase p.place t.3.at }
+pub is_ready : (w : World) (v : CoreView) (hosted : List HostedSession) (at : ℕ) (p : HostedSession) → Agrees w (engine v hosted) → slice_get hosted at ≡ Some p → IsReady (stand v p.session p.place)
+is_ready w v hosted at p agrees was =
+    let t = told_at w v hosted at p agrees was in
+    record { history = w.records; is_history = agrees.history; placed = is_placed w v hosted at p agrees was; waits = waits v (at + 1) p.session t.0.phase p.place t.3.at }
   where
-    waits : (v : CoreView) (s : ℕ) (x : SessionView) (f : Phase) (o : SeatState) → PlaceAgrees v s x f o → is_busy o ≡ true → IsSome x.waiting
+    waits : (v : CoreView) (s : ℕ) (x : SessionView) (f : Phase) (o : HostedState) → PlaceAgrees v s x f o → is_busy o ≡ true → IsSome x.waiting
     waits v s x Resting o a busy = absurd (let no : false ≡ true = ap is_busy (sym a.place_is) ∙ busy in cc)
     waits v s x (UnderWay id n m q moves) o a busy = subst IsSome (sym a.waiting) refl
     waits v s x (Decided id n q given) o a busy = subst IsSome (sym a.waiting) refl

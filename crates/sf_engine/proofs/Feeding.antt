@@ -2,8 +2,8 @@
 use Rattle.std.proofs.Common.{◌≡◌, ◌≢◌, ℕ, List, [], ◌++◌, None, true, false, Result, Ok, Err, IfOk, IfErr, OnErr, length, ◌<◌, ◌^◌, arith, refl, ap, sym, ◌∙◌, subst, inl, inr, Vec, Global}
 use Rattle.sf_session.specs.Sessions.{SessionView}
 use Rattle.sf_core.specs.Cores.{CoreView}
-use Rattle.sf_engine.specs.declared.seat.Seat.{Seat}
-use Rattle.sf_engine.specs.declared.seat.SeatState.{SeatState}
+use Rattle.sf_engine.specs.declared.hosted.HostedSession.{HostedSession}
+use Rattle.sf_engine.specs.declared.hosted.HostedState.{HostedState}
 use Rattle.sf_engine.specs.declared.event.Event.TheVariants as event
 use Rattle.sf_engine.specs.declared.event.Happened.{Happened}
 use Rattle.sf_engine.specs.declared.event.EngineFault.{EngineFault}
@@ -12,14 +12,14 @@ use Rattle.sf_session.specs.SessionStates.{Phase, Resting, UnderWay, Decided, Go
 use Rattle.sf_engine.specs.Worlds.{World, with_state}
 use Rattle.sf_engine.specs.Traces.{IsSession, MayRefuse}
 use Rattle.sf_engine.specs.Turns.{FeedGives, FeedFault}
-use Rattle.sf_engine.specs.Fits.{PlaceAgrees, SeatAgrees, Agrees}
+use Rattle.sf_engine.specs.Fits.{PlaceAgrees, HostedAgrees, Agrees}
 use Rattle.sf_engine.proofs.Tracing.{Steps}
-use Rattle.sf_engine.proofs.Seats.{SeatChange, number, changed}
+use Rattle.sf_engine.proofs.HostedChanges.{HostedChange, number, changed}
 use Rattle.sf_engine.proofs.Moving.{still_agrees}
-use Rattle.sf_engine.proofs.Turning.{told_of, by_number, refused_seat}
+use Rattle.sf_engine.proofs.Turning.{told_of, by_number, refused_hosted}
 
 -- a session's place doesn't look at what is unread, nor at its output
-pub place_stays : (v : CoreView) (s : ℕ) (x : SessionView) (unread output : List ℕ) (f : Phase) (p : SeatState) → PlaceAgrees v s x f p
+pub place_stays : (v : CoreView) (s : ℕ) (x : SessionView) (unread output : List ℕ) (f : Phase) (p : HostedState) → PlaceAgrees v s x f p
     → PlaceAgrees v s (record x { unread = unread; output = output }) f p
 place_stays v s x unread output Resting p h = record { lane = h.lane; session = h.session; idle = h.idle; place_is = h.place_is; slot = h.slot; waiting = h.waiting; ended = h.ended }
 place_stays v s x unread output (UnderWay id n m q moves) p h = record {
@@ -49,26 +49,26 @@ place_stays v s x unread output (Decided id n q given) p h = record {
 place_stays v s x unread output (Gone cause) p h = h
 
 -- a session that has not ended is there, and one that has isn't
-here_if : (v : CoreView) (s : ℕ) (x : SessionView) (f : Phase) (p : SeatState) → PlaceAgrees v s x f p → x.ended ≡ None → is_here_in f ≡ true
+here_if : (v : CoreView) (s : ℕ) (x : SessionView) (f : Phase) (p : HostedState) → PlaceAgrees v s x f p → x.ended ≡ None → is_here_in f ≡ true
 here_if v s x Resting p h e = refl
 here_if v s x (UnderWay id n m q moves) p h e = refl
 here_if v s x (Decided id n q given) p h e = refl
 here_if v s x (Gone cause) p h e = absurd (h.2 e)
 
-gone_if : (v : CoreView) (s : ℕ) (x : SessionView) (f : Phase) (p : SeatState) → PlaceAgrees v s x f p → x.ended ≢ None → is_here_in f ≡ false
+gone_if : (v : CoreView) (s : ℕ) (x : SessionView) (f : Phase) (p : HostedState) → PlaceAgrees v s x f p → x.ended ≢ None → is_here_in f ≡ false
 gone_if v s x Resting p h e = absurd (e h.ended)
 gone_if v s x (UnderWay id n m q moves) p h e = absurd (e h.ended)
 gone_if v s x (Decided id n q given) p h e = absurd (e h.ended)
 gone_if v s x (Gone cause) p h e = refl
 
--- what feeding a seat gives
-pub record FeedsSeat (s : SeatChange) (bytes : List ℕ) (r : Result Happened EngineFault) : Type 0 where
+-- what feeding a hosted session gives
+pub record FeedsHosted (s : HostedChange) (bytes : List ℕ) (r : Result Happened EngineFault) : Type 0 where
   pub core : s.core ≡ s.old.core
   pub ok : IfOk r (λ k. FeedGives s.was bytes k s.now)
   pub err : OnErr r (s.now ≡ s.was)
   pub fault : IfErr r (λ f. FeedFault s.was f)
 
-feed_fault : (s : SeatChange) (bytes : Vec ℕ Global) (w : World) (t : SessionState) (f : EngineFault) → IsSession w (number s) t → SeatAgrees s.old.core (number s) t s.was → FeedFault s.was f → MayRefuse w (event.Feed (number s) bytes) f
+feed_fault : (s : HostedChange) (bytes : Vec ℕ Global) (w : World) (t : SessionState) (f : EngineFault) → IsSession w (number s) t → HostedAgrees s.old.core (number s) t s.was → FeedFault s.was f → MayRefuse w (event.Feed (number s) bytes) f
 feed_fault s bytes w t fault.OutOfMemory session h why = (t, session, (sym h.closed ∙ why.0, here_if s.old.core (number s) s.was.session t.phase s.was.place h.at why.1))
 feed_fault s bytes w t fault.Ended session h why = (t, session, elim why [ inl c ↦ inl (sym h.closed ∙ c) | inr e ↦ inr (gone_if s.old.core (number s) s.was.session t.phase s.was.place h.at e) ])
 feed_fault s bytes w t fault.NoSuchSession session h why = absurd why
@@ -80,16 +80,16 @@ feed_fault s bytes w t fault.NotSent session h why = absurd why
 abbrev pub vec_of : {X : Type 0} → Vec X Global → (bytes : List ℕ) → length bytes < 2 ^ 63 → Vec ℕ Global
 vec_of v bytes fits = record { ptr = v.ptr; len = length bytes; cap = length bytes; alloc = v.alloc; items = bytes; ok = (refl, omega arith); small = fits }
 
-pub any_feed_steps : (s : SeatChange) (bytes : Vec ℕ Global) (r : Result Happened EngineFault) → FeedsSeat s bytes.items r → (w : World) → Agrees w s.old → Steps s.old (event.Feed s.session bytes) r (changed s) w
+pub any_feed_steps : (s : HostedChange) (bytes : Vec ℕ Global) (r : Result Happened EngineFault) → FeedsHosted s bytes.items r → (w : World) → Agrees w s.old → Steps s.old (event.Feed s.session bytes) r (changed s) w
 any_feed_steps s bytes (Ok r) gives w agrees =
     let v = s.old.core in
     let n = number s in
     let x = s.was.session in
     let t = told_of s w [] agrees in
-    let h = t.1.seat in
+    let h = t.1.hosted in
     let ok = gives.ok in
     let told = fed t.0 bytes.items in
-    let now : SeatAgrees v n told s.now = subst (λ (z : Seat). SeatAgrees v n told z) (sym ok.now) (record {
+    let now : HostedAgrees v n told s.now = subst (λ (z : HostedSession). HostedAgrees v n told z) (sym ok.now) (record {
       unread = ap (λ (b : List ℕ). b ++ bytes.items) h.unread;
       output = h.output;
       begun = h.begun;
@@ -108,4 +108,4 @@ any_feed_steps s bytes (Ok r) gives w agrees =
 any_feed_steps s bytes (Err f) gives w agrees =
     let t = told_of s w [] agrees in
     by_number s (λ k. event.Feed k bytes) (Err f) w
-    (refused_seat s (event.Feed (number s) bytes) f gives.core gives.err w agrees (feed_fault s bytes w t.0 f t.1.session t.1.seat gives.fault))
+    (refused_hosted s (event.Feed (number s) bytes) f gives.core gives.err w agrees (feed_fault s bytes w t.0 f t.1.session t.1.hosted gives.fault))

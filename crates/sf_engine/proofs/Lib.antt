@@ -1,6 +1,6 @@
 pub mod Tracing
 pub mod MovesBy
-pub mod Seats
+pub mod HostedChanges
 pub mod Moving
 pub mod Deciding
 pub mod Working

@@ -35,7 +35,7 @@ use Rattle.sf_engine.specs.Traces.{Walking, walking, IsSession, IsNoSession, May
 use Rattle.sf_engine.specs.Laws.{IsPhaseRecorded, sent_in}
 use Rattle.sf_engine.specs.Promise.{LogEntry, log_entry, linearization, fed_by, fed_in, written_by, written_in, closed_by, closed_in, WasClosed, HasLeft, IsHere, HasBegun, opened_by, opened_in, Beginning, begun_by, begun_in, begun_for, sent_at, sent_of, IsKnown, MayBeRefused, IsInTheWay, MayComeTo, Leaves, MayAdd, MayWrite, Writes, IsLawful, EndsIn}
 use Rattle.sf_engine.specs.Promised.{replied, IsDue, IsAbove, HasCalls, IsNobody, traced_entry, traced, HasItsTurn, calls_due, calls_had, LeavesPhase, HasLeftFor, IsLogged, Stands}
-use Rattle.sf_engine.proofs.Seats.{CallTold, record_of, under_way_as}
+use Rattle.sf_engine.proofs.HostedChanges.{CallTold, record_of, under_way_as}
 use Rattle.sf_engine.proofs.Moving.{get_set_same, get_set_other}
 use Rattle.sf_session.proofs.Laws.{all_push, not_closed}
 use Rattle.sf_engine.proofs.ReplyRooms.{any_id}

@@ -11,12 +11,12 @@ use Rattle.sf_core.specs.Cores.LaneState.{NoLane, Idle, Busy}
 use Rattle.sf_core.specs.Cores.{CoreView, lane_state, joined}
 use Rattle.sf_core.specs.Progress.{left_of, SameCall}
 use Rattle.sf_core.specs.Histories.{IsHistory}
-use Rattle.sf_engine.specs.declared.seat.Seat.{Seat}
-use Rattle.sf_engine.specs.declared.seat.SeatState.{SeatState}
+use Rattle.sf_engine.specs.declared.hosted.HostedSession.{HostedSession}
+use Rattle.sf_engine.specs.declared.hosted.HostedState.{HostedState}
 use Rattle.sf_session.specs.SessionStates.{Phase, Resting, UnderWay, Decided, Gone, SessionState, is_here}
 use Rattle.sf_engine.specs.Worlds.{World, with_state}
-use Rattle.sf_engine.specs.Fits.{IsStillWalking, PlaceAgrees, SeatAgrees, Agrees}
-use Rattle.sf_engine.proofs.Seats.{SeatChange, SeatEvent, IsTold, number, changed}
+use Rattle.sf_engine.specs.Fits.{IsStillWalking, PlaceAgrees, HostedAgrees, Agrees}
+use Rattle.sf_engine.proofs.HostedChanges.{HostedChange, HostedEvent, IsTold, number, changed}
 
 pub get_set_same : {A : Type 0} (xs : List A) (i : ℕ) (x v : A) → slice_get xs i ≡ Some x → slice_get (slice_set xs i v) i ≡ Some v
 get_set_same [] i x v h = absurd cc
@@ -79,8 +79,8 @@ pub record Moves (v v' : CoreView) (s : ℕ) (t t' : SessionState) (more : ℕ) 
 pub moves_none : (v : CoreView) (s : ℕ) (t t' : SessionState) → here_in t ≡ here_in t' → Moves v v s t t' 0
 moves_none v s t t' same = record { joins = refl; drawn = omega arith; joined = ap (λ (n : ℕ). joined v + n) same; others = λ i ne. inl refl }
 
--- a seat state whose lane state stays
-pub agrees_same : (v v' : CoreView) (s : ℕ) (x : SessionView) (f : Phase) (p : SeatState) → lane_state v' s ≡ lane_state v s → PlaceAgrees v s x f p → PlaceAgrees v' s x f p
+-- how far a hosted session is, where its lane's state stays
+pub agrees_same : (v v' : CoreView) (s : ℕ) (x : SessionView) (f : Phase) (p : HostedState) → lane_state v' s ≡ lane_state v s → PlaceAgrees v s x f p → PlaceAgrees v' s x f p
 agrees_same v v' s x Resting p e h = record { lane = h.lane; session = h.session; idle = h.idle; place_is = h.place_is; slot = e ∙ h.slot; waiting = h.waiting; ended = h.ended }
 agrees_same v v' s x (UnderWay id n m q moves) p e h = record {
   lane = h.lane;
@@ -109,7 +109,7 @@ agrees_same v v' s x (Decided id n q given) p e h = record {
 agrees_same v v' s x (Gone cause) p e h = (h.0, e ∙ h.1, h.2)
 
 -- a place whose call was carried out
-agrees_helped : (v v' : CoreView) (s : ℕ) (x : SessionView) (f : Phase) (p : SeatState) → CarriedOut v v' s → PlaceAgrees v s x f p → PlaceAgrees v' s x f p
+agrees_helped : (v v' : CoreView) (s : ℕ) (x : SessionView) (f : Phase) (p : HostedState) → CarriedOut v v' s → PlaceAgrees v s x f p → PlaceAgrees v' s x f p
 agrees_helped v v' s x Resting p b h = absurd (let w : Idle ≡ Busy b.before = sym h.slot ∙ b.was in cc)
 agrees_helped v v' s x (UnderWay id n m q moves) p b h =
     let own : h.call ≡ b.before = let w : Busy h.call ≡ Busy b.before = sym h.slot ∙ b.was in cc in record {
@@ -133,8 +133,8 @@ agrees_helped v v' s x (UnderWay id n m q moves) p b h =
 agrees_helped v v' s x (Decided id n q given) p b h = absurd (let w : Idle ≡ Busy b.before = sym h.slot ∙ b.was in cc)
 agrees_helped v v' s x (Gone cause) p b h = absurd (let w : NoLane ≡ Busy b.before = sym h.1 ∙ b.was in cc)
 
-pub seat_stays : (v v' : CoreView) (s : ℕ) (t : SessionState) (p : Seat) → OtherStays v v' s → SeatAgrees v s t p → SeatAgrees v' s t p
-seat_stays v v' s t p stays h = record {
+pub hosted_stays : (v v' : CoreView) (s : ℕ) (t : SessionState) (p : HostedSession) → OtherStays v v' s → HostedAgrees v s t p → HostedAgrees v' s t p
+hosted_stays v v' s t p stays h = record {
   unread = h.unread;
   output = h.output;
   begun = h.begun;
@@ -153,39 +153,39 @@ pub with_at_is : (w : World) (at : ℕ) (t : SessionState) (added : List Record)
 with_at_is w at t added more = let num : at + 1 - 1 ≡ at = omega arith in ap (λ (n : ℕ). with_at w n t added more) num
 
 -- what an event leaves of its session, and of the core for it
-pub record Turned (e : SeatEvent) (more : ℕ) (leads : SessionState → Type 0) : Type 0 where
+pub record Turned (e : HostedEvent) (more : ℕ) (leads : SessionState → Type 0) : Type 0 where
   pub told : SessionState
   pub lead : leads told
-  pub moves : Moves e.seat.old.core e.seat.core (number e.seat) e.told told more
-  pub agrees : SeatAgrees e.seat.core (number e.seat) told e.seat.now
+  pub moves : Moves e.change.old.core e.change.core (number e.change) e.told told more
+  pub agrees : HostedAgrees e.change.core (number e.change) told e.change.now
 
-keeps_at : (e : SeatEvent) {more : ℕ} {leads : SessionState → Type 0} → IsTold e → IsHistory e.seat.core (e.world.records ++ e.added) → (o : Turned e more leads)
-    → Agrees (with_at e.world e.seat.at o.told e.added more) (changed e.seat)
+keeps_at : (e : HostedEvent) {more : ℕ} {leads : SessionState → Type 0} → IsTold e → IsHistory e.change.core (e.world.records ++ e.added) → (o : Turned e more leads)
+    → Agrees (with_at e.world e.change.at o.told e.added more) (changed e.change)
 keeps_at e {more = more} is history o =
     let told = e.world.sessions in
-    let seats = e.seat.old.seats in
-    let at = e.seat.at in
+    let hosted = e.change.old.hosted in
+    let at = e.change.at in
     let t = e.told in
     let t' = o.told in
-    let p = e.seat.was in
-    let q = e.seat.now in
-    let core = e.seat.core in
+    let p = e.change.was in
+    let q = e.change.now in
+    let core = e.change.core in
     let within : at < length told = slice_get_within told at t is.told in record {
       history = history;
       begun = o.moves.drawn ∙ ap (λ (n : ℕ). n + more) is.agrees.begun;
       opened = o.moves.joins ∙ is.agrees.opened ∙ sym (length-set told at t');
       here = omega (arith, o.moves.joined, is.agrees.here, sum_by_write here_in told at t t' is.told);
-      count = length-set seats at q ∙ is.agrees.count ∙ sym (length-set told at t');
+      count = length-set hosted at q ∙ is.agrees.count ∙ sym (length-set told at t');
       each = λ i u o' hu ho. elim (cases_eq i at) [
         | inl same ↦
             let hu' : slice_get (slice_set told at t') at ≡ Some u = ap (λ (n : ℕ). slice_get (slice_set told at t') n) (sym same) ∙ hu in
-            let ho' : slice_get (slice_set seats at q) at ≡ Some o' = ap (λ (n : ℕ). slice_get (slice_set seats at q) n) (sym same) ∙ ho in
+            let ho' : slice_get (slice_set hosted at q) at ≡ Some o' = ap (λ (n : ℕ). slice_get (slice_set hosted at q) n) (sym same) ∙ ho in
             let tu : t' ≡ u = let k : slice_get (slice_set told at t') at ≡ Some t' = get_set_same told at t t' is.told in cc in
-            let qo : q ≡ o' = let k : slice_get (slice_set seats at q) at ≡ Some q = get_set_same seats at p q e.seat.stood in cc in
-            subst (λ (n : ℕ). SeatAgrees core (n + 1) u o') (sym same) (subst (λ (z : SessionState). SeatAgrees core (at + 1) z o') tu (subst (λ (z : Seat). SeatAgrees core (at + 1) t' z) qo o.agrees))
+            let qo : q ≡ o' = let k : slice_get (slice_set hosted at q) at ≡ Some q = get_set_same hosted at p q e.change.stood in cc in
+            subst (λ (n : ℕ). HostedAgrees core (n + 1) u o') (sym same) (subst (λ (z : SessionState). HostedAgrees core (at + 1) z o') tu (subst (λ (z : HostedSession). HostedAgrees core (at + 1) t' z) qo o.agrees))
         | inr ne ↦
-            seat_stays e.seat.old.core core (i + 1) u o' (o.moves.others (i + 1) (λ k. ne (omega (arith, k))))
-            (is.agrees.each i u o' (sym (get_set_other told at i t' ne) ∙ hu) (sym (get_set_other seats at i q ne) ∙ ho))
+            hosted_stays e.change.old.core core (i + 1) u o' (o.moves.others (i + 1) (λ k. ne (omega (arith, k))))
+            (is.agrees.each i u o' (sym (get_set_other told at i t' ne) ∙ hu) (sym (get_set_other hosted at i q ne) ∙ ho))
       ];
       nobody = λ s out.
           let out' : (s ≡ 0) ⊎ (length told < s) = elim out [ inl z ↦ inl z | inr lt ↦ inr (omega (arith, lt, length-set told at t')) ] in
@@ -196,17 +196,17 @@ keeps_at e {more = more} is history o =
           ];
     }
 
-pub keeps_agrees : (e : SeatEvent) {more : ℕ} {leads : SessionState → Type 0} → IsTold e → IsHistory e.seat.core (e.world.records ++ e.added) → (o : Turned e more leads)
-    → Agrees (with_state e.world (number e.seat) o.told e.added more) (changed e.seat)
+pub keeps_agrees : (e : HostedEvent) {more : ℕ} {leads : SessionState → Type 0} → IsTold e → IsHistory e.change.core (e.world.records ++ e.added) → (o : Turned e more leads)
+    → Agrees (with_state e.world (number e.change) o.told e.added more) (changed e.change)
 keeps_agrees e {more = more} is history o =
-    let P : World → Type 0 = λ z. Agrees z (changed e.seat) in
-    subst P (sym (with_at_is e.world e.seat.at o.told e.added more)) (keeps_at e is history o)
+    let P : World → Type 0 = λ z. Agrees z (changed e.change) in
+    subst P (sym (with_at_is e.world e.change.at o.told e.added more)) (keeps_at e is history o)
 
 -- an event that leaves the core and adds no record, after which this is told
-pub still_agrees : (s : SeatChange) (w : World) (t told : SessionState) → IsTold (record { world = w; told = t; seat = s; added = [] }) → s.core ≡ s.old.core → here_in t ≡ here_in told
-    → SeatAgrees s.old.core (number s) told s.now → Agrees (with_state w (number s) told [] 0) (changed s)
+pub still_agrees : (s : HostedChange) (w : World) (t told : SessionState) → IsTold (record { world = w; told = t; change = s; added = [] }) → s.core ≡ s.old.core → here_in t ≡ here_in told
+    → HostedAgrees s.old.core (number s) told s.now → Agrees (with_state w (number s) told [] 0) (changed s)
 still_agrees s w t told is same here now =
-    let e : SeatEvent = record { world = w; told = t; seat = s; added = [] } in
+    let e : HostedEvent = record { world = w; told = t; change = s; added = [] } in
     let v = s.old.core in
     let P : List Record → Type 0 = λ h. IsHistory s.core h in
     let history = subst P (sym (append-nil w.records)) (subst (λ (z : CoreView). IsHistory z w.records) (sym same) is.agrees.history) in
@@ -214,6 +214,6 @@ still_agrees s w t told is same here now =
       told = told;
       lead = tt;
       moves = subst (λ (z : CoreView). Moves v z (number s) t told 0) (sym same) (moves_none v (number s) t told here);
-      agrees = subst (λ (z : CoreView). SeatAgrees z (number s) told s.now) (sym same) now;
+      agrees = subst (λ (z : CoreView). HostedAgrees z (number s) told s.now) (sym same) now;
     } in
     keeps_agrees e is history o

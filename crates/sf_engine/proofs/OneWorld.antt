@@ -30,7 +30,7 @@ use Rattle.sf_engine.specs.Traces.{IsSession, IsAtOnce, DecidesCall, TurnLeads, 
 use Rattle.sf_engine.specs.Laws.{IsOfBytes, AreOfBytes}
 use Rattle.sf_engine.specs.Views.{EngineView}
 use Rattle.sf_engine.specs.Fits.{Fits, IsSentBy}
-use Rattle.sf_engine.proofs.Seats.{CallTold, record_of}
+use Rattle.sf_engine.proofs.HostedChanges.{CallTold, record_of}
 use Rattle.sf_engine.proofs.Moving.{get_set_same, get_set_other}
 use Rattle.sf_engine.proofs.Orders.{leads_records}
 use Rattle.sf_engine.proofs.Reading.{new_get}

@@ -13,13 +13,13 @@ use Rattle.sf_core.specs.Lanes.{LaneView}
 use Rattle.sf_core.specs.Cores.{CoreView}
 use Rattle.sf_core.specs.Events.{CallBegins, begun, AnswersAtOnce, RefusesBegin, StepsOn, TakesMoves, Walks, walk_end}
 use Rattle.sf_core.specs.Histories.{IsHistory}
-use Rattle.sf_engine.specs.declared.seat.SeatState.{SeatState}
-use Rattle.sf_engine.specs.declared.seat.SeatState.TheVariants as state
+use Rattle.sf_engine.specs.declared.hosted.HostedState.{HostedState}
+use Rattle.sf_engine.specs.declared.hosted.HostedState.TheVariants as state
 use Rattle.sf_engine.specs.declared.event.Happened.{Happened}
 use Rattle.sf_engine.specs.declared.event.Happened.TheVariants as happened
 use Rattle.sf_engine.specs.declared.event.EngineFault.{EngineFault}
 use Rattle.sf_engine.specs.Traces.{goes_on_at}
-use Rattle.sf_engine.specs.Turns.{GivesAt, IsSeatState, is_resting, Stand, stand, IsReady, TurnGives, TurnsGive, GoesFar, Finding, finding}
+use Rattle.sf_engine.specs.Turns.{GivesAt, IsHostedState, is_resting, Stand, stand, IsReady, TurnGives, TurnsGive, GoesFar, Finding, finding}
 use Rattle.sf_engine.proofs.Chains.{CameToAnswer, going, answered, begun_ready, begun_far, answered_walk, answered_placed}
 
 -- one step is a walk
@@ -55,7 +55,7 @@ pub begun_turn : (a : CallAsked) (m : ℕ) (b : CallBegun a m) → TurnGives a.f
 begun_turn a m b = λ h is. (
   [],
   subst (λ (l : List Record). IsHistory b.core l) (sym (append-nil h)) (b.history h is),
-  subst (λ (p : SeatState). GivesAt p a.from h (finding false m) happened.Begun [] (begun_stand a b.core)) (sym a.at) (a.request, a.gave, b.begins, refl, refl),
+  subst (λ (p : HostedState). GivesAt p a.from h (finding false m) happened.Begun [] (begun_stand a b.core)) (sym a.at) (a.request, a.gave, b.begins, refl, refl),
 )
 
 pub can_go_on : (a : CallAsked) (m : ℕ) (b : CallBegun a m) → IsReady a.from → IsReady (begun_stand a b.core)
@@ -71,7 +71,7 @@ pub refused_turn : (a : CallAsked) (m : ℕ) (f : CoreFault) (z : SessionView) �
 refused_turn a m f z refused wrote = λ h is. (
   [],
   subst (λ (l : List Record). IsHistory a.from.core l) (sym (append-nil h)) is,
-  subst (λ (p : SeatState). GivesAt p a.from h (finding false m) happened.Wrote [] (stand a.from.core z (state.Resting a.lane))) (sym a.at) (inr (a.request, a.session, f, a.gave, refused, wrote), refl, refl, refl),
+  subst (λ (p : HostedState). GivesAt p a.from h (finding false m) happened.Wrote [] (stand a.from.core z (state.Resting a.lane))) (sym a.at) (inr (a.request, a.session, f, a.gave, refused, wrote), refl, refl, refl),
 )
 
 -- it is answered at once
@@ -84,7 +84,7 @@ began a m c made = record { core = made.mid; begins = made.begins; history = mad
 walks : (a : CallAsked) (m : ℕ) (c : CameToAnswer) (made : IsAnsweredAtOnce a m c) → Walks made.mid (begun a.lane made.mid.drawn) 1 (walk_end (step.Answered c.answer) c.core c.lane)
 walks a m c made = walk_of_one made.mid c.core (begun a.lane made.mid.drawn) c.lane (step.Answered c.answer) made.steps
 
-pub placed_at_once : (a : CallAsked) (m : ℕ) (c : CameToAnswer) → IsAnsweredAtOnce a m c → IsReady a.from → IsSeatState c.core a.session (state.Answered c.lane c.answer)
+pub placed_at_once : (a : CallAsked) (m : ℕ) (c : CameToAnswer) → IsAnsweredAtOnce a m c → IsReady a.from → IsHostedState c.core a.session (state.Answered c.lane c.answer)
 unfolding began
 placed_at_once a m c made ready = answered_placed (begun_stand a made.mid) (begun a.lane made.mid.drawn) 1 c (walks a m c made) (can_go_on a m (began a m c made) ready)
 

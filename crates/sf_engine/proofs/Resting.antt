@@ -18,8 +18,8 @@ use Rattle.sf_core.specs.Lanes.{LaneView}
 use Rattle.sf_core.specs.Cores.{CoreView, lane_state, last_number}
 use Rattle.sf_core.specs.Progress.{new_call}
 use Rattle.sf_core.specs.Events.{begun, Leaves, RefusesBegin}
-use Rattle.sf_engine.specs.declared.seat.Seat.{Seat}
-use Rattle.sf_engine.specs.declared.seat.SeatState.{SeatState}
+use Rattle.sf_engine.specs.declared.hosted.HostedSession.{HostedSession}
+use Rattle.sf_engine.specs.declared.hosted.HostedState.{HostedState}
 use Rattle.sf_engine.specs.declared.event.Happened.{Happened}
 use Rattle.sf_engine.specs.declared.event.Happened.TheVariants as happened
 use Rattle.sf_session.specs.Responses.{Response, Version, Locally, Refused, ask_behind, packet_for, transcript}
@@ -27,8 +27,8 @@ use Rattle.sf_session.specs.SessionStates.{Resting, UnderWay, SessionState, with
 use Rattle.sf_engine.specs.Worlds.{World}
 use Rattle.sf_engine.specs.Traces.{IsAtOnce, RestLeads, calls_begun}
 use Rattle.sf_engine.specs.Turns.{ReadGives}
-use Rattle.sf_engine.specs.Fits.{HasNoCall, SeatAgrees}
-use Rattle.sf_engine.proofs.Seats.{SeatEvent, IsTold, IsUnmoved, seat, number, in_phase, turn_to, stand_before, stand_after}
+use Rattle.sf_engine.specs.Fits.{HasNoCall, HostedAgrees}
+use Rattle.sf_engine.proofs.HostedChanges.{HostedEvent, IsTold, IsUnmoved, hosted_session, number, in_phase, turn_to, stand_before, stand_after}
 use Rattle.sf_engine.proofs.Moving.{Moves, Turned, moves_none, here_in}
 use Rattle.sf_session.proofs.Laws.{begun_push}
 
@@ -50,16 +50,16 @@ moves_leaves v v' s t t' l was now = record {
 }
 
 -- nothing changes
-pub unchanged_turned : (e : SeatEvent) (leads : SessionState → Type 0) → SeatAgrees e.seat.old.core (number e.seat) e.told e.seat.was → IsUnmoved e.seat → e.seat.now.session ≡ e.seat.was.session → leads e.told → Turned e 0 leads
+pub unchanged_turned : (e : HostedEvent) (leads : SessionState → Type 0) → HostedAgrees e.change.old.core (number e.change) e.told e.change.was → IsUnmoved e.change → e.change.now.session ≡ e.change.was.session → leads e.told → Turned e 0 leads
 unchanged_turned e leads h stays session lead =
-    let v = e.seat.old.core in
-    let p = e.seat.was in
-    let q = e.seat.now in
-    let same : q ≡ p = ap (λ (z : SessionView). seat z q.place q.closed) session ∙ ap (λ (z : SeatState). seat p.session z q.closed) stays.place ∙ ap (λ (z : Bool). seat p.session p.place z) stays.closed in record {
+    let v = e.change.old.core in
+    let p = e.change.was in
+    let q = e.change.now in
+    let same : q ≡ p = ap (λ (z : SessionView). hosted_session z q.place q.closed) session ∙ ap (λ (z : HostedState). hosted_session p.session z q.closed) stays.place ∙ ap (λ (z : Bool). hosted_session p.session p.place z) stays.closed in record {
       told = e.told;
       lead = lead;
-      moves = subst (λ (z : CoreView). Moves v z (number e.seat) e.told e.told 0) (sym stays.core) (moves_none v (number e.seat) e.told e.told refl);
-      agrees = subst (λ (z : CoreView). SeatAgrees z (number e.seat) e.told q) (sym stays.core) (subst (λ (z : Seat). SeatAgrees v (number e.seat) e.told z) (sym same) h);
+      moves = subst (λ (z : CoreView). Moves v z (number e.change) e.told e.told 0) (sym stays.core) (moves_none v (number e.change) e.told e.told refl);
+      agrees = subst (λ (z : CoreView). HostedAgrees z (number e.change) e.told q) (sym stays.core) (subst (λ (z : HostedSession). HostedAgrees v (number e.change) e.told z) (sym same) h);
     }
 
 -- a session read a body that was answered at once, in this world
@@ -79,15 +79,15 @@ pub record ReadsAtOnce (w : World) (x y : SessionView) : Type 0 where
   }
 
 -- then the session rests again
-answered_at_once : (e : SeatEvent) (m : ℕ) → IsTold (in_phase e Resting) → IsUnmoved e.seat → e.added ≡ [] → ReadsAtOnce e.world e.seat.was.session e.seat.now.session
+answered_at_once : (e : HostedEvent) (m : ℕ) → IsTold (in_phase e Resting) → IsUnmoved e.change → e.added ≡ [] → ReadsAtOnce e.world e.change.was.session e.change.now.session
     → Turned (in_phase e Resting) 0 (λ t'. RestLeads m (turn_to (in_phase e Resting) t') happened.Wrote)
 answered_at_once e m is stays none o =
-    let v = e.seat.old.core in
-    let s = number e.seat in
+    let v = e.change.old.core in
+    let s = number e.change in
     let t = e.told in
-    let q = e.seat.now in
-    let h = is.seat in
-    let at : HasNoCall v s e.seat.was.session e.seat.was.place = h.at in
+    let q = e.change.now in
+    let h = is.hosted in
+    let at : HasNoCall v s e.change.was.session e.change.was.place = h.at in
     let told : SessionState = record t { unread = o.rest; bodies = t.bodies ++ o.body ∷ []; answers = t.answers ++ o.answer ∷ []; phase = Resting } in record {
       told = told;
       lead = (
@@ -103,9 +103,9 @@ answered_at_once e m is stays none o =
         none,
       );
       moves = subst (λ (z : CoreView). Moves v z s (with_phase t Resting) told 0) (sym stays.core) (moves_none v s (with_phase t Resting) told refl);
-      agrees = subst (λ (z : CoreView). SeatAgrees z s told q) (sym stays.core) (subst (λ (z : SessionView). SeatAgrees v s told (seat z q.place q.closed)) (sym o.now) (record {
+      agrees = subst (λ (z : CoreView). HostedAgrees z s told q) (sym stays.core) (subst (λ (z : SessionView). HostedAgrees v s told (hosted_session z q.place q.closed)) (sym o.now) (record {
         unread = refl;
-        output = output_push t.answers t.sent e.seat.was.session.output o.answer h.output;
+        output = output_push t.answers t.sent e.change.was.session.output o.answer h.output;
         begun = sym (begun_push t.bodies o.body);
         closed = stays.closed ∙ h.closed;
         at = record { lane = at.lane; session = at.session; idle = at.idle; place_is = stays.place ∙ at.place_is; slot = at.slot; waiting = refl; ended = refl };
@@ -127,16 +127,16 @@ once_refused w v lane id request core.Sessions drawn idle h = h
 once_refused w v lane id request core.Stranger drawn idle h = absurd (h idle)
 
 -- a turn of a resting session
-pub rest_turned : (e : SeatEvent) (m : ℕ) (r : Happened) → (is : IsTold (in_phase e Resting)) → e.seat.now.closed ≡ e.seat.was.closed → ReadGives (stand_before e.seat) is.seat.at.lane m r e.added (stand_after e.seat)
+pub rest_turned : (e : HostedEvent) (m : ℕ) (r : Happened) → (is : IsTold (in_phase e Resting)) → e.change.now.closed ≡ e.change.was.closed → ReadGives (stand_before e.change) is.hosted.at.lane m r e.added (stand_after e.change)
     → Turned (in_phase e Resting) (calls_begun r) (λ t'. RestLeads m (turn_to (in_phase e Resting) t') r)
 rest_turned e m happened.Idle is closed g =
-    let h = is.seat in
+    let h = is.hosted in
     unchanged_turned (in_phase e Resting) (λ t'. RestLeads m (turn_to (in_phase e Resting) t') happened.Idle) h (record { core = g.1; place = g.3 ∙ sym h.at.place_is; closed = closed }) g.0.2
     (subst (λ (b : List ℕ). IsCut b cut.More) h.unread g.0.1, g.2, refl)
 rest_turned e m happened.Wrote is closed g =
-    let x = e.seat.was.session in
-    let y = e.seat.now.session in
-    let at : HasNoCall e.seat.old.core (number e.seat) x e.seat.was.place = is.seat.at in
+    let x = e.change.was.session in
+    let y = e.change.now.session in
+    let at : HasNoCall e.change.old.core (number e.change) x e.change.was.place = is.hosted.at in
     let read : ReadsAtOnce e.world x y = elim g.0 [
       | inl k ↦
           let o = k.1 in
@@ -154,7 +154,7 @@ rest_turned e m happened.Wrote is closed g =
           let mid = k.1 in
           let fault = k.2 in
           let o = k.3.1 in
-          let idle : lane_state e.seat.old.core at.lane.session ≡ Idle = ap (λ (n : ℕ). lane_state e.seat.old.core n) at.session ∙ at.slot in
+          let idle : lane_state e.change.old.core at.lane.session ≡ Idle = ap (λ (n : ℕ). lane_state e.change.old.core n) at.session ∙ at.slot in
           let wrote = subst (λ (z : Option ℕ). IfSome z (λ id. y ≡ record mid { output = mid.output ++ packet (reply_body id (refusal_of fault)); waiting = None })) (ap (λ (z : SessionView). z.waiting) o.now) k.5 in
           record {
             body = o.body;
@@ -162,18 +162,18 @@ rest_turned e m happened.Wrote is closed g =
             answer = Refused o.id k.0 fault;
             begins = o.begins;
             asks = o.asks;
-            at_once = once_refused e.world e.seat.old.core at.lane o.id k.0 fault is.agrees.begun idle k.4;
+            at_once = once_refused e.world e.change.old.core at.lane o.id k.0 fault is.agrees.begun idle k.4;
             now = wrote ∙ ap (λ (z : SessionView). record { unread = z.unread; output = z.output ++ packet (reply_body o.id (refusal_of fault)); begun = z.begun; waiting = None; ended = z.ended }) o.now;
           }
     ] in
     answered_at_once e m is (record { core = g.1; place = g.3 ∙ sym at.place_is; closed = closed }) g.2 read
 rest_turned e m happened.Begun is closed g =
-    let v' = e.seat.core in
+    let v' = e.change.core in
     let t = e.told in
     let w = e.world in
-    let q = e.seat.now in
-    let h = is.seat in
-    let at : HasNoCall e.seat.old.core (number e.seat) e.seat.was.session e.seat.was.place = h.at in
+    let q = e.change.now in
+    let h = is.hosted in
+    let at : HasNoCall e.change.old.core (number e.change) e.change.was.session e.change.was.place = h.at in
     let drawn = is.agrees.begun in
     let request = g.0 in
     let o = g.1.1 in
@@ -181,8 +181,8 @@ rest_turned e m happened.Begun is closed g =
     let lane' : LaneView = begun at.lane v'.drawn in
     let n = w.begun + 1 in
     let told : SessionState = record t { unread = o.rest; bodies = t.bodies ++ o.body ∷ []; phase = UnderWay o.id n m request 0 } in
-    let call = new_call (e.seat.old.core.drawn + 1) at.lane.session m request in
-    let number_is : e.seat.old.core.drawn + 1 ≡ n = ap (λ (k : ℕ). k + 1) drawn in
+    let call = new_call (e.change.old.core.drawn + 1) at.lane.session m request in
+    let number_is : e.change.old.core.drawn + 1 ≡ n = ap (λ (k : ℕ). k + 1) drawn in
     record {
       told = told;
       lead = (
@@ -204,7 +204,7 @@ rest_turned e m happened.Begun is closed g =
         joined = ap (λ (k : ℕ). k + 1) b.joined;
         others = λ i ne. inl (b.others i (λ k. ne (k ∙ at.session)));
       };
-      agrees = subst (λ (z : SessionView). SeatAgrees v' (number e.seat) told (seat z q.place q.closed)) (sym o.now) (record {
+      agrees = subst (λ (z : SessionView). HostedAgrees v' (number e.change) told (hosted_session z q.place q.closed)) (sym o.now) (record {
         unread = refl;
         output = h.output;
         begun = sym (begun_push t.bodies o.body);
@@ -225,24 +225,24 @@ rest_turned e m happened.Begun is closed g =
       });
     }
 rest_turned e m (happened.Ended cause) is closed g =
-    let v' = e.seat.core in
-    let q = e.seat.now in
-    let h = is.seat in
-    let at : HasNoCall e.seat.old.core (number e.seat) e.seat.was.session e.seat.was.place = h.at in
+    let v' = e.change.core in
+    let q = e.change.now in
+    let h = is.hosted in
+    let at : HasNoCall e.change.old.core (number e.change) e.change.was.session e.change.was.place = h.at in
     let was = with_phase e.told Resting in
     let told = left_for was cause in
-    let left : Leaves e.seat.old.core v' (number e.seat) = subst (λ (n : ℕ). Leaves e.seat.old.core v' n) at.session g.1 in
+    let left : Leaves e.change.old.core v' (number e.change) = subst (λ (n : ℕ). Leaves e.change.old.core v' n) at.session g.1 in
     elim g.0 [
       | inl k ↦ absurd (let none : None ≡ Some cause = sym at.ended ∙ k.0 in cc)
       | inr k ↦ record {
         told = told;
         lead = (
-          subst (λ (b : Bool). EndsBy b was.unread cause) h.begun (subst (λ (b : List ℕ). EndsBy e.seat.was.session.begun b cause) h.unread k.1),
+          subst (λ (b : Bool). EndsBy b was.unread cause) h.begun (subst (λ (b : List ℕ). EndsBy e.change.was.session.begun b cause) h.unread k.1),
           g.2 ∙ ap (λ (n : ℕ). Left n ∷ []) at.session,
           refl,
         );
-        moves = moves_leaves e.seat.old.core v' (number e.seat) was told left refl refl;
-        agrees = subst (λ (z : SessionView). SeatAgrees v' (number e.seat) told (seat z q.place q.closed)) (sym k.2) (record {
+        moves = moves_leaves e.change.old.core v' (number e.change) was told left refl refl;
+        agrees = subst (λ (z : SessionView). HostedAgrees v' (number e.change) told (hosted_session z q.place q.closed)) (sym k.2) (record {
           unread = refl;
           output = h.output;
           begun = h.begun;

@@ -15,8 +15,8 @@ use Rattle.sf_core.specs.Progress.{IsBehind}
 use Rattle.sf_core.specs.Events.{Before, After}
 use Rattle.sf_core.specs.Stuck.{steps_left_in, left_below}
 use Rattle.sf_core.proofs.Laws.{furthest, one_call, busy_left, idle_left, gone_left, left_stays, goes_falls, writes_falls, copies_falls, fetches_falls, decides_falls}
-use Rattle.sf_engine.specs.declared.seat.Seat.{Seat}
-use Rattle.sf_engine.specs.declared.seat.SeatState.{SeatState}
+use Rattle.sf_engine.specs.declared.hosted.HostedSession.{HostedSession}
+use Rattle.sf_engine.specs.declared.hosted.HostedState.{HostedState}
 use Rattle.sf_engine.specs.declared.event.Event.TheVariants as event
 use Rattle.sf_engine.specs.declared.event.Happened.{Happened}
 use Rattle.sf_engine.specs.declared.event.Happened.TheVariants as happened
@@ -35,19 +35,19 @@ use Rattle.sf_engine.proofs.Waiting.{told_of_none}
 use Rattle.sf_engine.proofs.Short.{bounds_short}
 
 -- ---- whose calls are under way
--- the sessions whose calls are under way, as the seats show
-abbrev pub seats_from : ℕ → List Seat → List ℕ
-seats_from s [] = []
-seats_from s (p ∷ ps) = if is_under_way p.place then s ∷ seats_from (s + 1) ps else seats_from (s + 1) ps
+-- the sessions whose calls are under way, as the hosted sessions show
+abbrev pub hosted_from : ℕ → List HostedSession → List ℕ
+hosted_from s [] = []
+hosted_from s (p ∷ ps) = if is_under_way p.place then s ∷ hosted_from (s + 1) ps else hosted_from (s + 1) ps
 
-phase_place : (v : CoreView) (s : ℕ) (x : SessionView) (f : Phase) (p : SeatState) → PlaceAgrees v s x f p → is_unanswered f ≡ is_under_way p
+phase_place : (v : CoreView) (s : ℕ) (x : SessionView) (f : Phase) (p : HostedState) → PlaceAgrees v s x f p → is_unanswered f ≡ is_under_way p
 phase_place v s x Resting p h = sym (ap is_under_way h.place_is)
 phase_place v s x (UnderWay id n m q moves) p h = sym (ap is_under_way h.place_is)
 phase_place v s x (Decided id n q given) p h = sym (ap is_under_way h.place_is)
 phase_place v s x (Gone cause) p h = sym (ap is_under_way h.0)
 
-same_list : (ts : List SessionState) (ps : List Seat) (s : ℕ) → length ps ≡ length ts
-    → ((i : ℕ) (t : SessionState) (p : Seat) → slice_get ts i ≡ Some t → slice_get ps i ≡ Some p → is_unanswered t.phase ≡ is_under_way p.place) → under_way_from s ts ≡ seats_from s ps
+same_list : (ts : List SessionState) (ps : List HostedSession) (s : ℕ) → length ps ≡ length ts
+    → ((i : ℕ) (t : SessionState) (p : HostedSession) → slice_get ts i ≡ Some t → slice_get ps i ≡ Some p → is_unanswered t.phase ≡ is_under_way p.place) → under_way_from s ts ≡ hosted_from s ps
 same_list [] [] s e each = refl
 same_list [] (p ∷ ps) s e each = absurd (let no : ⊥ = omega (arith, e) in no)
 same_list (t ∷ ts) [] s e each = absurd (let no : ⊥ = omega (arith, e) in no)
@@ -57,33 +57,33 @@ same_list (t ∷ ts) (p ∷ ps) s e each =
     ap (λ (b : Bool). if b then s ∷ under_way_from (s + 1) ts else under_way_from (s + 1) ts) one
     ∙ ap (λ (xs : List ℕ). if is_under_way p.place then s ∷ xs else xs) rest
 
-under_way_seats : (w : World) (e : EngineView) → Agrees w e → under_way w ≡ seats_from 1 e.seats
-under_way_seats w e agrees = same_list w.sessions e.seats 1 agrees.count (λ i t p a b. phase_place e.core (i + 1) p.session t.phase p.place (agrees.each i t p a b).at)
+under_way_hosted : (w : World) (e : EngineView) → Agrees w e → under_way w ≡ hosted_from 1 e.hosted
+under_way_hosted w e agrees = same_list w.sessions e.hosted 1 agrees.count (λ i t p a b. phase_place e.core (i + 1) p.session t.phase p.place (agrees.each i t p a b).at)
 
-are_under_way : (e : EngineView) (xs : List ℕ) → seats_from 1 e.seats ≡ xs → AreUnderWay xs e
-are_under_way e xs is trace fits = under_way_seats fits.world e fits.agrees ∙ is
+are_under_way : (e : EngineView) (xs : List ℕ) → hosted_from 1 e.hosted ≡ xs → AreUnderWay xs e
+are_under_way e xs is trace fits = under_way_hosted fits.world e fits.agrees ∙ is
 
 if_push : (b : Bool) (s : ℕ) (xs all ys : List ℕ) → all ≡ xs ++ ys → (if b then s ∷ all else all) ≡ (if b then s ∷ xs else xs) ++ ys
 if_push true s xs all ys e = ap (λ (zs : List ℕ). s ∷ zs) e
 if_push false s xs all ys e = e
 
-seats_push : (ps : List Seat) (p : Seat) (s : ℕ) → seats_from s (ps ++ p ∷ []) ≡ seats_from s ps ++ (if is_under_way p.place then (s + length ps) ∷ [] else [])
-seats_push [] p s = let e : s ≡ s + 0 = omega arith in ap (λ (k : ℕ). if is_under_way p.place then k ∷ [] else []) e
-seats_push (q ∷ ps) p s =
+hosted_push : (ps : List HostedSession) (p : HostedSession) (s : ℕ) → hosted_from s (ps ++ p ∷ []) ≡ hosted_from s ps ++ (if is_under_way p.place then (s + length ps) ∷ [] else [])
+hosted_push [] p s = let e : s ≡ s + 0 = omega arith in ap (λ (k : ℕ). if is_under_way p.place then k ∷ [] else []) e
+hosted_push (q ∷ ps) p s =
     let e : s + 1 + length ps ≡ s + length (q ∷ ps) = omega arith in
-    let rest = seats_push ps p (s + 1) ∙ ap (λ (k : ℕ). seats_from (s + 1) ps ++ (if is_under_way p.place then k ∷ [] else [])) e in
-    if_push (is_under_way q.place) s (seats_from (s + 1) ps) (seats_from (s + 1) (ps ++ p ∷ [])) (if is_under_way p.place then (s + length (q ∷ ps)) ∷ [] else []) rest
+    let rest = hosted_push ps p (s + 1) ∙ ap (λ (k : ℕ). hosted_from (s + 1) ps ++ (if is_under_way p.place then k ∷ [] else [])) e in
+    if_push (is_under_way q.place) s (hosted_from (s + 1) ps) (hosted_from (s + 1) (ps ++ p ∷ [])) (if is_under_way p.place then (s + length (q ∷ ps)) ∷ [] else []) rest
 
-seats_more : (seats : List Seat) (at : ℕ) (p : Seat) → slice_get seats at ≡ Some p
-    → seats_from 1 (take (at + 1) seats) ≡ seats_from 1 (take at seats) ++ (if is_under_way p.place then (at + 1) ∷ [] else [])
-seats_more seats at p was =
-    let within = slice_get_within seats at p was in
-    let len = length-take-le at seats (omega (arith, within)) in
-    let num : 1 + length (take at seats) ≡ at + 1 = omega (arith, len) in
-    let here : get_or seats at p ≡ p = get_or_from_slice_get seats at p p was in
-    ap (λ (xs : List Seat). seats_from 1 xs) (take_more seats at p within ∙ ap (λ (z : Seat). take at seats ++ z ∷ []) here)
-    ∙ seats_push (take at seats) p 1
-    ∙ ap (λ (k : ℕ). seats_from 1 (take at seats) ++ (if is_under_way p.place then k ∷ [] else [])) num
+hosted_more : (hosted : List HostedSession) (at : ℕ) (p : HostedSession) → slice_get hosted at ≡ Some p
+    → hosted_from 1 (take (at + 1) hosted) ≡ hosted_from 1 (take at hosted) ++ (if is_under_way p.place then (at + 1) ∷ [] else [])
+hosted_more hosted at p was =
+    let within = slice_get_within hosted at p was in
+    let len = length-take-le at hosted (omega (arith, within)) in
+    let num : 1 + length (take at hosted) ≡ at + 1 = omega (arith, len) in
+    let here : get_or hosted at p ≡ p = get_or_from_slice_get hosted at p p was in
+    ap (λ (xs : List HostedSession). hosted_from 1 xs) (take_more hosted at p within ∙ ap (λ (z : HostedSession). take at hosted ++ z ∷ []) here)
+    ∙ hosted_push (take at hosted) p 1
+    ∙ ap (λ (k : ℕ). hosted_from 1 (take at hosted) ++ (if is_under_way p.place then k ∷ [] else [])) num
 
 abbrev is_some_list : List ℕ → Bool
 is_some_list [] = false
@@ -101,18 +101,18 @@ some_push : (xs : List ℕ) (x : ℕ) → is_some_list (xs ++ x ∷ []) ≡ true
 some_push [] x = refl
 some_push (y ∷ xs) x = refl
 
-abbrev SomeSeat : List Seat → Type 0
-SomeSeat ps = (i : ℕ) × (p : Seat) × (slice_get ps i ≡ Some p) × (is_under_way p.place ≡ true)
+abbrev SomeHosted : List HostedSession → Type 0
+SomeHosted ps = (i : ℕ) × (p : HostedSession) × (slice_get ps i ≡ Some p) × (is_under_way p.place ≡ true)
 
-first_or : (p : Seat) (ps : List Seat) (s : ℕ) → is_some_list (seats_from s (p ∷ ps)) ≡ true → (is_some_list (seats_from (s + 1) ps) ≡ true → SomeSeat ps) → (b : Bool) → is_under_way p.place ≡ b → SomeSeat (p ∷ ps)
+first_or : (p : HostedSession) (ps : List HostedSession) (s : ℕ) → is_some_list (hosted_from s (p ∷ ps)) ≡ true → (is_some_list (hosted_from (s + 1) ps) ≡ true → SomeHosted ps) → (b : Bool) → is_under_way p.place ≡ b → SomeHosted (p ∷ ps)
 first_or p ps s e rest true is = (zero, p, refl, is)
 first_or p ps s e rest false is =
-    let k = rest (sym (ap (λ (c : Bool). is_some_list (if c then s ∷ seats_from (s + 1) ps else seats_from (s + 1) ps)) is) ∙ e) in
+    let k = rest (sym (ap (λ (c : Bool). is_some_list (if c then s ∷ hosted_from (s + 1) ps else hosted_from (s + 1) ps)) is) ∙ e) in
     (suc k.0, k.1, k.2, k.3)
 
-some_seat : (ps : List Seat) (s : ℕ) → is_some_list (seats_from s ps) ≡ true → SomeSeat ps
-some_seat [] s e = absurd (let no : false ≡ true = e in cc)
-some_seat (p ∷ ps) s e = first_or p ps s e (some_seat ps (s + 1)) (is_under_way p.place) refl
+some_hosted : (ps : List HostedSession) (s : ℕ) → is_some_list (hosted_from s ps) ≡ true → SomeHosted ps
+some_hosted [] s e = absurd (let no : false ≡ true = e in cc)
+some_hosted (p ∷ ps) s e = first_or p ps s e (some_hosted ps (s + 1)) (is_under_way p.place) refl
 
 -- ---- steps and rounds
 pub steps_nil : (e : EngineView) → HasSteps [] e e
@@ -262,7 +262,7 @@ stepped e e' at (Err f) u turn =
 abbrev pub AllBlocked : CoreView → ℕ → CoreView → Type 0
 AllBlocked v at w = SameSlots v w × ((s : ℕ) (c : Call) → s ≤ at → lane_state v s ≡ Busy c → Waits v c)
 
--- of so many seats those whose calls are under way have made their step: all were blocked, or less is left to the calls
+-- of so many hosted sessions those whose calls are under way have made their step: all were blocked, or less is left to the calls
 pub record RoundSoFar (e : EngineView) (at : ℕ) (any : Bool) (e' : EngineView) : Type 0 where
   pub trace : List TraceEntry
   pub first : Fits e trace
@@ -270,17 +270,17 @@ pub record RoundSoFar (e : EngineView) (at : ℕ) (any : Bool) (e' : EngineView)
   pub now : Fits e' further
   pub count : length now.world.sessions ≡ length first.world.sessions
   pub later : (i : ℕ) → at ≤ i → slice_get now.world.sessions i ≡ slice_get first.world.sessions i
-  pub steps : HasSteps (seats_from 1 (take at e.seats)) e e'
-  pub some : any ≡ is_some_list (seats_from 1 (take at e.seats))
-  pub work : AllBlocked e.core at e'.core ⊎ (left_below e'.core (length e.seats + 1) < left_below e.core (length e.seats + 1))
+  pub steps : HasSteps (hosted_from 1 (take at e.hosted)) e e'
+  pub some : any ≡ is_some_list (hosted_from 1 (take at e.hosted))
+  pub work : AllBlocked e.core at e'.core ⊎ (left_below e'.core (length e.hosted + 1) < left_below e.core (length e.hosted + 1))
 
-pub same_count : (e : EngineView) (at : ℕ) (any : Bool) (e' : EngineView) → RoundSoFar e at any e' → length e'.seats ≡ length e.seats
+pub same_count : (e : EngineView) (at : ℕ) (any : Bool) (e' : EngineView) → RoundSoFar e at any e' → length e'.hosted ≡ length e.hosted
 same_count e at any e' k = k.now.agrees.count ∙ k.count ∙ sym k.first.agrees.count
 
-no_seat : (e : EngineView) → IsEngine e.core e.seats → (c : Call) → lane_state e.core 0 ≡ Busy c → ⊥
-no_seat e is c busy = let no : NoLane ≡ Busy c = sym (is.1.agrees.nobody 0 (inl refl)) ∙ busy in cc
+nobody_hosted : (e : EngineView) → IsEngine e.core e.hosted → (c : Call) → lane_state e.core 0 ≡ Busy c → ⊥
+nobody_hosted e is c busy = let no : NoLane ≡ Busy c = sym (is.1.agrees.nobody 0 (inl refl)) ∙ busy in cc
 
-pub round_start : (e : EngineView) → IsEngine e.core e.seats → RoundSoFar e 0 false e
+pub round_start : (e : EngineView) → IsEngine e.core e.hosted → RoundSoFar e 0 false e
 round_start e is = record {
   trace = is.0;
   first = is.1;
@@ -290,48 +290,48 @@ round_start e is = record {
   later = λ i le. refl;
   steps = steps_nil e;
   some = refl;
-  work = inl (λ s. refl, λ s c le busy. let z : s ≡ 0 = omega (arith, le) in absurd (no_seat e is c (sym (ap (λ (k : ℕ). lane_state e.core k) z) ∙ busy)));
+  work = inl (λ s. refl, λ s c le busy. let z : s ≡ 0 = omega (arith, le) in absurd (nobody_hosted e is c (sym (ap (λ (k : ℕ). lane_state e.core k) z) ∙ busy)));
 }
 
 -- whose call the core has, its call is unanswered
-busy_phase : (v : CoreView) (s : ℕ) (x : SessionView) (f : Phase) (p : SeatState) (c : Call) → PlaceAgrees v s x f p → lane_state v s ≡ Busy c → is_unanswered f ≡ true
+busy_phase : (v : CoreView) (s : ℕ) (x : SessionView) (f : Phase) (p : HostedState) (c : Call) → PlaceAgrees v s x f p → lane_state v s ≡ Busy c → is_unanswered f ≡ true
 busy_phase v s x Resting p c h busy = absurd (let no : Idle ≡ Busy c = sym h.slot ∙ busy in cc)
 busy_phase v s x (UnderWay id n m q moves) p c h busy = refl
 busy_phase v s x (Decided id n q given) p c h busy = absurd (let no : Idle ≡ Busy c = sym h.slot ∙ busy in cc)
 busy_phase v s x (Gone cause) p c h busy = absurd (let no : NoLane ≡ Busy c = sym h.1 ∙ busy in cc)
 
--- a seat that has not had its turn is as it was
-record SeatStill (e e' : EngineView) (at : ℕ) (w w' : World) (p : Seat) : Type 0 where
-  was : Seat
-  here : slice_get e.seats at ≡ Some was
+-- a hosted session that has not had its turn is as it was
+record HostedStill (e e' : EngineView) (at : ℕ) (w w' : World) (p : HostedSession) : Type 0 where
+  was : HostedSession
+  here : slice_get e.hosted at ≡ Some was
   told : SessionState
   first : slice_get w.sessions at ≡ Some told
   now : slice_get w'.sessions at ≡ Some told
   same : is_under_way was.place ≡ is_under_way p.place
   phase : is_unanswered told.phase ≡ is_under_way p.place
 
-still : (e : EngineView) (at : ℕ) (any : Bool) (e' : EngineView) (k : RoundSoFar e at any e') (p : Seat) → slice_get e'.seats at ≡ Some p → SeatStill e e' at k.first.world k.now.world p
+still : (e : EngineView) (at : ℕ) (any : Bool) (e' : EngineView) (k : RoundSoFar e at any e') (p : HostedSession) → slice_get e'.hosted at ≡ Some p → HostedStill e e' at k.first.world k.now.world p
 still e at any e' k p was =
-    let here = slice_get_within e'.seats at p was in
+    let here = slice_get_within e'.hosted at p was in
     let all = k.now.agrees.count in
     let t = get_within k.now.world.sessions at (omega (arith, here, all)) in
     let first : slice_get k.first.world.sessions at ≡ Some t.0 = sym (k.later at (omega arith)) ∙ t.1 in
-    let seats = same_count e at any e' k in
-    let q = get_within e.seats at (omega (arith, here, seats)) in
+    let hosted = same_count e at any e' k in
+    let q = get_within e.hosted at (omega (arith, here, hosted)) in
     let now = phase_place e'.core (at + 1) p.session t.0.phase p.place (k.now.agrees.each at t.0 p t.1 was).at in
     let old = phase_place e.core (at + 1) q.0.session t.0.phase q.0.place (k.first.agrees.each at t.0 q.0 first q.1).at in
     record { was = q.0; here = q.1; told = t.0; first = first; now = t.1; same = sym old ∙ now; phase = now }
 
--- ---- one seat more
+-- ---- one hosted session more
 -- its call isn't under way
-pub round_skips : (e : EngineView) (at : ℕ) (any : Bool) (e' : EngineView) → RoundSoFar e at any e' → (p : Seat) → slice_get e'.seats at ≡ Some p → is_under_way p.place ≡ false → RoundSoFar e (at + 1) any e'
+pub round_skips : (e : EngineView) (at : ℕ) (any : Bool) (e' : EngineView) → RoundSoFar e at any e' → (p : HostedSession) → slice_get e'.hosted at ≡ Some p → is_under_way p.place ≡ false → RoundSoFar e (at + 1) any e'
 round_skips e at any e' k p was rests =
     let o = still e at any e' k p was in
     let none : is_under_way o.was.place ≡ false = o.same ∙ rests in
-    let list : seats_from 1 (take (at + 1) e.seats) ≡ seats_from 1 (take at e.seats) =
-    seats_more e.seats at o.was o.here
-    ∙ ap (λ (b : Bool). seats_from 1 (take at e.seats) ++ (if b then (at + 1) ∷ [] else [])) none
-    ∙ append-nil (seats_from 1 (take at e.seats)) in
+    let list : hosted_from 1 (take (at + 1) e.hosted) ≡ hosted_from 1 (take at e.hosted) =
+    hosted_more e.hosted at o.was o.here
+    ∙ ap (λ (b : Bool). hosted_from 1 (take at e.hosted) ++ (if b then (at + 1) ∷ [] else [])) none
+    ∙ append-nil (hosted_from 1 (take at e.hosted)) in
     record {
       trace = k.trace;
       first = k.first;
@@ -358,8 +358,8 @@ round_skips e at any e' k p was rests =
     }
 
 -- its step: what it does to what is left
-work_on : (e : EngineView) (at : ℕ) (e' e'' : EngineView) → at < length e.seats → AllBlocked e.core at e'.core ⊎ (left_below e'.core (length e.seats + 1) < left_below e.core (length e.seats + 1)) → StepDoes e'.core (at + 1) e''.core
-    → AllBlocked e.core (at + 1) e''.core ⊎ (left_below e''.core (length e.seats + 1) < left_below e.core (length e.seats + 1))
+work_on : (e : EngineView) (at : ℕ) (e' e'' : EngineView) → at < length e.hosted → AllBlocked e.core at e'.core ⊎ (left_below e'.core (length e.hosted + 1) < left_below e.core (length e.hosted + 1)) → StepDoes e'.core (at + 1) e''.core
+    → AllBlocked e.core (at + 1) e''.core ⊎ (left_below e''.core (length e.hosted + 1) < left_below e.core (length e.hosted + 1))
 work_on e at e' e'' within (inl blocked) (inl again) = inl (
   λ s. again.0 s ∙ blocked.0 s,
   λ s c le busy. elim (cases_lt at s) [
@@ -372,30 +372,30 @@ work_on e at e' e'' within (inl blocked) (inl again) = inl (
   ],
 )
 work_on e at e' e'' within (inl blocked) (inr falls) =
-    let less = falls (length e.seats + 1) (omega (arith, within)) in
-    let same = left_stays e.core e'.core (length e.seats + 1) (λ s. let n = ap steps_left_in (blocked.0 s) in omega (arith, n)) in
+    let less = falls (length e.hosted + 1) (omega (arith, within)) in
+    let same = left_stays e.core e'.core (length e.hosted + 1) (λ s. let n = ap steps_left_in (blocked.0 s) in omega (arith, n)) in
     inr (omega (arith, less, same))
 work_on e at e' e'' within (inr less) (inl again) =
-    let same = left_stays e'.core e''.core (length e.seats + 1) (λ s. let n = ap steps_left_in (again.0 s) in omega (arith, n)) in
+    let same = left_stays e'.core e''.core (length e.hosted + 1) (λ s. let n = ap steps_left_in (again.0 s) in omega (arith, n)) in
     inr (omega (arith, less, same))
 work_on e at e' e'' within (inr less) (inr falls) =
-    let more = falls (length e.seats + 1) (omega (arith, within)) in
+    let more = falls (length e.hosted + 1) (omega (arith, within)) in
     inr (omega (arith, less, more))
 
--- a seat whose call is under way
-pub record SeatUnderWay (e : EngineView) (at : ℕ) : Type 0 where
-  pub seat : Seat
-  pub stands : slice_get e.seats at ≡ Some seat
-  pub under_way : is_under_way seat.place ≡ true
+-- a hosted session whose call is under way
+pub record HostedUnderWay (e : EngineView) (at : ℕ) : Type 0 where
+  pub hosted_session : HostedSession
+  pub stands : slice_get e.hosted at ≡ Some hosted_session
+  pub under_way : is_under_way hosted_session.place ≡ true
 
-pub round_steps : (e : EngineView) (at : ℕ) (any : Bool) (e' : EngineView) → RoundSoFar e at any e' → SeatUnderWay e' at → (r : Result Happened EngineFault) (e'' : EngineView) → GoesOnTrace e' (event.Turn (at + 1) 0) r e'' → RoundSoFar e (at + 1) true e''
+pub round_steps : (e : EngineView) (at : ℕ) (any : Bool) (e' : EngineView) → RoundSoFar e at any e' → HostedUnderWay e' at → (r : Result Happened EngineFault) (e'' : EngineView) → GoesOnTrace e' (event.Turn (at + 1) 0) r e'' → RoundSoFar e (at + 1) true e''
 round_steps e at any e' k p r e'' turn =
-    let o = still e at any e' k p.seat p.stands in
-    let here = slice_get_within e.seats at o.was o.here in
+    let o = still e at any e' k p.hosted_session p.stands in
+    let here = slice_get_within e.hosted at o.was o.here in
     let now : is_under_way o.was.place ≡ true = o.same ∙ p.under_way in
-    let list : seats_from 1 (take (at + 1) e.seats) ≡ seats_from 1 (take at e.seats) ++ (at + 1) ∷ [] =
-    seats_more e.seats at o.was o.here
-    ∙ ap (λ (b : Bool). seats_from 1 (take at e.seats) ++ (if b then (at + 1) ∷ [] else [])) now in
+    let list : hosted_from 1 (take (at + 1) e.hosted) ≡ hosted_from 1 (take at e.hosted) ++ (at + 1) ∷ [] =
+    hosted_more e.hosted at o.was o.here
+    ∙ ap (λ (b : Bool). hosted_from 1 (take at e.hosted) ++ (if b then (at + 1) ∷ [] else [])) now in
     let d = stepped e' e'' at r (record { trace = k.further; fits = k.now; told = o.told; is_told = o.now; under_way = o.phase ∙ p.under_way }) turn in
     record {
       trace = k.trace;
@@ -405,22 +405,22 @@ round_steps e at any e' k p r e'' turn =
       count = d.count ∙ k.count;
       later = λ i le. d.others i (λ e. let no : ⊥ = omega (arith, le, e) in no) ∙ k.later i (omega (arith, le));
       steps = subst (λ (xs : List ℕ). HasSteps xs e e'') (sym list)
-          (steps_push (seats_from 1 (take at e.seats)) (at + 1) e e' e'' d.happened k.steps (subst (λ (z : Result Happened EngineFault). GoesOnTrace e' (event.Turn (at + 1) 0) z e'') d.is turn));
-      some = sym (ap is_some_list list ∙ some_push (seats_from 1 (take at e.seats)) (at + 1));
+          (steps_push (hosted_from 1 (take at e.hosted)) (at + 1) e e' e'' d.happened k.steps (subst (λ (z : Result Happened EngineFault). GoesOnTrace e' (event.Turn (at + 1) 0) z e'') d.is turn));
+      some = sym (ap is_some_list list ∙ some_push (hosted_from 1 (take at e.hosted)) (at + 1));
       work = work_on e at e' e'' here k.work d.does;
     }
 
 -- ---- the whole round
 -- whose call the core has, its number is a session's
-within : (w : World) (e : EngineView) → Agrees w e → (s : ℕ) (c : Call) → lane_state e.core s ≡ Busy c → s ≤ length e.seats
+within : (w : World) (e : EngineView) → Agrees w e → (s : ℕ) (c : Call) → lane_state e.core s ≡ Busy c → s ≤ length e.hosted
 within w e agrees s c busy = elim (cases_lt (length w.sessions) s) [
   | inl past ↦ absurd (let no : NoLane ≡ Busy c = sym (agrees.nobody s (inr past)) ∙ busy in cc)
   | inr le ↦ let all = agrees.count in omega (arith, le, all)
 ]
 
 -- not all steps are blocked
-not_blocked : (w : World) (e : EngineView) (v : CoreView) → Agrees w e → AllBlocked e.core (length e.seats) v → (s : ℕ) (c : Call) → lane_state e.core s ≡ Busy c → ⊥
-not_blocked w e v agrees blocked s c busy = elim (furthest e.core (length e.seats + 1)) [
+not_blocked : (w : World) (e : EngineView) (v : CoreView) → Agrees w e → AllBlocked e.core (length e.hosted) v → (s : ℕ) (c : Call) → lane_state e.core s ≡ Busy c → ⊥
+not_blocked w e v agrees blocked s c busy = elim (furthest e.core (length e.hosted + 1)) [
   | inl none ↦ let le = within w e agrees s c busy in none s c (omega (arith, le)) busy
   | inr f ↦
       let waits = blocked.1 f.session f.call (within w e agrees f.session f.call f.slot) f.slot in
@@ -428,39 +428,39 @@ not_blocked w e v agrees blocked s c busy = elim (furthest e.core (length e.seat
       f.first waits.other waits.call (omega (arith, le)) waits.slot waits.deeper
 ]
 
-under_busy : (v : CoreView) (s : ℕ) (x : SessionView) (f : Phase) (p : SeatState) → PlaceAgrees v s x f p → is_under_way p ≡ true → (c : Call) × (lane_state v s ≡ Busy c)
+under_busy : (v : CoreView) (s : ℕ) (x : SessionView) (f : Phase) (p : HostedState) → PlaceAgrees v s x f p → is_under_way p ≡ true → (c : Call) × (lane_state v s ≡ Busy c)
 under_busy v s x Resting p h e = absurd (let no : false ≡ true = ap is_under_way (sym h.place_is) ∙ e in cc)
 under_busy v s x (UnderWay id n m q moves) p h e = (h.call, h.slot)
 under_busy v s x (Decided id n q given) p h e = absurd (let no : false ≡ true = ap is_under_way (sym h.place_is) ∙ e in cc)
 under_busy v s x (Gone cause) p h e = absurd (let no : false ≡ true = ap is_under_way (sym h.0) ∙ e in cc)
 
-pub round_none : (e : EngineView) (at : ℕ) (any : Bool) (e' : EngineView) → RoundSoFar e at any e' → length e.seats ≤ at → any ≡ false → (e' ≡ e) × AreUnderWay [] e
+pub round_none : (e : EngineView) (at : ℕ) (any : Bool) (e' : EngineView) → RoundSoFar e at any e' → length e.hosted ≤ at → any ≡ false → (e' ≡ e) × AreUnderWay [] e
 round_none e at any e' k all none =
-    let whole : take at e.seats ≡ e.seats = take_all at e.seats all in
-    let list = ap (λ (xs : List Seat). seats_from 1 xs) whole in
-    let empty : seats_from 1 e.seats ≡ [] = is_empty (seats_from 1 e.seats) (sym (ap is_some_list list) ∙ sym k.some ∙ none) in
+    let whole : take at e.hosted ≡ e.hosted = take_all at e.hosted all in
+    let list = ap (λ (xs : List HostedSession). hosted_from 1 xs) whole in
+    let empty : hosted_from 1 e.hosted ≡ [] = is_empty (hosted_from 1 e.hosted) (sym (ap is_some_list list) ∙ sym k.some ∙ none) in
     (steps_none e e' (subst (λ (xs : List ℕ). HasSteps xs e e') (list ∙ empty) k.steps), are_under_way e [] empty)
 
-pub round_some : (e : EngineView) (at : ℕ) (any : Bool) (e' : EngineView) → RoundSoFar e at any e' → length e.seats ≡ at → any ≡ true → IsRound e e' × (left_to e' < left_to e)
+pub round_some : (e : EngineView) (at : ℕ) (any : Bool) (e' : EngineView) → RoundSoFar e at any e' → length e.hosted ≡ at → any ≡ true → IsRound e e' × (left_to e' < left_to e)
 round_some e at any e' k all some =
-    let whole : take at e.seats ≡ e.seats = take_all at e.seats (omega (arith, all)) in
-    let list = ap (λ (xs : List Seat). seats_from 1 xs) whole in
-    let is : is_some_list (seats_from 1 e.seats) ≡ true = sym (ap is_some_list list) ∙ sym k.some ∙ some in
-    let l = some_list (seats_from 1 e.seats) is in
-    let seat = some_seat e.seats 1 is in
-    let here = slice_get_within e.seats seat.0 seat.1 seat.2 in
+    let whole : take at e.hosted ≡ e.hosted = take_all at e.hosted (omega (arith, all)) in
+    let list = ap (λ (xs : List HostedSession). hosted_from 1 xs) whole in
+    let is : is_some_list (hosted_from 1 e.hosted) ≡ true = sym (ap is_some_list list) ∙ sym k.some ∙ some in
+    let l = some_list (hosted_from 1 e.hosted) is in
+    let hosted_session = some_hosted e.hosted 1 is in
+    let here = slice_get_within e.hosted hosted_session.0 hosted_session.1 hosted_session.2 in
     let many = k.first.agrees.count in
-    let t = get_within k.first.world.sessions seat.0 (omega (arith, here, many)) in
-    let call = under_busy e.core (seat.0 + 1) seat.1.session t.0.phase seat.1.place (k.first.agrees.each seat.0 t.0 seat.1 t.1 seat.2).at seat.3 in
+    let t = get_within k.first.world.sessions hosted_session.0 (omega (arith, here, many)) in
+    let call = under_busy e.core (hosted_session.0 + 1) hosted_session.1.session t.0.phase hosted_session.1.place (k.first.agrees.each hosted_session.0 t.0 hosted_session.1 t.1 hosted_session.2).at hosted_session.3 in
     let same = ap (λ (n : ℕ). left_below e'.core (n + 1)) (same_count e at any e' k) in
-    let less : left_below e'.core (length e.seats + 1) < left_below e.core (length e.seats + 1) = elim k.work [
-      | inl blocked ↦ absurd (not_blocked k.first.world e e'.core k.first.agrees (subst (λ (n : ℕ). AllBlocked e.core n e'.core) (sym all) blocked) (seat.0 + 1) call.0 call.1)
+    let less : left_below e'.core (length e.hosted + 1) < left_below e.core (length e.hosted + 1) = elim k.work [
+      | inl blocked ↦ absurd (not_blocked k.first.world e e'.core k.first.agrees (subst (λ (n : ℕ). AllBlocked e.core n e'.core) (sym all) blocked) (hosted_session.0 + 1) call.0 call.1)
       | inr less ↦ less
     ] in
     ((l.0, l.1, are_under_way e (l.0 ∷ l.1) l.2, subst (λ (xs : List ℕ). HasSteps xs e e') (list ∙ l.2) k.steps), omega (arith, less, same))
 
 -- ---- the bound
-phase_bound : (v : CoreView) (s : ℕ) (x : SessionView) (f : Phase) (p : SeatState) → PlaceAgrees v s x f p → steps_left_in (lane_state v s) ≤ bound_at f
+phase_bound : (v : CoreView) (s : ℕ) (x : SessionView) (f : Phase) (p : HostedState) → PlaceAgrees v s x f p → steps_left_in (lane_state v s) ≤ bound_at f
 phase_bound v s x Resting p h = let e = idle_left v s h.slot in omega (arith, e)
 phase_bound v s x (UnderWay id n m q moves) p h = let e = busy_left v s h.call h.slot in let few = h.few in omega (arith, e, few)
 phase_bound v s x (Decided id n q given) p h = let e = idle_left v s h.slot in omega (arith, e)
@@ -472,7 +472,7 @@ bounded w e agrees (suc k) le =
     let rest = bounded w e agrees k (omega (arith, le)) in
     let t = get_within w.sessions k (omega (arith, le)) in
     let all = agrees.count in
-    let p = get_within e.seats k (omega (arith, le, all)) in
+    let p = get_within e.hosted k (omega (arith, le, all)) in
     let one = phase_bound e.core (k + 1) p.0.session t.0.phase p.0.place (agrees.each k t.0 p.0 t.1 p.1).at in
     let num : k + 1 ≡ suc k = add-one k in
     let slot = ap (λ (n : ℕ). steps_left_in (lane_state e.core n)) num in
@@ -485,7 +485,7 @@ pub left_bounded : (w : World) (e : EngineView) → Agrees w e → left_to e ≤
 left_bounded w e agrees =
     let n = length w.sessions in
     let few = bounded w e agrees n (omega arith) in
-    let num : length e.seats + 1 ≡ suc n = ap (λ (k : ℕ). k + 1) agrees.count ∙ add-one n in
+    let num : length e.hosted + 1 ≡ suc n = ap (λ (k : ℕ). k + 1) agrees.count ∙ add-one n in
     let same = ap (λ (k : ℕ). left_below e.core k) num in
     let whole = ap (λ (ts : List SessionState). sum_by (λ (u : SessionState). bound_at u.phase) ts) (take_all n w.sessions (omega arith)) in
     omega (arith, few, same, whole)
@@ -494,5 +494,5 @@ pub within_bounds : (n : ℕ) (e : EngineView) → n ≤ left_to e → IsWithinB
 within_bounds n e few trace fits = let most = left_bounded fits.world e fits.agrees in omega (arith, few, most)
 
 -- so few that they can be counted
-pub few_left : (e : EngineView) → IsEngine e.core e.seats → left_to e < 2 ^ 64
+pub few_left : (e : EngineView) → IsEngine e.core e.hosted → left_to e < 2 ^ 64
 few_left e is = let most = left_bounded is.1.world e is.1.agrees in let few = bounds_short e is.0 is.1 in omega (arith, most, few)

@@ -24,9 +24,9 @@ use Rattle.sf_core.specs.Cores.{CoreView, lane_state}
 use Rattle.sf_core.specs.Progress.{waiting_reply, left_of, bound_of, is_write, IsCopying, MayDecide, did}
 use Rattle.sf_core.specs.Events.{IsOfOther, IsFinished}
 use Rattle.sf_core.specs.Events.{IsHelped as IsHelpedAt}
-use Rattle.sf_engine.specs.declared.seat.Seat.{Seat}
-use Rattle.sf_engine.specs.declared.seat.SeatState.{SeatState}
-use Rattle.sf_engine.specs.declared.seat.SeatState.TheVariants as state
+use Rattle.sf_engine.specs.declared.hosted.HostedSession.{HostedSession}
+use Rattle.sf_engine.specs.declared.hosted.HostedState.{HostedState}
+use Rattle.sf_engine.specs.declared.hosted.HostedState.TheVariants as state
 use Rattle.sf_engine.specs.declared.event.Happened.{Happened}
 use Rattle.sf_engine.specs.declared.event.Happened.TheVariants as happened
 use Rattle.sf_session.specs.SessionStates.{Phase, Resting, UnderWay, Decided, Gone, SessionState, with_phase}
@@ -34,14 +34,14 @@ use Rattle.sf_engine.specs.Worlds.{World}
 use Rattle.sf_engine.specs.Traces.{IsCallUnderWay, IsOthersCall, IsHelpedRecord, MoveAdds, DecidesCall, StepLeads, Walking, calls_begun, other_call}
 use Rattle.sf_engine.specs.Turns.{StepGives, before, after_turn}
 use Rattle.sf_engine.specs.Deciding.{WalkHasStopped, WalkStops}
-use Rattle.sf_engine.specs.Fits.{IsStillWalking, HasMoved, IsGoing, PlaceAgrees, SeatAgrees, Agrees}
+use Rattle.sf_engine.specs.Fits.{IsStillWalking, HasMoved, IsGoing, PlaceAgrees, HostedAgrees, Agrees}
 use Rattle.sf_engine.proofs.MovesBy.{MovesBy, moves_by}
-use Rattle.sf_engine.proofs.Seats.{SeatEvent, IsTold, KeepsSession, seat, number, in_phase, turn_to, under_way_as}
+use Rattle.sf_engine.proofs.HostedChanges.{HostedEvent, IsTold, KeepsSession, hosted_session, number, in_phase, turn_to, under_way_as}
 use Rattle.sf_engine.proofs.Moving.{Moves, Turned, OtherStays, get_within}
 use Rattle.sf_engine.proofs.Deciding.{moved_on, stops, step_sure}
 
 -- whose call the core has, its call is under way by the trace too
-under_way : (v : CoreView) (s : ℕ) (x : SessionView) (f : Phase) (p : SeatState) (c : Call) → lane_state v s ≡ Busy c → PlaceAgrees v s x f p → IsCallUnderWay f c.number c.moment c.request
+under_way : (v : CoreView) (s : ℕ) (x : SessionView) (f : Phase) (p : HostedState) (c : Call) → lane_state v s ≡ Busy c → PlaceAgrees v s x f p → IsCallUnderWay f c.number c.moment c.request
 under_way v s x Resting p c here h = absurd (let w : Idle ≡ Busy c = sym h.slot ∙ here in cc)
 under_way v s x (UnderWay id n m q moves) p c here h =
     let own : h.call ≡ c = let w : Busy h.call ≡ Busy c = sym h.slot ∙ here in cc in
@@ -54,14 +54,14 @@ place_of : (s n : ℕ) → ((s ≡ 0) ⊎ (n < s)) ⊎ ((i : ℕ) × (i < n) × 
 place_of zero n = inl (inl refl)
 place_of (suc i) n = elim (cases_lt i n) [ inl lt ↦ inr (i, lt, omega arith) | inr ge ↦ inl (inr (omega arith)) ]
 
-pub others_call : (w : World) (v : CoreView) (seats : List Seat) (s other : ℕ) (c : Call) → Agrees w (record { core = v; seats = seats }) → lane_state v other ≡ Busy c → other ≢ s
+pub others_call : (w : World) (v : CoreView) (hosted : List HostedSession) (s other : ℕ) (c : Call) → Agrees w (record { core = v; hosted = hosted }) → lane_state v other ≡ Busy c → other ≢ s
     → IsOthersCall w s (other_call c.number other c.moment c.request)
-others_call w v seats s other c agrees here apart = elim (place_of other (length w.sessions)) [
+others_call w v hosted s other c agrees here apart = elim (place_of other (length w.sessions)) [
   | inl out ↦ absurd (let k : NoLane ≡ Busy c = sym (agrees.nobody other out) ∙ here in cc)
   | inr at ↦
       let i = at.0 in
       let t = get_within w.sessions i at.1 in
-      let p = get_within seats i (omega (arith, at.1, agrees.count)) in
+      let p = get_within hosted i (omega (arith, at.1, agrees.count)) in
       let had = agrees.each i t.0 p.0 t.1 p.1 in
       let num : other - 1 ≡ i = omega (arith, at.2) in
       record {
@@ -72,27 +72,27 @@ others_call w v seats s other c agrees here apart = elim (place_of other (length
       }
 ]
 
-helped_one : (w : World) (v : CoreView) (seats : List Seat) (s : ℕ) (r : Record) → Agrees w (record { core = v; seats = seats }) → IsOfOther v s r → IsHelpedRecord w s r
-helped_one w v seats s (Did number session moment request given) agrees h =
+helped_one : (w : World) (v : CoreView) (hosted : List HostedSession) (s : ℕ) (r : Record) → Agrees w (record { core = v; hosted = hosted }) → IsOfOther v s r → IsHelpedRecord w s r
+helped_one w v hosted s (Did number session moment request given) agrees h =
     let c = h.0 in
-    let call = others_call w v seats s session c agrees h.2 h.1 in
+    let call = others_call w v hosted s session c agrees h.2 h.1 in
     let is : Did number session moment request given ≡ Did c.number c.session c.moment c.request given = h.4 in
     let a : c.number ≡ number = cc in
     let b : c.moment ≡ moment = cc in
     let d : c.request ≡ request = cc in
     subst (λ (n : ℕ). IsOthersCall w s (other_call n session moment request)) a (subst (λ (m : ℕ). IsOthersCall w s (other_call c.number session m request)) b (subst (λ (q : Request). IsOthersCall w s (other_call c.number session c.moment q)) d call))
-helped_one w v seats s (Left session) agrees h = absurd h
+helped_one w v hosted s (Left session) agrees h = absurd h
 
-are_helped : (w : World) (v : CoreView) (seats : List Seat) (s : ℕ) (rs : List Record) → Agrees w (record { core = v; seats = seats }) → AllByRecursion (IsOfOther v s) rs → AllByRecursion (IsHelpedRecord w s) rs
-are_helped w v seats s [] agrees h = tt
-are_helped w v seats s (r ∷ rs) agrees h = (helped_one w v seats s r agrees h.0, are_helped w v seats s rs agrees h.1)
+are_helped : (w : World) (v : CoreView) (hosted : List HostedSession) (s : ℕ) (rs : List Record) → Agrees w (record { core = v; hosted = hosted }) → AllByRecursion (IsOfOther v s) rs → AllByRecursion (IsHelpedRecord w s) rs
+are_helped w v hosted s [] agrees h = tt
+are_helped w v hosted s (r ∷ rs) agrees h = (helped_one w v hosted s r agrees h.0, are_helped w v hosted s rs agrees h.1)
 
 -- the record of a call that is under way as is told, with this reply
 abbrev pub own_did : ℕ → Walking → Reply → Record
 own_did s k given = Did k.number s k.moment k.request given
 
 -- the record of the session's call, by what is told of it
-own_record : (v : CoreView) (s : ℕ) (x : SessionView) (k : Walking) (p : SeatState) (c : Call) (given : Reply) → IsGoing v s x k p → lane_state v s ≡ Busy c → did c given ≡ own_did s k given
+own_record : (v : CoreView) (s : ℕ) (x : SessionView) (k : Walking) (p : HostedState) (c : Call) (given : Reply) → IsGoing v s x k p → lane_state v s ≡ Busy c → did c given ≡ own_did s k given
 own_record v s x k p c given at here =
     let own : at.call ≡ c = let w : Busy at.call ≡ Busy c = sym at.slot ∙ here in cc in
     ap (λ (y : Call). did y given) (sym own)
@@ -102,33 +102,33 @@ own_record v s x k p c given at here =
     ∙ ap (λ (q : Request). Did k.number s k.moment q given) at.own.3
 
 -- a session of the event whose call is under way as is told
-abbrev pub Goes : SeatEvent → Walking → Type 0
-Goes e k = IsGoing e.seat.old.core (number e.seat) e.seat.was.session k e.seat.was.place
+abbrev pub Goes : HostedEvent → Walking → Type 0
+Goes e k = IsGoing e.change.old.core (number e.change) e.change.was.session k e.change.was.place
 
 -- a call that decides has stopped
-has_stopped : (e : SeatEvent) (k : Walking) (c : Call) (given : Reply) → Goes e k → lane_state e.seat.old.core (number e.seat) ≡ Busy c
-    → IsPosition (route_of c.request) c.stage → MayDecide (replay e.world.records) c.request c.stage → waiting_reply c ≡ None → WalkHasStopped (replay e.world.records) k.moves (own_did (number e.seat) k given)
+has_stopped : (e : HostedEvent) (k : Walking) (c : Call) (given : Reply) → Goes e k → lane_state e.change.old.core (number e.change) ≡ Busy c
+    → IsPosition (route_of c.request) c.stage → MayDecide (replay e.world.records) c.request c.stage → waiting_reply c ≡ None → WalkHasStopped (replay e.world.records) k.moves (own_did (number e.change) k given)
 has_stopped e k c given at here position way undecided =
     let tree = replay e.world.records in
     let own : at.call ≡ c = let z : Busy at.call ≡ Busy c = sym at.slot ∙ here in cc in
     let moved : HasMoved c.stage k.moves = subst (λ (y : Call). HasMoved y.stage k.moves) own (at.walked (inl (ap waiting_reply own ∙ undecided))) in
-    subst (λ (r : Record). WalkHasStopped tree k.moves r) (own_record e.seat.old.core (number e.seat) e.seat.was.session k e.seat.was.place c given at here) (stops tree (route_of c.request) c.stage k.moves position moved way)
+    subst (λ (r : Record). WalkHasStopped tree k.moves r) (own_record e.change.old.core (number e.change) e.change.was.session k e.change.was.place c given at here) (stops tree (route_of c.request) c.stage k.moves position moved way)
 
 -- the session's call was decided, and its answer waits
-decided_now : (e : SeatEvent) (k : Walking) (a : AnswerView) → (is : IsTold (in_phase e (under_way_as k))) → KeepsSession e.seat
-    → Moves e.seat.old.core e.seat.core (number e.seat) (with_phase e.told (under_way_as k)) (with_phase e.told (Decided k.id k.number k.request a.reply)) 0
-    → lane_state e.seat.core (number e.seat) ≡ Idle → e.seat.now.place ≡ state.Answered (at_rest is.seat.at.lane) a
-    → DecidesCall e.world (number e.seat) k.moves (own_did (number e.seat) k a.reply) e.added
+decided_now : (e : HostedEvent) (k : Walking) (a : AnswerView) → (is : IsTold (in_phase e (under_way_as k))) → KeepsSession e.change
+    → Moves e.change.old.core e.change.core (number e.change) (with_phase e.told (under_way_as k)) (with_phase e.told (Decided k.id k.number k.request a.reply)) 0
+    → lane_state e.change.core (number e.change) ≡ Idle → e.change.now.place ≡ state.Answered (at_rest is.hosted.at.lane) a
+    → DecidesCall e.world (number e.change) k.moves (own_did (number e.change) k a.reply) e.added
     → Turned (in_phase e (under_way_as k)) 0 (λ t'. StepLeads (turn_to (in_phase e (under_way_as k)) t') k happened.Decided)
 decided_now e k a is keeps moved idle placed decides =
-    let h = is.seat in
+    let h = is.hosted in
     let at : Goes e k = h.at in
-    let q = e.seat.now in
+    let q = e.change.now in
     let told = with_phase e.told (Decided k.id k.number k.request a.reply) in record {
       told = told;
       lead = (a.reply, decides, refl);
       moves = moved;
-      agrees = subst (λ (z : SessionView). SeatAgrees e.seat.core (number e.seat) told (seat z q.place q.closed)) (sym keeps.session) (record {
+      agrees = subst (λ (z : SessionView). HostedAgrees e.change.core (number e.change) told (hosted_session z q.place q.closed)) (sym keeps.session) (record {
         unread = h.unread;
         output = h.output;
         begun = h.begun;
@@ -182,13 +182,13 @@ unfolding IsStrictlySortedBy
 nothing_rises = tt
 
 -- a step that moved
-module _ (e : SeatEvent) (k : Walking) (is : IsTold (in_phase e (under_way_as k))) (lane' : LaneView)
-    (b : MovesBy (before e.seat.old.core e.world.records is.seat.at.lane) (after_turn e.seat.core e.added lane')) where
+module _ (e : HostedEvent) (k : Walking) (is : IsTold (in_phase e (under_way_as k))) (lane' : LaneView)
+    (b : MovesBy (before e.change.old.core e.world.records is.hosted.at.lane) (after_turn e.change.core e.added lane')) where
   abbrev at : Goes e k
-  at = is.seat.at
+  at = is.hosted.at
 
-  here : lane_state e.seat.old.core (number e.seat) ≡ Busy b.before
-  here = ap (λ (i : ℕ). lane_state e.seat.old.core i) (sym at.session) ∙ b.own.slot
+  here : lane_state e.change.old.core (number e.change) ≡ Busy b.before
+  here = ap (λ (i : ℕ). lane_state e.change.old.core i) (sym at.session) ∙ b.own.slot
 
   own : at.call ≡ b.before
   own = let z : Busy at.call ≡ Busy b.before = sym at.slot ∙ here in cc
@@ -214,11 +214,11 @@ module _ (e : SeatEvent) (k : Walking) (is : IsTold (in_phase e (under_way_as k)
             (
               g.0,
               record {
-                stopped = subst (λ (i : ℕ). WalkHasStopped (replay e.world.records) i (own_did (number e.seat) k g.0)) zero stopped;
+                stopped = subst (λ (i : ℕ). WalkHasStopped (replay e.world.records) i (own_did (number e.change) k g.0)) zero stopped;
                 helped = [];
                 of_others = tt;
                 rising = nothing_rises;
-                records = it.records ∙ ap (λ (y : Record). y ∷ []) (own_record e.seat.old.core (number e.seat) e.seat.was.session k e.seat.was.place b.before g.0 at here);
+                records = it.records ∙ ap (λ (y : Record). y ∷ []) (own_record e.change.old.core (number e.change) e.change.was.session k e.change.was.place b.before g.0 at here);
                 sure = it.sure;
               },
             ),
@@ -236,15 +236,15 @@ module _ (e : SeatEvent) (k : Walking) (is : IsTold (in_phase e (under_way_as k)
     ]
   ]
 
-pub step_turned : (e : SeatEvent) (k : Walking) (r : Happened) → (is : IsTold (in_phase e (under_way_as k))) → KeepsSession e.seat → (lane' : LaneView)
-    → StepGives (before e.seat.old.core e.world.records is.seat.at.lane) r (after_turn e.seat.core e.added lane') e.seat.now.place
+pub step_turned : (e : HostedEvent) (k : Walking) (r : Happened) → (is : IsTold (in_phase e (under_way_as k))) → KeepsSession e.change → (lane' : LaneView)
+    → StepGives (before e.change.old.core e.world.records is.hosted.at.lane) r (after_turn e.change.core e.added lane') e.change.now.place
     → Turned (in_phase e (under_way_as k)) (calls_begun r) (λ t'. StepLeads (turn_to (in_phase e (under_way_as k)) t') k r)
 step_turned e k happened.Moved is keeps lane' g =
-    let v' = e.seat.core in
-    let h = is.seat in
+    let v' = e.change.core in
+    let h = is.hosted in
     let at : Goes e k = h.at in
-    let q = e.seat.now in
-    let b = moves_by (before e.seat.old.core e.world.records at.lane) (after_turn v' e.added lane') g.0 in
+    let q = e.change.now in
+    let b = moves_by (before e.change.old.core e.world.records at.lane) (after_turn v' e.added lane') g.0 in
     let told = with_phase e.told (UnderWay k.id k.number k.moment k.request (k.moves + 1)) in
     let same = own e k is lane' b in
     let few : k.moves + 1 + left_of b.after ≤ bound_of k.request = let less = b.less in omega (arith, at.few, less, ap left_of same) in
@@ -257,7 +257,7 @@ step_turned e k happened.Moved is keeps lane' g =
         joined = ap (λ (i : ℕ). i + 1) b.slot.joined;
         others = λ i ne. inl (b.slot.others i (λ z. ne (z ∙ at.session)));
       };
-      agrees = subst (λ (z : SessionView). SeatAgrees v' (number e.seat) told (seat z q.place q.closed)) (sym keeps.session) (record {
+      agrees = subst (λ (z : SessionView). HostedAgrees v' (number e.change) told (hosted_session z q.place q.closed)) (sym keeps.session) (record {
         unread = h.unread;
         output = h.output;
         begun = h.begun;
@@ -283,20 +283,20 @@ step_turned e k happened.Moved is keeps lane' g =
       });
     }
 step_turned e k (happened.Blocked holder) is keeps lane' g =
-    let v = e.seat.old.core in
-    let v' = e.seat.core in
-    let s = number e.seat in
-    let h = is.seat in
+    let v = e.change.old.core in
+    let v' = e.change.core in
+    let s = number e.change in
+    let h = is.hosted in
     let at : Goes e k = h.at in
-    let q = e.seat.now in
+    let q = e.change.now in
     let b = g.0.1 in
     let was = with_phase e.told (under_way_as k) in
-    let call = others_call e.world v e.seat.old.seats s b.other b.call is.agrees b.slot (λ z. b.apart (z ∙ sym at.session)) in
+    let call = others_call e.world v e.change.old.hosted s b.other b.call is.agrees b.slot (λ z. b.apart (z ∙ sym at.session)) in
     record {
       told = was;
       lead = ((b.other, b.call.moment, b.call.request, subst (λ (n : ℕ). IsOthersCall e.world s (other_call n b.other b.call.moment b.call.request)) b.number call), g.1.none, refl);
       moves = record { joins = b.looks.joins; drawn = b.looks.drawn ∙ omega arith; joined = ap (λ (i : ℕ). i + 1) b.looks.joined; others = λ i ne. inl (b.looks.slots i) };
-      agrees = subst (λ (z : SessionView). SeatAgrees v' s was (seat z q.place q.closed)) (sym keeps.session) (record {
+      agrees = subst (λ (z : SessionView). HostedAgrees v' s was (hosted_session z q.place q.closed)) (sym keeps.session) (record {
         unread = h.unread;
         output = h.output;
         begun = h.begun;
@@ -317,13 +317,13 @@ step_turned e k (happened.Blocked holder) is keeps lane' g =
       });
     }
 step_turned e k happened.Decided is keeps lane' g =
-    let v = e.seat.old.core in
-    let v' = e.seat.core in
-    let s = number e.seat in
-    let at : Goes e k = is.seat.at in
+    let v = e.change.old.core in
+    let v' = e.change.core in
+    let s = number e.change in
+    let at : Goes e k = is.hosted.at in
     let a = g.0 in
     let d = g.1.0 in
-    let placed : e.seat.now.place ≡ state.Answered (at_rest at.lane) a = g.3 ∙ ap (λ (l : LaneView). state.Answered l a) g.2.lane in
+    let placed : e.change.now.place ≡ state.Answered (at_rest at.lane) a = g.3 ∙ ap (λ (l : LaneView). state.Answered l a) g.2.lane in
     elim g.1.1 [
       | inl f ↦
           let here : lane_state v s ≡ Busy d = ap (λ (n : ℕ). lane_state v n) (sym at.session) ∙ f.own.slot in
@@ -335,7 +335,7 @@ step_turned e k happened.Decided is keeps lane' g =
             others = λ i ne. inl (f.slot.others i (λ z. ne (z ∙ at.session)));
           })
           (ap (λ (n : ℕ). lane_state v' n) (sym at.session) ∙ f.slot.own) placed
-          (inl (f.none, subst (λ (y : Record). IsAmong y e.world.records) (own_record v s e.seat.was.session k e.seat.was.place d a.reply at here) f.recorded))
+          (inl (f.none, subst (λ (y : Record). IsAmong y e.world.records) (own_record v s e.change.was.session k e.change.was.place d a.reply at here) f.recorded))
       | inr f ↦
           let here : lane_state v s ≡ Busy d = ap (λ (n : ℕ). lane_state v n) (sym at.session) ∙ f.own.slot in
           decided_now e k a is keeps
@@ -349,9 +349,9 @@ step_turned e k happened.Decided is keeps lane' g =
           (inr (record {
             stopped = has_stopped e k d a.reply at here f.position f.way f.undecided;
             helped = f.helped;
-            of_others = are_helped e.world v e.seat.old.seats s f.helped is.agrees (subst (λ (n : ℕ). AllByRecursion (IsOfOther v n) f.helped) at.session f.of_others);
+            of_others = are_helped e.world v e.change.old.hosted s f.helped is.agrees (subst (λ (n : ℕ). AllByRecursion (IsOfOther v n) f.helped) at.session f.of_others);
             rising = f.order.rising;
-            records = f.records ∙ ap (λ (y : Record). f.helped ++ y ∷ []) (own_record v s e.seat.was.session k e.seat.was.place d a.reply at here);
+            records = f.records ∙ ap (λ (y : Record). f.helped ++ y ∷ []) (own_record v s e.change.was.session k e.change.was.place d a.reply at here);
             sure = step_sure (before v e.world.records at.lane) (after_turn v' e.added lane') d a.reply f;
           }))
     ]

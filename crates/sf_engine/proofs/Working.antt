@@ -11,8 +11,8 @@ use Rattle.sf_core.specs.Lanes.{LaneView}
 use Rattle.sf_core.specs.Cores.{CoreView}
 use Rattle.sf_core.specs.Progress.{did, names_in_records}
 use Rattle.sf_core.specs.Events.{Before, After, Decides, IsOfOther}
-use Rattle.sf_engine.specs.declared.seat.SeatState.{SeatState}
-use Rattle.sf_engine.specs.declared.seat.SeatState.TheVariants as state
+use Rattle.sf_engine.specs.declared.hosted.HostedState.{HostedState}
+use Rattle.sf_engine.specs.declared.hosted.HostedState.TheVariants as state
 use Rattle.sf_engine.specs.declared.event.Event.TheVariants as event
 use Rattle.sf_engine.specs.declared.event.Happened.{Happened}
 use Rattle.sf_engine.specs.declared.event.Happened.TheVariants as happened
@@ -53,7 +53,7 @@ pub same_work : (s m : ℕ) (v : CoreView) (added : List Record) (w : CoreView) 
 same_work s m v added w e = (omega (arith, e), omega (arith, e))
 
 -- a step of a call under way
-step_works : (b : Before) (s m : ℕ) (r : Happened) (a : After) (p : SeatState) → b.lane.session ≡ s → StepGives b r a p → Works s m r b.core b.history a.added a.core
+step_works : (b : Before) (s m : ℕ) (r : Happened) (a : After) (p : HostedState) → b.lane.session ≡ s → StepGives b r a p → Works s m r b.core b.history a.added a.core
 step_works b s m happened.Moved a p e g = record {
   step = (b.lane, a.lane, e, g.0);
   work = let moves = moves_by b a g.0 in let more = moves.more in let few = moves.few in (more, omega (arith, few));
@@ -103,21 +103,21 @@ settle_same a lane true added b g = g.0.look_ups
 pub turn_works : (a : Stand) (h : List Record) (found : Finding) (s : ℕ) (f : Phase) (r : Happened) (added : List Record) (b : Stand) → PlaceAgrees a.core s a.session f a.place → PlaceGives a h found r added b → Works s found.moment r a.core h added b.core
 turn_works a h found s Resting r added b is g =
     let at : HasNoCall a.core s a.session a.place = is in
-    read_works a at.lane h s found.moment r added b at.session (subst (λ (z : SeatState). GivesAt z a h found r added b) at.place_is g)
+    read_works a at.lane h s found.moment r added b at.session (subst (λ (z : HostedState). GivesAt z a h found r added b) at.place_is g)
 turn_works a h found s (UnderWay id n k q moves) r added b is g =
     let at : IsGoing a.core s a.session (walking id n k q moves) a.place = is in
-    let g' = subst (λ (z : SeatState). GivesAt z a h found r added b) at.place_is g in
+    let g' = subst (λ (z : HostedState). GivesAt z a h found r added b) at.place_is g in
     step_works (before a.core h at.lane) s found.moment r (after_turn b.core added g'.0.0) b.place at.session g'.0.1
 turn_works a h found s (IsDecided id n q given) r added b is g =
     let at : HasAnswer a.core s a.session (reply_due id given) a.place = is in
-    let g' = subst (λ (z : SeatState). GivesAt z a h found r added b) at.place_is g in
+    let g' = subst (λ (z : HostedState). GivesAt z a h found r added b) at.place_is g in
     let P : Happened → Type 0 = λ z. Works s found.moment z a.core h added b.core in
     subst P (sym g'.0) (record {
       step = (at.lane, at.lane, at.session, tt);
       work = same_work s found.moment a.core added b.core (settle_same (stand a.core g'.1.0 (state.Resting at.lane)) at.lane found.closed added b g'.1.2);
     })
 turn_works a h found s (Gone cause) r added b is g =
-    let g' = subst (λ (z : SeatState). GivesAt z a h found r added b) is.0 g in
+    let g' = subst (λ (z : HostedState). GivesAt z a h found r added b) is.0 g in
     let lane : LaneView = record { session = s; call = None; begun = 0 } in
     let P : Happened → Type 0 = λ z. Works s found.moment z a.core h added b.core in
     subst P (sym g'.0) (record {
@@ -126,7 +126,7 @@ turn_works a h found s (Gone cause) r added b is g =
     })
 
 -- closing makes no look-up
-pub close_same : (p : SeatState) (a : Stand) (added : List Record) (b : Stand) (goes_on : Bool) → ClosesAt p a added b goes_on → b.core.look_ups ≡ a.core.look_ups
+pub close_same : (p : HostedState) (a : Stand) (added : List Record) (b : Stand) (goes_on : Bool) → ClosesAt p a added b goes_on → b.core.look_ups ≡ a.core.look_ups
 close_same (state.Resting lane) a added b goes_on g = settle_same a lane true added b g.0
 close_same (state.UnderWay lane) a added b goes_on g = ap (λ (z : CoreView). z.look_ups) g.0.0
 close_same (state.Answered lane given) a added b goes_on g = ap (λ (z : CoreView). z.look_ups) g.0.0

@@ -15,9 +15,9 @@ use Rattle.sf_core.specs.Cores.LaneState.{NoLane, Idle, Busy}
 use Rattle.sf_core.specs.Cores.{CoreView, lane_state, joined}
 use Rattle.sf_core.specs.Progress.{waiting_reply, left_of, bound_of, IsCopying}
 use Rattle.sf_core.specs.Histories.{IsHistory}
-use Rattle.sf_engine.specs.declared.seat.Seat.{Seat}
-use Rattle.sf_engine.specs.declared.seat.SeatState.{SeatState}
-use Rattle.sf_engine.specs.declared.seat.SeatState.TheVariants as state
+use Rattle.sf_engine.specs.declared.hosted.HostedSession.{HostedSession}
+use Rattle.sf_engine.specs.declared.hosted.HostedState.{HostedState}
+use Rattle.sf_engine.specs.declared.hosted.HostedState.TheVariants as state
 use Rattle.sf_engine.specs.declared.event.Event.{Event}
 use Rattle.sf_engine.specs.declared.event.Happened.{Happened}
 use Rattle.sf_engine.specs.declared.event.EngineFault.{EngineFault}
@@ -30,7 +30,7 @@ use Rattle.sf_engine.specs.Promise.{refusals}
 use Rattle.sf_engine.specs.Views.{EngineView}
 
 -- a resting session
-pub record HasNoCall (v : CoreView) (s : ℕ) (x : SessionView) (p : SeatState) : Type 0 where
+pub record HasNoCall (v : CoreView) (s : ℕ) (x : SessionView) (p : HostedState) : Type 0 where
   pub lane : LaneView
   pub session : lane.session ≡ s
   pub idle : lane.call ≡ None
@@ -54,7 +54,7 @@ HasMoved (stage.Copies node blocks) moves = 0 < moves
 -- A session whose call is under way as is told: the core has the call, and so many steps are left
 -- to it at most.
 pub record IsGoing (v : CoreView) (s : ℕ) (x : SessionView) (told : Walking)
-    (p : SeatState) : Type 0 where
+    (p : HostedState) : Type 0 where
   pub lane : LaneView
   pub call : Call
   pub session : lane.session ≡ s
@@ -78,7 +78,7 @@ reply_due id reply = record { id = id; reply = reply }
 
 -- a session whose answer waits
 pub record HasAnswer (v : CoreView) (s : ℕ) (x : SessionView) (d : DueReply)
-    (p : SeatState) : Type 0 where
+    (p : HostedState) : Type 0 where
   pub lane : LaneView
   pub answer : AnswerView
   pub session : lane.session ≡ s
@@ -90,7 +90,7 @@ pub record HasAnswer (v : CoreView) (s : ℕ) (x : SessionView) (d : DueReply)
   pub ended : x.ended ≡ None
 
 -- what an engine has for a session is as far as a trace tells
-abbrev pub PlaceAgrees : CoreView → ℕ → SessionView → Phase → SeatState → Type 0
+abbrev pub PlaceAgrees : CoreView → ℕ → SessionView → Phase → HostedState → Type 0
 PlaceAgrees v s x Resting p = HasNoCall v s x p
 PlaceAgrees v s x (UnderWay id number moment request moves) p =
     IsGoing v s x (walking id number moment request moves) p
@@ -98,7 +98,7 @@ PlaceAgrees v s x (Decided id number request reply) p = HasAnswer v s x (reply_d
 PlaceAgrees v s x (Gone cause) p = (p ≡ state.Left cause) × (lane_state v s ≡ NoLane)
     × (x.ended ≢ None)
 
-pub record SeatAgrees (v : CoreView) (s : ℕ) (t : SessionState) (p : Seat) : Type 0 where
+pub record HostedAgrees (v : CoreView) (s : ℕ) (t : SessionState) (p : HostedSession) : Type 0 where
   pub unread : p.session.unread ≡ t.unread
   pub output : transcript t.answers ≡ t.sent ++ p.session.output
   pub begun : p.session.begun ≡ has_begun t.bodies
@@ -111,10 +111,10 @@ pub record Agrees (w : World) (e : EngineView) : Type 0 where
   pub begun : e.core.drawn ≡ w.begun
   pub opened : e.core.joins ≡ length w.sessions
   pub here : joined e.core ≡ here w
-  pub count : length e.seats ≡ length w.sessions
-  pub each : (i : ℕ) (t : SessionState) (p : Seat) → slice_get w.sessions i ≡ Some t
-      → slice_get e.seats i ≡ Some p
-      → SeatAgrees e.core (i + 1) t p
+  pub count : length e.hosted ≡ length w.sessions
+  pub each : (i : ℕ) (t : SessionState) (p : HostedSession) → slice_get w.sessions i ≡ Some t
+      → slice_get e.hosted i ≡ Some p
+      → HostedAgrees e.core (i + 1) t p
   pub nobody : (s : ℕ) → (s ≡ 0) ⊎ (length w.sessions < s) → lane_state e.core s ≡ NoLane
 
 -- The trace is lawful. Its order is a legal history, and the core's. What the engine keeps is what
@@ -130,8 +130,9 @@ abbrev pub trace_entry : Event → Result Happened EngineFault → List Record �
 trace_entry event result added = record { event = event; result = result; added = added }
 
 -- what is true of every engine: there is a trace that it fits
-abbrev pub IsEngine : CoreView → List Seat → Type 0
-IsEngine core seats = (trace : List TraceEntry) × Fits (record { core = core; seats = seats }) trace
+abbrev pub IsEngine : CoreView → List HostedSession → Type 0
+IsEngine core hosted =
+    (trace : List TraceEntry) × Fits (record { core = core; hosted = hosted }) trace
 
 -- The engine fits each trace that it fitted, followed by the event's entry, which leads on from
 -- where the trace led. What the event did to the core is the step of the session's call, and so

@@ -66,4 +66,4 @@ IsWithinBounds rounds e =
 
 -- how many steps are left to the calls of an engine
 abbrev pub left_to : EngineView → ℕ
-left_to e = left_below e.core (length e.seats + 1)
+left_to e = left_below e.core (length e.hosted + 1)

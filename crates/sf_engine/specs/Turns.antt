@@ -18,9 +18,9 @@ use Rattle.sf_core.specs.Cores.LaneState.{Idle}
 use Rattle.sf_core.specs.Cores.{CoreView, lane_state, joined, most_sessions, last_number}
 use Rattle.sf_core.specs.Events.{Before, After, Joins, OwnCall, MovesOn, IsBlocked, Fetches, Decides, AddsNothing, Answers, CallBegins, begun, RefusesBegin, Leaves}
 use Rattle.sf_core.specs.Histories.{IsHistory}
-use Rattle.sf_engine.specs.declared.seat.Seat.{Seat}
-use Rattle.sf_engine.specs.declared.seat.SeatState.{SeatState}
-use Rattle.sf_engine.specs.declared.seat.SeatState.TheVariants as state
+use Rattle.sf_engine.specs.declared.hosted.HostedSession.{HostedSession}
+use Rattle.sf_engine.specs.declared.hosted.HostedState.{HostedState}
+use Rattle.sf_engine.specs.declared.hosted.HostedState.TheVariants as state
 use Rattle.sf_engine.specs.declared.event.Happened.{Happened}
 use Rattle.sf_engine.specs.declared.event.Happened.TheVariants as happened
 use Rattle.sf_engine.specs.declared.event.EngineFault.{EngineFault}
@@ -36,9 +36,9 @@ AddsRecords v w R =
 pub record Stand : Type 0 where
   pub core : CoreView
   pub session : SessionView
-  pub place : SeatState
+  pub place : HostedState
 
-abbrev pub stand : CoreView → SessionView → SeatState → Stand
+abbrev pub stand : CoreView → SessionView → HostedState → Stand
 stand v x p = record { core = v; session = x; place = p }
 
 -- what turns find: whether the session was closed, and the moment
@@ -56,7 +56,7 @@ abbrev pub after_turn : CoreView → List Record → LaneView → After
 after_turn w added lane = record { core = w; added = added; lane = lane }
 
 -- the step of a call under way
-abbrev pub StepGives : Before → Happened → After → SeatState → Type 0
+abbrev pub StepGives : Before → Happened → After → HostedState → Type 0
 StepGives b happened.Moved a p = MovesOn b a × (p ≡ state.UnderWay a.lane)
 StepGives b (happened.Blocked holder) a p = ((c : Call) × IsBlocked b.core a.core b.lane c holder)
     × AddsNothing b a × (p ≡ state.UnderWay a.lane)
@@ -109,47 +109,47 @@ WritesAnswer a lane given closed added b = (mid : SessionView)
     × RestsOrLeaves (stand a.core mid (state.Resting lane)) lane closed added b
 
 -- what a session's state asks of the core and of the session
-abbrev pub IsSeatState : CoreView → SessionView → SeatState → Type 0
-IsSeatState v x (state.Resting lane) =
+abbrev pub IsHostedState : CoreView → SessionView → HostedState → Type 0
+IsHostedState v x (state.Resting lane) =
     (lane.call ≡ None) × (lane_state v lane.session ≡ Idle) × (x.waiting ≡ None)
-IsSeatState v x (state.UnderWay lane) =
+IsHostedState v x (state.UnderWay lane) =
     (h : List Record) × (c : Call) × IsHistory v h × OwnCall v lane c
-IsSeatState v x (state.Answered lane a) =
+IsHostedState v x (state.Answered lane a) =
     (lane.call ≡ None) × (lane_state v lane.session ≡ Idle) × IsSome x.waiting
-IsSeatState v x (state.Left cause) = Unit {0}
+IsHostedState v x (state.Left cause) = Unit {0}
 
 -- whether a session's call goes on: it is under way, or its answer waits
-abbrev pub is_busy : SeatState → Bool
+abbrev pub is_busy : HostedState → Bool
 is_busy (state.Resting lane) = false
 is_busy (state.UnderWay lane) = true
 is_busy (state.Answered lane given) = true
 is_busy (state.Left cause) = false
 
-abbrev pub is_resting : SeatState → Bool
+abbrev pub is_resting : HostedState → Bool
 is_resting (state.Resting lane) = true
 is_resting (state.UnderWay lane) = false
 is_resting (state.Answered lane given) = false
 is_resting (state.Left cause) = false
 
-abbrev pub is_under_way : SeatState → Bool
+abbrev pub is_under_way : HostedState → Bool
 is_under_way (state.UnderWay lane) = true
 is_under_way _ = false
 
 -- whether it has a lane, and which
-abbrev pub has_lane : SeatState → Bool
+abbrev pub has_lane : HostedState → Bool
 has_lane (state.Resting lane) = true
 has_lane (state.UnderWay lane) = true
 has_lane (state.Answered lane given) = true
 has_lane (state.Left cause) = false
 
-abbrev pub IsLaneOf : SeatState → LaneView → Type 0
+abbrev pub IsLaneOf : HostedState → LaneView → Type 0
 IsLaneOf (state.Resting own) lane = lane ≡ own
 IsLaneOf (state.UnderWay own) lane = lane ≡ own
 IsLaneOf (state.Answered own given) lane = lane ≡ own
 IsLaneOf (state.Left cause) lane = ⊥
 
 -- what a turn gives at a place
-abbrev pub GivesAt : SeatState → Stand → List Record → Finding → Happened → List Record → Stand
+abbrev pub GivesAt : HostedState → Stand → List Record → Finding → Happened → List Record → Stand
     → Type 0
 GivesAt (state.Resting lane) a h f r added b = ReadGives a lane f.moment r added b
 GivesAt (state.UnderWay lane) a h f r added b =
@@ -171,7 +171,7 @@ StaysAs a added b =
     (b.core ≡ a.core) × (added ≡ []) × (b.session ≡ a.session) × (b.place ≡ a.place)
 
 -- what closing gives at a place
-abbrev pub ClosesAt : SeatState → Stand → List Record → Stand → Bool → Type 0
+abbrev pub ClosesAt : HostedState → Stand → List Record → Stand → Bool → Type 0
 ClosesAt (state.Resting lane) a added b goes_on = RestsOrLeaves a lane true added b
     × (goes_on ≡ false)
 ClosesAt (state.UnderWay lane) a added b goes_on = StaysAs a added b × (goes_on ≡ true)
@@ -183,33 +183,34 @@ abbrev pub CloseGives : Stand → List Record → Stand → Bool → Type 0
 CloseGives a added b goes_on = ClosesAt a.place a added b goes_on
 
 -- bytes were fed
-pub record FeedGives (p : Seat) (bytes : List ℕ) (r : Happened) (q : Seat) : Type 0 where
+pub record FeedGives (p : HostedSession) (bytes : List ℕ) (r : Happened) (q : HostedSession)
+    : Type 0 where
   pub fed : r ≡ happened.Fed
   pub unclosed : p.closed ≡ false
   pub unended : p.session.ended ≡ None
   pub now : q ≡ record p { session = record p.session { unread = p.session.unread ++ bytes } }
 
-abbrev pub FeedFault : Seat → EngineFault → Type 0
+abbrev pub FeedFault : HostedSession → EngineFault → Type 0
 FeedFault p fault.OutOfMemory = (p.closed ≡ false) × (p.session.ended ≡ None)
 FeedFault p fault.Ended = (p.closed ≡ true) ⊎ (p.session.ended ≢ None)
 FeedFault p _ = ⊥
 
 -- the first bytes of the output were sent
-pub record SentGives (p : Seat) (n : ℕ) (r : Happened) (q : Seat) : Type 0 where
+pub record SentGives (p : HostedSession) (n : ℕ) (r : Happened) (q : HostedSession) : Type 0 where
   pub sent : r ≡ happened.Sent
   pub within : n ≤ length p.session.output
   pub now : q ≡ record p { session = record p.session { output = drop n p.session.output } }
 
-abbrev pub SentFault : Seat → ℕ → EngineFault → Type 0
+abbrev pub SentFault : HostedSession → ℕ → EngineFault → Type 0
 SentFault p n fault.NotSent = length p.session.output < n
 SentFault p n _ = ⊥
 
--- a session joined, and has the next seat
-pub record OpenGives (v : CoreView) (seats : List Seat) (r : Happened) (w : CoreView)
-    (seats' : List Seat) : Type 0 where
+-- a session joined, and is the next one that the engine hosts
+pub record OpenGives (v : CoreView) (hosted : List HostedSession) (r : Happened) (w : CoreView)
+    (hosted' : List HostedSession) : Type 0 where
   pub opened : r ≡ happened.Opened (v.joins + 1)
   pub core : Joins v w
-  pub added : seats' ≡ seats ++ record {
+  pub added : hosted' ≡ hosted ++ record {
     session = new_session;
     place = state.Resting (record { session = v.joins + 1; call = None; begun = 0 });
     closed = false;
@@ -222,7 +223,7 @@ OpenFault v fault.NumbersSpent = (joined v < most_sessions) × (v.joins ≡ last
 OpenFault v _ = ⊥
 
 -- where a turn may want memory: to read a packet, or for a reply that is longer than its room
-abbrev pub MayRefuseTurn : SeatState → Type 0
+abbrev pub MayRefuseTurn : HostedState → Type 0
 MayRefuseTurn (state.Resting lane) = Unit {0}
 MayRefuseTurn (state.UnderWay lane) = ⊥
 MayRefuseTurn (state.Answered lane a) = (id : ℕ)
@@ -233,7 +234,7 @@ MayRefuseTurn (state.Left cause) = ⊥
 pub record IsReady (a : Stand) : Type 0 where
   pub history : List Record
   pub is_history : IsHistory a.core history
-  pub placed : IsSeatState a.core a.session a.place
+  pub placed : IsHostedState a.core a.session a.place
   pub waits : is_busy a.place ≡ true → IsSome a.session.waiting
 
 -- a turn of a session

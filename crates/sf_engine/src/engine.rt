@@ -8,15 +8,16 @@ ghost use Rattle.sf_core.specs.Cores.{new_core};
 ghost use Rattle.sf_core.specs.Histories.{IsHistory};
 ghost use Rattle.sf_engine.specs.Promise.{refusals};
 ghost use Rattle.sf_engine.specs.Traces.{goes_on_at, order};
-ghost use Rattle.sf_engine.specs.declared.seat.Seat.{Seat};
+ghost use Rattle.sf_engine.specs.declared.hosted.HostedSession.{HostedSession};
 ghost use Rattle.sf_engine.specs.Turns.{is_under_way};
 ghost use Rattle.sf_engine.specs.Worlds.{TraceEntry};
 ghost use Rattle.sf_engine.specs.Rounds.{AreUnderWay, IsRound, HasRounds, IsWithinBounds, left_to};
 ghost use Rattle.sf_engine.specs.Fits.{IsEngine, Fits, GoesOnTrace, HasTurns, HasRun, IsSentBy, IsUnknownSession, WantsBytesBy};
 
 use crate::event::{EngineFault, Event, Happened};
-use crate::seat::{
-    Seat, close_seat, feed_seat, open_seat, send_seat, turn_seat, turns_seat, wants_bytes,
+use crate::hosted::{
+    HostedSession, close_hosted, feed_hosted, open_hosted, send_hosted, turn_hosted, turns_hosted,
+    wants_bytes,
 };
 use sf_call::Leaf;
 use sf_core::Core;
@@ -27,7 +28,7 @@ use std::marker::Model;
 pub struct Engine {
     alloc: Global,
     core: Core,
-    seats: Vec<Seat>,
+    hosted: Vec<HostedSession>,
 }
 
 impl Drop for Engine {
@@ -36,7 +37,7 @@ impl Drop for Engine {
         let Engine {
             alloc: _,
             core: _core,
-            seats: _seats,
+            hosted: _hosted,
         } = self;
     }
 }
@@ -46,14 +47,14 @@ impl Model for Engine {
 
     ghost Value = { EngineView };
 
-    ghost view = { λ e. record { core = e.core; seats = e.seats.items } };
+    ghost view = { λ e. record { core = e.core; hosted = e.hosted.items } };
 
     ghost use Rattle.sf_engine.specs.Fits.{IsEngine};
 
-    ghost invariant = { λ e. IsEngine e.core e.seats.items };
+    ghost invariant = { λ e. IsEngine e.core e.hosted.items };
 }
 
-/// Where a session's seat is.
+/// Where a session is among those that the engine hosts.
 fn index_of(session: u64, count: usize) -> Option<usize>
     ensures some { IfSome result (λ at. (at + 1 ≡ session) × (at < count)) }
     ensures none { IfNone result ((session ≡ 0) ⊎ (count < session)) }
@@ -105,7 +106,7 @@ impl Engine {
         Engine {
             alloc,
             core,
-            seats: Vec::new(alloc),
+            hosted: Vec::new(alloc),
         }
     }
 
@@ -113,27 +114,27 @@ impl Engine {
         ensures fits { GoesOnTrace self.old Event.Open result self.new }
         ensures err { OnErr result (self.new ≡ self.old) }
     {
-        open_seat(self.alloc, &mut self.core, &mut self.seats)
+        open_hosted(self.alloc, &mut self.core, &mut self.hosted)
     }
 
     fn turn(&mut self, session: u64, moment: u32) -> Result<Happened, EngineFault>
         ensures fits { GoesOnTrace self.old (Event.Turn session moment) result self.new }
         ensures err { OnErr result (self.new ≡ self.old) }
     {
-        let Some(at) = index_of(session, self.seats.len()) else {
+        let Some(at) = index_of(session, self.hosted.len()) else {
             return Err(EngineFault::NoSuchSession);
         };
-        turn_seat(&mut self.core, &mut self.seats[at], moment)
+        turn_hosted(&mut self.core, &mut self.hosted[at], moment)
     }
 
     fn close(&mut self, session: u64) -> Result<Happened, EngineFault>
         ensures fits { GoesOnTrace self.old (Event.Close session) result self.new }
         ensures err { OnErr result (self.new ≡ self.old) }
     {
-        let Some(at) = index_of(session, self.seats.len()) else {
+        let Some(at) = index_of(session, self.hosted.len()) else {
             return Err(EngineFault::NoSuchSession);
         };
-        close_seat(&mut self.core, &mut self.seats[at]);
+        close_hosted(&mut self.core, &mut self.hosted[at]);
         Ok(Happened::Closed)
     }
 
@@ -159,10 +160,10 @@ impl Engine {
             → GoesOnTrace self.old (Event.Feed session fed) result self.new }
         ensures err { OnErr result (self.new ≡ self.old) }
     {
-        let Some(at) = index_of(session, self.seats.len()) else {
+        let Some(at) = index_of(session, self.hosted.len()) else {
             return Err(EngineFault::NoSuchSession);
         };
-        feed_seat(&mut self.seats[at], bytes)
+        feed_hosted(&mut self.hosted[at], bytes)
     }
 
     /// Tells that so many bytes of a session's output were sent, as the event `Sent` does, without
@@ -171,10 +172,10 @@ impl Engine {
         ensures fits { GoesOnTrace self.old (Event.Sent session n) result self.new }
         ensures err { OnErr result (self.new ≡ self.old) }
     {
-        let Some(at) = index_of(session, self.seats.len()) else {
+        let Some(at) = index_of(session, self.hosted.len()) else {
             return Err(EngineFault::NoSuchSession);
         };
-        send_seat(&mut self.seats[at], n)
+        send_hosted(&mut self.hosted[at], n)
     }
 
     /// Turns of a session at a moment, as long as its call is on its way to its reply. What came of
@@ -183,27 +184,28 @@ impl Engine {
         ensures { (n : ℕ) × HasTurns n self.old (Event.Turn session moment) result self.new
             × (goes_on_at result ≡ true → 2 ^ 64 - 2 ≤ n) }
     {
-        let Some(at) = index_of(session, self.seats.len()) else {
+        let Some(at) = index_of(session, self.hosted.len()) else {
             return Err(EngineFault::NoSuchSession);
         };
-        turns_seat(&mut self.core, &mut self.seats[at], moment)
+        turns_hosted(&mut self.core, &mut self.hosted[at], moment)
     }
 
     /// How many sessions there ever were.
     fn count(&self) -> usize
-        ensures count { result ≡ length self.now.seats }
-        ensures engine { IsEngine self.now.core self.now.seats }
+        ensures count { result ≡ length self.now.hosted }
+        ensures engine { IsEngine self.now.core self.now.hosted }
     {
-        self.seats.len()
+        self.hosted.len()
     }
 
-    /// Whether the call of the session at this seat is under way.
+    /// Whether the call of the session at this place is under way.
     fn is_under_way(&self, at: usize) -> bool
-        requires { at < length self.now.seats }
-        ensures { (seat : Seat) → slice_get self.now.seats at ≡ Some seat
-            → result ≡ is_under_way seat.place }
+        requires { at < length self.now.hosted }
+        ensures { (hosted_session : HostedSession)
+            → slice_get self.now.hosted at ≡ Some hosted_session
+            → result ≡ is_under_way hosted_session.place }
     {
-        self.seats[at].place.is_under_way()
+        self.hosted[at].place.is_under_way()
     }
 
     /// One step of each session whose call is under way, by rising number. Whether there was one is
@@ -214,7 +216,7 @@ impl Engine {
         ensures none { result ≡ false → (self.new ≡ self.old) × AreUnderWay [] self.old }
     {
         let mut any = false;
-        'seats: for at in 0..self.count() {
+        'hosted: for at in 0..self.count() {
             if self.is_under_way(at) {
                 any = true;
                 let _stepped = self.turn(at as u64 + 1, 0);
@@ -258,11 +260,11 @@ impl Engine {
         ensures sent { IfSome result (λ output. IsSentBy self.now session output.now) }
         ensures unknown { IfNone result (IsUnknownSession self.now session) }
     {
-        let Some(at) = index_of(session, self.seats.len()) else {
+        let Some(at) = index_of(session, self.hosted.len()) else {
             return None;
         };
-        let seat = &self.seats[at];
-        Some(seat.session.output())
+        let hosted_session = &self.hosted[at];
+        Some(hosted_session.session.output())
     }
 
     /// Whether a session rests with no whole packet unread, and no wrong length: a turn would come
@@ -270,10 +272,10 @@ impl Engine {
     pub fn wants_bytes(&self, session: u64) -> bool
         ensures { WantsBytesBy self.now session result }
     {
-        let Some(at) = index_of(session, self.seats.len()) else {
+        let Some(at) = index_of(session, self.hosted.len()) else {
             return false;
         };
-        wants_bytes(&self.seats[at])
+        wants_bytes(&self.hosted[at])
     }
 
     /// Every path of the tree once, in the order of paths, with the label, the attributes and, of a

@@ -10,14 +10,15 @@
 //! and `specs/Fits.antt` says when an engine fits a trace, which `new`, `apply`, `feed`, `sent`,
 //! `turns`, `run`, `output` and `tree` carry; each such trace is that of a kept log.
 //! `specs/Works.antt` has the steps and the work of a turn, and `trace_laws.rt` what every lawful
-//! trace tells. One session's turns are in `seat.rt`, whose contracts (`specs/Turns.antt`) name no
-//! trace. `Engine::turns` is many turns at once. No trace and no log is kept when the program runs.
+//! trace tells. One session's turns are in `hosted.rt`, whose contracts (`specs/Turns.antt`) name
+//! no trace. `Engine::turns` is many turns at once. No trace and no log is kept when the program
+//! runs.
 #![tactic(auto)]
 
 mod engine;
 mod event;
+mod hosted;
 mod promise;
-mod seat;
 mod trace_laws;
 
 pub use engine::Engine;

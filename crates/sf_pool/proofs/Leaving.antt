@@ -1,4 +1,4 @@
--- How a desk is left.
+-- How a lane ends.
 use Rattle.std.proofs.Common.{◌≡◌, ◌≢◌, ℕ, Some, None, length, refl, ap, sym, ◌∙◌, inl, inr, arith}
 use Rattle.sf_call.specs.declared.fault.CoreFault.{CoreFault}
 use Rattle.sf_call.specs.declared.fault.CoreFault.TheVariants as refused
@@ -10,98 +10,98 @@ use Rattle.sf_session.specs.SessionStates.{Phase, UnderWay, Gone, SessionState}
 use Rattle.sf_serving.specs.Ends.{IsWhole}
 use Rattle.sf_serving.specs.Hosts.{IsLeftFor}
 use Rattle.sf_serving.specs.Serving.{LineView, Progress, Serves, IsServed, HasWrittenFor, IsStopped, IsStop}
-use Rattle.sf_pool.specs.declared.at_desk.Standing.{Standing}
-use Rattle.sf_pool.specs.declared.at_desk.Standing.TheVariants as standing
+use Rattle.sf_pool.specs.declared.lane_host.Standing.{Standing}
+use Rattle.sf_pool.specs.declared.lane_host.Standing.TheVariants as standing
 use Rattle.sf_noted.specs.Pages.{Presence}
 use Rattle.sf_noted.specs.Pages.Presence.{Calling, Departed}
-use Rattle.sf_pool.specs.Desks.{DeskState, New, JoinRefused, Joined, share_of, DeskView}
-use Rattle.sf_pool.specs.Scenes.{DeskScene, state_calls, NotesCalls, IsShared, join_refusal, IsInCall, ServesDesk, HasLeft, LeavesFor, StopsDesk, IsDeskFault}
-use Rattle.sf_pool.specs.AtDesks.{IsToldAt, IsOver, IsCounted, IsAdded}
+use Rattle.sf_pool.specs.SessionLanes.{SessionLaneState, New, JoinRefused, Joined, share_of, SessionLaneView}
+use Rattle.sf_pool.specs.Scenes.{LaneScene, state_calls, NotesCalls, IsShared, join_refusal, IsInCall, ServesLane, HasLeft, LeavesFor, StopsLane, IsLaneFault}
+use Rattle.sf_pool.specs.LaneHosts.{IsToldAt, IsOver, IsCounted, IsAdded}
 
 shared_by : (share n old new : ℕ) → share ≡ share_of n → IsShared share old new → IsShared n old new
 shared_by share n old new e h = omega (arith, e, h)
 
-not_in_call : (place : DeskState) (f : Phase) (cause : Cause) → f ≡ Gone cause → IsInCall place f → ⊥
+not_in_call : (place : SessionLaneState) (f : Phase) (cause : Cause) → f ≡ Gone cause → IsInCall place f → ⊥
 not_in_call place f cause e h = let no : Gone cause ≡ UnderWay h.id h.number h.moment h.request h.moves = sym e ∙ h.waits in cc
 
 -- a session that was served to its end has left
-leaves_gone : (at : Standing) (d : DeskView) {t : SessionState} {cause : Cause} (old new : ℕ) → IsOver at d None → IsCounted at d t → IsWhole t cause → IsAdded at old new → (d.place ≡ Joined Departed) × IsShared (length (state_calls t)) old new
+leaves_gone : (at : Standing) (d : SessionLaneView) {t : SessionState} {cause : Cause} (old new : ℕ) → IsOver at d None → IsCounted at d t → IsWhole t cause → IsAdded at old new → (d.place ≡ Joined Departed) × IsShared (length (state_calls t)) old new
 leaves_gone standing.Joined d old new over counts whole added = absurd over
 leaves_gone standing.Unanswered d old new over counts whole added = absurd over
 leaves_gone standing.UnderWay d {t = t} {cause = cause} old new over counts whole added = absurd (not_in_call d.place t.phase cause whole.left counts)
 leaves_gone (standing.Left share) d {t = t} old new over counts whole added = (over.1, shared_by share (length (state_calls t)) old new counts added)
 
-pub leaves_served : {held : ℕ} {start now : DeskScene} {from line : LineView} {at : Standing} {v : SessionView} {cause : Cause} (old new : ℕ) → IsOver at now.desk None → IsAdded at old new → Serves held (IsToldAt start at v now) from line (IsServed line.incoming cause)
-    → Serves held (NotesCalls start now) from line (λ p. ((c : Cause) × IsServed line.incoming c p) × (now.desk.place ≡ Joined Departed) × IsShared (length (state_calls p.told)) old new)
+pub leaves_served : {held : ℕ} {start now : LaneScene} {from line : LineView} {at : Standing} {v : SessionView} {cause : Cause} (old new : ℕ) → IsOver at now.lane None → IsAdded at old new → Serves held (IsToldAt start at v now) from line (IsServed line.incoming cause)
+    → Serves held (NotesCalls start now) from line (λ p. ((c : Cause) × IsServed line.incoming c p) × (now.lane.place ≡ Joined Departed) × IsShared (length (state_calls p.told)) old new)
 leaves_served {now = now} {at = at} {cause = cause} old new over added serves =
-    let left = leaves_gone at now.desk old new over serves.1.counts serves.3.whole added in
+    let left = leaves_gone at now.lane old new over serves.1.counts serves.3.whole added in
     (serves.0, serves.1.notes, serves.2, ((cause, serves.3), left.0, left.1))
 
 -- after a fault it has left, too, or its call is under way
-has_left : (at : Standing) (d : DeskView) (t : SessionState) (old new : ℕ) → IsOver at d None → IsCounted at d t → IsAdded at old new → HasLeft d t old new
+has_left : (at : Standing) (d : SessionLaneView) (t : SessionState) (old new : ℕ) → IsOver at d None → IsCounted at d t → IsAdded at old new → HasLeft d t old new
 has_left standing.Joined d t old new over counts added = absurd over
 has_left standing.Unanswered d t old new over counts added = absurd over
 has_left standing.UnderWay d t old new over counts added = inr (counts, over.2, added)
 has_left (standing.Left share) d t old new over counts added = inl (over.1, shared_by share (length (state_calls t)) old new counts added)
 
 -- ending it told no fault
-over_none : (at : Standing) (d : DeskView) (f : ServeFault) → IsLeftFor (IsOver at d) f → IsOver at d None
+over_none : (at : Standing) (d : SessionLaneView) (f : ServeFault) → IsLeftFor (IsOver at d) f → IsOver at d None
 over_none at d f (inl h) = h
 over_none standing.Joined d f (inr h) = absurd h
 over_none standing.Unanswered d f (inr h) = absurd h
 over_none standing.UnderWay d f (inr h) = let no : Some f ≡ None = h.0 in absurd (cc)
 over_none (standing.Left share) d f (inr h) = let no : Some f ≡ None = h.0 in absurd (cc)
 
-leaves_for : {start now : DeskScene} {at : Standing} {v : SessionView} (f : ServeFault) {p : Progress} {failed failed' : ℕ} (old new : ℕ) → IsLeftFor (IsOver at now.desk) f → IsStop f failed failed' ⊥ → IsAdded at old new
-    → IsToldAt start at v now p.told → IsStopped f failed failed' now.desk.steps p → LeavesFor f now.desk p old new
+leaves_for : {start now : LaneScene} {at : Standing} {v : SessionView} (f : ServeFault) {p : Progress} {failed failed' : ℕ} (old new : ℕ) → IsLeftFor (IsOver at now.lane) f → IsStop f failed failed' ⊥ → IsAdded at old new
+    → IsToldAt start at v now p.told → IsStopped f failed failed' now.lane.steps p → LeavesFor f now.lane p old new
 leaves_for fault.Sessions old new left why added tells stops = absurd why
 leaves_for fault.Stranger old new left why added tells stops = absurd why
 leaves_for {now = now} {at = at} fault.NumbersSpent {p = p} old new left why added tells stops =
-    (has_left at now.desk p.told old new (over_none at now.desk fault.NumbersSpent left) tells.counts added, stops.spent)
-leaves_for {now = now} {at = at} fault.Line {p = p} old new left why added tells stops = has_left at now.desk p.told old new (over_none at now.desk fault.Line left) tells.counts added
-leaves_for {now = now} {at = at} fault.OutOfMemory {p = p} old new left why added tells stops = has_left at now.desk p.told old new (over_none at now.desk fault.OutOfMemory left) tells.counts added
+    (has_left at now.lane p.told old new (over_none at now.lane fault.NumbersSpent left) tells.counts added, stops.spent)
+leaves_for {now = now} {at = at} fault.Line {p = p} old new left why added tells stops = has_left at now.lane p.told old new (over_none at now.lane fault.Line left) tells.counts added
+leaves_for {now = now} {at = at} fault.OutOfMemory {p = p} old new left why added tells stops = has_left at now.lane p.told old new (over_none at now.lane fault.OutOfMemory left) tells.counts added
 
-pub leaves_stopped : {held : ℕ} {start now : DeskScene} {from line : LineView} {at : Standing} {v : SessionView} (f : ServeFault) {failed failed' : ℕ} (old new : ℕ) → IsLeftFor (IsOver at now.desk) f → IsStop f failed failed' ⊥ → IsAdded at old new
-    → Serves held (IsToldAt start at v now) from line (IsStopped f failed failed' now.desk.steps) → Serves held (NotesCalls start now) from line (λ p. HasWrittenFor f failed failed' p × LeavesFor f now.desk p old new)
+pub leaves_stopped : {held : ℕ} {start now : LaneScene} {from line : LineView} {at : Standing} {v : SessionView} (f : ServeFault) {failed failed' : ℕ} (old new : ℕ) → IsLeftFor (IsOver at now.lane) f → IsStop f failed failed' ⊥ → IsAdded at old new
+    → Serves held (IsToldAt start at v now) from line (IsStopped f failed failed' now.lane.steps) → Serves held (NotesCalls start now) from line (λ p. HasWrittenFor f failed failed' p × LeavesFor f now.lane p old new)
 leaves_stopped f old new left why added serves = (serves.0, serves.1.notes, serves.2, (serves.3.written, leaves_for f old new left why added serves.1 serves.3))
 
-pub desk_fault : (f : ServeFault) (failed failed' : ℕ) → IsStop f failed failed' ⊥ → IsDeskFault f failed failed'
-desk_fault fault.Line failed failed' h = h
-desk_fault fault.OutOfMemory failed failed' h = tt
-desk_fault fault.Sessions failed failed' h = tt
-desk_fault fault.Stranger failed failed' h = absurd h
-desk_fault fault.NumbersSpent failed failed' h = tt
+pub lane_fault : (f : ServeFault) (failed failed' : ℕ) → IsStop f failed failed' ⊥ → IsLaneFault f failed failed'
+lane_fault fault.Line failed failed' h = h
+lane_fault fault.OutOfMemory failed failed' h = tt
+lane_fault fault.Sessions failed failed' h = tt
+lane_fault fault.Stranger failed failed' h = absurd h
+lane_fault fault.NumbersSpent failed failed' h = tt
 
-pub join_fault : (c : CoreFault) (failed failed' : ℕ) → c ≢ refused.Stranger → IsDeskFault (join_refusal c) failed failed'
+pub join_fault : (c : CoreFault) (failed failed' : ℕ) → c ≢ refused.Stranger → IsLaneFault (join_refusal c) failed failed'
 join_fault refused.OutOfMemory failed failed' known = tt
 join_fault refused.Sessions failed failed' known = tt
 join_fault refused.NumbersSpent failed failed' known = tt
 join_fault refused.Stranger failed failed' known = absurd (known refl)
 
--- ---- a desk at which a session was served was asked to let it join
+-- ---- the lane of a session that was served was asked to join
 
-joined_not_new : (place : DeskState) (presence : Presence) → place ≡ Joined presence → place ≢ New
+joined_not_new : (place : SessionLaneState) (presence : Presence) → place ≡ Joined presence → place ≢ New
 joined_not_new place presence e new = let no : New ≡ Joined presence = sym new ∙ e in cc
 
-pub refused_not_new : (place : DeskState) (refusal : CoreFault) → place ≡ JoinRefused refusal → place ≢ New
+pub refused_not_new : (place : SessionLaneState) (refusal : CoreFault) → place ≡ JoinRefused refusal → place ≢ New
 refused_not_new place refusal e new = let no : New ≡ JoinRefused refusal = sym new ∙ e in cc
 
-left_not_new : (d : DeskView) (t : SessionState) (old new : ℕ) → HasLeft d t old new → d.place ≢ New
+left_not_new : (d : SessionLaneView) (t : SessionState) (old new : ℕ) → HasLeft d t old new → d.place ≢ New
 left_not_new d t old new (inl left) = joined_not_new d.place Departed left.0
 left_not_new d t old new (inr call) = joined_not_new d.place (Calling call.0.number call.0.moment call.0.request) call.0.placed
 
-left_for_not_new : (f : ServeFault) (d : DeskView) (p : Progress) (old new : ℕ) → LeavesFor f d p old new → d.place ≢ New
+left_for_not_new : (f : ServeFault) (d : SessionLaneView) (p : Progress) (old new : ℕ) → LeavesFor f d p old new → d.place ≢ New
 left_for_not_new fault.Line d p old new h = left_not_new d p.told old new h
 left_for_not_new fault.OutOfMemory d p old new h = left_not_new d p.told old new h
 left_for_not_new fault.Sessions d p old new h = absurd h
 left_for_not_new fault.Stranger d p old new h = absurd h
 left_for_not_new fault.NumbersSpent d p old new h = left_not_new d p.told old new h.0
 
-pub served_not_new : (start now : DeskScene) (from line : LineView) (old new : ℕ) → ServesDesk start now from line old new → now.desk.place ≢ New
-served_not_new start now from line old new (p, notes, served, (ends, left, shared)) = joined_not_new now.desk.place Departed left
+pub served_not_new : (start now : LaneScene) (from line : LineView) (old new : ℕ) → ServesLane start now from line old new → now.lane.place ≢ New
+served_not_new start now from line old new (p, notes, served, (ends, left, shared)) = joined_not_new now.lane.place Departed left
 
-pub stopped_not_new : (f : ServeFault) (start now : DeskScene) (from line : LineView) (failed failed' old new : ℕ) → StopsDesk f start now from line failed failed' old new → now.desk.place ≢ New
+pub stopped_not_new : (f : ServeFault) (start now : LaneScene) (from line : LineView) (failed failed' old new : ℕ) → StopsLane f start now from line failed failed' old new → now.lane.place ≢ New
 stopped_not_new f start now from line failed failed' old new (inl (never, begins, told, same, share)) =
-    refused_not_new now.desk.place never.0 (ap (λ (d : DeskView). d.place) never.2)
+    refused_not_new now.lane.place never.0 (ap (λ (d : SessionLaneView). d.place) never.2)
 stopped_not_new f start now from line failed failed' old new (inr (p, notes, served, (wrote, leaves))) =
-    left_for_not_new f now.desk p old new leaves
+    left_for_not_new f now.lane p old new leaves

@@ -1,5 +1,5 @@
 pub mod Calls
 pub mod Laws
 pub mod Leaving
-pub mod Staying
+pub mod Transcribing
 pub mod Talking

@@ -1,4 +1,4 @@
--- What happens to a session at a desk: it joins, is fed, is answered, and ends.
+-- What happens to a session whose calls a lane makes: it joins, is fed, is answered, and ends.
 use Rattle.std.proofs.Common.{◌≡◌, ◌<◌, ◌≤◌, ℕ, ◌+◌, List, [], ◌∷◌, ◌++◌, Bool, true, false, Option, Some, None, Result, Ok, Err, map, length, drop, refl, ap, sym, ◌∙◌, subst, inl, inr, append-nil, append_assoc, length-append, arith}
 use Rattle.std.specs.List.{flat_map}
 use Rattle.std.specs.Io.KnownBytes.{Appends}
@@ -27,13 +27,13 @@ use Rattle.sf_serving.proofs.Laws.{transcript_append, none_written, one_packet, 
 use Rattle.sf_audit.specs.Audits.{CallRecord}
 use Rattle.sf_pool.specs.declared.calling.Stop.{Stop}
 use Rattle.sf_pool.specs.declared.calling.Stop.TheVariants as stop
-use Rattle.sf_pool.specs.declared.desk.Begin.{Begin}
-use Rattle.sf_pool.specs.declared.at_desk.Standing.{Standing}
-use Rattle.sf_pool.specs.declared.at_desk.Standing.TheVariants as standing
+use Rattle.sf_pool.specs.declared.session_lane.Begin.{Begin}
+use Rattle.sf_pool.specs.declared.lane_host.Standing.{Standing}
+use Rattle.sf_pool.specs.declared.lane_host.Standing.TheVariants as standing
 use Rattle.sf_noted.specs.Pages.Presence.{BetweenCalls}
-use Rattle.sf_pool.specs.Desks.{DeskState, Joined, IsResting, DeskView, Notes, share_of}
-use Rattle.sf_pool.specs.Scenes.{DeskScene, desk_scene, desk_held, response_calls, phase_calls, state_calls, Attempt, attempt_of, answer_attempts, phase_attempts, attempts_told, BeginsCalls, IsInCall}
-use Rattle.sf_pool.specs.AtDesks.{standing_fault, MakesCall, talk, FailsCall, IsCounted, IsToldAt, standing_after, stop_fault}
+use Rattle.sf_pool.specs.SessionLanes.{SessionLaneState, Joined, IsResting, SessionLaneView, Notes, share_of}
+use Rattle.sf_pool.specs.Scenes.{LaneScene, lane_scene, lane_held, response_calls, phase_calls, state_calls, Attempt, attempt_of, answer_attempts, phase_attempts, attempts_told, BeginsCalls, IsInCall}
+use Rattle.sf_pool.specs.LaneHosts.{standing_fault, MakesCall, talk, FailsCall, IsCounted, IsToldAt, standing_after, stop_fault}
 
 -- ---- lists
 
@@ -50,7 +50,7 @@ notes_more (Some x) (Some y) (Some z) xs ys p q = q ∙ ap (λ l. l ++ ys) p ∙
 begins_none : (tl : Option (List ℕ)) (b : Option (List Begin)) → BeginsCalls tl tl b b []
 begins_none tl b = ([], notes_none b, Appends-nil tl, refl)
 
-begins_more : (x y z : DeskScene) {xs ys : List Attempt} → BeginsCalls x.told y.told x.begins y.begins xs → BeginsCalls y.told z.told y.begins z.begins ys → BeginsCalls x.told z.told x.begins z.begins (xs ++ ys)
+begins_more : (x y z : LaneScene) {xs ys : List Attempt} → BeginsCalls x.told y.told x.begins y.begins xs → BeginsCalls y.told z.told y.begins z.begins ys → BeginsCalls x.told z.told x.begins z.begins (xs ++ ys)
 begins_more x y z {xs = xs} p q =
     let moment_of : Begin → ℕ = λ x. x.moment in
     let moments = map-append moment_of p.0 q.0 in (
@@ -70,12 +70,12 @@ rest_attempts t at = ap (λ (f : Phase). flat_map answer_attempts t.answers ++ p
 
 -- ---- it joins
 
-pub told_new : {start : DeskScene} {d : DeskView} {b : Option (List Begin)} {at : Standing} {v : SessionView} (session : ℕ) → b ≡ start.begins → d ≡ record start.desk { session = session; place = Joined BetweenCalls; calls = [] } → v ≡ new_session → at ≡ standing.Joined
-    → IsToldAt start at v (desk_scene d b start.told) new_state
-told_new {start = start} {d = d} {b = b} {v = v} session none joins new at = subst (λ (s : Standing). IsToldAt start s v (desk_scene d b start.told) new_state) (sym at) (record {
+pub told_new : {start : LaneScene} {d : SessionLaneView} {b : Option (List Begin)} {at : Standing} {v : SessionView} (session : ℕ) → b ≡ start.begins → d ≡ record start.lane { session = session; place = Joined BetweenCalls; calls = [] } → v ≡ new_session → at ≡ standing.Joined
+    → IsToldAt start at v (lane_scene d b start.told) new_state
+told_new {start = start} {d = d} {b = b} {v = v} session none joins new at = subst (λ (s : Standing). IsToldAt start s v (lane_scene d b start.told) new_state) (sym at) (record {
   notes = record {
-    noted = ap (λ (x : DeskView). x.calls) joins;
-    keeps = ap (λ (x : DeskView). x.keeps) joins;
+    noted = ap (λ (x : SessionLaneView). x.calls) joins;
+    keeps = ap (λ (x : SessionLaneView). x.keeps) joins;
     asked = subst (λ (x : Option (List Begin)). BeginsCalls start.told start.told start.begins x []) (sym none) (begins_none start.told start.begins);
   };
   stands = λ at. record { unread = ap (λ (x : SessionView). x.unread) new; begun = ap (λ (x : SessionView). x.begun) new; ended = ap (λ (x : SessionView). x.ended) new };
@@ -86,13 +86,13 @@ told_new {start = start} {d = d} {b = b} {v = v} session none joins new at = sub
 -- ---- it is fed, and told what was sent
 
 -- what is counted of a session is the same where the same calls were told
-counts_same : (at : Standing) (d : DeskView) (t t' : SessionState) → state_calls t' ≡ state_calls t → (IsInCall d.place t.phase → IsInCall d.place t'.phase) → IsCounted at d t → IsCounted at d t'
+counts_same : (at : Standing) (d : SessionLaneView) (t t' : SessionState) → state_calls t' ≡ state_calls t → (IsInCall d.place t.phase → IsInCall d.place t'.phase) → IsCounted at d t → IsCounted at d t'
 counts_same standing.Joined d t t' same to h = tt
 counts_same standing.Unanswered d t t' same to h = tt
 counts_same standing.UnderWay d t t' same to h = to h
 counts_same (standing.Left share) d t t' same to h = h ∙ ap (λ (l : List CallRecord). share_of (length l)) (sym same)
 
-pub told_fed : {start now : DeskScene} {at : Standing} {v w : SessionView} {t : SessionState} (bytes : List ℕ) → IsToldAt start at v now t → IsOpen t → w ≡ record v { unread = v.unread ++ bytes } → IsToldAt start at w now (fed t bytes)
+pub told_fed : {start now : LaneScene} {at : Standing} {v w : SessionView} {t : SessionState} (bytes : List ℕ) → IsToldAt start at v now t → IsOpen t → w ≡ record v { unread = v.unread ++ bytes } → IsToldAt start at w now (fed t bytes)
 told_fed {now = now} {at = at} {t = t} bytes h is_open is =
     let s = h.stands is_open.rests in
     record {
@@ -103,14 +103,14 @@ told_fed {now = now} {at = at} {t = t} bytes h is_open is =
         ended = ap (λ (x : SessionView). x.ended) is ∙ s.ended;
       };
       waits = h.waits ∙ ap (λ (x : SessionView). t.sent ++ x.output) (sym is);
-      counts = counts_same at now.desk t (fed t bytes) refl (λ i. i) h.counts;
+      counts = counts_same at now.lane t (fed t bytes) refl (λ i. i) h.counts;
     }
 
 drop_whole : (xs : List ℕ) → drop (length xs) xs ≡ []
 drop_whole [] = refl
 drop_whole (x ∷ xs) = drop_whole xs
 
-pub told_sent : {start now : DeskScene} {at : Standing} {v w : SessionView} {t : SessionState} {n : ℕ} → IsToldAt start at v now t → n ≡ length v.output → w ≡ record v { output = drop n v.output } → IsToldAt start at w now (with_sent t)
+pub told_sent : {start now : LaneScene} {at : Standing} {v w : SessionView} {t : SessionState} {n : ℕ} → IsToldAt start at v now t → n ≡ length v.output → w ≡ record v { output = drop n v.output } → IsToldAt start at w now (with_sent t)
 told_sent {now = now} {at = at} {v = v} {w = w} {t = t} h count is =
     let none : w.output ≡ [] = ap (λ (x : SessionView). x.output) is ∙ ap (λ (k : ℕ). drop k v.output) count ∙ drop_whole v.output in
     record {
@@ -119,13 +119,13 @@ told_sent {now = now} {at = at} {v = v} {w = w} {t = t} h count is =
           let s = h.stands rests in
           record { unread = ap (λ (x : SessionView). x.unread) is ∙ s.unread; begun = ap (λ (x : SessionView). x.begun) is ∙ s.begun; ended = ap (λ (x : SessionView). x.ended) is ∙ s.ended };
       waits = sym (append-nil (transcript t.answers)) ∙ ap (λ (b : List ℕ). transcript t.answers ++ b) (sym none);
-      counts = counts_same at now.desk t (with_sent t) refl (λ i. i) h.counts;
+      counts = counts_same at now.lane t (with_sent t) refl (λ i. i) h.counts;
     }
 
--- a desk that rests is where it was
-pub told_still : {start : DeskScene} {at : Standing} {v : SessionView} {d d' : DeskView} {b b' : Option (List Begin)} {tl : Option (List ℕ)} {t : SessionState} → d' ≡ d → b' ≡ b → IsToldAt start at v (desk_scene d b tl) t → IsToldAt start at v (desk_scene d' b' tl) t
+-- a lane that rests is where it was
+pub told_still : {start : LaneScene} {at : Standing} {v : SessionView} {d d' : SessionLaneView} {b b' : Option (List Begin)} {tl : Option (List ℕ)} {t : SessionState} → d' ≡ d → b' ≡ b → IsToldAt start at v (lane_scene d b tl) t → IsToldAt start at v (lane_scene d' b' tl) t
 told_still {start = start} {at = at} {v = v} {d' = d'} {b = b} {tl = tl} {t = t} p q h =
-    subst (λ (x : Option (List Begin)). IsToldAt start at v (desk_scene d' x tl) t) (sym q) (subst (λ (x : DeskView). IsToldAt start at v (desk_scene x b tl) t) (sym p) h)
+    subst (λ (x : Option (List Begin)). IsToldAt start at v (lane_scene d' x tl) t) (sym q) (subst (λ (x : SessionLaneView). IsToldAt start at v (lane_scene x b tl) t) (sym p) h)
 
 -- ---- it ends
 
@@ -137,7 +137,7 @@ closed_attempts : (t : SessionState) (f : Phase) → t.phase ≡ f → attempts_
 closed_attempts t Resting at = ap (λ (f : Phase). flat_map answer_attempts t.answers ++ phase_attempts f) (sym at)
 closed_attempts t f at = refl
 
-closed_in_call : (place : DeskState) (t : SessionState) (f : Phase) → t.phase ≡ f → IsInCall place t.phase → IsInCall place (closed_now t f).phase
+closed_in_call : (place : SessionLaneState) (t : SessionState) (f : Phase) → t.phase ≡ f → IsInCall place t.phase → IsInCall place (closed_now t f).phase
 closed_in_call place t Resting at h = absurd (let no : Resting ≡ UnderWay h.id h.number h.moment h.request h.moves = sym at ∙ h.waits in cc)
 closed_in_call place t f at h = h
 
@@ -146,8 +146,8 @@ never_rests t Resting at e = cc
 never_rests t f at e = let no : f ≡ Resting = sym at ∙ e in cc
 
 -- it stands otherwise, or as it did
-pub told_ended : {start : DeskScene} {at at' : Standing} {v : SessionView} {d d' : DeskView} {b b' : Option (List Begin)} {tl : Option (List ℕ)} {t : SessionState} → IsToldAt start at v (desk_scene d b tl) t → d'.calls ≡ d.calls → d'.keeps ≡ d.keeps → b' ≡ b
-    → (d.calls ≡ state_calls t → IsCounted at d t → IsCounted at' d' t) → IsToldAt start at' v (desk_scene d' b' tl) (ended t)
+pub told_ended : {start : LaneScene} {at at' : Standing} {v : SessionView} {d d' : SessionLaneView} {b b' : Option (List Begin)} {tl : Option (List ℕ)} {t : SessionState} → IsToldAt start at v (lane_scene d b tl) t → d'.calls ≡ d.calls → d'.keeps ≡ d.keeps → b' ≡ b
+    → (d.calls ≡ state_calls t → IsCounted at d t → IsCounted at' d' t) → IsToldAt start at' v (lane_scene d' b' tl) (ended t)
 told_ended {start = start} {at' = at'} {v = v} {d' = d'} {b' = b'} {tl = tl} {t = t} h calls keeps begins count =
     let same = ended_same t in
     let asked : BeginsCalls start.told tl start.begins b' (attempts_told t) = subst (λ (x : Option (List Begin)). BeginsCalls start.told tl start.begins x (attempts_told t)) (sym begins) h.notes.asked in
@@ -165,25 +165,25 @@ told_ended {start = start} {at' = at'} {v = v} {d' = d'} {b' = b'} {tl = tl} {t 
 -- ---- it goes on
 
 -- what its host's contract asks of going on
-abbrev pub Goes : DeskScene → Standing → SessionView → DeskScene → Result Went ServeFault → SessionState → Type 0
-Goes start at v now r t = (t' : SessionState) × IsToldAt start at v now t' × IsFurther desk_held t t' × WentTo r t t'
+abbrev pub Goes : LaneScene → Standing → SessionView → LaneScene → Result Went ServeFault → SessionState → Type 0
+Goes start at v now r t = (t' : SessionState) × IsToldAt start at v now t' × IsFurther lane_held t t' × WentTo r t t'
 
 -- a session that its host lets go on
-pub record MayGo (start now : DeskScene) (v : SessionView) (t : SessionState) : Type 0 where
+pub record MayGo (start now : LaneScene) (v : SessionView) (t : SessionState) : Type 0 where
   pub told : IsToldAt start standing.Joined v now t
   pub is_open : IsOpen t
   pub read : IsRead t
   pub sent : HasSent t
 
-further_none : (t : SessionState) → IsRead t → IsFurther desk_held t t
+further_none : (t : SessionState) → IsRead t → IsFurther lane_held t t
 further_none t read = record { stream = refl; sent = refl; bodies = front_all t.bodies; answers = ([], sym (append-nil t.answers)); batch = batch_none; read = read }
 
 -- a host that stops at once
-pub goes_not : {start now : DeskScene} {at : Standing} {v w : SessionView} (f : ServeFault) {t : SessionState} → IsToldAt start at v now t → IsRead t → HasSent t → w ≡ v → Goes start at w now (Err f) t
+pub goes_not : {start now : LaneScene} {at : Standing} {v w : SessionView} (f : ServeFault) {t : SessionState} → IsToldAt start at v now t → IsRead t → HasSent t → w ≡ v → Goes start at w now (Err f) t
 goes_not {start = start} {now = now} {at = at} f {t = t} h read sent same = (t, subst (λ (x : SessionView). IsToldAt start at x now t) (sym same) h, further_none t read, tt)
 
 -- no whole packet is unread
-pub goes_more : {start now : DeskScene} {at : Standing} {v w : SessionView} {t : SessionState} → IsToldAt start at v now t → IsOpen t → IsRead t → HasSent t → NextGives v next.More w → Goes start at w now (Ok went.Waits) t
+pub goes_more : {start now : LaneScene} {at : Standing} {v w : SessionView} {t : SessionState} → IsToldAt start at v now t → IsOpen t → IsRead t → HasSent t → NextGives v next.More w → Goes start at w now (Ok went.Waits) t
 goes_more {start = start} {now = now} {at = at} {t = t} h is_open read sent gives = (
   t,
   subst (λ (x : SessionView). IsToldAt start at x now t) (sym gives.2) h,
@@ -204,7 +204,7 @@ ends_output : (v w : SessionView) (cause : Cause) → NextGives v (next.Ended ca
 ends_output v w cause (inl h) = ap (λ (x : SessionView). x.output) h.1
 ends_output v w cause (inr h) = ap (λ (x : SessionView). x.output) h.2
 
-pub goes_ended : {start now : DeskScene} {v w : SessionView} {cause : Cause} {t : SessionState} → MayGo start now v t → NextGives v (next.Ended cause) w → Goes start standing.Joined w now (Ok (went.Ended cause)) t
+pub goes_ended : {start now : LaneScene} {v w : SessionView} {cause : Cause} {t : SessionState} → MayGo start now v t → NextGives v (next.Ended cause) w → Goes start standing.Joined w now (Ok (went.Ended cause)) t
 goes_ended {start = start} {now = now} {v = v} {w = w} {cause = cause} {t = t} go gives =
     let record { told = h; is_open = is_open; read = read; sent = sent } = go in
     let at = is_open.rests in
@@ -266,20 +266,20 @@ record Body (t : SessionState) (asked : Ask) : Type 0 where
   is_body : IsBody body
   asks : AsksFor (has_begun t.bodies) body asked
 
--- it was answered so, or its call has no reply: that is what the desk noted
-record Noted (now now' : DeskScene) (asked : Ask) (more : List Response) (f : Phase) : Type 0 where
+-- it was answered so, or its call has no reply: that is what the lane noted
+record Noted (now now' : LaneScene) (asked : Ask) (more : List Response) (f : Phase) : Type 0 where
   asks : map ask_behind more ++ pending f ≡ asked ∷ []
   left : (begun : Bool) (bytes : List ℕ) → IsRest begun f bytes bytes
-  noted : now'.desk.calls ≡ now.desk.calls ++ (flat_map response_calls more ++ phase_calls f)
-  keeps : now'.desk.keeps ≡ now.desk.keeps
+  noted : now'.lane.calls ≡ now.lane.calls ++ (flat_map response_calls more ++ phase_calls f)
+  keeps : now'.lane.keeps ≡ now.lane.keeps
   begins : BeginsCalls now.told now'.told now.begins now'.begins (flat_map answer_attempts more ++ phase_attempts f)
 
 abbrev after_body : SessionState → List ℕ → List ℕ → List Response → Phase → SessionState
 after_body t body rest more f = record t { unread = rest; bodies = t.bodies ++ body ∷ []; answers = t.answers ++ more; phase = f }
 
 -- a body more was read
-goes_body : {start now now' : DeskScene} {at : Standing} {v w : SessionView} {t : SessionState} {asked : Ask} {more : List Response} {f : Phase} (r : Result Went ServeFault) → MayGo start now v t → (b : Body t asked) → Noted now now' asked more f
-    → w ≡ record w { unread = b.rest; output = v.output ++ transcript more; begun = true; ended = None } → IsBatch desk_held more → IsCounted at now'.desk (after_body t b.body b.rest more f) → WentTo r t (after_body t b.body b.rest more f) → Goes start at w now' r t
+goes_body : {start now now' : LaneScene} {at : Standing} {v w : SessionView} {t : SessionState} {asked : Ask} {more : List Response} {f : Phase} (r : Result Went ServeFault) → MayGo start now v t → (b : Body t asked) → Noted now now' asked more f
+    → w ≡ record w { unread = b.rest; output = v.output ++ transcript more; begun = true; ended = None } → IsBatch lane_held more → IsCounted at now'.lane (after_body t b.body b.rest more f) → WentTo r t (after_body t b.body b.rest more f) → Goes start at w now' r t
 goes_body {start = start} {now = now} {now' = now'} {v = v} {t = t} {asked = asked} {more = more} {f = f} r go b n shows batch counts to =
     let h = go.told in
     let rests = go.is_open.rests in
@@ -328,15 +328,15 @@ one_longer : {A : Type 0} (xs : List A) (x : A) → length xs < length (xs ++ x 
 one_longer xs x = omega (arith, length-append xs (x ∷ []))
 
 -- a body asked for this, and was answered so: its output follows
-goes_answered : {start now now' : DeskScene} {v w : SessionView} {t : SessionState} (a : Response) → MayGo start now v t → (b : Body t (ask_behind a)) → w ≡ record w { unread = b.rest; output = v.output ++ packet_for a; begun = true; ended = None }
-    → now'.desk.calls ≡ now.desk.calls ++ response_calls a → now'.desk.keeps ≡ now.desk.keeps → BeginsCalls now.told now'.told now.begins now'.begins (answer_attempts a) → HasShortPacket a → Goes start standing.Joined w now' (Ok went.Answered) t
+goes_answered : {start now now' : LaneScene} {v w : SessionView} {t : SessionState} (a : Response) → MayGo start now v t → (b : Body t (ask_behind a)) → w ≡ record w { unread = b.rest; output = v.output ++ packet_for a; begun = true; ended = None }
+    → now'.lane.calls ≡ now.lane.calls ++ response_calls a → now'.lane.keeps ≡ now.lane.keeps → BeginsCalls now.told now'.told now.begins now'.begins (answer_attempts a) → HasShortPacket a → Goes start standing.Joined w now' (Ok went.Answered) t
 goes_answered {now = now} {now' = now'} {v = v} {w = w} {t = t} a go b shows notes keeps begins short =
     let calls : response_calls a ≡ flat_map response_calls (a ∷ []) ++ [] = sym (append-nil (flat_map response_calls (a ∷ [])) ∙ append-nil (response_calls a)) in
     let attempts : answer_attempts a ≡ flat_map answer_attempts (a ∷ []) ++ [] = sym (append-nil (flat_map answer_attempts (a ∷ [])) ∙ append-nil (answer_attempts a)) in
     let n : Noted now now' (ask_behind a) (a ∷ []) Resting = record {
       asks = refl;
       left = λ begun bytes. refl;
-      noted = notes ∙ ap (λ (l : List CallRecord). now.desk.calls ++ l) calls;
+      noted = notes ∙ ap (λ (l : List CallRecord). now.lane.calls ++ l) calls;
       keeps = keeps;
       begins = subst (λ (l : List Attempt). BeginsCalls now.told now'.told now.begins now'.begins l) attempts begins;
     } in
@@ -351,41 +351,41 @@ local_at (ask.Call id request) text h = absurd h
 local_at (ask.End cause) text h = absurd h
 
 -- the body that a packet has
-abbrev body_at : {start now : DeskScene} {v : SessionView} {t : SessionState} {asked : Ask} {body rest : List ℕ} → MayGo start now v t → Begins v.unread body rest → AsksFor v.begun body asked → Body t asked
+abbrev body_at : {start now : LaneScene} {v : SessionView} {t : SessionState} {asked : Ask} {body rest : List ℕ} → MayGo start now v t → Begins v.unread body rest → AsksFor v.begun body asked → Body t asked
 body_at {asked = asked} {body = body} {rest = rest} go begins asks =
     let s = go.told.stands go.is_open.rests in
     record { body = body; rest = rest; whole = sym s.unread ∙ begins.whole; is_body = begins.is_body; asks = subst (λ (x : Bool). AsksFor x body asked) s.begun asks }
 
-pub goes_local : {start now : DeskScene} {v w : SessionView} {t : SessionState} → MayGo start now v t → NextGives v next.Local w → length w.output ≤ length v.output + longest_packet → Goes start standing.Joined w now (Ok went.Answered) t
+pub goes_local : {start now : LaneScene} {v w : SessionView} {t : SessionState} → MayGo start now v t → NextGives v next.Local w → length w.output ≤ length v.output + longest_packet → Goes start standing.Joined w now (Ok went.Answered) t
 goes_local {now = now} {v = v} {w = w} go gives little =
     let g = gives.1 in
     let a = local_at g.asked g.text g.local_packet in
     let b = body_at go g.begins (subst (λ (x : Ask). AsksFor v.begun g.body x) (sym a.1) g.asks) in
     let out : w ≡ record { unread = g.rest; output = v.output ++ packet_for a.0; begun = true; waiting = None; ended = None } =
     g.now ∙ ap (λ (x : List ℕ). record { unread = g.rest; output = v.output ++ x; begun = true; waiting = None; ended = None }) (sym a.2) in
-    goes_answered a.0 go b (shown w g.rest (v.output ++ packet_for a.0) None out) (sym (append-nil now.desk.calls) ∙ ap (λ (l : List CallRecord). now.desk.calls ++ l) (sym a.4)) refl
+    goes_answered a.0 go b (shown w g.rest (v.output ++ packet_for a.0) None out) (sym (append-nil now.lane.calls) ∙ ap (λ (l : List CallRecord). now.lane.calls ++ l) (sym a.4)) refl
     (subst (λ (l : List Attempt). BeginsCalls now.told now.told now.begins now.begins l) (sym a.3) (begins_none now.told now.begins))
     (omega (arith, little, ap (λ (x : SessionView). length x.output) out, length-append v.output (packet_for a.0)))
 
 -- a packet's call was made, or refused
-pub goes_called : {start now now' : DeskScene} {v m w : SessionView} {request : Request} {t : SessionState} → MayGo start now v t → NextGives v (next.Call request) m → MakesCall request (BeginsCalls now.told now'.told now.begins now'.begins) (talk now.desk m) (talk now'.desk w)
+pub goes_called : {start now now' : LaneScene} {v m w : SessionView} {request : Request} {t : SessionState} → MayGo start now v t → NextGives v (next.Call request) m → MakesCall request (BeginsCalls now.told now'.told now.begins now'.begins) (talk now.lane m) (talk now'.lane w)
     → Goes start standing.Joined w now' (Ok went.Answered) t
 goes_called {now = now} {now' = now'} {v = v} {w = w} {request = request} go gives made =
     let g = gives.1 in
-    let a = subst (λ (x : SessionView). MakesCall request (BeginsCalls now.told now'.told now.begins now'.begins) (talk now.desk x) (talk now'.desk w)) g.now made in
+    let a = subst (λ (x : SessionView). MakesCall request (BeginsCalls now.told now'.told now.begins now'.begins) (talk now.lane x) (talk now'.lane w)) g.now made in
     let b = body_at go g.begins (subst (λ (x : Ask). AsksFor v.begun g.body x) (sym a.1) g.asks) in
-    goes_answered a.0 go b (shown w g.rest (v.output ++ packet_for a.0) None a.2) (ap (λ (x : DeskView). x.calls) a.3) (ap (λ (x : DeskView). x.keeps) a.3) a.4 a.5
+    goes_answered a.0 go b (shown w g.rest (v.output ++ packet_for a.0) None a.2) (ap (λ (x : SessionLaneView). x.calls) a.3) (ap (λ (x : SessionLaneView). x.keeps) a.3) a.4 a.5
 
-pub called_ready : (Asked : List Attempt → Type 0) (d d' : DeskView) (v m w : SessionView) (request : Request) → IsResting d.place → NextGives v (next.Call request) m → MakesCall request Asked (talk d m) (talk d' w) → IsResting d'.place × (w.waiting ≡ None)
+pub called_ready : (Asked : List Attempt → Type 0) (d d' : SessionLaneView) (v m w : SessionView) (request : Request) → IsResting d.place → NextGives v (next.Call request) m → MakesCall request Asked (talk d m) (talk d' w) → IsResting d'.place × (w.waiting ≡ None)
 called_ready Asked d d' v m w request rests gives made =
     let a = subst (λ (x : SessionView). MakesCall request Asked (talk d x) (talk d' w)) gives.1.now made in
-    (ap (λ (x : DeskView). x.place) a.3 ∙ rests, ap (λ (x : SessionView). x.waiting) a.2)
+    (ap (λ (x : SessionLaneView). x.place) a.3 ∙ rests, ap (λ (x : SessionView). x.waiting) a.2)
 
 -- ---- a packet's call has no reply
 
 -- how many moves its phase tells is of no account
-goes_pended : {start now now' : DeskScene} {at : Standing} {v m w : SessionView} {request : Request} {t : SessionState} {f : Phase} (g : ServeFault) → MayGo start now v t → (gives : NextGives v (next.Call request) m) → w ≡ m → Noted now now' (ask.Call gives.1.id request) [] f
-    → ((t' : SessionState) → t'.phase ≡ f → IsCounted at now'.desk t') → Goes start at w now' (Err g) t
+goes_pended : {start now now' : LaneScene} {at : Standing} {v m w : SessionView} {request : Request} {t : SessionState} {f : Phase} (g : ServeFault) → MayGo start now v t → (gives : NextGives v (next.Call request) m) → w ≡ m → Noted now now' (ask.Call gives.1.id request) [] f
+    → ((t' : SessionState) → t'.phase ≡ f → IsCounted at now'.lane t') → Goes start at w now' (Err g) t
 goes_pended {v = v} {w = w} {t = t} {f = f} g go gives same n counts =
     let x = gives.1 in
     let b = body_at go x.begins x.asks in
@@ -394,19 +394,19 @@ goes_pended {v = v} {w = w} {t = t} {f = f} g go gives same n counts =
     same ∙ x.now ∙ ap (λ (l : List ℕ). record { unread = x.rest; output = l; begun = true; waiting = Some x.id; ended = None }) out in
     goes_body (Err g) go b n (shown w x.rest (v.output ++ transcript []) (Some x.id) is) batch_none (counts (after_body t x.body x.rest [] f) refl) tt
 
-pub goes_stopped : {start now now' : DeskScene} {v m w : SessionView} {request : Request} {t : SessionState} (why : Stop) → MayGo start now v t → NextGives v (next.Call request) m → w ≡ m → FailsCall m.waiting request why (BeginsCalls now.told now'.told now.begins now'.begins) now.desk now'.desk
+pub goes_stopped : {start now now' : LaneScene} {v m w : SessionView} {request : Request} {t : SessionState} (why : Stop) → MayGo start now v t → NextGives v (next.Call request) m → w ≡ m → FailsCall m.waiting request why (BeginsCalls now.told now'.told now.begins now'.begins) now.lane now'.lane
     → Goes start (standing_after why) w now' (Err (stop_fault why)) t
 goes_stopped {request = request} stop.OutOfMemory go gives same fails =
     let is = fails.1.1 in
     goes_pended {f = Decided gives.1.id fails.0 request fails.1.0} (stop_fault stop.OutOfMemory) go gives same
-    (record { asks = refl; left = λ begun bytes. refl; noted = ap (λ (x : DeskView). x.calls) is; keeps = ap (λ (x : DeskView). x.keeps) is; begins = fails.2 }) (λ t' phase. tt)
+    (record { asks = refl; left = λ begun bytes. refl; noted = ap (λ (x : SessionLaneView). x.calls) is; keeps = ap (λ (x : SessionLaneView). x.keeps) is; begins = fails.2 }) (λ t' phase. tt)
 goes_stopped {now = now} {now' = now'} {request = request} stop.UnderWay go gives same fails =
     let is = fails.1.1 in
-    let in_call : IsInCall now'.desk.place (UnderWay gives.1.id fails.0 fails.1.0 request 0) =
-    record { id = gives.1.id; number = fails.0; moment = fails.1.0; request = request; moves = 0; placed = ap (λ (x : DeskView). x.place) is; waits = refl } in
+    let in_call : IsInCall now'.lane.place (UnderWay gives.1.id fails.0 fails.1.0 request 0) =
+    record { id = gives.1.id; number = fails.0; moment = fails.1.0; request = request; moves = 0; placed = ap (λ (x : SessionLaneView). x.place) is; waits = refl } in
     goes_pended {f = UnderWay gives.1.id fails.0 fails.1.0 request 0} (stop_fault stop.UnderWay) go gives same
-    (record { asks = refl; left = λ begun bytes. refl; noted = ap (λ (x : DeskView). x.calls) is ∙ sym (append-nil now.desk.calls); keeps = ap (λ (x : DeskView). x.keeps) is; begins = fails.2 })
-    (λ t' phase. subst (λ (f : Phase). IsInCall now'.desk.place f) (sym phase) in_call)
+    (record { asks = refl; left = λ begun bytes. refl; noted = ap (λ (x : SessionLaneView). x.calls) is ∙ sym (append-nil now.lane.calls); keeps = ap (λ (x : SessionLaneView). x.keeps) is; begins = fails.2 })
+    (λ t' phase. subst (λ (f : Phase). IsInCall now'.lane.place f) (sym phase) in_call)
 
 -- ---- a host goes on only where it has joined
 
@@ -414,13 +414,13 @@ pub joined : (at : Standing) → standing_fault at ≡ None → at ≡ standing.
 joined standing.Joined e = refl
 joined at e = let no : standing_fault at ≡ None = e in absurd (cc)
 
-pub may_go : {start now : DeskScene} {at : Standing} {v : SessionView} {t : SessionState} → standing_fault at ≡ None → IsToldAt start at v now t → IsOpen t → IsRead t → HasSent t → MayGo start now v t
+pub may_go : {start now : LaneScene} {at : Standing} {v : SessionView} {t : SessionState} → standing_fault at ≡ None → IsToldAt start at v now t → IsOpen t → IsRead t → HasSent t → MayGo start now v t
 may_go {start = start} {now = now} {at = at} {v = v} {t = t} e h is_open read sent = record { told = subst (λ (s : Standing). IsToldAt start s v now t) (joined at e) h; is_open = is_open; read = read; sent = sent }
 
--- a host stands as it did, and its desk is where it was
-pub goes_still : {start : DeskScene} {at at' : Standing} {w w' : SessionView} {d d' : DeskView} {b b' : Option (List Begin)} {tl : Option (List ℕ)} (r : Result Went ServeFault) {r' : Result Went ServeFault} {t : SessionState}
-    → at' ≡ at → w' ≡ w → d' ≡ d → b' ≡ b → r' ≡ r → Goes start at w (desk_scene d b tl) r t → Goes start at' w' (desk_scene d' b' tl) r' t
+-- a host stands as it did, and its lane is where it was
+pub goes_still : {start : LaneScene} {at at' : Standing} {w w' : SessionView} {d d' : SessionLaneView} {b b' : Option (List Begin)} {tl : Option (List ℕ)} (r : Result Went ServeFault) {r' : Result Went ServeFault} {t : SessionState}
+    → at' ≡ at → w' ≡ w → d' ≡ d → b' ≡ b → r' ≡ r → Goes start at w (lane_scene d b tl) r t → Goes start at' w' (lane_scene d' b' tl) r' t
 goes_still {start = start} {at = at} {w = w} {w' = w'} {d = d} {d' = d'} {b = b} {b' = b'} {tl = tl} r {r' = r'} {t = t} p q e f g h =
-    subst (λ (x : Standing). Goes start x w' (desk_scene d' b' tl) r' t) (sym p) (subst (λ (x : SessionView). Goes start at x (desk_scene d' b' tl) r' t) (sym q)
-    (subst (λ (x : DeskView). Goes start at w (desk_scene x b' tl) r' t) (sym e) (subst (λ (x : Option (List Begin)). Goes start at w (desk_scene d x tl) r' t) (sym f)
-    (subst (λ (x : Result Went ServeFault). Goes start at w (desk_scene d b tl) x t) (sym g) h))))
+    subst (λ (x : Standing). Goes start x w' (lane_scene d' b' tl) r' t) (sym p) (subst (λ (x : SessionView). Goes start at x (lane_scene d' b' tl) r' t) (sym q)
+    (subst (λ (x : SessionLaneView). Goes start at w (lane_scene x b' tl) r' t) (sym e) (subst (λ (x : Option (List Begin)). Goes start at w (lane_scene d x tl) r' t) (sym f)
+    (subst (λ (x : Result Went ServeFault). Goes start at w (lane_scene d b tl) x t) (sym g) h))))

@@ -1,5 +1,5 @@
-pub mod Desks
+pub mod SessionLanes
 pub mod Scenes
-pub mod AtDesks
-pub mod Stays
+pub mod LaneHosts
+pub mod TranscriptLanes
 pub mod OnCores

@@ -1,4 +1,4 @@
--- What the events of a session's stay do to its core, and what the stay comes to.
+-- What the events of a session's lane do to its core, and what the lane comes to.
 use Rattle.std.specs.Prelude.{◌≡◌, ◌⊎◌, ◌+◌, ℕ, true, false, length, Result, Ok, Err}
 use Rattle.sf_call.specs.declared.request.Request.{Request}
 use Rattle.sf_call.specs.declared.fault.CoreFault.{CoreFault}
@@ -11,18 +11,18 @@ use Rattle.sf_noted.specs.Pages.{Page}
 use Rattle.sf_noted.specs.Pages.{Presence}
 use Rattle.sf_noted.specs.Pages.Presence.{Calling}
 use Rattle.sf_noted.specs.Noted.{lane_of}
-use Rattle.sf_pool.specs.declared.desk.StepResult.TheVariants.{Going, Answered}
-use Rattle.sf_pool.specs.declared.stay.Stepped.{Stepped}
-use Rattle.sf_pool.specs.Desks.{JoinRefused, Joined, IsLastAnswer, DeskView}
+use Rattle.sf_pool.specs.declared.session_lane.StepResult.TheVariants.{Going, Answered}
+use Rattle.sf_pool.specs.declared.transcript_lane.Stepped.{Stepped}
+use Rattle.sf_pool.specs.SessionLanes.{JoinRefused, Joined, IsLastAnswer, SessionLaneView}
 
--- this is the number and the page of the session at the desk
-pub record IsPageOf (d : DeskView) (x : ℕ × Page) : Type 0 where
+-- this is the number and the page of the lane's session
+pub record IsPageOf (d : SessionLaneView) (x : ℕ × Page) : Type 0 where
   pub session : x.0 ≡ d.session
   pub place : Joined x.1.presence ≡ d.place
   pub told : x.1.told ≡ d.calls
 
 -- and this is what is noted of it, or why it never joined
-abbrev pub IsVisitOf : DeskView → Result (ℕ × Page) CoreFault → Type 0
+abbrev pub IsVisitOf : SessionLaneView → Result (ℕ × Page) CoreFault → Type 0
 IsVisitOf d (Ok x) = IsPageOf d x
 IsVisitOf d (Err refusal) = d.place ≡ JoinRefused refusal
 
@@ -39,39 +39,39 @@ calls_begun_by (Ok x) = calls_begun x.1
 calls_begun_by (Err refusal) = 0
 
 -- the session's call begins on the core
-abbrev pub BeginsAt : DeskView → CoreView → CoreView → Request → ℕ → Type 0
+abbrev pub BeginsAt : SessionLaneView → CoreView → CoreView → Request → ℕ → Type 0
 BeginsAt d v w request moment =
     (x : ℕ × Page) × IsPageOf d x × CallBegins v w (lane_of x) request moment
 
 -- memory was wanting, or the core refuses the session's call
-abbrev pub RefusesAt : DeskView → CoreView → CoreFault → Type 0
+abbrev pub RefusesAt : SessionLaneView → CoreView → CoreFault → Type 0
 RefusesAt d v fault =
     (fault ≡ OutOfMemory) ⊎ ((x : ℕ × Page) × IsPageOf d x × RefusesBegin v (lane_of x) fault)
 
 -- what is told of a step of the core: whether its call was answered, and how; and whether it was
 -- blocked
-abbrev pub TellsOf : Step → Stepped → DeskView → Type 0
+abbrev pub TellsOf : Step → Stepped → SessionLaneView → Type 0
 TellsOf step.Moved s d = (s.told ≡ Going) × (s.blocked ≡ false)
 TellsOf (step.Blocked holder) s d = (s.told ≡ Going) × (s.blocked ≡ true)
 TellsOf (step.Answered answer) s d =
     (s.told ≡ Answered) × (s.blocked ≡ false) × IsLastAnswer d.calls answer.number answer.reply
 TellsOf step.Stranger s d = ⊥
 
--- what a step came to: what is told of it, and the desk and the core after it
+-- what a step came to: what is told of it, and the lane and the core after it
 pub record SteppedTo : Type 0 where
   pub told : Stepped
-  pub desk : DeskView
+  pub lane : SessionLaneView
   pub core : CoreView
 
-abbrev pub stepped_to : Stepped → DeskView → CoreView → SteppedTo
-stepped_to s d v = record { told = s; desk = d; core = v }
+abbrev pub stepped_to : Stepped → SessionLaneView → CoreView → SteppedTo
+stepped_to s d v = record { told = s; lane = d; core = v }
 
 -- the session's call makes one step on the core
-pub record StepsAt (d : DeskView) (v : CoreView) (s : SteppedTo) : Type 0 where
+pub record StepsAt (d : SessionLaneView) (v : CoreView) (s : SteppedTo) : Type 0 where
   pub before : ℕ × Page
   pub after : ℕ × Page
   pub came : Step
   pub own : IsPageOf d before
-  pub own_after : IsPageOf s.desk after
+  pub own_after : IsPageOf s.lane after
   pub steps : StepsOn v (lane_of before) came s.core (lane_of after)
-  pub tells : TellsOf came s.told s.desk
+  pub tells : TellsOf came s.told s.lane

@@ -1,4 +1,4 @@
--- How far a session was served at a desk.
+-- How far a session was served whose calls a lane makes.
 use Rattle.std.specs.Prelude.{◌≡◌, ◌+◌, ◌≤◌, ◌⊎◌, ℕ, List, [], ◌∷◌, ◌++◌, length, map, Option, Result, Ok, Err}
 use Rattle.std.specs.List.{flat_map}
 use Rattle.std.specs.Io.KnownBytes.{Appends}
@@ -14,19 +14,19 @@ use Rattle.sf_session.specs.SessionStates.{Phase, Resting, UnderWay, Decided, Go
 use Rattle.sf_serving.specs.Hosts.{most_counted}
 use Rattle.sf_serving.specs.Serving.{LineView, Progress, Serves, IsServed, HasWrittenFor}
 use Rattle.sf_audit.specs.Audits.{CallRecord}
-use Rattle.sf_pool.specs.declared.desk.Begin.{Begin}
+use Rattle.sf_pool.specs.declared.session_lane.Begin.{Begin}
 use Rattle.sf_noted.specs.Pages.Presence.{Calling, Departed}
-use Rattle.sf_pool.specs.Desks.{DeskState, JoinRefused, Joined, DeskView, Notes, share_of}
+use Rattle.sf_pool.specs.SessionLanes.{SessionLaneState, JoinRefused, Joined, SessionLaneView, Notes, share_of}
 
--- A desk, the calls that it was asked to begin, where it tells them, and the moments that a clock
+-- A lane, the calls that it was asked to begin, where it tells them, and the moments that a clock
 -- told.
-pub record DeskScene : Type 0 where
-  pub desk : DeskView
+pub record LaneScene : Type 0 where
+  pub lane : SessionLaneView
   pub begins : Option (List Begin)
   pub told : Option (List ℕ)
 
-abbrev pub desk_scene : DeskView → Option (List Begin) → Option (List ℕ) → DeskScene
-desk_scene desk begins told = record { desk = desk; begins = begins; told = told }
+abbrev pub lane_scene : SessionLaneView → Option (List Begin) → Option (List ℕ) → LaneScene
+lane_scene lane begins told = record { lane = lane; begins = begins; told = told }
 
 -- the call that was answered so, unless it was refused
 abbrev pub response_calls : Response → List CallRecord
@@ -48,7 +48,7 @@ phase_calls (Gone cause) = []
 abbrev pub state_calls : SessionState → List CallRecord
 state_calls t = flat_map response_calls t.answers ++ phase_calls t.phase
 
--- A call that a desk was asked to begin: its request, and its number or why it was refused.
+-- A call that a lane was asked to begin: its request, and its number or why it was refused.
 pub record Attempt : Type 0 where
   pub request : Request
   pub outcome : Result ℕ CoreFault
@@ -77,7 +77,7 @@ phase_attempts (Gone cause) = []
 abbrev pub attempts_told : SessionState → List Attempt
 attempts_told t = flat_map answer_attempts t.answers ++ phase_attempts t.phase
 
--- The desk was asked to begin these calls, and no others, each at the moment that the clock told
+-- The lane was asked to begin these calls, and no others, each at the moment that the clock told
 -- for it.
 abbrev pub BeginsCalls : Option (List ℕ) → Option (List ℕ) → Option (List Begin)
     → Option (List Begin)
@@ -86,27 +86,27 @@ BeginsCalls told told' begins begins' attempts =
     (more : List Begin) × Notes begins begins' more × Appends told told' (map (λ b. b.moment) more)
     × (map attempt_of more ≡ attempts)
 
--- Since the start a session was told this at the desk, which noted the calls that it was answered,
--- and no others, and keeps them if it did at the start; and it was asked to begin those that the
+-- Since the start a session was told this, and its lane noted the calls that it was answered, and
+-- no others, and keeps them if it did at the start; and the lane was asked to begin those that the
 -- session asked for, and no others, each at the moment that was told for it.
-pub record NotesCalls (start now : DeskScene) (t : SessionState) : Type 0 where
-  pub noted : now.desk.calls ≡ state_calls t
-  pub keeps : now.desk.keeps ≡ start.desk.keeps
+pub record NotesCalls (start now : LaneScene) (t : SessionState) : Type 0 where
+  pub noted : now.lane.calls ≡ state_calls t
+  pub keeps : now.lane.keeps ≡ start.lane.keeps
   pub asked : BeginsCalls start.told now.told start.begins now.begins (attempts_told t)
 
 -- so many calls were added to a share, up to 2^64 - 1
 abbrev pub IsShared : ℕ → ℕ → ℕ → Type 0
 IsShared n old new = new ≡ share_of (old + n)
 
--- no reply waits where a session at a desk is answered
-abbrev pub desk_held : ℕ
-desk_held = 0
+-- no reply waits where a session is answered whose calls a lane makes
+abbrev pub lane_held : ℕ
+lane_held = 0
 
--- A session was served to its end, and one reply waited at a time. It has left the desk, and the
--- calls that it was answered were added to a share.
-abbrev pub ServesDesk : (start now : DeskScene) → (from line : LineView) → (old new : ℕ) → Type 0
-ServesDesk start now from line old new = Serves desk_held (NotesCalls start now) from line
-    (λ p. ((cause : Cause) × IsServed line.incoming cause p) × (now.desk.place ≡ Joined Departed)
+-- A session was served to its end, and one reply waited at a time. It has left, and the calls that
+-- it was answered were added to a share.
+abbrev pub ServesLane : (start now : LaneScene) → (from line : LineView) → (old new : ℕ) → Type 0
+ServesLane start now from line old new = Serves lane_held (NotesCalls start now) from line
+    (λ p. ((cause : Cause) × IsServed line.incoming cause p) × (now.lane.place ≡ Joined Departed)
     × IsShared (length (state_calls p.told)) old new)
 
 -- why a session doesn't join
@@ -117,12 +117,12 @@ join_refusal refused.NumbersSpent = fault.NumbersSpent
 join_refusal refused.Stranger = fault.Stranger
 
 -- the session never joined: it was refused so
-abbrev pub NeverJoins : DeskView → DeskView → ServeFault → Type 0
+abbrev pub NeverJoins : SessionLaneView → SessionLaneView → ServeFault → Type 0
 NeverJoins start now f = (refusal : CoreFault) × (f ≡ join_refusal refusal)
     × (now ≡ record start { place = JoinRefused refusal })
 
--- A call is under way: the one at the desk is the one that its session waits for.
-pub record IsInCall (place : DeskState) (phase : Phase) : Type 0 where
+-- A call is under way: the lane's is the one that its session waits for.
+pub record IsInCall (place : SessionLaneState) (phase : Phase) : Type 0 where
   pub id : ℕ
   pub number : ℕ
   pub moment : ℕ
@@ -131,36 +131,36 @@ pub record IsInCall (place : DeskState) (phase : Phase) : Type 0 where
   pub placed : place ≡ Joined (Calling number moment request)
   pub waits : phase ≡ UnderWay id number moment request moves
 
--- How a desk is left whose session joined: it has left, and the calls that it was answered were
+-- How a lane ends that has joined: it has left, and the calls that it was answered were
 -- added to a share; or its call has no answer after 2^64 - 1 steps.
-abbrev pub HasLeft : DeskView → SessionState → (old new : ℕ) → Type 0
-HasLeft desk t old new =
-    ((desk.place ≡ Joined Departed) × IsShared (length (state_calls t)) old new)
-    ⊎ (IsInCall desk.place t.phase × (most_counted ≤ desk.steps) × (new ≡ old))
+abbrev pub HasLeft : SessionLaneView → SessionState → (old new : ℕ) → Type 0
+HasLeft lane t old new =
+    ((lane.place ≡ Joined Departed) × IsShared (length (state_calls t)) old new)
+    ⊎ (IsInCall lane.place t.phase × (most_counted ≤ lane.steps) × (new ≡ old))
 
 -- no session that joined is a stranger; numbers are spent only by so many bytes or steps
-abbrev pub LeavesFor : ServeFault → DeskView → Progress → (old new : ℕ) → Type 0
-LeavesFor fault.Line desk p old new = HasLeft desk p.told old new
-LeavesFor fault.OutOfMemory desk p old new = HasLeft desk p.told old new
-LeavesFor fault.Sessions desk p old new = ⊥
-LeavesFor fault.Stranger desk p old new = ⊥
-LeavesFor fault.NumbersSpent desk p old new = HasLeft desk p.told old new
-    × ((most_counted ≤ length p.told.stream) ⊎ (most_counted ≤ desk.steps))
+abbrev pub LeavesFor : ServeFault → SessionLaneView → Progress → (old new : ℕ) → Type 0
+LeavesFor fault.Line lane p old new = HasLeft lane p.told old new
+LeavesFor fault.OutOfMemory lane p old new = HasLeft lane p.told old new
+LeavesFor fault.Sessions lane p old new = ⊥
+LeavesFor fault.Stranger lane p old new = ⊥
+LeavesFor fault.NumbersSpent lane p old new = HasLeft lane p.told old new
+    × ((most_counted ≤ length p.told.stream) ⊎ (most_counted ≤ lane.steps))
 
 -- What serving did when it stopped so: nothing, since the session never joined; or the session was
 -- served so far, and what it was answered was written, unless the line failed.
-abbrev pub StopsDesk : ServeFault → (start now : DeskScene) → (from line : LineView)
+abbrev pub StopsLane : ServeFault → (start now : LaneScene) → (from line : LineView)
     → (failed failed' old new : ℕ) → Type 0
-StopsDesk f start now from line failed failed' old new =
-    (NeverJoins start.desk now.desk f × (now.begins ≡ start.begins) × (now.told ≡ start.told)
+StopsLane f start now from line failed failed' old new =
+    (NeverJoins start.lane now.lane f × (now.begins ≡ start.begins) × (now.told ≡ start.told)
     × (line ≡ from) × (new ≡ old))
-    ⊎ Serves desk_held (NotesCalls start now) from line (λ p. HasWrittenFor f failed failed' p
-    × LeavesFor f now.desk p old new)
+    ⊎ Serves lane_held (NotesCalls start now) from line (λ p. HasWrittenFor f failed failed' p
+    × LeavesFor f now.lane p old new)
 
 -- the line is told to have failed only where it did, and no session is a stranger
-abbrev pub IsDeskFault : ServeFault → ℕ → ℕ → Type 0
-IsDeskFault fault.Line failed failed' = Rose failed failed'
-IsDeskFault fault.OutOfMemory failed failed' = Unit {0}
-IsDeskFault fault.Sessions failed failed' = Unit {0}
-IsDeskFault fault.Stranger failed failed' = ⊥
-IsDeskFault fault.NumbersSpent failed failed' = Unit {0}
+abbrev pub IsLaneFault : ServeFault → ℕ → ℕ → Type 0
+IsLaneFault fault.Line failed failed' = Rose failed failed'
+IsLaneFault fault.OutOfMemory failed failed' = Unit {0}
+IsLaneFault fault.Sessions failed failed' = Unit {0}
+IsLaneFault fault.Stranger failed failed' = ⊥
+IsLaneFault fault.NumbersSpent failed failed' = Unit {0}

@@ -1,13 +1,13 @@
-//! One call of a session, made at its desk.
+//! One call of a session, made by its lane.
 
 ghost use Rattle.std.specs.Prelude.{◌≡◌, ◌≢◌, ◌≤◌, [], true, false, IsSome, OnOk, IfErr};
 ghost use Rattle.sf_serving.specs.Hosts.{most_counted};
-ghost use Rattle.sf_pool.specs.Desks.{IsResting, HasCallUnderWay};
+ghost use Rattle.sf_pool.specs.SessionLanes.{IsResting, HasCallUnderWay};
 ghost use Rattle.sf_pool.specs.Scenes.{BeginsCalls};
-ghost use Rattle.sf_pool.specs.AtDesks.{MakesCall, talk, after_steps, IsAnsweredAt, FailsCall};
+ghost use Rattle.sf_pool.specs.LaneHosts.{MakesCall, talk, after_steps, IsAnsweredAt, FailsCall};
 
-use crate::desk::{Desk, StepResult};
 use crate::observer::StepObserver;
+use crate::session_lane::{SessionLane, StepResult};
 use sf_audit::AnsweredCall;
 use sf_call::Request;
 use sf_serving::{CallObserver, ObservedCall};
@@ -23,34 +23,39 @@ pub(crate) enum Stop {
 }
 
 /// Tells the observer of the next step where it wants that, outside of the lock.
-fn stop_at<D: Desk, G: StepObserver>(
-    desk: &mut D,
+fn stop_at<D: SessionLane, G: StepObserver>(
+    lane: &mut D,
     observer: &G,
     session: u64,
     number: u64,
     steps: u64,
 )
-    ensures at { D.at desk.new ≡ D.at desk.old }
-    ensures begins { D.begins desk.new ≡ D.begins desk.old }
+    ensures at { D.at lane.new ≡ D.at lane.old }
+    ensures begins { D.begins lane.new ≡ D.begins lane.old }
 {
     if observer.stops(session, number, steps) {
-        desk.rest();
+        lane.rest();
         observer.between(session, number, steps);
     }
 }
 
 /// Makes steps until the call is answered, but 2^64 - 1 at most. Tells whether it was.
-fn finish<D: Desk, G: StepObserver>(desk: &mut D, observer: &G, session: u64, number: u64) -> bool
-    requires { HasCallUnderWay (D.at desk.old).place }
-    ensures answered { result ≡ true → IsAnsweredAt (D.at desk.old) (D.at desk.new) }
+fn finish<D: SessionLane, G: StepObserver>(
+    lane: &mut D,
+    observer: &G,
+    session: u64,
+    number: u64,
+) -> bool
+    requires { HasCallUnderWay (D.at lane.old).place }
+    ensures answered { result ≡ true → IsAnsweredAt (D.at lane.old) (D.at lane.new) }
     ensures unanswered { result ≡ false
-        → (D.at desk.new ≡ after_steps (D.at desk.old) (D.at desk.new).steps)
-        × (most_counted ≤ (D.at desk.new).steps) }
-    ensures begins { D.begins desk.new ≡ D.begins desk.old }
+        → (D.at lane.new ≡ after_steps (D.at lane.old) (D.at lane.new).steps)
+        × (most_counted ≤ (D.at lane.new).steps) }
+    ensures begins { D.begins lane.new ≡ D.begins lane.old }
 {
     for steps in 0..u64::MAX {
-        stop_at(desk, observer, session, number, steps);
-        match desk.step() {
+        stop_at(lane, observer, session, number, steps);
+        match lane.step() {
             StepResult::Going => {}
             StepResult::Answered => return true,
         }
@@ -59,16 +64,16 @@ fn finish<D: Desk, G: StepObserver>(desk: &mut D, observer: &G, session: u64, nu
 }
 
 /// Tells the observer of the last call where it wants that. Nothing is held then.
-fn tell_call<D: Desk, G: CallObserver>(desk: &mut D, observer: &G, session: u64, moment: u32)
-    requires { (D.at desk.old).calls ≢ [] }
-    ensures at { D.at desk.new ≡ D.at desk.old }
-    ensures begins { D.begins desk.new ≡ D.begins desk.old }
+fn tell_call<D: SessionLane, G: CallObserver>(lane: &mut D, observer: &G, session: u64, moment: u32)
+    requires { (D.at lane.old).calls ≢ [] }
+    ensures at { D.at lane.new ≡ D.at lane.old }
+    ensures begins { D.begins lane.new ≡ D.begins lane.old }
 {
     if !observer.hears_calls() {
         return;
     }
-    desk.rest();
-    let AnsweredCall { request, answer } = desk.last_call();
+    lane.rest();
+    let AnsweredCall { request, answer } = lane.last_call();
     observer.called(ObservedCall {
         session,
         number: answer.number(),
@@ -80,8 +85,8 @@ fn tell_call<D: Desk, G: CallObserver>(desk: &mut D, observer: &G, session: u64,
 
 /// Makes the call that a packet asked for, at the clock's next moment. Its reply, or that of its
 /// refusal, is appended to the session's output.
-pub(crate) fn make_call<D: Desk, C: Clock, G: StepObserver>(
-    desk: &mut D,
+pub(crate) fn make_call<D: SessionLane, C: Clock, G: StepObserver>(
+    lane: &mut D,
     clock: &mut C,
     observer: &G,
     number: u64,
@@ -89,29 +94,29 @@ pub(crate) fn make_call<D: Desk, C: Clock, G: StepObserver>(
     request: Request,
 ) -> Result<(), Stop>
     requires waiting { IsSome session.old.waiting }
-    requires resting { IsResting (D.at desk.old).place }
+    requires resting { IsResting (D.at lane.old).place }
     ensures made { OnOk result (MakesCall request
-        (BeginsCalls (C.told clock.old) (C.told clock.new) (D.begins desk.old) (D.begins desk.new))
-        (talk (D.at desk.old) session.old) (talk (D.at desk.new) session.new)) }
+        (BeginsCalls (C.told clock.old) (C.told clock.new) (D.begins lane.old) (D.begins lane.new))
+        (talk (D.at lane.old) session.old) (talk (D.at lane.new) session.new)) }
     ensures fails { IfErr result (λ stop. FailsCall session.old.waiting request stop
-        (BeginsCalls (C.told clock.old) (C.told clock.new) (D.begins desk.old) (D.begins desk.new))
-        (D.at desk.old) (D.at desk.new)) }
+        (BeginsCalls (C.told clock.old) (C.told clock.new) (D.begins lane.old) (D.begins lane.new))
+        (D.at lane.old) (D.at lane.new)) }
     ensures session { IfErr result (λ _. session.new ≡ session.old) }
 {
     let moment = clock.now();
-    let call = match desk.begin(request, moment) {
+    let call = match lane.begin(request, moment) {
         Ok(call) => call,
         Err(fault) => {
             session.refuse(fault);
             return Ok(());
         }
     };
-    if !finish(desk, observer, number, call) {
+    if !finish(lane, observer, number, call) {
         return Err(Stop::UnderWay);
     }
     observer.answered(number, call);
-    tell_call(desk, observer, number, moment);
-    if session.answer(&desk.last_call().answer).is_err() {
+    tell_call(lane, observer, number, moment);
+    if session.answer(&lane.last_call().answer).is_err() {
         return Err(Stop::OutOfMemory);
     }
     Ok(())

@@ -1,27 +1,28 @@
 //! A session's calls on a core that threads share, and a session served over a line whose calls are
 //! made so.
 //!
-//! Start with `Desk` in `desk.rt` (`specs/Desks.antt`): a session's calls are made at a desk, which
-//! notes what it was told. `LockDesk` is the desk on a core that threads share, and a `Stay` its
-//! part without the lock: the session's lane there, so that what it notes is on the session's page
-//! of that core. `serve` in `serving.rt` serves a session over a line at a desk: what it
-//! promises is in `specs/Scenes.antt`, beside what the one loop of `sf_serving` promises.
+//! Start with `SessionLane` in `session_lane.rt` (`specs/SessionLanes.antt`): what serving asks of
+//! a session's lane, its side at a core, which makes the calls and notes what the session was told.
+//! `SharedLane` is a lane at a core that threads share, and a `TranscriptLane` its part without the
+//! lock, so that what it notes is on the session's page of that core. `serve` in `serving.rt`
+//! serves a session over a line, whose host is a `LaneHost`: its calls are made by such a lane.
+//! What it promises is in `specs/Scenes.antt`, beside what the one loop of `sf_serving` promises.
 #![tactic(auto)]
 
-mod at_desk;
 mod calling;
-mod desk;
-mod lock_desk;
+mod lane_host;
 mod observer;
 mod serving;
-mod stay;
+mod session_lane;
+mod shared_lane;
+mod transcript_lane;
 mod wait_queue;
 
-pub use desk::{Begin, Desk, StepResult};
-pub use lock_desk::LockDesk;
 pub use observer::StepObserver;
 pub use serving::serve;
-pub use stay::{NotJoined, Stay, Stayed, Stepped};
+pub use session_lane::{Begin, SessionLane, StepResult};
+pub use shared_lane::SharedLane;
+pub use transcript_lane::{EndedLane, NotJoined, Stepped, TranscriptLane};
 pub use wait_queue::WaitQueue;
 
 #[cfg(test)]

@@ -1,13 +1,13 @@
-//! A session over a line, whose calls are made at a desk.
+//! A session over a line, whose calls a lane makes.
 
 ghost use Rattle.std.specs.Prelude.{◌≡◌, ◌≢◌, vec_len, OnOk, IfErr};
 ghost use Rattle.sf_serving.specs.Serving.{line_view};
-ghost use Rattle.sf_pool.specs.Desks.{New};
-ghost use Rattle.sf_pool.specs.Scenes.{desk_scene, join_refusal, ServesDesk, StopsDesk, IsDeskFault};
+ghost use Rattle.sf_pool.specs.SessionLanes.{New};
+ghost use Rattle.sf_pool.specs.Scenes.{lane_scene, join_refusal, ServesLane, StopsLane, IsLaneFault};
 
-use crate::at_desk::DeskHost;
-use crate::desk::Desk;
+use crate::lane_host::LaneHost;
 use crate::observer::StepObserver;
+use crate::session_lane::SessionLane;
 use sf_call::CoreFault;
 use sf_core::Share;
 use sf_line::Line;
@@ -28,46 +28,46 @@ fn join_refusal(fault: CoreFault) -> ServeFault
     }
 }
 
-/// Serves one session over a line, at a desk that it has not joined, to the end of the input or of
-/// the session, and merges its share of the calls. The observer is told of it, and of its calls.
+/// Serves one session over a line, by a lane that has not joined, to the end of the input or of the
+/// session, and merges its share of the calls. The observer is told of it, and of its calls.
 /// What is read comes into the piece, which whoever served its session may use again.
 ///
-/// Where a call has no answer after 2^64 - 1 steps, its session is left at the desk.
-pub fn serve<D: Desk, L: Line, C: Clock, G: StepObserver>(
+/// Where a call has no answer after 2^64 - 1 steps, its session doesn't leave.
+pub fn serve<D: SessionLane, L: Line, C: Clock, G: StepObserver>(
     alloc: Global,
-    desk: &mut D,
+    lane: &mut D,
     line: &mut L,
     clock: &mut C,
     observer: &G,
     piece: &mut Vec<u8>,
     share: &mut Share,
 ) -> Result<(), ServeFault>
-    requires place { (D.at desk.old).place ≡ New }
+    requires place { (D.at lane.old).place ≡ New }
     requires room { vec_len piece.old ≡ 65536 }
     ensures len { vec_len piece.new ≡ vec_len piece.old }
-    ensures served { OnOk result (ServesDesk
-        (desk_scene (D.at desk.old) (D.begins desk.old) (C.told clock.old))
-        (desk_scene (D.at desk.new) (D.begins desk.new) (C.told clock.new))
+    ensures served { OnOk result (ServesLane
+        (lane_scene (D.at lane.old) (D.begins lane.old) (C.told clock.old))
+        (lane_scene (D.at lane.new) (D.begins lane.new) (C.told clock.new))
         (line_view (L.incoming line.old) (L.outgoing line.old) (L.calls line.old))
         (line_view (L.incoming line.new) (L.outgoing line.new) (L.calls line.new))
         share.old share.new) }
-    ensures stopped { IfErr result (λ fault. StopsDesk fault
-        (desk_scene (D.at desk.old) (D.begins desk.old) (C.told clock.old))
-        (desk_scene (D.at desk.new) (D.begins desk.new) (C.told clock.new))
+    ensures stopped { IfErr result (λ fault. StopsLane fault
+        (lane_scene (D.at lane.old) (D.begins lane.old) (C.told clock.old))
+        (lane_scene (D.at lane.new) (D.begins lane.new) (C.told clock.new))
         (line_view (L.incoming line.old) (L.outgoing line.old) (L.calls line.old))
         (line_view (L.incoming line.new) (L.outgoing line.new) (L.calls line.new))
         (L.failed line.old) (L.failed line.new) share.old share.new) }
-    ensures fault { IfErr result (λ fault. IsDeskFault fault (L.failed line.old)
+    ensures fault { IfErr result (λ fault. IsLaneFault fault (L.failed line.old)
         (L.failed line.new)) }
-    ensures asked { (D.at desk.new).place ≢ New }
+    ensures asked { (D.at lane.new).place ≢ New }
 {
-    let number = match desk.join() {
+    let number = match lane.join() {
         Ok(number) => number,
         Err(fault) => return Err(join_refusal(fault)),
     };
     observer.joined(number);
-    let mut host = DeskHost::new(alloc, number, observer);
-    let served = serve_session(&mut host, desk, line, clock, piece);
+    let mut host = LaneHost::new(alloc, number, observer);
+    let served = serve_session(&mut host, lane, line, clock, piece);
     host.add_share(share);
     observer.left(number, served);
     match served {

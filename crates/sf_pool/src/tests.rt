@@ -10,7 +10,7 @@ fn is_shared<T: Sync>() {}
 
 #[test]
 fn all_may_cross_threads() {
-    crosses::<Stay<Brand>>();
-    crosses::<Stayed<Brand>>();
+    crosses::<TranscriptLane<Brand>>();
+    crosses::<EndedLane<Brand>>();
     is_shared::<WaitQueue>();
 }

@@ -1,7 +1,7 @@
 -- Connections that are given and taken, one more at a time.
 use Rattle.std.proofs.Common.{◌≡◌, ◌<◌, ◌+◌, ◌∙◌, ℕ, zero, suc, List, [], ◌∷◌, ◌++◌, length, Option, Some, None, refl, sym, ap, subst, append_assoc, append-nil, length-append, arith}
 use Rattle.std.proofs.lemmas.List.Elements.{filter_map-append}
-use Rattle.sf_pool.specs.Desks.{Notes}
+use Rattle.sf_pool.specs.SessionLanes.{Notes}
 use Rattle.sf_program.specs.declared.accepting.Stopped.TheVariants as stopped
 use Rattle.sf_program.specs.Accepting.{tries, nothing, lines_in, GivesNext, TakesLines}
 

@@ -1,6 +1,6 @@
 -- How many connections were taken, and which.
 use Rattle.std.specs.Prelude.{◌≡◌, ◌<◌, ℕ, List, [], ◌∷◌, ◌++◌, length, filter_map, replicate, Option, Some, None}
-use Rattle.sf_pool.specs.Desks.{Notes}
+use Rattle.sf_pool.specs.SessionLanes.{Notes}
 use Rattle.sf_program.specs.declared.accepting.Stopped.{Stopped}
 use Rattle.sf_program.specs.declared.accepting.Stopped.TheVariants as stopped
 

@@ -1,7 +1,7 @@
 //! How a server takes connections: from whoever has them, to whoever serves them.
 
 ghost use Rattle.std.specs.Prelude.{◌≡◌, List, [], ◌∷◌, Option, true, false};
-ghost use Rattle.sf_pool.specs.Desks.{Notes};
+ghost use Rattle.sf_pool.specs.SessionLanes.{Notes};
 ghost use Rattle.sf_program.specs.Accepting.{GivesNext, TakesLines};
 
 /// Where connections come from.

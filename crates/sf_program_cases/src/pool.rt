@@ -9,7 +9,7 @@ use sf_call::{Answer, Request};
 use sf_cases::requests::mkdir;
 use sf_core::{Core, Lane, Share, Step};
 use sf_noted::{NotedCore, Page};
-use sf_pool::{Desk, LockDesk, Stayed, StepResult, WaitQueue};
+use sf_pool::{EndedLane, SessionLane, SharedLane, StepResult, WaitQueue};
 use sf_reply::{Reply, StatusCode};
 use sf_roll::{NewRoll, RollName};
 use std::alloc::Global;
@@ -263,21 +263,21 @@ fn visit<B: RollName + Ledger>(
     wait_queue: &WaitQueue,
     part: ledger::Share<B>,
     request: Result<Request, Fail>,
-) -> Result<(Stayed<B>, Share), Fail>
+) -> Result<(EndedLane<B>, Share), Fail>
     requires part { part.parts ≡ 1 }
     requires none { part.amount ≡ 0 }
     ensures { IfOk result (λ came. came.0.share.parts ≡ 1) }
 {
     let request = request?;
-    let mut desk = LockDesk::new(rt, alloc, core, wait_queue, true, part);
-    let session = desk.join()?;
-    let number = desk.begin(request, 100)?;
-    assert_eq!(rt; desk.step(), StepResult::Going);
-    assert_eq!(rt; desk.step(), StepResult::Answered);
-    assert_eq!(rt; desk.last_call().answer.number(), number);
-    assert_eq!(rt; desk.last_call().answer.session(), session);
-    let share = desk.leave();
-    Ok((desk.end(), share))
+    let mut lane = SharedLane::new(rt, alloc, core, wait_queue, true, part);
+    let session = lane.join()?;
+    let number = lane.begin(request, 100)?;
+    assert_eq!(rt; lane.step(), StepResult::Going);
+    assert_eq!(rt; lane.step(), StepResult::Answered);
+    assert_eq!(rt; lane.last_call().answer.number(), number);
+    assert_eq!(rt; lane.last_call().answer.session(), session);
+    let share = lane.leave();
+    Ok((lane.end(), share))
 }
 
 /// Two sessions in turn on a core that nobody has joined, under a lock. The core comes out, and
@@ -301,13 +301,13 @@ fn visit_in_turn<B: RollName + Ledger>(
     let part = all.split_off(1, 0);
     let (first, one) = visit(rt, alloc, &core, &wait_queue, part, mkdir(alloc, b"/a"))?;
     let (second, other) = visit(rt, alloc, &core, &wait_queue, all, mkdir(alloc, b"/a"))?;
-    let Stayed {
+    let EndedLane {
         visit: _visit,
         transcript,
         share: mut counted,
         steps: _,
     } = first;
-    let Stayed {
+    let EndedLane {
         visit: _other,
         transcript: later,
         share,

@@ -5,7 +5,7 @@
 //! `specs/Serving.antt`: what was written is the session's transcript, written promptly and in
 //! pieces. `specs/Ends.antt` says in what a session ends, and `batch_law.rt` how much waits.
 //! Whoever wants to hear of a session's calls is a `CallObserver` (`observer.rt`). The hosts stand
-//! with what they host: an engine's in `sf_alone`, a desk's in `sf_pool`.
+//! with what they host: an engine's in `sf_alone`, a lane's in `sf_pool`.
 #![tactic(auto)]
 
 mod batch_law;

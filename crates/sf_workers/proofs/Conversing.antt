@@ -17,7 +17,7 @@ use Rattle.sf_noted.specs.Pages.{Presence}
 use Rattle.sf_noted.specs.Pages.Presence.{Calling, Departed}
 use Rattle.sf_noted.specs.Visits.{MayWait, IsVisitIn}
 use Rattle.sf_serving.specs.Serving.{LineView, Progress}
-use Rattle.sf_pool.specs.Desks.{Joined}
+use Rattle.sf_pool.specs.SessionLanes.{Joined}
 use Rattle.sf_pool.specs.Scenes.{response_calls, phase_calls, IsInCall}
 use Rattle.sf_workers.specs.Told.{WasServed, CameOf}
 use Rattle.sf_workers.specs.Conversations.{ConversesIn}

@@ -15,8 +15,8 @@ use Rattle.sf_noted.specs.Pages.Presence.{Departed}
 use Rattle.sf_noted.specs.Visits.{IsVisitIn}
 use Rattle.sf_serving.specs.Hosts.{most_counted}
 use Rattle.sf_serving.specs.Serving.{LineView, Progress, ServedSoFar, IsServed, HasWrittenFor}
-use Rattle.sf_pool.specs.Desks.{Joined}
-use Rattle.sf_pool.specs.Scenes.{state_calls, desk_held, IsInCall, IsDeskFault}
+use Rattle.sf_pool.specs.SessionLanes.{Joined}
+use Rattle.sf_pool.specs.Scenes.{state_calls, lane_held, IsInCall, IsLaneFault}
 use Rattle.sf_pool.specs.OnCores.{calls_begun}
 use Rattle.sf_workers.specs.declared.workers.Attended.{Attended}
 use Rattle.sf_workers.specs.declared.workers.Attended.TheVariants.{Served, NotJoined, NoRoom}
@@ -44,7 +44,7 @@ abbrev pub EndsServing : Result Unit ServeFault → (incoming : Option (List ℕ
     → (failed failed' steps : ℕ) → Progress → Type 0
 EndsServing (Ok _) incoming failed failed' steps p = (cause : Cause) × IsServed incoming cause p
 EndsServing (Err fault) incoming failed failed' steps p = HasWrittenFor fault failed failed' p
-    × IsDeskFault fault failed failed' × IsSpentBy fault steps p
+    × IsLaneFault fault failed failed' × IsSpentBy fault steps p
 
 -- A session was served over a line, from where that stood to where it stands: the calls among its
 -- answers are those that it was told, and what was written is its answers' transcript, or a
@@ -52,7 +52,7 @@ EndsServing (Err fault) incoming failed failed' steps p = HasWrittenFor fault fa
 pub record WasServed (x : ℕ × Page) (from line : LineView)
     (Ends : Progress → Type 0) : Type 0 where
   pub progress : Progress
-  pub served : ServedSoFar desk_held from line progress
+  pub served : ServedSoFar lane_held from line progress
   pub told : x.1.told ≡ state_calls progress.told
   pub stands : (x.1.presence ≡ Departed) ⊎ IsInCall (Joined x.1.presence) progress.told.phase
   pub ends : Ends progress

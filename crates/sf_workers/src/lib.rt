@@ -2,7 +2,7 @@
 //! other.
 //!
 //! Start with `serve_lines` in `lines.rt`: a worker for each clock takes lines from a channel, and
-//! serves each to its end at a `LockDesk` (`serve_line` in `workers.rt`). Once all are done the
+//! serves each to its end by a `SharedLane` (`serve_line` in `workers.rt`). Once all are done the
 //! core comes out of its lock, with what its sessions were told: each of them its calls in the
 //! core's one history, and together all calls of the core (`specs/Told.antt`). What passed over a
 //! line is its session's conversation in that history (`specs/Conversations.antt`). `serve_on_core`

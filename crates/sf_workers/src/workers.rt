@@ -14,7 +14,7 @@ use crossbeam_channel::Receiver;
 use sf_core::Share;
 use sf_line::Line;
 use sf_noted::NotedCore;
-use sf_pool::{LockDesk, NotJoined, Stayed, StepObserver, WaitQueue, serve};
+use sf_pool::{EndedLane, NotJoined, SharedLane, StepObserver, WaitQueue, serve};
 use sf_roll::RollName;
 use sf_serving::new_piece;
 use sf_session::{Clock, ServeFault};
@@ -98,9 +98,8 @@ pub(crate) enum Attended {
     NoRoom(AllocError),
 }
 
-/// Serves a session over a line to its end, at a desk: what its stay there came to, and why it
-/// ended. Its calls are counted in the part that is lent. What it was told is kept, or its last
-/// call alone.
+/// Serves a session over a line to its end: what its lane came to, and why it ended. Its calls are
+/// counted in the part that is lent. What it was told is kept, or its last call alone.
 ///
 /// A session that ends by a fault ends nothing else.
 pub fn serve_line<B: RollName + Ledger, R: Wait, L: Line, C: Clock, G: StepObserver>(
@@ -111,7 +110,7 @@ pub fn serve_line<B: RollName + Ledger, R: Wait, L: Line, C: Clock, G: StepObser
     clock: &mut C,
     observer: &G,
     piece: &mut Vec<u8>,
-) -> (Stayed<B>, Result<(), ServeFault>)
+) -> (EndedLane<B>, Result<(), ServeFault>)
     requires part { lent.parts ≡ 1 }
     requires none { lent.amount ≡ 0 }
     requires room { vec_len piece.old ≡ 65536 }
@@ -130,7 +129,7 @@ pub fn serve_line<B: RollName + Ledger, R: Wait, L: Line, C: Clock, G: StepObser
         (line_view (L.incoming line.new) (L.outgoing line.new) (L.calls line.new))) }
     ensures len { vec_len piece.new ≡ vec_len piece.old }
 {
-    let mut desk = LockDesk::new(
+    let mut lane = SharedLane::new(
         place.rt,
         place.alloc,
         place.core,
@@ -141,14 +140,14 @@ pub fn serve_line<B: RollName + Ledger, R: Wait, L: Line, C: Clock, G: StepObser
     let mut share = Share::zero();
     let outcome = serve(
         place.alloc,
-        &mut desk,
+        &mut lane,
         line,
         clock,
         observer,
         piece,
         &mut share,
     );
-    (desk.end(), outcome)
+    (lane.end(), outcome)
 }
 
 impl<B: RollName + Ledger> Served<B> {
@@ -192,13 +191,13 @@ impl<B: RollName + Ledger> Served<B> {
             return (Served { told, share }, Attended::NoRoom(error));
         }
         let lent = share.split_off(1, 0);
-        let (stayed, outcome) = serve_line(place, lent, told.keeps, line, clock, observer, piece);
-        let Stayed {
+        let (ended, outcome) = serve_line(place, lent, told.keeps, line, clock, observer, piece);
+        let EndedLane {
             visit,
             transcript,
             share: own,
             steps: _,
-        } = stayed;
+        } = ended;
         share.merge(own);
         let attended = match visit {
             Ok(visit) => {

@@ -256,12 +256,12 @@ fn removal(alloc: Global, draws: &mut Draws) -> Result<Request, Fail> {
     })
 }
 
-/// A session's place, if it has joined.
-pub(super) struct Seat {
+/// A session's lane, if it has joined.
+pub(super) struct KeptLane {
     pub(super) lane: Option<Lane>,
 }
 
-impl Drop for Seat {
+impl Drop for KeptLane {
     fn drop(self) {
         let Self { lane } = self;
         match lane {
@@ -271,9 +271,9 @@ impl Drop for Seat {
     }
 }
 
-impl Seat {
-    pub(super) fn of(lane: Lane) -> Seat {
-        Seat { lane: Some(lane) }
+impl KeptLane {
+    pub(super) fn of(lane: Lane) -> KeptLane {
+        KeptLane { lane: Some(lane) }
     }
 }
 
@@ -283,18 +283,18 @@ fn event(
     rt: &impl Abort,
     alloc: Global,
     core: &mut Core,
-    seat: &mut Seat,
+    kept: &mut KeptLane,
     draws: &mut Draws,
     moment: u32,
 ) -> Option<Told> {
-    let Some(lane) = seat.lane.take() else {
-        *seat = Seat::of(join(rt, core));
+    let Some(lane) = kept.lane.take() else {
+        *kept = KeptLane::of(join(rt, core));
         return None;
     };
     let mut lane = lane;
     if !lane.is_idle() {
         let came_to = step(rt, core, &mut lane);
-        *seat = Seat::of(lane);
+        *kept = KeptLane::of(lane);
         return Some(came_to);
     }
     if draws.once_in(200) {
@@ -302,14 +302,14 @@ fn event(
         return None;
     }
     begin_at(rt, core, &mut lane, drawn_request(alloc, draws), moment);
-    *seat = Seat::of(lane);
+    *kept = KeptLane::of(lane);
     None
 }
 
 /// A step of each session that has a call.
-fn step_all(rt: &impl Abort, core: &mut Core, seats: &mut Vec<Seat>) {
-    for seat in seats.iter_mut() {
-        if let Some(lane) = &mut seat.lane {
+fn step_all(rt: &impl Abort, core: &mut Core, lanes: &mut Vec<KeptLane>) {
+    for kept in lanes.iter_mut() {
+        if let Some(lane) = &mut kept.lane {
             if !lane.is_idle() {
                 step(rt, core, lane);
             }
@@ -428,7 +428,12 @@ pub(super) fn is_legal(rt: &impl Abort, alloc: Global, core: &Core) -> Result<()
 }
 
 /// Drawn events: three or more of one session in a row, unless its call has to wait.
-fn drawn_events(rt: &impl Abort, alloc: Global, core: &mut Core, seats: &mut Vec<Seat>) -> Tally {
+fn drawn_events(
+    rt: &impl Abort,
+    alloc: Global,
+    core: &mut Core,
+    lanes: &mut Vec<KeptLane>,
+) -> Tally {
     let mut draws = Draws::new(1);
     let mut tally = Tally {
         steps: 0,
@@ -445,8 +450,8 @@ fn drawn_events(rt: &impl Abort, alloc: Global, core: &mut Core, seats: &mut Vec
         }
         in_row = in_row.saturating_sub(1);
         let before = core.history().len();
-        let came_to = match seats.get_mut(place) {
-            Some(seat) => event(rt, alloc, core, seat, &mut draws, moment),
+        let came_to = match lanes.get_mut(place) {
+            Some(kept) => event(rt, alloc, core, kept, &mut draws, moment),
             None => None,
         };
         if let Some(came_to) = came_to {
@@ -466,14 +471,14 @@ fn drawn_events(rt: &impl Abort, alloc: Global, core: &mut Core, seats: &mut Vec
 fn random_events(rt: HostRuntime) -> Result<(), Fail> {
     let alloc = rt.alloc();
     let mut core = Core::new(alloc)?;
-    let mut seats = Vec::new(alloc);
+    let mut lanes = Vec::new(alloc);
     for _ in 0..SESSIONS {
-        seats.push(Seat { lane: None })?;
+        lanes.push(KeptLane { lane: None })?;
     }
-    let tally = drawn_events(&rt, alloc, &mut core, &mut seats);
+    let tally = drawn_events(&rt, alloc, &mut core, &mut lanes);
     println!(&rt; "{tally:?}")?;
     for _ in 0..100 {
-        step_all(&rt, &mut core, &mut seats);
+        step_all(&rt, &mut core, &mut lanes);
     }
     is_legal(&rt, alloc, &core)?;
     let mut plain = replayed(&rt, alloc, &core)?;

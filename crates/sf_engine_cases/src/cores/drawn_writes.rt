@@ -1,7 +1,7 @@
 //! Random WRITEs of several blocks, READs, SETSTATs and truncating OPENs of the same files, below a
 //! directory that renames move: a rename finishes the WRITE of a file that it truncates on its way.
 
-use super::drawn::{Seat, is_legal, replayed, tell_alike};
+use super::drawn::{KeptLane, is_legal, replayed, tell_alike};
 use super::*;
 use sf_cases::requests::{flags, read, set_stat, write};
 use sf_cases::{Numbers, sized};
@@ -47,8 +47,8 @@ impl Hand {
 /// A session, its latest handle, and of its call's WRITE how many blocks it has and how many it
 /// copied.
 #[derive(Drop)]
-struct Desk {
-    seat: Seat,
+struct DrawnSession {
+    kept: KeptLane,
     handle: u64,
     blocks: u64,
     moved: u64,
@@ -100,23 +100,23 @@ struct Counts {
 }
 
 impl Counts {
-    fn count(&mut self, desk: &mut Desk, came_to: Told) {
+    fn count(&mut self, session: &mut DrawnSession, came_to: Told) {
         if let Told::Blocked(_) = came_to {
             self.blocked = self.blocked.saturating_add(1);
             return;
         }
-        if desk.blocks == 0 {
+        if session.blocks == 0 {
             return;
         }
         if let Told::Moved = came_to {
-            desk.moved = desk.moved.saturating_add(1);
+            session.moved = session.moved.saturating_add(1);
             return;
         }
         if let Told::Status(StatusCode::Success) = came_to {
             self.writes = self.writes.saturating_add(1);
-            if desk.moved > 0 {
+            if session.moved > 0 {
                 self.long = self.long.saturating_add(1);
-                if desk.moved.saturating_add(1) < desk.blocks {
+                if session.moved.saturating_add(1) < session.blocks {
                     self.finished = self.finished.saturating_add(1);
                 }
             }
@@ -129,28 +129,28 @@ fn event(
     rt: &impl Abort,
     alloc: Global,
     core: &mut Core,
-    desk: &mut Desk,
+    session: &mut DrawnSession,
     hand: &mut Hand,
     moment: u32,
 ) -> Option<Told> {
-    let Some(lane) = desk.seat.lane.take() else {
-        desk.seat = Seat::of(join(rt, core));
+    let Some(lane) = session.kept.lane.take() else {
+        session.kept = KeptLane::of(join(rt, core));
         return None;
     };
     let mut lane = lane;
     if lane.is_idle() {
-        let call = drawn_call(alloc, hand, desk.handle);
+        let call = drawn_call(alloc, hand, session.handle);
         let Ok((request, blocks)) = call else {
             panic!(rt; "no request");
         };
         begin_at(rt, core, &mut lane, Ok(request), moment);
-        desk.blocks = blocks;
-        desk.moved = 0;
-        desk.seat = Seat::of(lane);
+        session.blocks = blocks;
+        session.moved = 0;
+        session.kept = KeptLane::of(lane);
         return None;
     }
     let came_to = step(rt, core, &mut lane);
-    desk.seat = Seat::of(lane);
+    session.kept = KeptLane::of(lane);
     Some(came_to)
 }
 
@@ -177,26 +177,31 @@ fn counted_event(
     rt: &impl Abort,
     alloc: Global,
     core: &mut Core,
-    desk: &mut Desk,
+    session: &mut DrawnSession,
     hand: &mut Hand,
     counts: &mut Counts,
     moment: u32,
 ) {
     let before = core.history().len();
-    let Some(came_to) = event(rt, alloc, core, desk, hand, moment) else {
+    let Some(came_to) = event(rt, alloc, core, session, hand, moment) else {
         return;
     };
     if let Told::Handle(number) = came_to {
-        desk.handle = number;
+        session.handle = number;
     }
-    counts.count(desk, came_to);
+    counts.count(session, came_to);
     if core.history().len() > before && has_moved(core.history().last()) {
         hand.home = hand.other();
     }
 }
 
 /// Drawn sessions have three events each, one after the other.
-fn drawn_events(rt: &impl Abort, alloc: Global, core: &mut Core, desks: &mut Vec<Desk>) -> Counts {
+fn drawn_events(
+    rt: &impl Abort,
+    alloc: Global,
+    core: &mut Core,
+    sessions: &mut Vec<DrawnSession>,
+) -> Counts {
     let mut hand = Hand {
         numbers: Numbers::new(3),
         home: b'a',
@@ -209,34 +214,34 @@ fn drawn_events(rt: &impl Abort, alloc: Global, core: &mut Core, desks: &mut Vec
     };
     for moment in 0..EVENTS {
         let place = usize::try_from(hand.numbers.below(6)).unwrap_or(0);
-        let Some(desk) = desks.get_mut(place) else {
+        let Some(session) = sessions.get_mut(place) else {
             return counts;
         };
-        counted_event(rt, alloc, core, desk, &mut hand, &mut counts, moment);
-        counted_event(rt, alloc, core, desk, &mut hand, &mut counts, moment);
-        counted_event(rt, alloc, core, desk, &mut hand, &mut counts, moment);
+        counted_event(rt, alloc, core, session, &mut hand, &mut counts, moment);
+        counted_event(rt, alloc, core, session, &mut hand, &mut counts, moment);
+        counted_event(rt, alloc, core, session, &mut hand, &mut counts, moment);
     }
     counts
 }
 
 /// So many sessions that haven't joined.
-fn new_desks(alloc: Global) -> Result<Vec<Desk>, Fail> {
-    let mut desks = Vec::new(alloc);
+fn new_sessions(alloc: Global) -> Result<Vec<DrawnSession>, Fail> {
+    let mut sessions = Vec::new(alloc);
     for _ in 0..SESSIONS {
-        desks.push(Desk {
-            seat: Seat { lane: None },
+        sessions.push(DrawnSession {
+            kept: KeptLane { lane: None },
             handle: 0,
             blocks: 0,
             moved: 0,
         })?;
     }
-    Ok(desks)
+    Ok(sessions)
 }
 
 /// A step of each session's call.
-fn step_all(rt: &impl Abort, core: &mut Core, desks: &mut Vec<Desk>) {
-    for desk in desks.iter_mut() {
-        finish_seat(rt, core, &mut desk.seat);
+fn step_all(rt: &impl Abort, core: &mut Core, sessions: &mut Vec<DrawnSession>) {
+    for session in sessions.iter_mut() {
+        finish_kept(rt, core, &mut session.kept);
     }
 }
 
@@ -262,12 +267,12 @@ fn random_writes(rt: HostRuntime) -> Result<(), Fail> {
     begin(&rt, &mut core, &mut first, mkdir(alloc, b"/a"));
     finish(&rt, &mut core, &mut first);
     first.abandon();
-    let mut desks = new_desks(alloc)?;
-    let counts = drawn_events(&rt, alloc, &mut core, &mut desks);
+    let mut sessions = new_sessions(alloc)?;
+    let counts = drawn_events(&rt, alloc, &mut core, &mut sessions);
     println!(&rt; "{counts:?}")?;
     is_legal(&rt, alloc, &core)?;
     for _ in 0..100 {
-        step_all(&rt, &mut core, &mut desks);
+        step_all(&rt, &mut core, &mut sessions);
     }
     let mut plain = replayed(&rt, alloc, &core)?;
     for home in HOMES {
@@ -279,8 +284,8 @@ fn random_writes(rt: HostRuntime) -> Result<(), Fail> {
 }
 
 /// A step of the session's call, where it has one.
-fn finish_seat(rt: &impl Abort, core: &mut Core, seat: &mut Seat) {
-    if let Some(lane) = &mut seat.lane {
+fn finish_kept(rt: &impl Abort, core: &mut Core, kept: &mut KeptLane) {
+    if let Some(lane) = &mut kept.lane {
         if !lane.is_idle() {
             step(rt, core, lane);
         }
@@ -291,43 +296,48 @@ fn finish_seat(rt: &impl Abort, core: &mut Core, seat: &mut Seat) {
 /// by its path, and one moves its directory.
 #[derive(Drop)]
 struct Four {
-    writer: Seat,
-    reader: Seat,
-    cutter: Seat,
-    mover: Seat,
+    writer: KeptLane,
+    reader: KeptLane,
+    cutter: KeptLane,
+    mover: KeptLane,
 }
 
-fn seated(rt: &impl Abort, core: &mut Core) -> Seat {
-    Seat::of(join(rt, core))
+fn joined(rt: &impl Abort, core: &mut Core) -> KeptLane {
+    KeptLane::of(join(rt, core))
 }
 
-/// A call begins at a seat.
-fn begin_seat(rt: &impl Abort, core: &mut Core, seat: &mut Seat, request: Result<Request, Fail>) {
-    match &mut seat.lane {
+/// A call of a session begins.
+fn begin_kept(
+    rt: &impl Abort,
+    core: &mut Core,
+    kept: &mut KeptLane,
+    request: Result<Request, Fail>,
+) {
+    match &mut kept.lane {
         Some(lane) => begin(rt, core, lane, request),
         None => panic!(rt; "no lane"),
     }
 }
 
-fn step_seat(rt: &impl Abort, core: &mut Core, seat: &mut Seat) -> Told {
-    match &mut seat.lane {
+fn step_kept(rt: &impl Abort, core: &mut Core, kept: &mut KeptLane) -> Told {
+    match &mut kept.lane {
         Some(lane) => step(rt, core, lane),
         None => panic!(rt; "no lane"),
     }
 }
 
-fn seat_comes_to(rt: &impl Abort, core: &mut Core, seat: &mut Seat, want: Told) {
-    let told = step_seat(rt, core, seat);
+fn kept_comes_to(rt: &impl Abort, core: &mut Core, kept: &mut KeptLane, want: Told) {
+    let told = step_kept(rt, core, kept);
     assert!(rt; told == want, "{told:?}, not {want:?}");
 }
 
-fn seat_waits(rt: &impl Abort, core: &mut Core, seat: &mut Seat) {
-    let told = step_seat(rt, core, seat);
+fn kept_waits(rt: &impl Abort, core: &mut Core, kept: &mut KeptLane) {
+    let told = step_kept(rt, core, kept);
     assert!(rt; matches!(told, Told::Blocked(_)), "{told:?}");
 }
 
 /// The truncation comes to the file's parent.
-fn cuts(rt: &impl Abort, alloc: Global, core: &mut Core, seat: &mut Seat, hand: &mut Hand) {
+fn cuts(rt: &impl Abort, alloc: Global, core: &mut Core, kept: &mut KeptLane, hand: &mut Hand) {
     let path = [b'/', hand.home, b'/', b'f'];
     let size = hand.numbers.below(40_000);
     let request = if hand.numbers.below(3) == 0 {
@@ -335,9 +345,9 @@ fn cuts(rt: &impl Abort, alloc: Global, core: &mut Core, seat: &mut Seat, hand: 
     } else {
         set_stat(alloc, &path, sized(size))
     };
-    begin_seat(rt, core, seat, request);
-    seat_comes_to(rt, core, seat, Told::Moved);
-    seat_comes_to(rt, core, seat, Told::Moved);
+    begin_kept(rt, core, kept, request);
+    kept_comes_to(rt, core, kept, Told::Moved);
+    kept_comes_to(rt, core, kept, Told::Moved);
 }
 
 /// A drawn WRITE of three blocks or more copies some of them. How many it has, and copied, is told.
@@ -345,21 +355,21 @@ fn writes(
     rt: &impl Abort,
     alloc: Global,
     core: &mut Core,
-    seat: &mut Seat,
+    kept: &mut KeptLane,
     hand: &mut Hand,
     handle: u64,
 ) -> (u64, u64) {
     let offset = hand.numbers.below(10_000);
     let count = hand.numbers.below(30_000).saturating_add(10_000);
     let byte = u8::try_from(hand.numbers.below(256)).unwrap_or(1);
-    begin_seat(rt, core, seat, filled(alloc, handle, offset, count, byte));
+    begin_kept(rt, core, kept, filled(alloc, handle, offset, count, byte));
     let blocks = blocks_of(offset, count);
     let moves = hand
         .numbers
         .below(blocks.saturating_sub(1))
         .saturating_add(1);
     for _ in 0..moves {
-        seat_comes_to(rt, core, seat, Told::Moved);
+        kept_comes_to(rt, core, kept, Told::Moved);
     }
     (blocks, moves)
 }
@@ -389,31 +399,31 @@ fn round(
     if !early {
         cuts(rt, alloc, core, &mut four.cutter, hand);
     }
-    seat_waits(rt, core, &mut four.cutter);
-    begin_seat(rt, core, &mut four.reader, read(read_by, 0, 100_000));
-    seat_waits(rt, core, &mut four.reader);
+    kept_waits(rt, core, &mut four.cutter);
+    begin_kept(rt, core, &mut four.reader, read(read_by, 0, 100_000));
+    kept_waits(rt, core, &mut four.reader);
     let moved = rename(alloc, &[b'/', hand.home], &[b'/', hand.other()]);
-    begin_seat(rt, core, &mut four.mover, moved);
-    seat_comes_to(rt, core, &mut four.mover, Told::Moved);
-    seat_comes_to(rt, core, &mut four.mover, Told::Status(StatusCode::Success));
+    begin_kept(rt, core, &mut four.mover, moved);
+    kept_comes_to(rt, core, &mut four.mover, Told::Moved);
+    kept_comes_to(rt, core, &mut four.mover, Told::Status(StatusCode::Success));
     hand.home = hand.other();
-    seat_comes_to(
+    kept_comes_to(
         rt,
         core,
         &mut four.writer,
         Told::Status(StatusCode::Success),
     );
-    step_seat(rt, core, &mut four.reader);
-    step_seat(rt, core, &mut four.cutter);
+    step_kept(rt, core, &mut four.reader);
+    step_kept(rt, core, &mut four.cutter);
     moves.saturating_add(1) < blocks
 }
 
-/// A seat opens the file. Its handle is told.
-fn opens_file(rt: &impl Abort, alloc: Global, core: &mut Core, seat: &mut Seat) -> u64 {
-    begin_seat(rt, core, seat, open(alloc, b"/a/f", b"rwc"));
-    seat_comes_to(rt, core, seat, Told::Moved);
-    seat_comes_to(rt, core, seat, Told::Moved);
-    match step_seat(rt, core, seat) {
+/// A session opens the file. Its handle is told.
+fn opens_file(rt: &impl Abort, alloc: Global, core: &mut Core, kept: &mut KeptLane) -> u64 {
+    begin_kept(rt, core, kept, open(alloc, b"/a/f", b"rwc"));
+    kept_comes_to(rt, core, kept, Told::Moved);
+    kept_comes_to(rt, core, kept, Told::Moved);
+    match step_kept(rt, core, kept) {
         Told::Handle(number) => number,
         other => panic!(rt; "no handle: {other:?}"),
     }
@@ -424,14 +434,14 @@ fn renames_finish_writes(rt: HostRuntime) -> Result<(), Fail> {
     let alloc = rt.alloc();
     let mut core = Core::new(alloc)?;
     let mut four = Four {
-        writer: seated(&rt, &mut core),
-        reader: seated(&rt, &mut core),
-        cutter: seated(&rt, &mut core),
-        mover: seated(&rt, &mut core),
+        writer: joined(&rt, &mut core),
+        reader: joined(&rt, &mut core),
+        cutter: joined(&rt, &mut core),
+        mover: joined(&rt, &mut core),
     };
-    begin_seat(&rt, &mut core, &mut four.mover, mkdir(alloc, b"/a"));
-    seat_comes_to(&rt, &mut core, &mut four.mover, Told::Moved);
-    seat_comes_to(
+    begin_kept(&rt, &mut core, &mut four.mover, mkdir(alloc, b"/a"));
+    kept_comes_to(&rt, &mut core, &mut four.mover, Told::Moved);
+    kept_comes_to(
         &rt,
         &mut core,
         &mut four.mover,

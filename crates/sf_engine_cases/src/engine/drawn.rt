@@ -395,19 +395,19 @@ fn draw_events(
     for place in places.iter_mut() {
         *place = add_client(rt, alloc, engine, clients)?;
     }
-    let mut seat = 0;
+    let mut nth = 0;
     let mut in_row = 0_u32;
     for moment in 0..EVENTS {
         if draws.below(500) == 0 {
             run_all(rt, engine, &mut draws, &mut tally, clients, moment);
         }
         if in_row == 0 && draws.below(2) == 0 {
-            seat = draws.place(SESSIONS);
+            nth = draws.place(SESSIONS);
             in_row = 3;
         }
         in_row = in_row.saturating_sub(1);
-        let Some(place) = places.get_mut(seat) else {
-            panic!(rt; "no seat");
+        let Some(place) = places.get_mut(nth) else {
+            panic!(rt; "no place");
         };
         let Some(client) = clients.get_mut(*place) else {
             panic!(rt; "no client");
@@ -418,7 +418,7 @@ fn draw_events(
         }
         match came_to {
             Some(Happened::Blocked(_)) => {
-                seat = draws.place(SESSIONS);
+                nth = draws.place(SESSIONS);
                 in_row = 3;
             }
             Some(Happened::Begun) => in_row = 2,

@@ -1,15 +1,15 @@
-//! Sessions served over lines in memory, at a desk on a core that is lent to it.
+//! Sessions served over lines in memory, by a lane at a core that is lent to it.
 
 ghost use Rattle.std.specs.Prelude.{◌≡◌, ◌++◌, ◌∷◌, ◌≢◌, [], Some, true, vec_len};
 ghost use Rattle.sf_core.specs.Histories.{IsHistory};
-ghost use Rattle.sf_pool.specs.Desks.{New, new_desk};
+ghost use Rattle.sf_pool.specs.SessionLanes.{New, new_session_lane};
 
 use super::*;
 use sf_call::CoreFault;
 use sf_cases::requests::stat;
 use sf_cases::{StillClock, hex_packets};
 use sf_line::{Line, LineCall, MemoryLine, Pieces};
-use sf_pool::{Begin, Stay, serve};
+use sf_pool::{Begin, TranscriptLane, serve};
 use sf_serving::{NoObserver, new_piece};
 use sf_session::{Clock, ServeFault};
 use std::alloc::AllocError;
@@ -60,9 +60,9 @@ struct OwnCore<B: RollName + Ledger> {
 
 /// A session's calls on a core that nobody else uses.
 #[derive(Drop)]
-struct OwnDesk<'a, B: RollName + Ledger> {
+struct OwnLane<'a, B: RollName + Ledger> {
     core: &'a mut NotedCore<B>,
-    stay: Stay<B>,
+    transcript_lane: TranscriptLane<B>,
 }
 
 /// What came of a session.
@@ -99,19 +99,19 @@ impl<B: RollName + Ledger> OwnCore<B> {
     /// Serves a session over a line to its end.
     fn serve<L: Line, C: Clock>(&mut self, alloc: Global, line: &mut L, clock: &mut C) -> Came {
         let part = self.count.split_off(1, 0);
-        let mut desk = OwnDesk::new(alloc, &mut self.core, part);
+        let mut lane = OwnLane::new(alloc, &mut self.core, part);
         let mut share = Share::zero();
         let piece = &mut self.piece;
         let ended = serve(
             alloc,
-            &mut desk,
+            &mut lane,
             line,
             clock,
             &NoObserver,
             piece,
             &mut share,
         );
-        let (told, part) = desk.end();
+        let (told, part) = lane.end();
         self.count.merge(part);
         Came { ended, told, share }
     }
@@ -126,91 +126,94 @@ impl<B: RollName + Ledger> OwnCore<B> {
     }
 }
 
-impl<'a, B: RollName + Ledger> OwnDesk<'a, B> {
-    fn new(alloc: Global, core: &'a mut NotedCore<B>, part: ledger::Share<B>) -> OwnDesk<'a, B>
+impl<'a, B: RollName + Ledger> OwnLane<'a, B> {
+    fn new(alloc: Global, core: &'a mut NotedCore<B>, part: ledger::Share<B>) -> OwnLane<'a, B>
         requires part { part.parts ≡ 1 }
         requires none { part.amount ≡ 0 }
-        ensures { result.stay ≡ new_desk true }
+        ensures { result.transcript_lane ≡ new_session_lane true }
     {
-        OwnDesk {
+        OwnLane {
             core,
-            stay: Stay::new(alloc, true, part),
+            transcript_lane: TranscriptLane::new(alloc, true, part),
         }
     }
 
     /// What the session was told, and the part of the count.
     fn end(self) -> (Transcript, ledger::Share<B>)
-        requires { self.stay.place ≢ New }
+        requires { self.transcript_lane.place ≢ New }
         ensures { result.1.parts ≡ 1 }
     {
-        let OwnDesk { core: _, stay } = self;
-        let Stayed {
+        let OwnLane {
+            core: _,
+            transcript_lane,
+        } = self;
+        let EndedLane {
             visit: _visit,
             transcript,
             share,
             steps: _,
-        } = stay.end();
+        } = transcript_lane.end();
         (transcript, share)
     }
 }
 
-impl<B: RollName + Ledger> Desk for OwnDesk<'_, B> {
-    ghost at = { λ d. d.stay };
+impl<B: RollName + Ledger> SessionLane for OwnLane<'_, B> {
+    ghost at = { λ d. d.transcript_lane };
 
     fn join(&mut self) -> Result<u64, CoreFault> {
-        self.stay.join(self.core)
+        self.transcript_lane.join(self.core)
     }
 
     fn begin(&mut self, request: Request, moment: u32) -> Result<u64, CoreFault> {
-        self.stay.begin(self.core, request, moment)
+        self.transcript_lane.begin(self.core, request, moment)
     }
 
     fn step(&mut self) -> StepResult {
-        self.stay.step(self.core).told
+        self.transcript_lane.step(self.core).told
     }
 
     fn rest(&mut self) {}
 
     fn last_call(&self) -> &AnsweredCall {
-        self.stay.last_call()
+        self.transcript_lane.last_call()
     }
 
     fn leave(&mut self) -> Share {
-        self.stay.leave(self.core)
+        self.transcript_lane.leave(self.core)
     }
 }
 
-/// Such a desk that tells what it was asked to begin. It refuses the second call for want of
+/// Such a lane that tells what it was asked to begin. It refuses the second call for want of
 /// memory.
 #[derive(Drop)]
-struct TellingDesk<'a, R: Abort, B: RollName + Ledger> {
+struct TellingLane<'a, R: Abort, B: RollName + Ledger> {
     rt: &'a R,
-    own: OwnDesk<'a, B>,
+    own: OwnLane<'a, B>,
     begins: Vec<Begin>,
 }
 
-impl<'a, R: Abort, B: RollName + Ledger> TellingDesk<'a, R, B> {
+impl<'a, R: Abort, B: RollName + Ledger> TellingLane<'a, R, B> {
     fn new(
         rt: &'a R,
         alloc: Global,
         core: &'a mut NotedCore<B>,
         part: ledger::Share<B>,
-    ) -> TellingDesk<'a, R, B>
+    ) -> TellingLane<'a, R, B>
         requires part { part.parts ≡ 1 }
         requires none { part.amount ≡ 0 }
-        ensures place { result.own.stay ≡ new_desk true }
+        ensures place { result.own.transcript_lane ≡ new_session_lane true }
         ensures begins { result.begins.items ≡ [] }
     {
-        TellingDesk {
+        TellingLane {
             rt,
-            own: OwnDesk::new(alloc, core, part),
+            own: OwnLane::new(alloc, core, part),
             begins: Vec::new(alloc),
         }
     }
 
     /// Notes what came of a call that it was asked to begin.
     fn note(&mut self, begin: Begin)
-        ensures own { self.new.own.stay ≡ self.old.own.stay }
+        ensures own { self.new.own.transcript_lane ≡ self.old.own.transcript_lane }
         ensures begins { self.new.begins.items ≡ self.old.begins.items ++ begin ∷ [] }
     {
         if self.begins.push(begin).is_err() {
@@ -220,16 +223,16 @@ impl<'a, R: Abort, B: RollName + Ledger> TellingDesk<'a, R, B> {
 
     /// What it was asked to begin, and what the session was told.
     fn end(self) -> (Vec<Begin>, Transcript)
-        requires { self.own.stay.place ≢ New }
+        requires { self.own.transcript_lane.place ≢ New }
     {
-        let TellingDesk { rt: _, own, begins } = self;
+        let TellingLane { rt: _, own, begins } = self;
         let (told, _part) = own.end();
         (begins, told)
     }
 }
 
-impl<R: Abort, B: RollName + Ledger> Desk for TellingDesk<'_, R, B> {
-    ghost at = { λ d. d.own.stay };
+impl<R: Abort, B: RollName + Ledger> SessionLane for TellingLane<'_, R, B> {
+    ghost at = { λ d. d.own.transcript_lane };
 
     ghost begins = { λ d. Some d.begins.items };
 
@@ -361,7 +364,7 @@ fn prompt_replies(rt: HostRuntime) -> Result<(), Fail> {
     Ok(())
 }
 
-/// A session at a desk that tells what it was asked to begin. That comes out, what the session was
+/// A session whose lane tells what it was asked to begin. That comes out, what the session was
 /// told, and its share.
 fn tell_begins<B: RollName + Ledger, R: Abort, L: Line, C: Clock>(
     rt: &R,
@@ -375,18 +378,18 @@ fn tell_begins<B: RollName + Ledger, R: Abort, L: Line, C: Clock>(
         mut count,
         mut piece,
     } = own;
-    let mut desk = TellingDesk::new(rt, alloc, &mut core, count.split_off(1, 0));
+    let mut lane = TellingLane::new(rt, alloc, &mut core, count.split_off(1, 0));
     let mut share = Share::zero();
     serve(
         alloc,
-        &mut desk,
+        &mut lane,
         line,
         clock,
         &NoObserver,
         &mut piece,
         &mut share,
     )?;
-    let (begins, told) = desk.end();
+    let (begins, told) = lane.end();
     Ok((begins, told, share))
 }
 
@@ -457,7 +460,7 @@ impl<R: Abort> Clock for KeepingClock<'_, R> {
     }
 }
 
-/// The calls that began, each at its moment, and the one that the desk refused, whose reply says
+/// The calls that began, each at its moment, and the one that the lane refused, whose reply says
 /// so.
 #[test]
 fn begins_and_a_refusal(rt: HostRuntime) -> Result<(), Fail> {

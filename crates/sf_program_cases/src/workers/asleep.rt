@@ -13,7 +13,7 @@ pub(super) const SIZE_A_F: &str =
 
 pub(super) const MOVE_A: &str = "00000011 12 00000009 00000002 2f61 00000002 2f7a";
 
-/// How often a call that is blocked is tried before its desk sleeps.
+/// How often a call that is blocked is tried before its lane sleeps.
 pub(super) const TRIES: u64 = 64;
 
 /// Which call is held, before which of its steps; which one waits for it, and sleeps after so many

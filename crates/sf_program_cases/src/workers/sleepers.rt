@@ -5,7 +5,7 @@ ghost use Rattle.std.specs.Prelude.{◌≡◌, vec_len};
 use super::asleep::{OPEN_A_F, SIZE_A_F, TRIES, add_write};
 use super::*;
 use sf_noted::{NotedCore, Page};
-use sf_pool::{Stayed, WaitQueue};
+use sf_pool::{EndedLane, WaitQueue};
 use sf_roll::{NewRoll, RollName};
 use sf_serving::new_piece;
 use sf_workers::{Place, serve_line};
@@ -195,13 +195,13 @@ fn take_turn<B: RollName + Ledger, R: Wait + Abort + Clock>(
     } = turn;
     observer.wait_for(Sign::Held(after), LOOKS);
     let clock = &mut StillClock;
-    let (stayed, _outcome) = serve_line(place, part, true, &mut line, clock, observer, &mut piece);
-    let Stayed {
+    let (ended, _outcome) = serve_line(place, part, true, &mut line, clock, observer, &mut piece);
+    let EndedLane {
         visit: _visit,
         transcript,
         share: _share,
         steps: _,
-    } = stayed;
+    } = ended;
     transcript
 }
 

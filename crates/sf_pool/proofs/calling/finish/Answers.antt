@@ -1,9 +1,9 @@
 use Rattle.std.proofs.Common.{◌∙◌, refl, sym, subst, arith}
-use Rattle.sf_pool.specs.Desks.{HasCallUnderWay, DeskView}
+use Rattle.sf_pool.specs.SessionLanes.{HasCallUnderWay, SessionLaneView}
 use Rattle.sf_pool.proofs.calling.finish.Goals as goal
 
 pub loop-steps-init : goal.loop-steps-init
 loop-steps-init g c = record { same = refl; count = omega arith; begins = refl }
 
 pub step-requires : goal.step-requires
-step-requires g c = subst (λ (d : DeskView). HasCallUnderWay d.place) (sym (c.stop_at.ensures.at ∙ c.loop-steps.invariant.same)) c.requires
+step-requires g c = subst (λ (d : SessionLaneView). HasCallUnderWay d.place) (sym (c.stop_at.ensures.at ∙ c.loop-steps.invariant.same)) c.requires

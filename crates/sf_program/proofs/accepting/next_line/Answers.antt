@@ -1,5 +1,5 @@
 use Rattle.std.proofs.Common.{◌≡◌, ℕ, refl, arith, subst}
-use Rattle.sf_pool.specs.Desks.{Notes}
+use Rattle.sf_pool.specs.SessionLanes.{Notes}
 use Rattle.sf_program.specs.Accepting.{tries, nothing}
 use Rattle.sf_program.proofs.Connections.{notes_none}
 use Rattle.sf_program.proofs.accepting.next_line.Goals as goal

@@ -1,4 +1,4 @@
-use Rattle.sf_pool.specs.Desks.{Notes}
+use Rattle.sf_pool.specs.SessionLanes.{Notes}
 use Rattle.sf_program.specs.Accepting.{nothing}
 use Rattle.sf_program.proofs.accepting.next_line.Given as goal
 

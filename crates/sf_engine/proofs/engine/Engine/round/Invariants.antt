@@ -1,5 +1,5 @@
 use Rattle.sf_engine.proofs.Rounds.{RoundSoFar}
 use Rattle.sf_engine.proofs.engine.Engine.round.Given as goal
 
-abbrev pub invariant-seats : goal.invariant-seats
-invariant-seats l = RoundSoFar l.fn.self l.at l.any l.self
+abbrev pub invariant-hosted : goal.invariant-hosted
+invariant-hosted l = RoundSoFar l.fn.self l.at l.any l.self

@@ -2,14 +2,14 @@ use Rattle.std.proofs.Common.{◌<◌, ◌^◌, ℕ, [], sym, subst, arith, add-
 use Rattle.sf_engine.specs.Views.{EngineView}
 use Rattle.sf_engine.specs.Rounds.{AreUnderWay, HasRounds, left_to}
 use Rattle.sf_engine.proofs.Rounds.{rounds_nil, rounds_push, within_bounds, few_left}
-use Rattle.sf_engine.proofs.Seats.{engine}
+use Rattle.sf_engine.proofs.HostedChanges.{engine}
 use Rattle.sf_engine.proofs.engine.Engine.run_all.Goals as goal
 
 pub rounds-init : goal.rounds-init
 rounds-init c = record {
   rounds = rounds_nil c.args.self.now;
   left = omega arith;
-  few = subst (λ (v : EngineView). left_to v < 2 ^ 64) c.self.view_is (few_left (engine c.self.inside.core c.self.inside.seats.items) c.self.invariant);
+  few = subst (λ (v : EngineView). left_to v < 2 ^ 64) c.self.view_is (few_left (engine c.self.inside.core c.self.inside.hosted.items) c.self.invariant);
 }
 
 pub rounds-preserved : goal.rounds-preserved

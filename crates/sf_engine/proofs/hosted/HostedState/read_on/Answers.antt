@@ -1,0 +1,108 @@
+use Rattle.std.proofs.Common.{◌≡◌, List, Option, false, IfSome, IfNone, ap, sym, subst, ◌∙◌}
+use Rattle.sf_call.specs.declared.record.Record.{Record}
+use Rattle.sf_call.specs.Answers.{AnswerView}
+use Rattle.sf_session.specs.declared.session.Next.{Next}
+use Rattle.sf_session.specs.Sessions.{SessionView, NextGives}
+use Rattle.sf_core.specs.declared.step.Step.TheVariants as step
+use Rattle.sf_core.specs.Lanes.{LaneView}
+use Rattle.sf_core.specs.Events.{CallBegins, begun, AnswersAtOnce, walk_end}
+use Rattle.sf_core.specs.Histories.{IsHistory}
+use Rattle.sf_engine.specs.declared.event.Happened.TheVariants as happened
+use Rattle.sf_engine.specs.declared.hosted.HostedState.TheVariants as state
+use Rattle.sf_engine.specs.Turns.{IsHostedState, IsReady, GoesFar, TurnGives, Stand, stand, finding}
+use Rattle.sf_engine.proofs.Chains.{CameToAnswer, going, read_far, unread_far}
+use Rattle.sf_engine.proofs.Packets.{CallAsked, CallBegun, IsAnsweredAtOnce, refused_turn, can_go_on, goes_far, placed_at_once, far_at_once}
+use Rattle.sf_engine.proofs.hosted.HostedState.read_on.Goals as goal
+
+pub returns-in_default : goal.returns-in_default
+returns-in_default c =
+    let old = c.args in
+    let a = stand old.core.now old.session.now old.self.now in
+    unread_far a (finding old.closed old.moment) (stand old.core.now c.next.new.self old.self.now) c.requires.resting (ap (λ (x : SessionView). stand old.core.now x old.self.now) c.in_default.ensures.err)
+
+pub returns-in_default-next : goal.returns-in_default-next
+returns-in_default-next c =
+    let old = c.args in
+    let new = c.read_other.new in
+    let told = c.read_other.ensures old.session.now c.next.new.self c.in-Ok.ensures.ok in
+    read_far (stand old.core.now old.session.now old.self.now) (finding old.closed old.moment) c.read_other.result (stand new.core c.next.new.self new.self) c.requires.resting c.requires.ready (told.0 old.moment) told.1
+
+pub returns-in-Err : goal.returns-in-Err
+returns-in-Err c =
+    let old = c.args in
+    let a : CallAsked = record {
+      from = stand old.core.now old.session.now old.self.now;
+      session = c.next.new.self;
+      request = c.in-Call.request;
+      lane = c.in-Resting.lane;
+      gave = subst (λ (n : Next). NextGives old.session.now n c.next.new.self) c.in-Call.is c.in-Ok.ensures.ok;
+      at = c.in-Resting.is;
+    } in
+    let same = c.in-Err.ensures.err in
+    let turn = refused_turn a old.moment c.in-Err.fault c.refuse.new.self c.in-Err.ensures.fault c.refuse.ensures in
+    let end = stand c.call.new.self c.refuse.new.self (state.Resting c.call.new.lane) in
+    let moved : stand old.core.now c.refuse.new.self (state.Resting a.lane) ≡ end = λ i. stand (sym same.0 i) c.refuse.new.self (state.Resting (sym same.1 i)) in
+    read_far a.from (finding old.closed old.moment) happened.Wrote end c.requires.resting c.requires.ready (subst (λ (b : Stand). TurnGives a.from (finding false old.moment) happened.Wrote b) moved turn) (λ e. cc)
+
+pub write_on-requires-clause-placed : goal.write_on-requires-clause-placed
+write_on-requires-clause-placed c = λ lane is.
+    let old = c.args in
+    let a : CallAsked = record {
+      from = stand old.core.now old.session.now old.self.now;
+      session = c.next.new.self;
+      request = c.in-Call.request;
+      lane = c.in-Resting.lane;
+      gave = subst (λ (n : Next). NextGives old.session.now n c.next.new.self) c.in-Call.is c.in-Ok.ensures.ok;
+      at = c.in-Resting.is;
+    } in
+    let came_to : CameToAnswer = record { core = c.call.new.self; lane = c.call.new.lane; answer = c.in-Some.answer } in
+    let made : IsAnsweredAtOnce a old.moment came_to = subst (λ (o : Option AnswerView). IfSome o (λ answer. AnswersAtOnce old.core.now a.lane a.request old.moment (walk_end (step.Answered answer) c.call.new.self c.call.new.lane))) c.in-Some.is c.in-Ok-call.ensures.answered in
+    subst (λ (l : LaneView). IsHostedState came_to.core a.session (state.Answered l came_to.answer)) (sym (is ∙ c.take_lane.ensures)) (placed_at_once a old.moment came_to made c.requires.ready)
+
+pub walk_on-requires-clause-ready : goal.walk_on-requires-clause-ready
+walk_on-requires-clause-ready c =
+    let old = c.args in
+    let a : CallAsked = record {
+      from = stand old.core.now old.session.now old.self.now;
+      session = c.next.new.self;
+      request = c.in-Call.request;
+      lane = c.in-Resting.lane;
+      gave = subst (λ (n : Next). NextGives old.session.now n c.next.new.self) c.in-Call.is c.in-Ok.ensures.ok;
+      at = c.in-Resting.is;
+    } in
+    let begins = subst (λ (o : Option AnswerView). IfNone o (CallBegins old.core.now c.call.new.self a.lane a.request old.moment × (c.call.new.lane ≡ begun a.lane c.call.new.self.drawn) × ((h : List Record) → IsHistory old.core.now h → IsHistory c.call.new.self h))) c.in-None.is c.in-Ok-call.ensures.begun in
+    let b : CallBegun a old.moment = record { core = c.call.new.self; begins = begins.0; history = begins.2 } in
+    subst (λ (l : LaneView). IsReady (going b.core a.session l)) (sym (c.take_lane.ensures ∙ begins.1)) (can_go_on a old.moment b c.requires.ready)
+
+pub returns-in-Some : goal.returns-in-Some
+returns-in-Some c =
+    let old = c.args in
+    let a : CallAsked = record {
+      from = stand old.core.now old.session.now old.self.now;
+      session = c.next.new.self;
+      request = c.in-Call.request;
+      lane = c.in-Resting.lane;
+      gave = subst (λ (n : Next). NextGives old.session.now n c.next.new.self) c.in-Call.is c.in-Ok.ensures.ok;
+      at = c.in-Resting.is;
+    } in
+    let came_to : CameToAnswer = record { core = c.call.new.self; lane = c.call.new.lane; answer = c.in-Some.answer } in
+    let made : IsAnsweredAtOnce a old.moment came_to = subst (λ (o : Option AnswerView). IfSome o (λ answer. AnswersAtOnce old.core.now a.lane a.request old.moment (walk_end (step.Answered answer) c.call.new.self c.call.new.lane))) c.in-Some.is c.in-Ok-call.ensures.answered in
+    let wrote = c.write_on.ensures c.call.new.lane (sym c.take_lane.ensures) old.moment in
+    far_at_once a (finding old.closed old.moment) came_to made c.write_on.result (stand c.write_on.new.core c.write_on.new.session c.write_on.new.self) wrote
+
+pub returns-in-None : goal.returns-in-None
+returns-in-None c =
+    let old = c.args in
+    let a : CallAsked = record {
+      from = stand old.core.now old.session.now old.self.now;
+      session = c.next.new.self;
+      request = c.in-Call.request;
+      lane = c.in-Resting.lane;
+      gave = subst (λ (n : Next). NextGives old.session.now n c.next.new.self) c.in-Call.is c.in-Ok.ensures.ok;
+      at = c.in-Resting.is;
+    } in
+    let begins = subst (λ (o : Option AnswerView). IfNone o (CallBegins old.core.now c.call.new.self a.lane a.request old.moment × (c.call.new.lane ≡ begun a.lane c.call.new.self.drawn) × ((h : List Record) → IsHistory old.core.now h → IsHistory c.call.new.self h))) c.in-None.is c.in-Ok-call.ensures.begun in
+    let b : CallBegun a old.moment = record { core = c.call.new.self; begins = begins.0; history = begins.2 } in
+    let end = stand c.walk_on.new.core c.walk_on.new.session c.walk_on.new.self in
+    goes_far a (finding old.closed old.moment) b c.walk_on.result end
+    (subst (λ (l : LaneView). GoesFar (going b.core a.session l) (finding old.closed old.moment) c.walk_on.result end) (c.take_lane.ensures ∙ begins.1) (c.walk_on.ensures old.moment))

@@ -1,0 +1,217 @@
+//! The host of a session whose calls a lane makes.
+
+ghost use Rattle.std.specs.Prelude.{◌≡◌, ◌≤◌, ℕ, List, length, take, Option, Some, None, vec_len, OnOk, OnErr, IfOk, IfErr};
+ghost use Rattle.sf_session.specs.declared.fault.ServeFault.{ServeFault};
+ghost use Rattle.sf_session.specs.declared.fault.ServeFault.TheVariants.{Stranger};
+ghost use Rattle.sf_session.specs.Sessions.{new_session};
+ghost use Rattle.sf_session.specs.SessionStates.{SessionState, fed, IsRead};
+ghost use Rattle.sf_session.specs.Responses.{transcript};
+ghost use Rattle.sf_serving.specs.Hosts.{IsOpen, HasSent, IsFurther, WentTo, with_sent, ended, IsHostFault};
+ghost use Rattle.sf_pool.specs.LaneHosts.{standing_fault, standing_after, stop_fault, IsAdded};
+
+use crate::calling::{Stop, make_call};
+use crate::observer::StepObserver;
+use crate::session_lane::SessionLane;
+use sf_core::Share;
+use sf_serving::{Host, Went};
+use sf_session::{Clock, Next, ServeFault, Session};
+use std::alloc::{AllocError, Global};
+use std::mem;
+
+/// How many bytes of replies a line gathers before a write may wait. A worker's line gathers as
+/// many.
+const GATHERED: usize = 16384;
+
+/// How a session stands at the core.
+#[derive(Debug, Drop)]
+pub(crate) enum Standing {
+    Joined,
+    /// The reply to its last call found no room.
+    Unanswered,
+    /// Its call has no answer, and no number is left to count its steps.
+    UnderWay,
+    /// With its share of the calls.
+    Left(Share),
+}
+
+/// A session's side at a line, whose calls are made by a lane that has joined.
+pub(crate) struct LaneHost<'a, G> {
+    number: u64,
+    session: Session,
+    observer: &'a G,
+    // How many bytes the line gathers before it writes.
+    room: usize,
+    standing: Standing,
+}
+
+/// Lets go of the core before a read or a write that may wait, and tells how much room the line has
+/// after it: by then it has written what it had gathered.
+fn let_go<D: SessionLane>(lane: &mut D) -> usize
+    ensures at { D.at lane.new ≡ D.at lane.old }
+    ensures rests { D.rests lane.new }
+    ensures begins { D.begins lane.new ≡ D.begins lane.old }
+{
+    lane.rest();
+    GATHERED
+}
+
+/// Lets go of the core where a write of so many bytes may wait, and tells how much room the line
+/// has after it.
+fn let_go_for<D: SessionLane>(lane: &mut D, len: usize, room: usize) -> usize
+    ensures at { D.at lane.new ≡ D.at lane.old }
+    ensures rests { room ≤ len → D.rests lane.new }
+    ensures begins { D.begins lane.new ≡ D.begins lane.old }
+{
+    if len < room {
+        return room - len;
+    }
+    let_go(lane).saturating_sub(len)
+}
+
+impl<'a, G> LaneHost<'a, G> {
+    /// A session that has joined, and has read nothing.
+    pub(crate) fn new(alloc: Global, number: u64, observer: &'a G) -> LaneHost<'a, G>
+        ensures session { result.session ≡ new_session }
+        ensures standing { result.standing ≡ Standing.Joined }
+    {
+        LaneHost {
+            number,
+            session: Session::new(alloc),
+            observer,
+            room: GATHERED,
+            standing: Standing::Joined,
+        }
+    }
+
+    /// Why it goes on no more, if so.
+    fn fault(&self) -> Option<ServeFault>
+        ensures { result ≡ standing_fault self.now.standing }
+    {
+        match &self.standing {
+            Standing::Joined => None,
+            Standing::Unanswered | Standing::Left(_) => Some(ServeFault::OutOfMemory),
+            Standing::UnderWay => Some(ServeFault::NumbersSpent),
+        }
+    }
+
+    /// A reply waits. The core is let go of where writing it may wait.
+    fn answered<D: SessionLane>(&mut self, lane: &mut D) -> Went
+        ensures went { result ≡ Went.Answered }
+        ensures session { self.new.session ≡ self.old.session }
+        ensures standing { self.new.standing ≡ self.old.standing }
+        ensures at { D.at lane.new ≡ D.at lane.old }
+        ensures begins { D.begins lane.new ≡ D.begins lane.old }
+    {
+        self.room = let_go_for(lane, self.session.output().len(), self.room);
+        Went::Answered
+    }
+
+    /// A call has no reply: how it stands then, and why it goes on no more.
+    fn stand_after(&mut self, stop: Stop) -> ServeFault
+        ensures fault { result ≡ stop_fault stop }
+        ensures session { self.new.session ≡ self.old.session }
+        ensures standing { self.new.standing ≡ standing_after stop }
+    {
+        let (standing, fault) = match stop {
+            Stop::OutOfMemory => (Standing::Unanswered, ServeFault::OutOfMemory),
+            Stop::UnderWay => (Standing::UnderWay, ServeFault::NumbersSpent),
+        };
+        self.standing = standing;
+        fault
+    }
+
+    /// Adds the share of a session that has left.
+    pub(crate) fn add_share(self, share: &mut Share)
+        ensures { IsAdded self.entry.standing share.old share.new }
+    {
+        let LaneHost {
+            number: _,
+            session: _session,
+            observer: _,
+            room: _,
+            standing,
+        } = self;
+        if let Standing::Left(own) = standing {
+            let others = mem::replace(share, Share::zero());
+            *share = others.merge(own);
+        }
+    }
+}
+
+impl<D: SessionLane, G: StepObserver> Host<D> for LaneHost<'_, G> {
+    ghost use Rattle.sf_pool.specs.Scenes.{LaneScene, lane_scene, lane_held};
+    ghost use Rattle.sf_pool.specs.LaneHosts.{IsToldAt, IsPlaced, IsOver};
+
+    ghost Start = { LaneScene };
+
+    ghost serves = { λ start h d told t. IsToldAt start h.standing h.session
+        (lane_scene (D.at d) (D.begins d) told) t };
+
+    ghost held = { lane_held };
+
+    ghost sound = { λ h d. IsPlaced h.standing h.session (D.at d) };
+
+    ghost work = { λ h d. (D.at d).steps };
+
+    ghost strange = { λ h d. ⊥ };
+
+    ghost rests = { λ h d. D.rests d };
+
+    ghost left = { λ h d fault. IsOver h.standing (D.at d) fault };
+
+    fn feed(&mut self, _lane: &mut D, piece: &Vec<u8>, n: usize) -> Result<(), AllocError> {
+        self.room = GATHERED;
+        if self.session.feed(&piece[..n]).is_err() {
+            return Err(AllocError);
+        }
+        Ok(())
+    }
+
+    fn go_on<C: Clock>(&mut self, lane: &mut D, clock: &mut C) -> Result<Went, ServeFault> {
+        if let Some(fault) = self.fault() {
+            return Err(fault);
+        }
+        let Ok(next) = self.session.next() else {
+            return Err(ServeFault::OutOfMemory);
+        };
+        match next {
+            Next::More => {
+                self.room = let_go(lane);
+                Ok(Went::Waits)
+            }
+            Next::Ended(cause) => Ok(Went::Ended(cause)),
+            Next::Local => Ok(self.answered(lane)),
+            Next::Call(request) => {
+                match make_call(
+                    lane,
+                    clock,
+                    self.observer,
+                    self.number,
+                    &mut self.session,
+                    request,
+                ) {
+                    Ok(()) => Ok(self.answered(lane)),
+                    Err(why) => Err(self.stand_after(why)),
+                }
+            }
+        }
+    }
+
+    fn output<'b>(&'b self, _lane: &'b D) -> &'b [u8] {
+        self.session.output()
+    }
+
+    fn sent(&mut self, _lane: &mut D) {
+        let n = self.session.output().len();
+        self.session.take_front(n);
+    }
+
+    fn end(&mut self, lane: &mut D) -> Result<(), ServeFault> {
+        match &self.standing {
+            Standing::UnderWay | Standing::Left(_) => return Ok(()),
+            Standing::Joined | Standing::Unanswered => {}
+        }
+        self.standing = Standing::Left(lane.leave());
+        Ok(())
+    }
+}

@@ -1,0 +1,345 @@
+//! A session's lane that notes what the session was told.
+
+ghost use Rattle.std.specs.Prelude.{◌≡◌, ◌≢◌, ◌<◌, ◌+◌, ◌++◌, ◌∷◌, List, [], true, false, length, map, vec_len, if◌then◌else◌, OnErr, IfOk, IfErr};
+ghost use Rattle.std.specs.Vec.{vec_capacity};
+ghost use Rattle.sf_call.specs.declared.record.Record.{Record};
+ghost use Rattle.sf_call.specs.declared.record.Record.TheVariants.{Left};
+ghost use Rattle.sf_call.specs.declared.fault.CoreFault.TheVariants.{Stranger};
+ghost use Rattle.sf_core.specs.Histories.{IsHistory};
+ghost use Rattle.sf_core.specs.Events.{Joins, RefusesJoin, Leaves};
+ghost use Rattle.sf_audit.specs.Audits.{call_record};
+ghost use Rattle.sf_noted.specs.Pages.Presence.{BetweenCalls, Calling, Departed};
+ghost use Rattle.sf_pool.specs.OnCores.{BeginsAt, RefusesAt, StepsAt, stepped_to, IsVisitOf, calls_begun_by};
+ghost use Rattle.sf_pool.specs.TranscriptLanes.{lane_in, WasAsked, EndsAs};
+ghost use Rattle.sf_pool.specs.SessionLanes.{New, JoinRefused, Joined, IsResting, HasCallUnderWay, IsLast, new_session_lane, share_of, Steps};
+
+use crate::session_lane::StepResult;
+use sf_audit::{AnsweredCall, Transcript};
+use sf_call::{Answer, CoreFault, Request};
+use sf_core::{Share, Step};
+use sf_noted::{NotedCore, NotedLane, Visit};
+use sf_roll::RollName;
+use std::alloc::Global;
+use std::marker::Model;
+use std::mem;
+use std::sync::ledger::{self, Ledger};
+
+/// Where a session is.
+enum Place<B: RollName> {
+    New,
+    Refused(CoreFault),
+    Joined(NotedLane<B>),
+    Left(Visit<B>),
+}
+
+impl<B: RollName> Drop for Place<B> {
+    fn drop(self) {
+        match self {
+            Place::New | Place::Refused(_) => {}
+            Place::Joined(lane) => {
+                let _visit = lane.abandon();
+            }
+            Place::Left(_visit) => {}
+        }
+    }
+}
+
+impl<B: RollName> Place<B> {
+    /// The lane of a session that hasn't left, if it has joined.
+    fn into_lane(self) -> Option<NotedLane<B>>
+        ensures { result ≡ lane_in self }
+    {
+        match self {
+            Place::Joined(lane) => Some(lane),
+            Place::New | Place::Refused(_) => None,
+            Place::Left(_visit) => None,
+        }
+    }
+
+    /// What is noted of the session, or why it never joined. It makes no more calls.
+    fn end(self) -> Result<Visit<B>, NotJoined>
+        requires { WasAsked self }
+        ensures { EndsAs self result }
+    {
+        match self {
+            Place::New => unreachable!(),
+            Place::Refused(fault) => Err(NotJoined { fault }),
+            Place::Joined(lane) => Ok(lane.abandon()),
+            Place::Left(visit) => Ok(visit),
+        }
+    }
+}
+
+/// Why a session never joined. Nobody tells it but the lane of a session that was refused.
+#[derive(Debug, Drop)]
+pub struct NotJoined {
+    fault: CoreFault,
+}
+
+impl NotJoined {
+    /// Why the core refused the session.
+    pub fn fault(&self) -> CoreFault
+        ensures { result ≡ self.now }
+    {
+        self.fault
+    }
+}
+
+impl Model for NotJoined {
+    ghost use Rattle.sf_call.specs.declared.fault.CoreFault.{CoreFault};
+
+    ghost Value = { CoreFault };
+
+    ghost view = { λ n. n.fault };
+}
+
+/// What a lane came to that makes no more calls.
+#[derive(Drop)]
+pub struct EndedLane<B: RollName + Ledger> {
+    /// What is noted of the session, which takes no memory; or why it never joined.
+    pub visit: Result<Visit<B>, NotJoined>,
+    /// What the session was told, where that was kept, or its last call alone.
+    pub transcript: Transcript,
+    /// The part of the count that was lent, with the calls that the session began.
+    pub share: ledger::Share<B>,
+    /// How many steps were made of its calls, up to 2^64 - 1.
+    pub steps: u64,
+}
+
+/// A session's lane at a core, and what the session was told. It counts its calls in a part of the
+/// core's count that is lent to it.
+#[derive(Drop)]
+pub struct TranscriptLane<B: RollName + Ledger> {
+    place: Place<B>,
+    share: ledger::Share<B>,
+    // What the call under way asks for.
+    asked: Option<Request>,
+    // How many steps were made of its calls.
+    steps: u64,
+    // All calls that were answered, or the last one.
+    transcript: Transcript,
+    keeps: bool,
+}
+
+impl<B: RollName + Ledger> Model for TranscriptLane<B> {
+    ghost use Rattle.std.specs.Prelude.{◌≡◌};
+    ghost use Rattle.sf_pool.specs.SessionLanes.{SessionLaneView};
+    ghost use Rattle.sf_pool.specs.TranscriptLanes.{session_lane_at, calls_in, HasDeparted, IsTranscriptLane};
+
+    ghost Value = { SessionLaneView };
+
+    ghost view = { λ s. session_lane_at s.place s.keeps s.steps };
+
+    ghost invariant = { λ s.
+        IsTranscriptLane (session_lane_at s.place s.keeps s.steps) s.asked s.transcript
+        × HasDeparted s.place × (s.share.parts ≡ 1)
+        × (s.share.amount ≡ calls_in s.place) };
+}
+
+/// What a step of the call under way came to.
+#[derive(Clone, Copy, Debug, PartialEq, Eq)]
+pub struct Stepped {
+    pub told: StepResult,
+    /// Another call held what the call wanted.
+    pub blocked: bool,
+}
+
+impl Stepped {
+    fn going(blocked: bool) -> Stepped
+        ensures told { result.told ≡ StepResult.Going }
+        ensures blocked { result.blocked ≡ blocked }
+    {
+        Stepped {
+            told: StepResult::Going,
+            blocked,
+        }
+    }
+
+    fn answered() -> Stepped
+        ensures told { result.told ≡ StepResult.Answered }
+        ensures blocked { result.blocked ≡ false }
+    {
+        Stepped {
+            told: StepResult::Answered,
+            blocked: false,
+        }
+    }
+}
+
+impl<B: RollName + Ledger> TranscriptLane<B> {
+    /// A session that hasn't joined. Its calls are kept, or the last one alone, and are counted in
+    /// the share.
+    pub fn new(alloc: Global, keeps: bool, share: ledger::Share<B>) -> TranscriptLane<B>
+        requires part { share.parts ≡ 1 }
+        requires none { share.amount ≡ 0 }
+        ensures { result ≡ new_session_lane keeps }
+    {
+        TranscriptLane {
+            place: Place::New,
+            share,
+            asked: None,
+            steps: 0,
+            transcript: Transcript {
+                session: 0,
+                calls: Vec::new(alloc),
+            },
+            keeps,
+        }
+    }
+
+    /// The session joins the core.
+    pub fn join(&mut self, core: &mut NotedCore<B>) -> Result<u64, CoreFault>
+        requires { self.old.place ≡ New }
+        ensures number { IfOk result (λ session. 0 < session) }
+        ensures ok { IfOk result (λ session. self.new ≡ record self.old {
+          session = session;
+          place = Joined BetweenCalls;
+          calls = [];
+        }) }
+        ensures err { IfErr result (λ fault. self.new
+            ≡ record self.old { place = JoinRefused fault }) }
+        ensures known { IfErr result (λ fault. fault ≢ Stranger) }
+        ensures joins { IfOk result (λ session. (session ≡ core.old.0.joins + 1)
+            × Joins core.old.0 core.new.0) }
+        ensures history { (h : List Record) → IsHistory core.old.0 h → IsHistory core.new.0 h }
+        ensures refused { OnErr result (core.new ≡ core.old) }
+        ensures fault { IfErr result (λ fault. RefusesJoin core.old.0 fault) }
+    {
+        match core.join() {
+            Ok(lane) => {
+                let session = lane.session();
+                self.transcript.session = session;
+                self.place = Place::Joined(lane);
+                Ok(session)
+            }
+            Err(fault) => {
+                self.place = Place::Refused(fault);
+                Err(fault)
+            }
+        }
+    }
+
+    /// A call begins. Room to note its answer is made first.
+    pub fn begin(
+        &mut self,
+        core: &mut NotedCore<B>,
+        request: Request,
+        moment: u32,
+    ) -> Result<u64, CoreFault>
+        requires { IsResting self.old.place }
+        ensures ok { IfOk result (λ number. self.new
+            ≡ record self.old { place = Joined (Calling number moment request) }) }
+        ensures err { OnErr result (self.new ≡ self.old) }
+        ensures known { IfErr result (λ fault. fault ≢ Stranger) }
+        ensures begins { IfOk result (λ number. (number ≡ core.new.0.drawn)
+            × BeginsAt self.old core.old.0 core.new.0 request moment) }
+        ensures history { (h : List Record) → IsHistory core.old.0 h → IsHistory core.new.0 h }
+        ensures refused { OnErr result (core.new ≡ core.old) }
+        ensures fault { IfErr result (λ fault. RefusesAt self.old core.old.0 fault) }
+    {
+        self.transcript.calls.reserve(1)?;
+        let asked = request.share()?;
+        let Place::Joined(lane) = &mut self.place else {
+            unreachable!();
+        };
+        let number = core.begin(lane, &mut self.share, request, moment)?;
+        self.asked = Some(asked);
+        Ok(number)
+    }
+
+    /// One step of the call.
+    pub fn step(&mut self, core: &mut NotedCore<B>) -> Stepped
+        requires { HasCallUnderWay self.old.place }
+        ensures told { Steps self.old result.told self.new }
+        ensures steps { StepsAt self.old core.old.0 (stepped_to result self.new core.new.0) }
+    {
+        self.steps = self.steps.saturating_add(1);
+        let Place::Joined(lane) = &mut self.place else {
+            unreachable!();
+        };
+        match core.step(lane) {
+            Step::Moved => Stepped::going(false),
+            Step::Blocked(_) => Stepped::going(true),
+            Step::Answered(answer) => {
+                let Some(request) = self.asked.take() else {
+                    unreachable!();
+                };
+                note(&mut self.transcript, self.keeps, request, answer);
+                Stepped::answered()
+            }
+            Step::Stranger => unreachable!(),
+        }
+    }
+
+    /// The last call, with its answer.
+    pub fn last_call(&self) -> &AnsweredCall
+        requires { self.now.calls ≢ [] }
+        ensures { IsLast self.now.calls (call_record result.now) }
+    {
+        match self.transcript.calls.as_slice().split_last() {
+            Some((call, _earlier)) => call,
+            None => unreachable!(),
+        }
+    }
+
+    /// The session leaves, and its share of the calls is told.
+    pub fn leave(&mut self, core: &mut NotedCore<B>) -> Share
+        requires { IsResting self.old.place }
+        ensures at { self.new ≡ record self.old { place = Joined Departed } }
+        ensures share { result ≡ share_of (length self.old.calls) }
+        ensures leaves { Leaves core.old.0 core.new.0 self.old.session }
+        ensures history { (h : List Record) → IsHistory core.old.0 h
+            → IsHistory core.new.0 (h ++ Left self.old.session ∷ []) }
+    {
+        let place = mem::replace(&mut self.place, Place::New);
+        let Some(lane) = place.into_lane() else {
+            unreachable!();
+        };
+        let (share, visit) = core.leave(lane);
+        self.place = Place::Left(visit);
+        share
+    }
+
+    /// The session makes no more calls: what came of it. One that hasn't left is given up.
+    pub fn end(self) -> EndedLane<B>
+        requires { self.place ≢ New }
+        ensures visit { IsVisitOf self result.visit }
+        ensures session { result.transcript.session ≡ self.session }
+        ensures calls { self.keeps ≡ true
+            → map call_record result.transcript.calls.items ≡ self.calls }
+        ensures part { result.share.parts ≡ 1 }
+        ensures begun { result.share.amount ≡ calls_begun_by result.visit }
+        ensures steps { result.steps ≡ self.steps }
+    {
+        let TranscriptLane {
+            place,
+            share,
+            asked: _asked,
+            steps,
+            transcript,
+            keeps: _,
+        } = self;
+        EndedLane {
+            visit: place.end(),
+            transcript,
+            share,
+            steps,
+        }
+    }
+}
+
+/// An answer is noted behind those before it, or in their place.
+fn note(transcript: &mut Transcript, keeps: bool, request: Request, answer: Answer)
+    requires { vec_len transcript.old.calls < vec_capacity transcript.old.calls }
+    ensures session { transcript.new.session ≡ transcript.old.session }
+    ensures calls { map call_record transcript.new.calls.items
+        ≡ map call_record (if keeps then transcript.old.calls.items else [])
+        ++ record { number = answer.number; request = request; reply = answer.reply } ∷ [] }
+{
+    if !keeps {
+        transcript.calls.clear();
+    }
+    transcript
+        .calls
+        .push_reserved(AnsweredCall { request, answer });
+}
