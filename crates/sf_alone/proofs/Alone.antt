@@ -109,24 +109,24 @@ read_all now input stream left e is at =
     let none : left ≡ [] = subst (λ (o : Option (List ℕ)). IsAtEnd o) e at in sym (is ∙ ap (λ (b : List ℕ). stream ++ b) none ∙ append-nil stream)
 
 -- a serving is a trace of one session alone
-ends_of : {start now : IoState} {s : Supply} {cause : Cause} {p : Progress} (a : ServesAlone start now s cause p) → EndsAlone a.tells.entries a.tells.fit.world p.told s cause
+ends_of : {start now : IoState} {s : Supply} {cause : Cause} {p : Progress} (a : ServesAlone start now s cause p) → EndsAlone a.tells.entries a.tells.fit.world p.state s cause
 ends_of {start = start} {now = now} {s = s} {p = p} a =
     let serves = a.tells in
     let world = serves.fit.world in
-    let first : a.session ≡ 1 = (one_session serves.entries world a.session p.told serves.fit.tells serves.fit.legal serves.own serves.is_session a.memory).0 in
-    let fed = was_fed start.line.incoming now.line.incoming s.input p.told.stream p.unfed a.incoming a.ends.fed a.served.read in
+    let first : a.session ≡ 1 = (one_session serves.entries world a.session p.state serves.fit.tells serves.fit.legal serves.own serves.is_session a.memory).0 in
+    let fed = was_fed start.line.incoming now.line.incoming s.input p.state.stream p.unfed a.incoming a.ends.fed a.served.read in
     record {
       tells = record {
         tells = serves.fit.tells;
         legal = serves.fit.legal;
         alone = subst (λ (n : ℕ). AllByRecursion (IsEntryOf n) serves.entries) first serves.own;
-        is_session = subst (λ (n : ℕ). IsSession world n p.told) first serves.is_session;
+        is_session = subst (λ (n : ℕ). IsSession world n p.state) first serves.is_session;
         memory = a.memory;
       };
       begun = a.begun;
       whole = a.ends.whole;
       fed = (fed.0, fed.2);
-      all = λ closed. read_all now.line.incoming s.input p.told.stream fed.0 fed.1 fed.2 (a.ends.at_end closed);
+      all = λ closed. read_all now.line.incoming s.input p.state.stream fed.0 fed.1 fed.2 (a.ends.at_end closed);
     }
 
 appended : (out now : Option (List ℕ)) (before written : List ℕ) → out ≡ Some before → Appends out now written → now ≡ Some (before ++ written)
@@ -152,8 +152,8 @@ two_servings {start = start} {now = now} {start' = start'} {now' = now'} {p = p}
 
 -- what a new engine serves is a session alone
 pub line_alone : (start now : IoState) (input : List ℕ) (cause : Cause) (fits : Fits start.engine []) → start.line.incoming ≡ Some input → ServesLine start now cause
-    → (session : ℕ) × (p : Progress) × (tells : IsTold (since_at start [] fits) session now.engine now.told p.told)
-    × (HadMemoryThroughout tells.entries p.told → ServesAlone start now (supply input (moments_begun tells.entries)) cause p)
+    → (session : ℕ) × (p : Progress) × (tells : IsTold (since_at start [] fits) session now.engine now.told p.state)
+    × (HadMemoryThroughout tells.entries p.state → ServesAlone start now (supply input (moments_begun tells.entries)) cause p)
 line_alone start now input cause fits e serves =
     let s = serves [] fits in
     let h = s.1 in (

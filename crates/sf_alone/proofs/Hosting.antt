@@ -21,9 +21,9 @@ use Rattle.sf_engine.specs.Views.{EngineView}
 use Rattle.sf_engine.specs.Fits.{Fits, GoesOnTrace, IsSentBy, IsUnknownSession, WantsBytes, WantsBytesBy, trace_entry}
 use Rattle.sf_engine.proofs.Laws.{told_of_none, told_sessions, answers_are_short}
 use Rattle.sf_serving.specs.Ends.{IsWhole}
-use Rattle.sf_serving.specs.Hosts.{IsOpen, HasSent, IsFurther, WentTo, with_sent, ended}
-use Rattle.sf_serving.specs.declared.host.Went.{Went}
-use Rattle.sf_serving.specs.declared.host.Went.TheVariants as went
+use Rattle.sf_serving.specs.Hosts.{IsOpen, HasSent, IsFurther, IsSessionStep, with_sent, ended}
+use Rattle.sf_serving.specs.declared.host.SessionStep.{SessionStep}
+use Rattle.sf_serving.specs.declared.host.SessionStep.TheVariants as session_step
 use Rattle.sf_serving.specs.Serving.{LineView, Progress, ServedSoFar, Serves, IsStopped, IsStop}
 use Rattle.sf_alone.specs.OnEngine.{IsOf, moment_of, may_begin_after, AreTimed, engine_held, IsLow, IsLowAt, RunsLow, Since, since_at, IoState, IsTold, IsToldBy, Turns, Feeds, Applies, HasOutput, HasStoppedAt, open_refusal, MayNotOpen, IsOpenFault, IsServeFault}
 use Rattle.sf_alone.proofs.Following.{Leading, IsNext, tells_on, same_told, told_now}
@@ -173,30 +173,30 @@ pub first_turn : (t : SessionState) → IsOpen t → HasSent t → HasTurn true 
 first_turn t is_open sent = open_turn t is_open (omega (arith, ap (λ (b : List ℕ). length b) sent, length-drop (length t.sent) (transcript t.answers)))
 
 -- what its host's contract asks of going on
-abbrev pub Gone : (turns : ℕ) → Since → ℕ → EngineView → Option (List ℕ) → Result Went ServeFault → SessionState → Type 0
-Gone turns start s e tl r t = (t' : SessionState) × IsToldBy turns start s e tl t' × IsFurther engine_held t t' × WentTo r t t'
+abbrev pub Gone : (turns : ℕ) → Since → ℕ → EngineView → Option (List ℕ) → Result SessionStep ServeFault → SessionState → Type 0
+Gone turns start s e tl r t = (t' : SessionState) × IsToldBy turns start s e tl t' × IsFurther engine_held t t' × IsSessionStep r t t'
 
 -- it may stop so after a turn that came to this
-abbrev pub Leaves : EngineView → ℕ → Result Happened EngineFault → Result Went ServeFault → Type 0
+abbrev pub Leaves : EngineView → ℕ → Result Happened EngineFault → Result SessionStep ServeFault → Type 0
 Leaves e s r (Err f) = Unit {0}
-Leaves e s (Ok happened.Idle) (Ok went.Waits) = Unit {0}
-Leaves e s (Ok happened.Wrote) (Ok went.Waits) = WantsBytesBy e s true
-Leaves e s (Ok happened.Wrote) (Ok went.Answered) = Unit {0}
-Leaves e s (Ok (happened.Ended cause)) (Ok (went.Ended cause')) = cause ≡ cause'
+Leaves e s (Ok happened.Idle) (Ok session_step.Waits) = Unit {0}
+Leaves e s (Ok happened.Wrote) (Ok session_step.Waits) = WantsBytesBy e s true
+Leaves e s (Ok happened.Wrote) (Ok session_step.Answered) = Unit {0}
+Leaves e s (Ok (happened.Ended cause)) (Ok (session_step.Ended cause')) = cause ≡ cause'
 Leaves e s r w = ⊥
 
 read_of : {turns : ℕ} {start : Since} {s : ℕ} {e : EngineView} {tl : Option (List ℕ)} {t : SessionState} → IsToldBy turns start s e tl t → IsRead t
 read_of {start = start} {s = s} {t = t} T = (told_sessions (start.trace ++ T.0.entries) T.0.fit.world T.0.fit.tells s t T.0.is_session).0
 
-went_to : {turns : ℕ} {start : Since} {s : ℕ} {e : EngineView} {tl : Option (List ℕ)} (r : Result Happened EngineFault) (w : Result Went ServeFault) (t : SessionState) {t' : SessionState} → Leaves e s r w → IsToldBy turns start s e tl t' → HasTurned r t t' → WentTo w t t'
+went_to : {turns : ℕ} {start : Since} {s : ℕ} {e : EngineView} {tl : Option (List ℕ)} (r : Result Happened EngineFault) (w : Result SessionStep ServeFault) (t : SessionState) {t' : SessionState} → Leaves e s r w → IsToldBy turns start s e tl t' → HasTurned r t t' → IsSessionStep w t t'
 went_to r (Err f) t leaves T h = tt
-went_to (Ok happened.Idle) (Ok went.Waits) t leaves T h = (record { rests = h.1; closed = h.0.0 }, h.2)
-went_to {start = start} {s = s} (Ok happened.Wrote) (Ok went.Waits) t {t' = t'} wants T h =
+went_to (Ok happened.Idle) (Ok session_step.Waits) t leaves T h = (record { rests = h.1; closed = h.0.0 }, h.2)
+went_to {start = start} {s = s} (Ok happened.Wrote) (Ok session_step.Waits) t {t' = t'} wants T h =
     let seen = (wants (start.trace ++ T.0.entries) T.0.fit).0 refl in
     let now : WantsBytes t' = subst WantsBytes (same_told T.0.fit.world s seen.0 t' seen.1 T.0.is_session) seen.2 in
     (record { rests = now.0; closed = h.1 }, now.1)
-went_to (Ok happened.Wrote) (Ok went.Answered) t leaves T h = (record { rests = h.0; closed = h.1 }, h.2)
-went_to (Ok (happened.Ended cause)) (Ok (went.Ended cause')) t {t' = t'} same T h =
+went_to (Ok happened.Wrote) (Ok session_step.Answered) t leaves T h = (record { rests = h.0; closed = h.1 }, h.2)
+went_to (Ok (happened.Ended cause)) (Ok (session_step.Ended cause')) t {t' = t'} same T h =
     subst (λ (c : Cause). IsWhole t' c × (c ≢ Closed)) same (whole_left t' cause (read_of T) h.0 h.1, h.1)
 went_to r w t leaves T h = absurd leaves
 
@@ -211,7 +211,7 @@ goes_turn {s0 = s0} {e = e} {e' = e'} {tl = tl} {tl' = tl'} {t = t} {begin = beg
     let g = turns_on {s = s0} {e' = e'} {tl' = tl'} {r = r} h.1.0 h.3 (subst (λ (k : ℕ). Turns k begin tl tl' e r e') same by) in
     (g.now, (g.tells, omega (arith, h.1.1, g.more)), turned_more t h.0 g.now h.2 g.turned, subst (λ (z : Result Happened EngineFault). HasTurned z t g.now) is (since_first r t h.0 g.now h.2 g.has_turned))
 
-gone_at : {turns : ℕ} {start : Since} {s s0 : ℕ} {e : EngineView} {tl : Option (List ℕ)} (r : Result Happened EngineFault) (w : Result Went ServeFault) {t t' : SessionState} → s ≡ s0 → HasSent t → IsToldBy turns start s0 e tl t' → Turned t t' → HasTurned r t t' → Leaves e s r w → Gone turns start s e tl w t
+gone_at : {turns : ℕ} {start : Since} {s s0 : ℕ} {e : EngineView} {tl : Option (List ℕ)} (r : Result Happened EngineFault) (w : Result SessionStep ServeFault) {t t' : SessionState} → s ≡ s0 → HasSent t → IsToldBy turns start s0 e tl t' → Turned t t' → HasTurned r t t' → Leaves e s r w → Gone turns start s e tl w t
 gone_at {turns = turns} {start = start} {s = s} {e = e} {tl = tl} r w {t = t} {t' = t'} same sent T turned to leaves =
     let mine : IsToldBy turns start s e tl t' = subst (λ (k : ℕ). IsToldBy turns start k e tl t') (sym same) T in (
       t',
@@ -221,7 +221,7 @@ gone_at {turns = turns} {start = start} {s = s} {e = e} {tl = tl} r w {t = t} {t
     )
 
 -- the last one
-pub gone : {turns : ℕ} {start : Since} {s s0 : ℕ} {e e' : EngineView} {tl tl' : Option (List ℕ)} {t : SessionState} {begin : Bool} {r r0 : Result Happened EngineFault} (w : Result Went ServeFault) → s ≡ s0 → HasSent t → MayTurn turns start s0 e tl begin t
+pub gone : {turns : ℕ} {start : Since} {s s0 : ℕ} {e e' : EngineView} {tl tl' : Option (List ℕ)} {t : SessionState} {begin : Bool} {r r0 : Result Happened EngineFault} (w : Result SessionStep ServeFault) → s ≡ s0 → HasSent t → MayTurn turns start s0 e tl begin t
     → Turns s begin tl tl' e r e' → r ≡ r0 → Leaves e' s r0 w → Gone (turns + 1) start s e' tl' w t
 gone {r0 = r0} w same sent h by is leaves = let g = goes_turn same h by is in gone_at r0 w same sent g.1 g.2 g.3 leaves
 
@@ -255,7 +255,7 @@ stopped_at serve.NumbersSpent failed failed' turns p entries few why h = ((h.wri
 stopped_at f failed failed' turns p entries few why h = absurd why
 
 pub stops_so : {held : ℕ} (start now : IoState) {trace : List TraceEntry} {fits : Fits start.engine trace} {f : ServeFault} {failed failed' turns s : ℕ} → IsStop f failed failed' ⊥ → Serves held (IsToldBy turns (since_at start trace fits) s now.engine now.told) start.line now.line (IsStopped f failed failed' turns)
-    → (session : ℕ) × (p : Progress) × (tells : IsTold (since_at start trace fits) session now.engine now.told p.told) × ServedSoFar held start.line now.line p × HasStoppedAt f tells.entries p
+    → (session : ℕ) × (p : Progress) × (tells : IsTold (since_at start trace fits) session now.engine now.told p.state) × ServedSoFar held start.line now.line p × HasStoppedAt f tells.entries p
 stops_so start now {f = f} {failed = failed} {failed' = failed'} {turns = turns} {s = s} why serves =
     (s, serves.0, serves.1.0, serves.2, stopped_at f failed failed' turns serves.0 serves.1.0.entries serves.1.1 why serves.3)
 

@@ -136,13 +136,13 @@ timed_part (e ∷ entries) moments timed =
           (subst (λ (xs : List ℕ). IsSubsequence (one.0 ∷ begun_times entries) (xs ++ later)) (sym one.2) (part_next one.0 (begun_times entries) later rest))
     ])
 
-module _ (start now : IoState) (fits : Fits start.engine []) (session : ℕ) (p : Progress) (tells : IsTold (since_at start [] fits) session now.engine now.told p.told) where
+module _ (start now : IoState) (fits : Fits start.engine []) (session : ℕ) (p : Progress) (tells : IsTold (since_at start [] fits) session now.engine now.told p.state) where
   only : AllByRecursion (λ (e : TraceEntry). IsOnly session e.event) tells.entries
   only = all_map (IsEntryOf session) (λ e. IsOnly session e.event) tells.entries (λ e h. of_only session e.event e.result h) tells.own
 
   says_some : ServedSoFar engine_held start.line now.line p → (read moments written : List ℕ) × Passes (talk_of start) (talk_of now) read moments written × IsConversation read moments written
   says_some served =
-      let t = p.told in
+      let t = p.state in
       let read = t.stream ++ p.unfed in
       let rest = served.bodies.rest ++ p.unfed in
       let parts : read ≡ flat_map packet t.bodies ++ rest = ap (λ (bs : List ℕ). bs ++ p.unfed) served.bodies.stream ∙ append_assoc (flat_map packet t.bodies) served.bodies.rest p.unfed in
@@ -151,7 +151,7 @@ module _ (start now : IoState) (fits : Fits start.engine []) (session : ℕ) (p 
 
   says_whole : (cause : Cause) → ServedSoFar engine_held start.line now.line p → IsServed now.line.incoming cause p → ConversesTo (talk_of start) (talk_of now) (Ok cause)
   says_whole cause served ends =
-      let t = p.told in
+      let t = p.state in
       let whole = ends.whole in
       let read = t.stream ++ p.unfed in
       let same : read ≡ t.stream = ap (λ (bs : List ℕ). t.stream ++ bs) ends.fed ∙ append-nil t.stream in

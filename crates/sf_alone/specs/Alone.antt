@@ -114,9 +114,9 @@ pub record ServesAlone (start now : IoState) (s : Supply) (cause : Cause)
     (p : Progress) : Type 0 where
   pub fits : Fits start.engine []
   pub session : ℕ
-  pub tells : IsTold (since_at start [] fits) session now.engine now.told p.told
+  pub tells : IsTold (since_at start [] fits) session now.engine now.told p.state
   pub served : ServedSoFar engine_held start.line now.line p
   pub incoming : start.line.incoming ≡ Some s.input
   pub ends : IsServed now.line.incoming cause p
   pub begun : moments_begun tells.entries ≡ s.moments
-  pub memory : HadMemoryThroughout tells.entries p.told
+  pub memory : HadMemoryThroughout tells.entries p.state

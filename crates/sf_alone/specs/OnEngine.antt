@@ -155,12 +155,12 @@ MayNotOpen w fault.NumbersSpent = length w.sessions ≡ last_number
 -- Serving has stopped: unless the line failed, all that was answered was written. The session is
 -- closed. Numbers are spent only where so many bytes were read, or there were so many events.
 abbrev pub HasStoppedAt : ServeFault → List TraceEntry → Progress → Type 0
-HasStoppedAt fault.Line entries p = TakesNone p.told
-HasStoppedAt fault.OutOfMemory entries p = HasWritten p × TakesNone p.told
+HasStoppedAt fault.Line entries p = TakesNone p.state
+HasStoppedAt fault.OutOfMemory entries p = HasWritten p × TakesNone p.state
 HasStoppedAt fault.Sessions entries p = ⊥
 HasStoppedAt fault.Stranger entries p = ⊥
-HasStoppedAt fault.NumbersSpent entries p = (HasWritten p × TakesNone p.told)
-    × ((most_counted ≤ length p.told.stream) ⊎ (most_counted ≤ length entries))
+HasStoppedAt fault.NumbersSpent entries p = (HasWritten p × TakesNone p.state)
+    × ((most_counted ≤ length p.state.stream) ⊎ (most_counted ≤ length entries))
 
 -- What serving a line did, when it stopped so: nothing, where no session could open; or a session
 -- of its own was served so far.
@@ -168,7 +168,7 @@ abbrev pub StopsEarly : IoState → IoState → ServeFault → Type 0
 StopsEarly start now f = (trace : List TraceEntry) → (fits : Fits start.engine trace)
     → ((now ≡ start) × MayNotOpen fits.world f)
     ⊎ ((session : ℕ) × (p : Progress)
-    × (tells : IsTold (since_at start trace fits) session now.engine now.told p.told)
+    × (tells : IsTold (since_at start trace fits) session now.engine now.told p.state)
     × ServedSoFar engine_held start.line now.line p × HasStoppedAt f tells.entries p)
 
 -- whatever trace the engine fitted, it is as it was

@@ -45,7 +45,7 @@ pub fn one_session_alone()
         → (fits : Fits start.engine [])
         → start.line.incoming ≡ Some input → ServesLine start now cause
         → (session : ℕ) × (p : Progress)
-        × (tells : IsTold (since_at start [] fits) session now.engine now.told p.told)
-        × (HadMemoryThroughout tells.entries p.told
+        × (tells : IsTold (since_at start [] fits) session now.engine now.told p.state)
+        × (HadMemoryThroughout tells.entries p.state
         → ServesAlone start now (supply input (moments_begun tells.entries)) cause p) }
 {}

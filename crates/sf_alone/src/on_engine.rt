@@ -8,14 +8,14 @@ ghost use Rattle.sf_engine.specs.declared.event.Happened.TheVariants.{Opened};
 ghost use Rattle.sf_session.specs.SessionStates.{SessionState, fed, IsRead};
 ghost use Rattle.sf_session.specs.Responses.{transcript};
 ghost use Rattle.sf_engine.specs.Fits.{GoesOnTrace};
-ghost use Rattle.sf_serving.specs.Hosts.{IsOpen, HasSent, IsFurther, WentTo, with_sent, ended, IsHostFault};
+ghost use Rattle.sf_serving.specs.Hosts.{IsOpen, HasSent, IsFurther, IsSessionStep, with_sent, ended, IsHostFault};
 ghost use Rattle.sf_serving.specs.Serving.{line_view};
 ghost use Rattle.sf_alone.specs.OnEngine.{Since, IsToldBy, io_state, may_begin_after, Turns, Feeds, Applies, HasOutput, ServesLine, StopsEarly, IsUnchanged, open_refusal, IsOpenFault, IsServeFault};
 
 use sf_call::Record;
 use sf_engine::{Engine, EngineFault, Event, Happened};
 use sf_line::Line;
-use sf_serving::{CallObserver, Host, ObservedCall, Went, new_piece, serve_session};
+use sf_serving::{CallObserver, Host, ObservedCall, SessionStep, new_piece, serve_session};
 use sf_session::{Cause, Clock, ServeFault};
 use std::alloc::{AllocError, Global};
 
@@ -70,7 +70,7 @@ fn turns<C: Clock>(
     session: u64,
     may_begin: bool,
 ) -> Result<Happened, EngineFault>
-    ensures { Turns session may_begin (C.told clock.old) (C.told clock.new) engine.old result
+    ensures { Turns session may_begin (C.moments clock.old) (C.moments clock.new) engine.old result
         engine.new }
 {
     if !may_begin {
@@ -191,7 +191,11 @@ impl<G: CallObserver> Host<Engine> for EngineHost<'_, G> {
         feed(engine, self.session, piece, n)
     }
 
-    fn go_on<C: Clock>(&mut self, engine: &mut Engine, clock: &mut C) -> Result<Went, ServeFault> {
+    fn go_on<C: Clock>(
+        &mut self,
+        engine: &mut Engine,
+        clock: &mut C,
+    ) -> Result<SessionStep, ServeFault> {
         let mut may_begin = true;
         while self.turns < u64::MAX {
             self.turns += 1;
@@ -204,14 +208,14 @@ impl<G: CallObserver> Host<Engine> for EngineHost<'_, G> {
             };
             self.told = tell_call(self.observer, engine, self.session, self.told);
             match happened {
-                Happened::Idle => return Ok(Went::Waits),
-                Happened::Ended(cause) => return Ok(Went::Ended(cause)),
+                Happened::Idle => return Ok(SessionStep::Waits),
+                Happened::Ended(cause) => return Ok(SessionStep::Ended(cause)),
                 Happened::Wrote => {
                     if engine.wants_bytes(self.session) {
-                        return Ok(Went::Waits);
+                        return Ok(SessionStep::Waits);
                     }
                     if waiting(engine, self.session).len() >= BATCH {
-                        return Ok(Went::Answered);
+                        return Ok(SessionStep::Answered);
                     }
                 }
                 _ => {}
@@ -247,14 +251,14 @@ pub fn serve_one<L: Line, C: Clock, G: CallObserver>(
 ) -> Result<Cause, ServeFault>
     ensures served { IfOk result (λ cause. ServesLine
         (io_state (line_view (L.incoming line.old) (L.outgoing line.old) (L.calls line.old))
-        (C.told clock.old) engine.old)
+        (C.moments clock.old) engine.old)
         (io_state (line_view (L.incoming line.new) (L.outgoing line.new) (L.calls line.new))
-        (C.told clock.new) engine.new) cause) }
+        (C.moments clock.new) engine.new) cause) }
     ensures stopped { IfErr result (λ fault. StopsEarly
         (io_state (line_view (L.incoming line.old) (L.outgoing line.old) (L.calls line.old))
-        (C.told clock.old) engine.old)
+        (C.moments clock.old) engine.old)
         (io_state (line_view (L.incoming line.new) (L.outgoing line.new) (L.calls line.new))
-        (C.told clock.new) engine.new) fault) }
+        (C.moments clock.new) engine.new) fault) }
     ensures fault { IfErr result (λ fault. IsServeFault fault (L.failed line.old)
         (L.failed line.new)) }
 {

@@ -21,8 +21,8 @@ pub fn serve_alone<L: Line, C: Clock>(
 ) -> Result<Cause, ServeFault>
     requires { 0 < keep }
     ensures { ConversesTo
-        (talk_view (L.incoming line.old) (C.told clock.old) (L.outgoing line.old))
-        (talk_view (L.incoming line.new) (C.told clock.new) (L.outgoing line.new)) result }
+        (talk_view (L.incoming line.old) (C.moments clock.old) (L.outgoing line.old))
+        (talk_view (L.incoming line.new) (C.moments clock.new) (L.outgoing line.new)) result }
 {
     match Engine::with_keep(alloc, keep) {
         Ok(engine) => {

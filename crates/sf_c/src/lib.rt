@@ -27,8 +27,8 @@ mod kept;
 mod leaves;
 mod making;
 mod number;
-mod rules;
 mod record_parts;
+mod rules;
 mod turns;
 
 use held::Held;
@@ -36,11 +36,11 @@ use held_refusals::HeldRefusals;
 use kept::Kept;
 use leaves::{LeafParts, copy_leaf, gap_at, read_leaf, tree_of};
 use making::{At, link_in, make_directory_in, tell_made, write_file_in};
+use record_parts::{RecordParts, recount};
 use rules::{RuleParts, give_rule, tell_refused};
 use sf_engine::{Engine, Event};
 use sf_refusing::Refusals;
 use std::alloc::{AllocError, Global};
-use record_parts::{RecordParts, recount};
 use turns::{apply, feed, sent, settle_at, turn};
 
 /// Makes an engine that keeps the last `keep` records, or all of them.

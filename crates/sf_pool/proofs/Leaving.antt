@@ -32,7 +32,7 @@ leaves_gone standing.UnderWay d {t = t} {cause = cause} old new over counts whol
 leaves_gone (standing.Left share) d {t = t} old new over counts whole added = (over.1, shared_by share (length (state_calls t)) old new counts added)
 
 pub leaves_served : {held : ℕ} {start now : LaneScene} {from line : LineView} {at : Standing} {v : SessionView} {cause : Cause} (old new : ℕ) → IsOver at now.lane None → IsAdded at old new → Serves held (IsToldAt start at v now) from line (IsServed line.incoming cause)
-    → Serves held (NotesCalls start now) from line (λ p. ((c : Cause) × IsServed line.incoming c p) × (now.lane.place ≡ Joined Departed) × IsShared (length (state_calls p.told)) old new)
+    → Serves held (NotesCalls start now) from line (λ p. ((c : Cause) × IsServed line.incoming c p) × (now.lane.place ≡ Joined Departed) × IsShared (length (state_calls p.state)) old new)
 leaves_served {now = now} {at = at} {cause = cause} old new over added serves =
     let left = leaves_gone at now.lane old new over serves.1.counts serves.3.whole added in
     (serves.0, serves.1.notes, serves.2, ((cause, serves.3), left.0, left.1))
@@ -53,13 +53,13 @@ over_none standing.UnderWay d f (inr h) = let no : Some f ≡ None = h.0 in absu
 over_none (standing.Left share) d f (inr h) = let no : Some f ≡ None = h.0 in absurd (cc)
 
 leaves_for : {start now : LaneScene} {at : Standing} {v : SessionView} (f : ServeFault) {p : Progress} {failed failed' : ℕ} (old new : ℕ) → IsLeftFor (IsOver at now.lane) f → IsStop f failed failed' ⊥ → IsAdded at old new
-    → IsToldAt start at v now p.told → IsStopped f failed failed' now.lane.steps p → LeavesFor f now.lane p old new
+    → IsToldAt start at v now p.state → IsStopped f failed failed' now.lane.steps p → LeavesFor f now.lane p old new
 leaves_for fault.Sessions old new left why added tells stops = absurd why
 leaves_for fault.Stranger old new left why added tells stops = absurd why
 leaves_for {now = now} {at = at} fault.NumbersSpent {p = p} old new left why added tells stops =
-    (has_left at now.lane p.told old new (over_none at now.lane fault.NumbersSpent left) tells.counts added, stops.spent)
-leaves_for {now = now} {at = at} fault.Line {p = p} old new left why added tells stops = has_left at now.lane p.told old new (over_none at now.lane fault.Line left) tells.counts added
-leaves_for {now = now} {at = at} fault.OutOfMemory {p = p} old new left why added tells stops = has_left at now.lane p.told old new (over_none at now.lane fault.OutOfMemory left) tells.counts added
+    (has_left at now.lane p.state old new (over_none at now.lane fault.NumbersSpent left) tells.counts added, stops.spent)
+leaves_for {now = now} {at = at} fault.Line {p = p} old new left why added tells stops = has_left at now.lane p.state old new (over_none at now.lane fault.Line left) tells.counts added
+leaves_for {now = now} {at = at} fault.OutOfMemory {p = p} old new left why added tells stops = has_left at now.lane p.state old new (over_none at now.lane fault.OutOfMemory left) tells.counts added
 
 pub leaves_stopped : {held : ℕ} {start now : LaneScene} {from line : LineView} {at : Standing} {v : SessionView} (f : ServeFault) {failed failed' : ℕ} (old new : ℕ) → IsLeftFor (IsOver at now.lane) f → IsStop f failed failed' ⊥ → IsAdded at old new
     → Serves held (IsToldAt start at v now) from line (IsStopped f failed failed' now.lane.steps) → Serves held (NotesCalls start now) from line (λ p. HasWrittenFor f failed failed' p × LeavesFor f now.lane p old new)
@@ -91,11 +91,11 @@ left_not_new d t old new (inl left) = joined_not_new d.place Departed left.0
 left_not_new d t old new (inr call) = joined_not_new d.place (Calling call.0.number call.0.moment call.0.request) call.0.placed
 
 left_for_not_new : (f : ServeFault) (d : SessionLaneView) (p : Progress) (old new : ℕ) → LeavesFor f d p old new → d.place ≢ New
-left_for_not_new fault.Line d p old new h = left_not_new d p.told old new h
-left_for_not_new fault.OutOfMemory d p old new h = left_not_new d p.told old new h
+left_for_not_new fault.Line d p old new h = left_not_new d p.state old new h
+left_for_not_new fault.OutOfMemory d p old new h = left_not_new d p.state old new h
 left_for_not_new fault.Sessions d p old new h = absurd h
 left_for_not_new fault.Stranger d p old new h = absurd h
-left_for_not_new fault.NumbersSpent d p old new h = left_not_new d p.told old new h.0
+left_for_not_new fault.NumbersSpent d p old new h = left_not_new d p.state old new h.0
 
 pub served_not_new : (start now : LaneScene) (from line : LineView) (old new : ℕ) → ServesLane start now from line old new → now.lane.place ≢ New
 served_not_new start now from line old new (p, notes, served, (ends, left, shared)) = joined_not_new now.lane.place Departed left

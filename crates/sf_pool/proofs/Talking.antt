@@ -20,9 +20,9 @@ use Rattle.sf_session.specs.Sessions.{SessionView, Begins, NextGives, LocalPacke
 use Rattle.sf_session.specs.Responses.{Response, Version, Locally, ask_behind, packet_for, transcript, has_begun, AreAsked}
 use Rattle.sf_session.specs.SessionStates.{Phase, Resting, UnderWay, Decided, Gone, SessionState, new_state, fed, closed_now, pending, asks_of, IsRest, IsRead, HasShortPacket}
 use Rattle.sf_session.proofs.Laws.{all_push, begun_is, begun_push, asked_push, not_closed}
-use Rattle.sf_serving.specs.declared.host.Went.{Went}
-use Rattle.sf_serving.specs.declared.host.Went.TheVariants as went
-use Rattle.sf_serving.specs.Hosts.{IsOpen, HasSent, IsBatch, IsFurther, WentTo, with_sent, ended}
+use Rattle.sf_serving.specs.declared.host.SessionStep.{SessionStep}
+use Rattle.sf_serving.specs.declared.host.SessionStep.TheVariants as session_step
+use Rattle.sf_serving.specs.Hosts.{IsOpen, HasSent, IsBatch, IsFurther, IsSessionStep, with_sent, ended}
 use Rattle.sf_serving.proofs.Laws.{transcript_append, none_written, one_packet, front_all, rest_asked, rest_stream, ended_same, batch_none, batch_one}
 use Rattle.sf_audit.specs.Audits.{CallRecord}
 use Rattle.sf_pool.specs.declared.calling.Stop.{Stop}
@@ -50,13 +50,13 @@ notes_more (Some x) (Some y) (Some z) xs ys p q = q ∙ ap (λ l. l ++ ys) p ∙
 begins_none : (tl : Option (List ℕ)) (b : Option (List Begin)) → BeginsCalls tl tl b b []
 begins_none tl b = ([], notes_none b, Appends-nil tl, refl)
 
-begins_more : (x y z : LaneScene) {xs ys : List Attempt} → BeginsCalls x.told y.told x.begins y.begins xs → BeginsCalls y.told z.told y.begins z.begins ys → BeginsCalls x.told z.told x.begins z.begins (xs ++ ys)
+begins_more : (x y z : LaneScene) {xs ys : List Attempt} → BeginsCalls x.moments y.moments x.begins y.begins xs → BeginsCalls y.moments z.moments y.begins z.begins ys → BeginsCalls x.moments z.moments x.begins z.begins (xs ++ ys)
 begins_more x y z {xs = xs} p q =
     let moment_of : Begin → ℕ = λ x. x.moment in
     let moments = map-append moment_of p.0 q.0 in (
       p.0 ++ q.0,
       notes_more x.begins y.begins z.begins p.0 q.0 p.1 q.1,
-      subst (λ (l : List ℕ). Appends x.told z.told l) (sym moments) (Appends-trans x.told y.told z.told (map moment_of p.0) (map moment_of q.0) p.2 q.2),
+      subst (λ (l : List ℕ). Appends x.moments z.moments l) (sym moments) (Appends-trans x.moments y.moments z.moments (map moment_of p.0) (map moment_of q.0) p.2 q.2),
       map-append attempt_of p.0 q.0 ∙ ap (λ (l : List Attempt). l ++ map attempt_of q.0) p.3 ∙ ap (λ (l : List Attempt). xs ++ l) q.3,
     )
 
@@ -71,12 +71,12 @@ rest_attempts t at = ap (λ (f : Phase). flat_map answer_attempts t.answers ++ p
 -- ---- it joins
 
 pub told_new : {start : LaneScene} {d : SessionLaneView} {b : Option (List Begin)} {at : Standing} {v : SessionView} (session : ℕ) → b ≡ start.begins → d ≡ record start.lane { session = session; place = Joined BetweenCalls; calls = [] } → v ≡ new_session → at ≡ standing.Joined
-    → IsToldAt start at v (lane_scene d b start.told) new_state
-told_new {start = start} {d = d} {b = b} {v = v} session none joins new at = subst (λ (s : Standing). IsToldAt start s v (lane_scene d b start.told) new_state) (sym at) (record {
+    → IsToldAt start at v (lane_scene d b start.moments) new_state
+told_new {start = start} {d = d} {b = b} {v = v} session none joins new at = subst (λ (s : Standing). IsToldAt start s v (lane_scene d b start.moments) new_state) (sym at) (record {
   notes = record {
     noted = ap (λ (x : SessionLaneView). x.calls) joins;
     keeps = ap (λ (x : SessionLaneView). x.keeps) joins;
-    asked = subst (λ (x : Option (List Begin)). BeginsCalls start.told start.told start.begins x []) (sym none) (begins_none start.told start.begins);
+    asked = subst (λ (x : Option (List Begin)). BeginsCalls start.moments start.moments start.begins x []) (sym none) (begins_none start.moments start.begins);
   };
   stands = λ at. record { unread = ap (λ (x : SessionView). x.unread) new; begun = ap (λ (x : SessionView). x.begun) new; ended = ap (λ (x : SessionView). x.ended) new };
   waits = none_written ∙ sym (ap (λ (x : SessionView). x.output) new);
@@ -150,12 +150,12 @@ pub told_ended : {start : LaneScene} {at at' : Standing} {v : SessionView} {d d'
     → (d.calls ≡ state_calls t → IsCounted at d t → IsCounted at' d' t) → IsToldAt start at' v (lane_scene d' b' tl) (ended t)
 told_ended {start = start} {at' = at'} {v = v} {d' = d'} {b' = b'} {tl = tl} {t = t} h calls keeps begins count =
     let same = ended_same t in
-    let asked : BeginsCalls start.told tl start.begins b' (attempts_told t) = subst (λ (x : Option (List Begin)). BeginsCalls start.told tl start.begins x (attempts_told t)) (sym begins) h.notes.asked in
+    let asked : BeginsCalls start.moments tl start.begins b' (attempts_told t) = subst (λ (x : Option (List Begin)). BeginsCalls start.moments tl start.begins x (attempts_told t)) (sym begins) h.notes.asked in
     record {
       notes = record {
         noted = calls ∙ h.notes.noted ∙ sym (closed_calls t t.phase refl);
         keeps = keeps ∙ h.notes.keeps;
-        asked = subst (λ (l : List Attempt). BeginsCalls start.told tl start.begins b' l) (sym (closed_attempts t t.phase refl)) asked;
+        asked = subst (λ (l : List Attempt). BeginsCalls start.moments tl start.begins b' l) (sym (closed_attempts t t.phase refl)) asked;
       };
       stands = λ rests. absurd (never_rests t t.phase refl rests);
       waits = ap transcript same.answers ∙ h.waits ∙ ap (λ (b : List ℕ). b ++ v.output) (sym same.sent);
@@ -165,8 +165,8 @@ told_ended {start = start} {at' = at'} {v = v} {d' = d'} {b' = b'} {tl = tl} {t 
 -- ---- it goes on
 
 -- what its host's contract asks of going on
-abbrev pub Goes : LaneScene → Standing → SessionView → LaneScene → Result Went ServeFault → SessionState → Type 0
-Goes start at v now r t = (t' : SessionState) × IsToldAt start at v now t' × IsFurther lane_held t t' × WentTo r t t'
+abbrev pub Goes : LaneScene → Standing → SessionView → LaneScene → Result SessionStep ServeFault → SessionState → Type 0
+Goes start at v now r t = (t' : SessionState) × IsToldAt start at v now t' × IsFurther lane_held t t' × IsSessionStep r t t'
 
 -- a session that its host lets go on
 pub record MayGo (start now : LaneScene) (v : SessionView) (t : SessionState) : Type 0 where
@@ -183,7 +183,7 @@ pub goes_not : {start now : LaneScene} {at : Standing} {v w : SessionView} (f : 
 goes_not {start = start} {now = now} {at = at} f {t = t} h read sent same = (t, subst (λ (x : SessionView). IsToldAt start at x now t) (sym same) h, further_none t read, tt)
 
 -- no whole packet is unread
-pub goes_more : {start now : LaneScene} {at : Standing} {v w : SessionView} {t : SessionState} → IsToldAt start at v now t → IsOpen t → IsRead t → HasSent t → NextGives v next.More w → Goes start at w now (Ok went.Waits) t
+pub goes_more : {start now : LaneScene} {at : Standing} {v w : SessionView} {t : SessionState} → IsToldAt start at v now t → IsOpen t → IsRead t → HasSent t → NextGives v next.More w → Goes start at w now (Ok session_step.Waits) t
 goes_more {start = start} {now = now} {at = at} {t = t} h is_open read sent gives = (
   t,
   subst (λ (x : SessionView). IsToldAt start at x now t) (sym gives.2) h,
@@ -204,7 +204,7 @@ ends_output : (v w : SessionView) (cause : Cause) → NextGives v (next.Ended ca
 ends_output v w cause (inl h) = ap (λ (x : SessionView). x.output) h.1
 ends_output v w cause (inr h) = ap (λ (x : SessionView). x.output) h.2
 
-pub goes_ended : {start now : LaneScene} {v w : SessionView} {cause : Cause} {t : SessionState} → MayGo start now v t → NextGives v (next.Ended cause) w → Goes start standing.Joined w now (Ok (went.Ended cause)) t
+pub goes_ended : {start now : LaneScene} {v w : SessionView} {cause : Cause} {t : SessionState} → MayGo start now v t → NextGives v (next.Ended cause) w → Goes start standing.Joined w now (Ok (session_step.Ended cause)) t
 goes_ended {start = start} {now = now} {v = v} {w = w} {cause = cause} {t = t} go gives =
     let record { told = h; is_open = is_open; read = read; sent = sent } = go in
     let at = is_open.rests in
@@ -220,7 +220,7 @@ goes_ended {start = start} {now = now} {v = v} {w = w} {cause = cause} {t = t} g
         notes = record {
           noted = h.notes.noted ∙ sym operations;
           keeps = h.notes.keeps;
-          asked = subst (λ (l : List Attempt). BeginsCalls start.told now.told start.begins now.begins l) (sym attempts) h.notes.asked;
+          asked = subst (λ (l : List Attempt). BeginsCalls start.moments now.moments start.begins now.begins l) (sym attempts) h.notes.asked;
         };
         stands = λ rests. absurd (let no : Gone cause ≡ Resting = rests in cc);
         waits = h.waits ∙ ap (λ (b : List ℕ). t.sent ++ b) (sym (ends_output v w cause gives));
@@ -272,14 +272,14 @@ record Noted (now now' : LaneScene) (asked : Ask) (more : List Response) (f : Ph
   left : (begun : Bool) (bytes : List ℕ) → IsRest begun f bytes bytes
   noted : now'.lane.calls ≡ now.lane.calls ++ (flat_map response_calls more ++ phase_calls f)
   keeps : now'.lane.keeps ≡ now.lane.keeps
-  begins : BeginsCalls now.told now'.told now.begins now'.begins (flat_map answer_attempts more ++ phase_attempts f)
+  begins : BeginsCalls now.moments now'.moments now.begins now'.begins (flat_map answer_attempts more ++ phase_attempts f)
 
 abbrev after_body : SessionState → List ℕ → List ℕ → List Response → Phase → SessionState
 after_body t body rest more f = record t { unread = rest; bodies = t.bodies ++ body ∷ []; answers = t.answers ++ more; phase = f }
 
 -- a body more was read
-goes_body : {start now now' : LaneScene} {at : Standing} {v w : SessionView} {t : SessionState} {asked : Ask} {more : List Response} {f : Phase} (r : Result Went ServeFault) → MayGo start now v t → (b : Body t asked) → Noted now now' asked more f
-    → w ≡ record w { unread = b.rest; output = v.output ++ transcript more; begun = true; ended = None } → IsBatch lane_held more → IsCounted at now'.lane (after_body t b.body b.rest more f) → WentTo r t (after_body t b.body b.rest more f) → Goes start at w now' r t
+goes_body : {start now now' : LaneScene} {at : Standing} {v w : SessionView} {t : SessionState} {asked : Ask} {more : List Response} {f : Phase} (r : Result SessionStep ServeFault) → MayGo start now v t → (b : Body t asked) → Noted now now' asked more f
+    → w ≡ record w { unread = b.rest; output = v.output ++ transcript more; begun = true; ended = None } → IsBatch lane_held more → IsCounted at now'.lane (after_body t b.body b.rest more f) → IsSessionStep r t (after_body t b.body b.rest more f) → Goes start at w now' r t
 goes_body {start = start} {now = now} {now' = now'} {v = v} {t = t} {asked = asked} {more = more} {f = f} r go b n shows batch counts to =
     let h = go.told in
     let rests = go.is_open.rests in
@@ -294,13 +294,13 @@ goes_body {start = start} {now = now} {now' = now'} {v = v} {t = t} {asked = ask
     ap (λ (l : List Ask). map ask_behind t.answers ++ l) (sym n.asks) ∙ sym (append_assoc (map ask_behind t.answers) (map ask_behind more) (pending f)) ∙ ap (λ (l : List Ask). l ++ pending f) (sym (map-append ask_behind t.answers more)) in
     let are_asked : AreAsked false t'.bodies (map ask_behind t.answers ++ asked ∷ []) =
     asked_push false t.bodies (map ask_behind t.answers) b.body asked (rest_asked t rests go.read) (subst (λ (x : Bool). AsksFor x b.body asked) (begun_is t.bodies) b.asks) in
-    let begun : BeginsCalls start.told now.told start.begins now.begins attempts = subst (λ (l : List Attempt). BeginsCalls start.told now.told start.begins now.begins l) (rest_attempts t rests) h.notes.asked in (
+    let begun : BeginsCalls start.moments now.moments start.begins now.begins attempts = subst (λ (l : List Attempt). BeginsCalls start.moments now.moments start.begins now.begins l) (rest_attempts t rests) h.notes.asked in (
       t',
       record {
         notes = record {
           noted = n.noted ∙ ap (λ (l : List CallRecord). l ++ (flat_map response_calls more ++ phase_calls f)) (h.notes.noted ∙ rest_calls t rests) ∙ same_calls;
           keeps = n.keeps ∙ h.notes.keeps;
-          asked = subst (λ (l : List Attempt). BeginsCalls start.told now'.told start.begins now'.begins l) same_attempts
+          asked = subst (λ (l : List Attempt). BeginsCalls start.moments now'.moments start.begins now'.begins l) same_attempts
               (begins_more start now now' begun n.begins);
         };
         stands = λ e. record { unread = ap (λ (x : SessionView). x.unread) shows; begun = ap (λ (x : SessionView). x.begun) shows ∙ sym (begun_push t.bodies b.body); ended = ap (λ (x : SessionView). x.ended) shows };
@@ -329,7 +329,7 @@ one_longer xs x = omega (arith, length-append xs (x ∷ []))
 
 -- a body asked for this, and was answered so: its output follows
 goes_answered : {start now now' : LaneScene} {v w : SessionView} {t : SessionState} (a : Response) → MayGo start now v t → (b : Body t (ask_behind a)) → w ≡ record w { unread = b.rest; output = v.output ++ packet_for a; begun = true; ended = None }
-    → now'.lane.calls ≡ now.lane.calls ++ response_calls a → now'.lane.keeps ≡ now.lane.keeps → BeginsCalls now.told now'.told now.begins now'.begins (answer_attempts a) → HasShortPacket a → Goes start standing.Joined w now' (Ok went.Answered) t
+    → now'.lane.calls ≡ now.lane.calls ++ response_calls a → now'.lane.keeps ≡ now.lane.keeps → BeginsCalls now.moments now'.moments now.begins now'.begins (answer_attempts a) → HasShortPacket a → Goes start standing.Joined w now' (Ok session_step.Answered) t
 goes_answered {now = now} {now' = now'} {v = v} {w = w} {t = t} a go b shows notes keeps begins short =
     let calls : response_calls a ≡ flat_map response_calls (a ∷ []) ++ [] = sym (append-nil (flat_map response_calls (a ∷ [])) ∙ append-nil (response_calls a)) in
     let attempts : answer_attempts a ≡ flat_map answer_attempts (a ∷ []) ++ [] = sym (append-nil (flat_map answer_attempts (a ∷ [])) ∙ append-nil (answer_attempts a)) in
@@ -338,9 +338,9 @@ goes_answered {now = now} {now' = now'} {v = v} {w = w} {t = t} a go b shows not
       left = λ begun bytes. refl;
       noted = notes ∙ ap (λ (l : List CallRecord). now.lane.calls ++ l) calls;
       keeps = keeps;
-      begins = subst (λ (l : List Attempt). BeginsCalls now.told now'.told now.begins now'.begins l) attempts begins;
+      begins = subst (λ (l : List Attempt). BeginsCalls now.moments now'.moments now.begins now'.begins l) attempts begins;
     } in
-    goes_body (Ok went.Answered) go b n (subst (λ (x : List ℕ). w ≡ record w { unread = b.rest; output = v.output ++ x; begun = true; ended = None }) (sym (one_packet a)) shows)
+    goes_body (Ok session_step.Answered) go b n (subst (λ (x : List ℕ). w ≡ record w { unread = b.rest; output = v.output ++ x; begun = true; ended = None }) (sym (one_packet a)) shows)
     (batch_one a short) tt (record { rests = refl; closed = go.is_open.closed }, one_longer t.answers a)
 
 -- what answers a body with no call
@@ -356,7 +356,7 @@ body_at {asked = asked} {body = body} {rest = rest} go begins asks =
     let s = go.told.stands go.is_open.rests in
     record { body = body; rest = rest; whole = sym s.unread ∙ begins.whole; is_body = begins.is_body; asks = subst (λ (x : Bool). AsksFor x body asked) s.begun asks }
 
-pub goes_local : {start now : LaneScene} {v w : SessionView} {t : SessionState} → MayGo start now v t → NextGives v next.Local w → length w.output ≤ length v.output + longest_packet → Goes start standing.Joined w now (Ok went.Answered) t
+pub goes_local : {start now : LaneScene} {v w : SessionView} {t : SessionState} → MayGo start now v t → NextGives v next.Local w → length w.output ≤ length v.output + longest_packet → Goes start standing.Joined w now (Ok session_step.Answered) t
 goes_local {now = now} {v = v} {w = w} go gives little =
     let g = gives.1 in
     let a = local_at g.asked g.text g.local_packet in
@@ -364,15 +364,15 @@ goes_local {now = now} {v = v} {w = w} go gives little =
     let out : w ≡ record { unread = g.rest; output = v.output ++ packet_for a.0; begun = true; waiting = None; ended = None } =
     g.now ∙ ap (λ (x : List ℕ). record { unread = g.rest; output = v.output ++ x; begun = true; waiting = None; ended = None }) (sym a.2) in
     goes_answered a.0 go b (shown w g.rest (v.output ++ packet_for a.0) None out) (sym (append-nil now.lane.calls) ∙ ap (λ (l : List CallRecord). now.lane.calls ++ l) (sym a.4)) refl
-    (subst (λ (l : List Attempt). BeginsCalls now.told now.told now.begins now.begins l) (sym a.3) (begins_none now.told now.begins))
+    (subst (λ (l : List Attempt). BeginsCalls now.moments now.moments now.begins now.begins l) (sym a.3) (begins_none now.moments now.begins))
     (omega (arith, little, ap (λ (x : SessionView). length x.output) out, length-append v.output (packet_for a.0)))
 
 -- a packet's call was made, or refused
-pub goes_called : {start now now' : LaneScene} {v m w : SessionView} {request : Request} {t : SessionState} → MayGo start now v t → NextGives v (next.Call request) m → MakesCall request (BeginsCalls now.told now'.told now.begins now'.begins) (talk now.lane m) (talk now'.lane w)
-    → Goes start standing.Joined w now' (Ok went.Answered) t
+pub goes_called : {start now now' : LaneScene} {v m w : SessionView} {request : Request} {t : SessionState} → MayGo start now v t → NextGives v (next.Call request) m → MakesCall request (BeginsCalls now.moments now'.moments now.begins now'.begins) (talk now.lane m) (talk now'.lane w)
+    → Goes start standing.Joined w now' (Ok session_step.Answered) t
 goes_called {now = now} {now' = now'} {v = v} {w = w} {request = request} go gives made =
     let g = gives.1 in
-    let a = subst (λ (x : SessionView). MakesCall request (BeginsCalls now.told now'.told now.begins now'.begins) (talk now.lane x) (talk now'.lane w)) g.now made in
+    let a = subst (λ (x : SessionView). MakesCall request (BeginsCalls now.moments now'.moments now.begins now'.begins) (talk now.lane x) (talk now'.lane w)) g.now made in
     let b = body_at go g.begins (subst (λ (x : Ask). AsksFor v.begun g.body x) (sym a.1) g.asks) in
     goes_answered a.0 go b (shown w g.rest (v.output ++ packet_for a.0) None a.2) (ap (λ (x : SessionLaneView). x.calls) a.3) (ap (λ (x : SessionLaneView). x.keeps) a.3) a.4 a.5
 
@@ -394,7 +394,7 @@ goes_pended {v = v} {w = w} {t = t} {f = f} g go gives same n counts =
     same ∙ x.now ∙ ap (λ (l : List ℕ). record { unread = x.rest; output = l; begun = true; waiting = Some x.id; ended = None }) out in
     goes_body (Err g) go b n (shown w x.rest (v.output ++ transcript []) (Some x.id) is) batch_none (counts (after_body t x.body x.rest [] f) refl) tt
 
-pub goes_stopped : {start now now' : LaneScene} {v m w : SessionView} {request : Request} {t : SessionState} (why : Stop) → MayGo start now v t → NextGives v (next.Call request) m → w ≡ m → FailsCall m.waiting request why (BeginsCalls now.told now'.told now.begins now'.begins) now.lane now'.lane
+pub goes_stopped : {start now now' : LaneScene} {v m w : SessionView} {request : Request} {t : SessionState} (why : Stop) → MayGo start now v t → NextGives v (next.Call request) m → w ≡ m → FailsCall m.waiting request why (BeginsCalls now.moments now'.moments now.begins now'.begins) now.lane now'.lane
     → Goes start (standing_after why) w now' (Err (stop_fault why)) t
 goes_stopped {request = request} stop.OutOfMemory go gives same fails =
     let is = fails.1.1 in
@@ -418,9 +418,9 @@ pub may_go : {start now : LaneScene} {at : Standing} {v : SessionView} {t : Sess
 may_go {start = start} {now = now} {at = at} {v = v} {t = t} e h is_open read sent = record { told = subst (λ (s : Standing). IsToldAt start s v now t) (joined at e) h; is_open = is_open; read = read; sent = sent }
 
 -- a host stands as it did, and its lane is where it was
-pub goes_still : {start : LaneScene} {at at' : Standing} {w w' : SessionView} {d d' : SessionLaneView} {b b' : Option (List Begin)} {tl : Option (List ℕ)} (r : Result Went ServeFault) {r' : Result Went ServeFault} {t : SessionState}
+pub goes_still : {start : LaneScene} {at at' : Standing} {w w' : SessionView} {d d' : SessionLaneView} {b b' : Option (List Begin)} {tl : Option (List ℕ)} (r : Result SessionStep ServeFault) {r' : Result SessionStep ServeFault} {t : SessionState}
     → at' ≡ at → w' ≡ w → d' ≡ d → b' ≡ b → r' ≡ r → Goes start at w (lane_scene d b tl) r t → Goes start at' w' (lane_scene d' b' tl) r' t
 goes_still {start = start} {at = at} {w = w} {w' = w'} {d = d} {d' = d'} {b = b} {b' = b'} {tl = tl} r {r' = r'} {t = t} p q e f g h =
     subst (λ (x : Standing). Goes start x w' (lane_scene d' b' tl) r' t) (sym p) (subst (λ (x : SessionView). Goes start at x (lane_scene d' b' tl) r' t) (sym q)
     (subst (λ (x : SessionLaneView). Goes start at w (lane_scene x b' tl) r' t) (sym e) (subst (λ (x : Option (List Begin)). Goes start at w (lane_scene d x tl) r' t) (sym f)
-    (subst (λ (x : Result Went ServeFault). Goes start at w (lane_scene d b tl) x t) (sym g) h))))
+    (subst (λ (x : Result SessionStep ServeFault). Goes start at w (lane_scene d b tl) x t) (sym g) h))))

@@ -51,27 +51,27 @@ RefusesAt d v fault =
 -- what is told of a step of the core: whether its call was answered, and how; and whether it was
 -- blocked
 abbrev pub TellsOf : Step → Stepped → SessionLaneView → Type 0
-TellsOf step.Moved s d = (s.told ≡ Going) × (s.blocked ≡ false)
-TellsOf (step.Blocked holder) s d = (s.told ≡ Going) × (s.blocked ≡ true)
+TellsOf step.Moved s d = (s.outcome ≡ Going) × (s.blocked ≡ false)
+TellsOf (step.Blocked holder) s d = (s.outcome ≡ Going) × (s.blocked ≡ true)
 TellsOf (step.Answered answer) s d =
-    (s.told ≡ Answered) × (s.blocked ≡ false) × IsLastAnswer d.calls answer.number answer.reply
+    (s.outcome ≡ Answered) × (s.blocked ≡ false) × IsLastAnswer d.calls answer.number answer.reply
 TellsOf step.Stranger s d = ⊥
 
 -- what a step came to: what is told of it, and the lane and the core after it
 pub record SteppedTo : Type 0 where
-  pub told : Stepped
+  pub stepped : Stepped
   pub lane : SessionLaneView
   pub core : CoreView
 
 abbrev pub stepped_to : Stepped → SessionLaneView → CoreView → SteppedTo
-stepped_to s d v = record { told = s; lane = d; core = v }
+stepped_to s d v = record { stepped = s; lane = d; core = v }
 
 -- the session's call makes one step on the core
 pub record StepsAt (d : SessionLaneView) (v : CoreView) (s : SteppedTo) : Type 0 where
   pub before : ℕ × Page
   pub after : ℕ × Page
-  pub came : Step
+  pub result : Step
   pub own : IsPageOf d before
   pub own_after : IsPageOf s.lane after
-  pub steps : StepsOn v (lane_of before) came s.core (lane_of after)
-  pub tells : TellsOf came s.told s.lane
+  pub steps : StepsOn v (lane_of before) result s.core (lane_of after)
+  pub tells : TellsOf result s.stepped s.lane

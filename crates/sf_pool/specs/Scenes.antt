@@ -23,10 +23,10 @@ use Rattle.sf_pool.specs.SessionLanes.{SessionLaneState, JoinRefused, Joined, Se
 pub record LaneScene : Type 0 where
   pub lane : SessionLaneView
   pub begins : Option (List Begin)
-  pub told : Option (List ℕ)
+  pub moments : Option (List ℕ)
 
 abbrev pub lane_scene : SessionLaneView → Option (List Begin) → Option (List ℕ) → LaneScene
-lane_scene lane begins told = record { lane = lane; begins = begins; told = told }
+lane_scene lane begins moments = record { lane = lane; begins = begins; moments = moments }
 
 -- the call that was answered so, unless it was refused
 abbrev pub response_calls : Response → List CallRecord
@@ -82,8 +82,8 @@ attempts_told t = flat_map answer_attempts t.answers ++ phase_attempts t.phase
 abbrev pub BeginsCalls : Option (List ℕ) → Option (List ℕ) → Option (List Begin)
     → Option (List Begin)
     → List Attempt → Type 0
-BeginsCalls told told' begins begins' attempts =
-    (more : List Begin) × Notes begins begins' more × Appends told told' (map (λ b. b.moment) more)
+BeginsCalls moments moments' begins begins' attempts =
+    (more : List Begin) × Notes begins begins' more × Appends moments moments' (map (λ b. b.moment) more)
     × (map attempt_of more ≡ attempts)
 
 -- Since the start a session was told this, and its lane noted the calls that it was answered, and
@@ -92,7 +92,7 @@ BeginsCalls told told' begins begins' attempts =
 pub record NotesCalls (start now : LaneScene) (t : SessionState) : Type 0 where
   pub noted : now.lane.calls ≡ state_calls t
   pub keeps : now.lane.keeps ≡ start.lane.keeps
-  pub asked : BeginsCalls start.told now.told start.begins now.begins (attempts_told t)
+  pub asked : BeginsCalls start.moments now.moments start.begins now.begins (attempts_told t)
 
 -- so many calls were added to a share, up to 2^64 - 1
 abbrev pub IsShared : ℕ → ℕ → ℕ → Type 0
@@ -107,7 +107,7 @@ lane_held = 0
 abbrev pub ServesLane : (start now : LaneScene) → (from line : LineView) → (old new : ℕ) → Type 0
 ServesLane start now from line old new = Serves lane_held (NotesCalls start now) from line
     (λ p. ((cause : Cause) × IsServed line.incoming cause p) × (now.lane.place ≡ Joined Departed)
-    × IsShared (length (state_calls p.told)) old new)
+    × IsShared (length (state_calls p.state)) old new)
 
 -- why a session doesn't join
 abbrev pub join_refusal : CoreFault → ServeFault
@@ -140,19 +140,19 @@ HasLeft lane t old new =
 
 -- no session that joined is a stranger; numbers are spent only by so many bytes or steps
 abbrev pub LeavesFor : ServeFault → SessionLaneView → Progress → (old new : ℕ) → Type 0
-LeavesFor fault.Line lane p old new = HasLeft lane p.told old new
-LeavesFor fault.OutOfMemory lane p old new = HasLeft lane p.told old new
+LeavesFor fault.Line lane p old new = HasLeft lane p.state old new
+LeavesFor fault.OutOfMemory lane p old new = HasLeft lane p.state old new
 LeavesFor fault.Sessions lane p old new = ⊥
 LeavesFor fault.Stranger lane p old new = ⊥
-LeavesFor fault.NumbersSpent lane p old new = HasLeft lane p.told old new
-    × ((most_counted ≤ length p.told.stream) ⊎ (most_counted ≤ lane.steps))
+LeavesFor fault.NumbersSpent lane p old new = HasLeft lane p.state old new
+    × ((most_counted ≤ length p.state.stream) ⊎ (most_counted ≤ lane.steps))
 
 -- What serving did when it stopped so: nothing, since the session never joined; or the session was
 -- served so far, and what it was answered was written, unless the line failed.
 abbrev pub StopsLane : ServeFault → (start now : LaneScene) → (from line : LineView)
     → (failed failed' old new : ℕ) → Type 0
 StopsLane f start now from line failed failed' old new =
-    (NeverJoins start.lane now.lane f × (now.begins ≡ start.begins) × (now.told ≡ start.told)
+    (NeverJoins start.lane now.lane f × (now.begins ≡ start.begins) × (now.moments ≡ start.moments)
     × (line ≡ from) × (new ≡ old))
     ⊎ Serves lane_held (NotesCalls start now) from line (λ p. HasWrittenFor f failed failed' p
     × LeavesFor f now.lane p old new)

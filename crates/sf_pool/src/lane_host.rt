@@ -6,14 +6,14 @@ ghost use Rattle.sf_session.specs.declared.fault.ServeFault.TheVariants.{Strange
 ghost use Rattle.sf_session.specs.Sessions.{new_session};
 ghost use Rattle.sf_session.specs.SessionStates.{SessionState, fed, IsRead};
 ghost use Rattle.sf_session.specs.Responses.{transcript};
-ghost use Rattle.sf_serving.specs.Hosts.{IsOpen, HasSent, IsFurther, WentTo, with_sent, ended, IsHostFault};
+ghost use Rattle.sf_serving.specs.Hosts.{IsOpen, HasSent, IsFurther, IsSessionStep, with_sent, ended, IsHostFault};
 ghost use Rattle.sf_pool.specs.LaneHosts.{standing_fault, standing_after, stop_fault, IsAdded};
 
 use crate::calling::{Stop, make_call};
 use crate::observer::StepObserver;
 use crate::session_lane::SessionLane;
 use sf_core::Share;
-use sf_serving::{Host, Went};
+use sf_serving::{Host, SessionStep};
 use sf_session::{Clock, Next, ServeFault, Session};
 use std::alloc::{AllocError, Global};
 use std::mem;
@@ -95,15 +95,15 @@ impl<'a, G> LaneHost<'a, G> {
     }
 
     /// A reply waits. The core is let go of where writing it may wait.
-    fn answered<D: SessionLane>(&mut self, lane: &mut D) -> Went
-        ensures went { result ≡ Went.Answered }
+    fn answered<D: SessionLane>(&mut self, lane: &mut D) -> SessionStep
+        ensures step { result ≡ SessionStep.Answered }
         ensures session { self.new.session ≡ self.old.session }
         ensures standing { self.new.standing ≡ self.old.standing }
         ensures at { D.at lane.new ≡ D.at lane.old }
         ensures begins { D.begins lane.new ≡ D.begins lane.old }
     {
         self.room = let_go_for(lane, self.session.output().len(), self.room);
-        Went::Answered
+        SessionStep::Answered
     }
 
     /// A call has no reply: how it stands then, and why it goes on no more.
@@ -144,8 +144,8 @@ impl<D: SessionLane, G: StepObserver> Host<D> for LaneHost<'_, G> {
 
     ghost Start = { LaneScene };
 
-    ghost serves = { λ start h d told t. IsToldAt start h.standing h.session
-        (lane_scene (D.at d) (D.begins d) told) t };
+    ghost serves = { λ start h d moments t. IsToldAt start h.standing h.session
+        (lane_scene (D.at d) (D.begins d) moments) t };
 
     ghost held = { lane_held };
 
@@ -167,7 +167,7 @@ impl<D: SessionLane, G: StepObserver> Host<D> for LaneHost<'_, G> {
         Ok(())
     }
 
-    fn go_on<C: Clock>(&mut self, lane: &mut D, clock: &mut C) -> Result<Went, ServeFault> {
+    fn go_on<C: Clock>(&mut self, lane: &mut D, clock: &mut C) -> Result<SessionStep, ServeFault> {
         if let Some(fault) = self.fault() {
             return Err(fault);
         }
@@ -177,9 +177,9 @@ impl<D: SessionLane, G: StepObserver> Host<D> for LaneHost<'_, G> {
         match next {
             Next::More => {
                 self.room = let_go(lane);
-                Ok(Went::Waits)
+                Ok(SessionStep::Waits)
             }
-            Next::Ended(cause) => Ok(Went::Ended(cause)),
+            Next::Ended(cause) => Ok(SessionStep::Ended(cause)),
             Next::Local => Ok(self.answered(lane)),
             Next::Call(request) => {
                 match make_call(

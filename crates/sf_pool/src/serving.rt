@@ -46,14 +46,14 @@ pub fn serve<D: SessionLane, L: Line, C: Clock, G: StepObserver>(
     requires room { vec_len piece.old ≡ 65536 }
     ensures len { vec_len piece.new ≡ vec_len piece.old }
     ensures served { OnOk result (ServesLane
-        (lane_scene (D.at lane.old) (D.begins lane.old) (C.told clock.old))
-        (lane_scene (D.at lane.new) (D.begins lane.new) (C.told clock.new))
+        (lane_scene (D.at lane.old) (D.begins lane.old) (C.moments clock.old))
+        (lane_scene (D.at lane.new) (D.begins lane.new) (C.moments clock.new))
         (line_view (L.incoming line.old) (L.outgoing line.old) (L.calls line.old))
         (line_view (L.incoming line.new) (L.outgoing line.new) (L.calls line.new))
         share.old share.new) }
     ensures stopped { IfErr result (λ fault. StopsLane fault
-        (lane_scene (D.at lane.old) (D.begins lane.old) (C.told clock.old))
-        (lane_scene (D.at lane.new) (D.begins lane.new) (C.told clock.new))
+        (lane_scene (D.at lane.old) (D.begins lane.old) (C.moments clock.old))
+        (lane_scene (D.at lane.new) (D.begins lane.new) (C.moments clock.new))
         (line_view (L.incoming line.old) (L.outgoing line.old) (L.calls line.old))
         (line_view (L.incoming line.new) (L.outgoing line.new) (L.calls line.new))
         (L.failed line.old) (L.failed line.new) share.old share.new) }

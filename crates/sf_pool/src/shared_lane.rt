@@ -372,15 +372,15 @@ impl<R: Wait, B: RollName + Ledger> SessionLane for SharedLane<'_, R, B> {
         let stepped = self.transcript_lane.step(&mut core);
         if stepped.blocked {
             self.wait(core);
-            return stepped.told;
+            return stepped.outcome;
         }
         self.blocked = 0;
         self.moved = true;
         self.held = Some(core);
-        if stepped.told == StepResult::Answered {
+        if stepped.outcome == StepResult::Answered {
             self.end_call();
         }
-        stepped.told
+        stepped.outcome
     }
 
     fn rest(&mut self) {

@@ -139,28 +139,28 @@ impl<B: RollName + Ledger> Model for TranscriptLane<B> {
 /// What a step of the call under way came to.
 #[derive(Clone, Copy, Debug, PartialEq, Eq)]
 pub struct Stepped {
-    pub told: StepResult,
+    pub outcome: StepResult,
     /// Another call held what the call wanted.
     pub blocked: bool,
 }
 
 impl Stepped {
     fn going(blocked: bool) -> Stepped
-        ensures told { result.told ≡ StepResult.Going }
+        ensures outcome { result.outcome ≡ StepResult.Going }
         ensures blocked { result.blocked ≡ blocked }
     {
         Stepped {
-            told: StepResult::Going,
+            outcome: StepResult::Going,
             blocked,
         }
     }
 
     fn answered() -> Stepped
-        ensures told { result.told ≡ StepResult.Answered }
+        ensures outcome { result.outcome ≡ StepResult.Answered }
         ensures blocked { result.blocked ≡ false }
     {
         Stepped {
-            told: StepResult::Answered,
+            outcome: StepResult::Answered,
             blocked: false,
         }
     }
@@ -250,7 +250,7 @@ impl<B: RollName + Ledger> TranscriptLane<B> {
     /// One step of the call.
     pub fn step(&mut self, core: &mut NotedCore<B>) -> Stepped
         requires { HasCallUnderWay self.old.place }
-        ensures told { Steps self.old result.told self.new }
+        ensures outcome { Steps self.old result.outcome self.new }
         ensures steps { StepsAt self.old core.old.0 (stepped_to result self.new core.new.0) }
     {
         self.steps = self.steps.saturating_add(1);

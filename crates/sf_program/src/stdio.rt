@@ -33,13 +33,13 @@ pub fn run_stdio<L: Line, C: Clock, G: CallObserver, E: Line>(
     ensures { (outcome : Result Cause ServeFault)
         × SessionEnds keep
         (io_state (line_view (L.incoming line.old) (L.outgoing line.old) (L.calls line.old))
-        (C.told clock.old))
+        (C.moments clock.old))
         (io_state (line_view (L.incoming line.new) (L.outgoing line.new) (L.calls line.new))
-        (C.told clock.new))
+        (C.moments clock.new))
         (L.failed line.old) (L.failed line.new) outcome
         × ConversesTo
-        (talk_view (L.incoming line.old) (C.told clock.old) (L.outgoing line.old))
-        (talk_view (L.incoming line.new) (C.told clock.new) (L.outgoing line.new)) outcome
+        (talk_view (L.incoming line.old) (C.moments clock.old) (L.outgoing line.old))
+        (talk_view (L.incoming line.new) (C.moments clock.new) (L.outgoing line.new)) outcome
         × (result ≡ exit_status outcome)
         × (Appends (E.outgoing errors.old) (E.outgoing errors.new) (line_of outcome)
         ⊎ Rose (E.failed errors.old) (E.failed errors.new)) }
@@ -63,9 +63,9 @@ pub fn run_stdio_on<L: Line, C: Clock, G: CallObserver, E: Line>(
     ensures { (outcome : Result Cause ServeFault)
         × ServingComesTo
         (io_state (line_view (L.incoming line.old) (L.outgoing line.old) (L.calls line.old))
-        (C.told clock.old) engine.old)
+        (C.moments clock.old) engine.old)
         (io_state (line_view (L.incoming line.new) (L.outgoing line.new) (L.calls line.new))
-        (C.told clock.new) engine.new)
+        (C.moments clock.new) engine.new)
         (L.failed line.old) (L.failed line.new) outcome
         × (result ≡ exit_status outcome)
         × (Appends (E.outgoing errors.old) (E.outgoing errors.new) (line_of outcome)
@@ -88,13 +88,13 @@ fn serve<L: Line, C: Clock, G: CallObserver>(
     requires { 0 < keep }
     ensures ends { SessionEnds keep
         (io_state (line_view (L.incoming line.old) (L.outgoing line.old) (L.calls line.old))
-        (C.told clock.old))
+        (C.moments clock.old))
         (io_state (line_view (L.incoming line.new) (L.outgoing line.new) (L.calls line.new))
-        (C.told clock.new))
+        (C.moments clock.new))
         (L.failed line.old) (L.failed line.new) result }
     ensures talk { ConversesTo
-        (talk_view (L.incoming line.old) (C.told clock.old) (L.outgoing line.old))
-        (talk_view (L.incoming line.new) (C.told clock.new) (L.outgoing line.new)) result }
+        (talk_view (L.incoming line.old) (C.moments clock.old) (L.outgoing line.old))
+        (talk_view (L.incoming line.new) (C.moments clock.new) (L.outgoing line.new)) result }
 {
     match Engine::with_keep(alloc, keep) {
         Ok(engine) => {
@@ -115,9 +115,9 @@ fn serve_on<L: Line, C: Clock, G: CallObserver>(
 ) -> Result<Cause, ServeFault>
     ensures { ServingComesTo
         (io_state (line_view (L.incoming line.old) (L.outgoing line.old) (L.calls line.old))
-        (C.told clock.old) engine.old)
+        (C.moments clock.old) engine.old)
         (io_state (line_view (L.incoming line.new) (L.outgoing line.new) (L.calls line.new))
-        (C.told clock.new) engine.new) (L.failed line.old) (L.failed line.new) result }
+        (C.moments clock.new) engine.new) (L.failed line.old) (L.failed line.new) result }
 {
     match serve_one(alloc, engine, line, clock, observer) {
         Ok(cause) => Ok(cause),

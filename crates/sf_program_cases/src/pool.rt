@@ -266,7 +266,7 @@ fn visit<B: RollName + Ledger>(
 ) -> Result<(EndedLane<B>, Share), Fail>
     requires part { part.parts ≡ 1 }
     requires none { part.amount ≡ 0 }
-    ensures { IfOk result (λ came. came.0.share.parts ≡ 1) }
+    ensures { IfOk result (λ outcome. outcome.0.share.parts ≡ 1) }
 {
     let request = request?;
     let mut lane = SharedLane::new(rt, alloc, core, wait_queue, true, part);

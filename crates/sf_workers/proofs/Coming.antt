@@ -11,7 +11,7 @@ use Rattle.sf_serving.specs.Serving.{LineView, Progress}
 use Rattle.sf_pool.specs.SessionLanes.{SessionLaneState, JoinRefused, Joined, SessionLaneView}
 use Rattle.sf_pool.specs.Scenes.{LaneScene, IsInCall, ServesLane, NeverJoins, HasLeft, LeavesFor, StopsLane, IsLaneFault}
 use Rattle.sf_pool.specs.OnCores.{IsPageOf, IsVisitOf}
-use Rattle.sf_workers.specs.Told.{IsSpentBy, EndsServing, CameOf}
+use Rattle.sf_workers.specs.Told.{IsSpentBy, EndsServing, IsOutcomeOf}
 
 pub same_presence : (a b : Presence) → Joined a ≡ Joined b → a ≡ b
 same_presence a b e = cc
@@ -24,7 +24,7 @@ left_joined : (lane : SessionLaneView) (t : SessionState) (old new : ℕ) → Ha
 left_joined lane t old new (inl left) = (Departed, left.0)
 left_joined lane t old new (inr call) = (Calling call.0.number call.0.moment call.0.request, call.0.placed)
 
-left_for : (f : ServeFault) (lane : SessionLaneView) (p : Progress) (old new : ℕ) → LeavesFor f lane p old new → HasLeft lane p.told old new
+left_for : (f : ServeFault) (lane : SessionLaneView) (p : Progress) (old new : ℕ) → LeavesFor f lane p old new → HasLeft lane p.state old new
 left_for fault.Line lane p old new h = h
 left_for fault.OutOfMemory lane p old new h = h
 left_for fault.Sessions lane p old new h = absurd h
@@ -54,16 +54,16 @@ never_joined start now f refused h = refused_not_joined now.place refused.0 (ap 
 -- ---- what it came to
 
 served_to : (visit : Result (ℕ × Page) CoreFault) (start now : LaneScene) (from line : LineView) (failed failed' steps old new : ℕ) → IsVisitOf now.lane visit → ServesLane start now from line old new
-    → CameOf visit from line (EndsServing (Ok tt) line.incoming failed failed' steps)
+    → IsOutcomeOf visit from line (EndsServing (Ok tt) line.incoming failed failed' steps)
 served_to (Err refusal) start now from line failed failed' steps old new visit (p, notes, served, (ends, left, shared)) = absurd (refused_not_joined now.lane.place refusal visit (Departed, left))
 served_to (Ok x) start now from line failed failed' steps old new visit (p, notes, served, (ends, left, shared)) =
     record { progress = p; served = served; told = visit.told ∙ notes.noted; stands = inl (same_presence x.1.presence Departed (visit.place ∙ left)); ends = ends }
 
 stopped_at : (visit : Result (ℕ × Page) CoreFault) (f : ServeFault) (start now : LaneScene) (from line : LineView) (failed failed' steps old new : ℕ) → IsVisitOf now.lane visit → steps ≡ now.lane.steps
-    → IsLaneFault f failed failed' → StopsLane f start now from line failed failed' old new → CameOf visit from line (EndsServing (Err f) line.incoming failed failed' steps)
+    → IsLaneFault f failed failed' → StopsLane f start now from line failed failed' old new → IsOutcomeOf visit from line (EndsServing (Err f) line.incoming failed failed' steps)
 stopped_at (Err refusal) f start now from line failed failed' steps old new visit same_steps why (inl (never, begins, told, same, share)) = same
 stopped_at (Err refusal) f start now from line failed failed' steps old new visit same_steps why (inr (p, notes, served, (wrote, leaves))) =
-    absurd (refused_not_joined now.lane.place refusal visit (left_joined now.lane p.told old new (left_for f now.lane p old new leaves)))
+    absurd (refused_not_joined now.lane.place refusal visit (left_joined now.lane p.state old new (left_for f now.lane p old new leaves)))
 stopped_at (Ok x) f start now from line failed failed' steps old new visit same_steps why (inl (never, begins, told, same, share)) =
     absurd (never_joined start.lane now.lane f never (x.1.presence, sym visit.place))
 stopped_at (Ok x) f start now from line failed failed' steps old new visit same_steps why (inr (p, notes, served, (wrote, leaves))) =
@@ -71,12 +71,12 @@ stopped_at (Ok x) f start now from line failed failed' steps old new visit same_
       progress = p;
       served = served;
       told = visit.told ∙ notes.noted;
-      stands = stands x now.lane p.told old new visit (left_for f now.lane p old new leaves);
+      stands = stands x now.lane p.state old new visit (left_for f now.lane p old new leaves);
       ends = (wrote, why, subst (λ (n : ℕ). IsSpentBy f n p) (sym same_steps) (spent_by f now.lane p old new leaves));
     }
 
 pub came_to : (visit : Result (ℕ × Page) CoreFault) (r : Result Unit ServeFault) (start now : LaneScene) (from line : LineView) (failed failed' steps old new : ℕ) → IsVisitOf now.lane visit → steps ≡ now.lane.steps
     → OnOk r (ServesLane start now from line old new) → IfErr r (λ f. StopsLane f start now from line failed failed' old new) → IfErr r (λ f. IsLaneFault f failed failed')
-    → CameOf visit from line (EndsServing r line.incoming failed failed' steps)
+    → IsOutcomeOf visit from line (EndsServing r line.incoming failed failed' steps)
 came_to visit (Ok tt) start now from line failed failed' steps old new is same_steps serves stops why = served_to visit start now from line failed failed' steps old new is serves
 came_to visit (Err f) start now from line failed failed' steps old new is same_steps serves stops why = stopped_at visit f start now from line failed failed' steps old new is same_steps why stops

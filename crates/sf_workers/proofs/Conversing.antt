@@ -19,7 +19,7 @@ use Rattle.sf_noted.specs.Visits.{MayWait, IsVisitIn}
 use Rattle.sf_serving.specs.Serving.{LineView, Progress}
 use Rattle.sf_pool.specs.SessionLanes.{Joined}
 use Rattle.sf_pool.specs.Scenes.{response_calls, phase_calls, IsInCall}
-use Rattle.sf_workers.specs.Told.{WasServed, CameOf}
+use Rattle.sf_workers.specs.Told.{WasServed, IsOutcomeOf}
 use Rattle.sf_workers.specs.Conversations.{ConversesIn}
 use Rattle.sf_workers.proofs.Coming.{same_presence}
 
@@ -88,7 +88,7 @@ due_of presence phase waits (inr call) may =
 conversing : {Ends : Progress → Type 0} (x : ℕ × Page) (from line : LineView) (history : List Record) → WasServed x from line Ends → IsVisitIn history x → ConversesIn history x.0 from line
 conversing x from line history serves visit =
     let p = serves.progress in
-    let t = p.told in
+    let t = p.state in
     let served = serves.served in
     let waits = visit.0 in
     let d = due_of x.1.presence t.phase waits serves.stands visit.2 in
@@ -116,7 +116,7 @@ conversing x from line history serves visit =
     )
 
 -- so it is of what a visit came of
-pub visit_converses : (Ends : Progress → Type 0) (visit : Result (ℕ × Page) CoreFault) (from line : LineView) → CameOf visit from line Ends
+pub visit_converses : (Ends : Progress → Type 0) (visit : Result (ℕ × Page) CoreFault) (from line : LineView) → IsOutcomeOf visit from line Ends
     → (history : List Record) → IfOk visit (λ x. IsVisitIn history x → ConversesIn history x.0 from line)
-visit_converses Ends (Err refusal) from line came history = tt
-visit_converses Ends (Ok x) from line came history = λ visit. conversing x from line history came visit
+visit_converses Ends (Err refusal) from line outcome history = tt
+visit_converses Ends (Ok x) from line outcome history = λ visit. conversing x from line history outcome visit

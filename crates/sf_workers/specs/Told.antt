@@ -35,7 +35,7 @@ kept_of keeps visits = if keeps then map told_on visits else []
 -- numbers are spent only by so many bytes that were read, or so many steps of a session's calls
 abbrev pub IsSpentBy : ServeFault → (steps : ℕ) → Progress → Type 0
 IsSpentBy fault.NumbersSpent steps p =
-    (most_counted ≤ length p.told.stream) ⊎ (most_counted ≤ steps)
+    (most_counted ≤ length p.state.stream) ⊎ (most_counted ≤ steps)
 IsSpentBy _ steps p = Unit {0}
 
 -- Why serving ended: it came to the session's end, whose whole transcript was written; or it
@@ -53,15 +53,15 @@ pub record WasServed (x : ℕ × Page) (from line : LineView)
     (Ends : Progress → Type 0) : Type 0 where
   pub progress : Progress
   pub served : ServedSoFar lane_held from line progress
-  pub told : x.1.told ≡ state_calls progress.told
-  pub stands : (x.1.presence ≡ Departed) ⊎ IsInCall (Joined x.1.presence) progress.told.phase
+  pub told : x.1.told ≡ state_calls progress.state
+  pub stands : (x.1.presence ≡ Departed) ⊎ IsInCall (Joined x.1.presence) progress.state.phase
   pub ends : Ends progress
 
 -- nothing was read or written for one that never joined
-abbrev pub CameOf : Result (ℕ × Page) CoreFault → (from line : LineView)
+abbrev pub IsOutcomeOf : Result (ℕ × Page) CoreFault → (from line : LineView)
     → (Progress → Type 0) → Type 0
-CameOf (Ok x) from line Ends = WasServed x from line Ends
-CameOf (Err refusal) from line Ends = line ≡ from
+IsOutcomeOf (Ok x) from line Ends = WasServed x from line Ends
+IsOutcomeOf (Err refusal) from line Ends = line ≡ from
 
 -- What came of a line: a session was served over it to its end, or to this fault, and its visit is
 -- noted; or nothing was read or written, since its session was refused, or there was no room to

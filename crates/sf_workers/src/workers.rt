@@ -7,7 +7,7 @@ ghost use Rattle.sf_noted.specs.Visits.{IsVisitIn};
 ghost use Rattle.sf_serving.specs.Serving.{line_view};
 ghost use Rattle.sf_pool.specs.OnCores.{calls_begun_by};
 ghost use Rattle.sf_workers.specs.Conversations.{ConversesIn};
-ghost use Rattle.sf_workers.specs.Told.{told_on, told_in, calls_of, EndsServing, CameOf, ServesLine};
+ghost use Rattle.sf_workers.specs.Told.{told_on, told_in, calls_of, EndsServing, IsOutcomeOf, ServesLine};
 
 use crate::told::Told;
 use crossbeam_channel::Receiver;
@@ -118,7 +118,7 @@ pub fn serve_line<B: RollName + Ledger, R: Wait, L: Line, C: Clock, G: StepObser
     ensures calls { result.0.share.amount ≡ calls_begun_by result.0.visit }
     ensures told { keeps ≡ true → IfOk result.0.visit (λ visit. told_in result.0.transcript
         ≡ told_on visit) }
-    ensures line { CameOf result.0.visit
+    ensures line { IsOutcomeOf result.0.visit
         (line_view (L.incoming line.old) (L.outgoing line.old) (L.calls line.old))
         (line_view (L.incoming line.new) (L.outgoing line.new) (L.calls line.new))
         (EndsServing result.1 (L.incoming line.new) (L.failed line.old) (L.failed line.new)

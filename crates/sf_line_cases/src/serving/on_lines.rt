@@ -147,7 +147,7 @@ impl<'a, R: Abort> KeepingClock<'a, R> {
 impl<R: Abort> Clock for KeepingClock<'_, R> {
     ghost use Rattle.std.specs.Prelude.{Some};
 
-    ghost told = { λ c. Some c.told.items };
+    ghost moments = { λ c. Some c.told.items };
 
     fn now(&mut self) -> u32 {
         let moment = self.next;

@@ -67,7 +67,7 @@ struct OwnLane<'a, B: RollName + Ledger> {
 
 /// What came of a session.
 #[derive(Drop)]
-struct Came {
+struct Outcome {
     ended: Result<(), ServeFault>,
     told: Transcript,
     share: Share,
@@ -97,7 +97,7 @@ impl<B: RollName + Ledger> OwnCore<B> {
     }
 
     /// Serves a session over a line to its end.
-    fn serve<L: Line, C: Clock>(&mut self, alloc: Global, line: &mut L, clock: &mut C) -> Came {
+    fn serve<L: Line, C: Clock>(&mut self, alloc: Global, line: &mut L, clock: &mut C) -> Outcome {
         let part = self.count.split_off(1, 0);
         let mut lane = OwnLane::new(alloc, &mut self.core, part);
         let mut share = Share::zero();
@@ -113,7 +113,7 @@ impl<B: RollName + Ledger> OwnCore<B> {
         );
         let (told, part) = lane.end();
         self.count.merge(part);
-        Came { ended, told, share }
+        Outcome { ended, told, share }
     }
 
     fn into_core(self) -> Core {
@@ -280,7 +280,7 @@ fn serve_on<B: RollName + Ledger, L: Line, C: Clock>(
     blank: Blank,
     line: &mut L,
     clock: &mut C,
-) -> Result<(Core, Came), AllocError>
+) -> Result<(Core, Outcome), AllocError>
     requires new { IsHistory core [] }
     requires none { (core.joins ≡ 0) × (core.drawn ≡ 0) }
     requires table { roll ≡ B.table }
@@ -288,11 +288,11 @@ fn serve_on<B: RollName + Ledger, L: Line, C: Clock>(
     requires parts { (blank.parts ≡ B.parts) × (B.parts ≡ 2) }
 {
     let mut own = OwnCore::<B>::open(alloc, core, roll, blank)?;
-    let came = own.serve(alloc, line, clock);
-    Ok((own.into_core(), came))
+    let outcome = own.serve(alloc, line, clock);
+    Ok((own.into_core(), outcome))
 }
 
-fn serve_alone<L: Line>(alloc: Global, line: &mut L) -> Result<(Core, Came), Fail> {
+fn serve_alone<L: Line>(alloc: Global, line: &mut L) -> Result<(Core, Outcome), Fail> {
     let core = Core::new(alloc)?;
     let roll = NewRoll::new(alloc)?;
     let clock = &mut StillClock;
@@ -301,11 +301,11 @@ fn serve_alone<L: Line>(alloc: Global, line: &mut L) -> Result<(Core, Came), Fai
 }
 
 /// Serves these bytes in pieces. The core comes out, what came of it, and what was written.
-fn served(alloc: Global, input: &[u8], pieces: Pieces) -> Result<(Core, Came, Vec<u8>), Fail> {
+fn served(alloc: Global, input: &[u8], pieces: Pieces) -> Result<(Core, Outcome, Vec<u8>), Fail> {
     let mut line = MemoryLine::new(alloc, input, pieces, pieces);
-    let (core, came) = serve_alone(alloc, &mut line)?;
+    let (core, outcome) = serve_alone(alloc, &mut line)?;
     let written = Vec::from_slice(alloc, line.output())?;
-    Ok((core, came, written))
+    Ok((core, outcome, written))
 }
 
 /// However the line moves its bytes, the replies are the same, and two calls were made.
@@ -315,8 +315,8 @@ fn mkdir_and_stat(rt: HostRuntime) -> Result<(), Fail> {
     let input = hex_packets(alloc, &ASKED)?;
     let want = hex_packets(alloc, &TOLD)?;
     for size in 1..input.len() {
-        let (core, came, written) = served(alloc, &input, Pieces::new(size, 1))?;
-        let Came { ended, told, share } = came;
+        let (core, outcome, written) = served(alloc, &input, Pieces::new(size, 1))?;
+        let Outcome { ended, told, share } = outcome;
         assert_eq!(rt; ended, Ok(()));
         assert_eq!(rt; written.as_slice(), want.as_slice());
         assert_eq!(rt; (told.calls.len(), share.calls()), (2, 2));
@@ -334,10 +334,10 @@ fn second_init(rt: HostRuntime) -> Result<(), Fail> {
     let input = hex_packets(alloc, &[ASKED[0], ASKED[0], ASKED[1]])?;
     let want = hex_packets(alloc, &[TOLD[0]])?;
     let whole = Pieces::new(usize::MAX, usize::MAX);
-    let (core, came, written) = served(alloc, &input, whole)?;
-    assert_eq!(rt; came.ended, Ok(()));
+    let (core, outcome, written) = served(alloc, &input, whole)?;
+    assert_eq!(rt; outcome.ended, Ok(()));
     assert_eq!(rt; written.as_slice(), want.as_slice());
-    assert_eq!(rt; (came.share.calls(), core.calls()), (0, 0));
+    assert_eq!(rt; (outcome.share.calls(), core.calls()), (0, 0));
     Ok(())
 }
 
@@ -349,7 +349,7 @@ fn prompt_replies(rt: HostRuntime) -> Result<(), Fail> {
     let reads = Pieces::new(9, 19);
     let writes = Pieces::new(usize::MAX, usize::MAX);
     let mut line = MemoryLine::new(alloc, &input, reads, writes);
-    let (_core, came) = serve_alone(alloc, &mut line)?;
+    let (_core, outcome) = serve_alone(alloc, &mut line)?;
     let want = [
         LineCall::Read(9),
         LineCall::Write(71),
@@ -360,7 +360,7 @@ fn prompt_replies(rt: HostRuntime) -> Result<(), Fail> {
         LineCall::Read(0),
     ];
     assert_eq!(rt; line.calls(), want.as_slice());
-    assert_eq!(rt; (came.ended, came.told.calls.len()), (Ok(()), 2));
+    assert_eq!(rt; (outcome.ended, outcome.told.calls.len()), (Ok(()), 2));
     Ok(())
 }
 
@@ -450,7 +450,7 @@ impl<'a, R: Abort> KeepingClock<'a, R> {
 impl<R: Abort> Clock for KeepingClock<'_, R> {
     ghost use Rattle.std.specs.Prelude.{Some};
 
-    ghost told = { λ c. Some c.told.items };
+    ghost moments = { λ c. Some c.told.items };
 
     fn now(&mut self) -> u32 {
         let moment = self.next;

@@ -117,7 +117,7 @@ struct CountedClock<'a> {
 }
 
 impl Clock for CountedClock<'_> {
-    ghost told = { λ _. None };
+    ghost moments = { λ _. None };
 
     fn now(&mut self) -> u32 {
         self.two.asked.fetch_add(1, Ordering::SeqCst);

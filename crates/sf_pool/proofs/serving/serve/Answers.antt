@@ -16,14 +16,14 @@ returns-in-Err-clause-fault g c = subst (λ (f : ServeFault). IsLaneFault f (g.L
 pub returns-in-Ok-served-clause-served : goal.returns-in-Ok-served-clause-served
 returns-in-Ok-served-clause-served g c =
     let from = line_view (g.L.Line.incoming c.args.line.now) (g.L.Line.outgoing c.args.line.now) (g.L.Line.calls c.args.line.now) in
-    let start = lane_scene (g.D.SessionLane.at c.args.lane.now) (g.D.SessionLane.begins c.args.lane.now) (g.C.Clock.told c.args.clock.now) in
+    let start = lane_scene (g.D.SessionLane.at c.args.lane.now) (g.D.SessionLane.begins c.args.lane.now) (g.C.Clock.moments c.args.clock.now) in
     leaves_served _ _ c.in-Ok-served.ensures.left c.add_share.ensures
     (c.in-Ok-served.ensures.served start from (rests_new _ from (told_new c.in-Ok.number c.join.ensures.begins c.in-Ok.ensures.ok c.new-host.ensures.session c.new-host.ensures.standing)))
 
 pub returns-in-Err-served-clause-stopped : goal.returns-in-Err-served-clause-stopped
 returns-in-Err-served-clause-stopped g c =
     let from = line_view (g.L.Line.incoming c.args.line.now) (g.L.Line.outgoing c.args.line.now) (g.L.Line.calls c.args.line.now) in
-    let start = lane_scene (g.D.SessionLane.at c.args.lane.now) (g.D.SessionLane.begins c.args.lane.now) (g.C.Clock.told c.args.clock.now) in
+    let start = lane_scene (g.D.SessionLane.at c.args.lane.now) (g.D.SessionLane.begins c.args.lane.now) (g.C.Clock.moments c.args.clock.now) in
     inr (leaves_stopped c.in-Err-served.fault _ _ c.in-Err-served.ensures.left_by c.in-Err-served.ensures.fault c.add_share.ensures
     (c.in-Err-served.ensures.stopped start from (rests_new _ from (told_new c.in-Ok.number c.join.ensures.begins c.in-Ok.ensures.ok c.new-host.ensures.session c.new-host.ensures.standing))))
 

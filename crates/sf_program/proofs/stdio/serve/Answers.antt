@@ -13,7 +13,7 @@ pub returns-in-Ok-clause-talk : goal.returns-in-Ok-clause-talk
 returns-in-Ok-clause-talk g c =
     let from = line_view (g.L.Line.incoming c.args.line.now) (g.L.Line.outgoing c.args.line.now) (g.L.Line.calls c.args.line.now) in
     let to = line_view (g.L.Line.incoming c.serve_on.new.line) (g.L.Line.outgoing c.serve_on.new.line) (g.L.Line.calls c.serve_on.new.line) in
-    comes_talked (io_state from (g.C.Clock.told c.args.clock.now) c.in-Ok.engine) (io_state to (g.C.Clock.told c.serve_on.new.clock) c.serve_on.new.engine) _ _ c.serve_on.result c.in-Ok.ensures.fits c.serve_on.ensures
+    comes_talked (io_state from (g.C.Clock.moments c.args.clock.now) c.in-Ok.engine) (io_state to (g.C.Clock.moments c.serve_on.new.clock) c.serve_on.new.engine) _ _ c.serve_on.result c.in-Ok.ensures.fits c.serve_on.ensures
 
 pub returns-in-Err-clause-talk : goal.returns-in-Err-clause-talk
-returns-in-Err-clause-talk g c = says_nothing (talk_view (g.L.Line.incoming c.args.line.now) (g.C.Clock.told c.args.clock.now) (g.L.Line.outgoing c.args.line.now)) _ refl
+returns-in-Err-clause-talk g c = says_nothing (talk_view (g.L.Line.incoming c.args.line.now) (g.C.Clock.moments c.args.clock.now) (g.L.Line.outgoing c.args.line.now)) _ refl

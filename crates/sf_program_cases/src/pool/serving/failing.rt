@@ -61,7 +61,7 @@ const RENAMER: [(&str, &str); 2] = [
 /// What came of a session, and what was written.
 #[derive(Drop)]
 struct Written {
-    came: Came,
+    outcome: Outcome,
     bytes: Vec<u8>,
 }
 
@@ -83,17 +83,17 @@ fn serve_over<B: RollName + Ledger>(
     fails: Fails,
 ) -> Result<Written, Fail> {
     let mut line = line(alloc, input, fails);
-    let came = core.serve(alloc, &mut line, &mut StillClock);
+    let outcome = core.serve(alloc, &mut line, &mut StillClock);
     let bytes = Vec::from_slice(alloc, line.output())?;
-    Ok(Written { came, bytes })
+    Ok(Written { outcome, bytes })
 }
 
 /// The same on a core that no other session joins, which comes out.
 fn serve_over_alone(alloc: Global, input: &[u8], fails: Fails) -> Result<(Core, Written), Fail> {
     let mut line = line(alloc, input, fails);
-    let (core, came) = serve_alone(alloc, &mut line)?;
+    let (core, outcome) = serve_alone(alloc, &mut line)?;
     let bytes = Vec::from_slice(alloc, line.output())?;
-    Ok((core, Written { came, bytes }))
+    Ok((core, Written { outcome, bytes }))
 }
 
 /// The bytes of a session, and of its replies, and where each of these ends.
@@ -132,18 +132,18 @@ fn all_planned(alloc: Global) -> Result<Vec<Plan>, Fail> {
 /// What was written is a beginning of VERSION and the replies to the calls that were made; all that
 /// there are where the session ended well.
 fn is_front(rt: &impl Abort, plan: &Plan, written: &Written) {
-    let Written { came, bytes } = written;
-    let Some(end) = plan.ends.get(came.told.calls.len()) else {
+    let Written { outcome, bytes } = written;
+    let Some(end) = plan.ends.get(outcome.told.calls.len()) else {
         panic!(rt; "more calls than requests");
     };
     assert!(rt; bytes.len() <= *end);
     assert!(rt; plan.replies.starts_with(bytes));
-    assert!(rt; came.ended.is_err() || bytes.len() == plan.replies.len());
+    assert!(rt; outcome.ended.is_err() || bytes.len() == plan.replies.len());
 }
 
 /// The session ended well or its line failed.
-fn is_due(rt: &impl Abort, came: &Came) {
-    assert!(rt; came.ended == Ok(()) || came.ended == Err(ServeFault::Line));
+fn is_due(rt: &impl Abort, outcome: &Outcome) {
+    assert!(rt; outcome.ended == Ok(()) || outcome.ended == Err(ServeFault::Line));
 }
 
 /// How many sessions have left.
@@ -158,16 +158,16 @@ fn left(core: &Core) -> usize {
 }
 
 /// What a core's sessions were told is its history, and all of them have left.
-fn agree(rt: &impl Abort, alloc: Global, core: Core, all: Vec<Came>) -> Result<(), Fail> {
+fn agree(rt: &impl Abort, alloc: Global, core: Core, all: Vec<Outcome>) -> Result<(), Fail> {
     let mut transcripts = Vec::new(alloc);
     let mut shares = Vec::new(alloc);
     let mut calls = 0u64;
-    for came in all {
-        let Came {
+    for outcome in all {
+        let Outcome {
             ended: _,
             told,
             share,
-        } = came;
+        } = outcome;
         calls = calls.saturating_add(share.calls());
         transcripts.push(told)?;
         shares.push(share)?;
@@ -188,8 +188,8 @@ fn visit_all<B: RollName + Ledger>(
     plans: &[Plan],
     at: usize,
     fails: Fails,
-) -> Result<Vec<Came>, Fail> {
-    let mut all: Vec<Came> = Vec::new(alloc);
+) -> Result<Vec<Outcome>, Fail> {
+    let mut all: Vec<Outcome> = Vec::new(alloc);
     let visitors = &plans[..plans.len().min(at.saturating_add(2))];
     for (place, plan) in visitors.iter().enumerate() {
         let is_it = place == at;
@@ -198,9 +198,9 @@ fn visit_all<B: RollName + Ledger>(
         if place <= at {
             is_front(rt, plan, &written);
         }
-        is_due(rt, &written.came);
-        assert!(rt; is_it || written.came.ended.is_ok());
-        all.push(written.came)?;
+        is_due(rt, &written.outcome);
+        assert!(rt; is_it || written.outcome.ended.is_ok());
+        all.push(written.outcome)?;
     }
     Ok(all)
 }
@@ -224,7 +224,7 @@ fn fails_on<B: RollName + Ledger, R: Abort>(
 {
     let mut own = OwnCore::<B>::open(alloc, core, roll, blank)?;
     let all = visit_all(rt, alloc, &mut own, plans, at, fails)?;
-    let failed = all.iter().any(|came| came.ended.is_err());
+    let failed = all.iter().any(|outcome| outcome.ended.is_err());
     agree(rt, alloc, own.into_core(), all)?;
     Ok(failed)
 }
@@ -317,9 +317,9 @@ fn a_read_fails_after_mkdir(rt: HostRuntime) -> Result<(), Fail> {
     let plan = planned(alloc, &[(ASKED[0], TOLD[0]), (ASKED[1], TOLD[1])])?;
     // the 28 bytes come by three reads
     let (core, written) = serve_over_alone(alloc, &plan.input, Fails::AfterReads(3))?;
-    assert_eq!(rt; written.came.ended, Err(ServeFault::Line));
+    assert_eq!(rt; written.outcome.ended, Err(ServeFault::Line));
     assert_eq!(rt; written.bytes, plan.replies);
-    assert_eq!(rt; written.came.told.calls.len(), 1);
+    assert_eq!(rt; written.outcome.told.calls.len(), 1);
     assert_eq!(rt; numbers(alloc, &core)?.as_slice(), [1, 0].as_slice());
     Ok(())
 }
@@ -330,12 +330,12 @@ fn ten_bytes_are_taken(rt: HostRuntime) -> Result<(), Fail> {
     let alloc = rt.alloc();
     let plan = planned(alloc, &[(ASKED[0], TOLD[0]), (ASKED[1], TOLD[1])])?;
     let (core, written) = serve_over_alone(alloc, &plan.input, Fails::AfterBytes(10))?;
-    assert_eq!(rt; written.came.ended, Err(ServeFault::Line));
+    assert_eq!(rt; written.outcome.ended, Err(ServeFault::Line));
     assert_eq!(rt;
         written.bytes,
         hex_packets(alloc, &["00000043 02 00000003 00"])?
     );
-    assert_eq!(rt; written.came.told.calls.len(), 0);
+    assert_eq!(rt; written.outcome.told.calls.len(), 0);
     assert_eq!(rt; numbers(alloc, &core)?.as_slice(), [0].as_slice());
     Ok(())
 }
@@ -346,7 +346,7 @@ fn the_end_inside_a_packet(rt: HostRuntime) -> Result<(), Fail> {
     let alloc = rt.alloc();
     let input = hex_packets(alloc, &[ASKED[0], "0000000f 0e 00000007 00000002"])?;
     let (core, written) = serve_over_alone(alloc, &input, Fails::Never)?;
-    assert_eq!(rt; written.came.ended, Ok(()));
+    assert_eq!(rt; written.outcome.ended, Ok(()));
     assert_eq!(rt; written.bytes, hex_packets(alloc, &[TOLD[0]])?);
     assert_eq!(rt; numbers(alloc, &core)?.as_slice(), [0].as_slice());
     Ok(())

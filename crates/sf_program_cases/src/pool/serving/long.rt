@@ -24,8 +24,8 @@ fn reads_all(alloc: Global) -> Result<Vec<u8>, Fail> {
 fn writes(alloc: Global, input: &[u8]) -> Result<Vec<usize>, Fail> {
     let whole = Pieces::new(usize::MAX, usize::MAX);
     let mut line = MemoryLine::new(alloc, input, whole, whole);
-    let (_core, came) = serve_alone(alloc, &mut line)?;
-    came.ended?;
+    let (_core, outcome) = serve_alone(alloc, &mut line)?;
+    outcome.ended?;
     let mut counts = Vec::new(alloc);
     for call in line.calls() {
         if let LineCall::Write(count) = call {

@@ -1,7 +1,7 @@
 use Rattle.std.proofs.Common.{◌∙◌, Ok, Err, Bool, refl, sym, ap, subst}
 use Rattle.sf_engine.specs.declared.event.Happened.{Happened}
 use Rattle.sf_session.specs.declared.fault.ServeFault.TheVariants.{OutOfMemory, NumbersSpent}
-use Rattle.sf_serving.specs.declared.host.Went.TheVariants as went
+use Rattle.sf_serving.specs.declared.host.SessionStep.TheVariants as session_step
 use Rattle.sf_alone.specs.OnEngine.{may_begin_after}
 use Rattle.sf_alone.proofs.Turning.{turned_none, HasTurn, HasTurned}
 use Rattle.sf_alone.proofs.Hosting.{first_turn, goes_turn, still_turns, low_turn, gone, gone_spent}
@@ -11,25 +11,25 @@ use Rattle.sf_alone.proofs.on_engine.EngineHostHostEngine.go_on.Goals as goal
 pub loop-self-init : goal.loop-self-init
 loop-self-init g c = record { session = refl; told = λ start t tells is_open sent. (t, tells, turned_none t, first_turn t is_open sent) }
 
-pub returns-in-Err-clause-went : goal.returns-in-Err-clause-went
-returns-in-Err-clause-went g c = λ start t tells is_open read sent.
+pub returns-in-Err-clause-step : goal.returns-in-Err-clause-step
+returns-in-Err-clause-step g c = λ start t tells is_open read sent.
     gone (Err OutOfMemory) c.loop-self.invariant.session sent (c.loop-self.invariant.told start t tells is_open sent) c.turns.ensures c.in-Err.is tt
 
-pub returns-in-Idle-clause-went : goal.returns-in-Idle-clause-went
-returns-in-Idle-clause-went g c = λ start t tells is_open read sent.
-    gone (Ok went.Waits) c.loop-self.invariant.session sent (c.loop-self.invariant.told start t tells is_open sent) c.turns.ensures (c.in-Ok.is ∙ ap (λ (x : Happened). Ok x) c.in-Idle.is) tt
+pub returns-in-Idle-clause-step : goal.returns-in-Idle-clause-step
+returns-in-Idle-clause-step g c = λ start t tells is_open read sent.
+    gone (Ok session_step.Waits) c.loop-self.invariant.session sent (c.loop-self.invariant.told start t tells is_open sent) c.turns.ensures (c.in-Ok.is ∙ ap (λ (x : Happened). Ok x) c.in-Idle.is) tt
 
-pub returns-in-Ended-clause-went : goal.returns-in-Ended-clause-went
-returns-in-Ended-clause-went g c = λ start t tells is_open read sent.
-    gone (Ok (went.Ended c.in-Ended.cause)) c.loop-self.invariant.session sent (c.loop-self.invariant.told start t tells is_open sent) c.turns.ensures (c.in-Ok.is ∙ ap (λ (x : Happened). Ok x) c.in-Ended.is) refl
+pub returns-in-Ended-clause-step : goal.returns-in-Ended-clause-step
+returns-in-Ended-clause-step g c = λ start t tells is_open read sent.
+    gone (Ok (session_step.Ended c.in-Ended.cause)) c.loop-self.invariant.session sent (c.loop-self.invariant.told start t tells is_open sent) c.turns.ensures (c.in-Ok.is ∙ ap (λ (x : Happened). Ok x) c.in-Ended.is) refl
 
-pub returns-then-wants_bytes-clause-went : goal.returns-then-wants_bytes-clause-went
-returns-then-wants_bytes-clause-went g c = λ start t tells is_open read sent.
-    gone (Ok went.Waits) c.loop-self.invariant.session sent (c.loop-self.invariant.told start t tells is_open sent) c.turns.ensures (c.in-Ok.is ∙ ap (λ (x : Happened). Ok x) c.in-Wrote.is) c.if-wants_bytes.ensures
+pub returns-then-wants_bytes-clause-step : goal.returns-then-wants_bytes-clause-step
+returns-then-wants_bytes-clause-step g c = λ start t tells is_open read sent.
+    gone (Ok session_step.Waits) c.loop-self.invariant.session sent (c.loop-self.invariant.told start t tells is_open sent) c.turns.ensures (c.in-Ok.is ∙ ap (λ (x : Happened). Ok x) c.in-Wrote.is) c.if-wants_bytes.ensures
 
-pub returns-then-waiting-ge-BATCH-clause-went : goal.returns-then-waiting-ge-BATCH-clause-went
-returns-then-waiting-ge-BATCH-clause-went g c = λ start t tells is_open read sent.
-    gone (Ok went.Answered) c.loop-self.invariant.session sent (c.loop-self.invariant.told start t tells is_open sent) c.turns.ensures (c.in-Ok.is ∙ ap (λ (x : Happened). Ok x) c.in-Wrote.is) tt
+pub returns-then-waiting-ge-BATCH-clause-step : goal.returns-then-waiting-ge-BATCH-clause-step
+returns-then-waiting-ge-BATCH-clause-step g c = λ start t tells is_open read sent.
+    gone (Ok session_step.Answered) c.loop-self.invariant.session sent (c.loop-self.invariant.told start t tells is_open sent) c.turns.ensures (c.in-Ok.is ∙ ap (λ (x : Happened). Ok x) c.in-Wrote.is) tt
 
 pub loop-self-preserved : goal.loop-self-preserved
 loop-self-preserved g c = record {
@@ -46,5 +46,5 @@ loop-self-preserved g c = record {
       (h.0, h.1, h.2, subst B (sym c.may_begin_after-may_begin.ensures) has);
 }
 
-pub returns-clause-went : goal.returns-clause-went
-returns-clause-went g c = λ start t tells is_open read sent. gone_spent NumbersSpent c.loop-self.invariant.session sent (c.loop-self.invariant.told start t tells is_open sent)
+pub returns-clause-step : goal.returns-clause-step
+returns-clause-step g c = λ start t tells is_open read sent. gone_spent NumbersSpent c.loop-self.invariant.session sent (c.loop-self.invariant.told start t tells is_open sent)

@@ -9,8 +9,8 @@ use Rattle.sf_alone.proofs.on_engine.EngineHostHostEngine.go_on.Given as goal
 abbrev pub invariant-loop-self : goal.invariant-loop-self
 invariant-loop-self g l = record {
   session : l.self.session ≡ l.initial.self.session;
-  told : (start : Since) (t : SessionState) → IsToldBy l.initial.self.turns start l.initial.self.session l.initial.engine (g.C.Clock.told l.initial.clock) t → IsOpen t → HasSent t
-      → (t' : SessionState) × IsToldBy l.self.turns start l.initial.self.session l.engine (g.C.Clock.told l.clock) t' × Turned t t' × HasTurn l.may_begin t';
+  told : (start : Since) (t : SessionState) → IsToldBy l.initial.self.turns start l.initial.self.session l.initial.engine (g.C.Clock.moments l.initial.clock) t → IsOpen t → HasSent t
+      → (t' : SessionState) × IsToldBy l.self.turns start l.initial.self.session l.engine (g.C.Clock.moments l.clock) t' × Turned t t' × HasTurn l.may_begin t';
 }
 
 abbrev pub decreases-loop-self : goal.decreases-loop-self
