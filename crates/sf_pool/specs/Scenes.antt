@@ -83,8 +83,8 @@ abbrev pub BeginsCalls : Option (List ℕ) → Option (List ℕ) → Option (Lis
     → Option (List Begin)
     → List Attempt → Type 0
 BeginsCalls moments moments' begins begins' attempts =
-    (more : List Begin) × Notes begins begins' more × Appends moments moments' (map (λ b. b.moment) more)
-    × (map attempt_of more ≡ attempts)
+    (more : List Begin) × Notes begins begins' more
+    × Appends moments moments' (map (λ b. b.moment) more) × (map attempt_of more ≡ attempts)
 
 -- Since the start a session was told this, and its lane noted the calls that it was answered, and
 -- no others, and keeps them if it did at the start; and the lane was asked to begin those that the

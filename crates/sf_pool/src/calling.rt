@@ -96,10 +96,12 @@ pub(crate) fn make_call<D: SessionLane, C: Clock, G: StepObserver>(
     requires waiting { IsSome session.old.waiting }
     requires resting { IsResting (D.at lane.old).place }
     ensures made { OnOk result (MakesCall request
-        (BeginsCalls (C.moments clock.old) (C.moments clock.new) (D.begins lane.old) (D.begins lane.new))
+        (BeginsCalls (C.moments clock.old) (C.moments clock.new)
+        (D.begins lane.old) (D.begins lane.new))
         (talk (D.at lane.old) session.old) (talk (D.at lane.new) session.new)) }
     ensures fails { IfErr result (λ stop. FailsCall session.old.waiting request stop
-        (BeginsCalls (C.moments clock.old) (C.moments clock.new) (D.begins lane.old) (D.begins lane.new))
+        (BeginsCalls (C.moments clock.old) (C.moments clock.new)
+        (D.begins lane.old) (D.begins lane.new))
         (D.at lane.old) (D.at lane.new)) }
     ensures session { IfErr result (λ _. session.new ≡ session.old) }
 {
