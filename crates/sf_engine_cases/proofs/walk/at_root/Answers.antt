@@ -1,4 +1,4 @@
-use Rattle.std.proofs.Common.{rules, subst}
+use Rattle.std.proofs.Common.{subst}
 use Rattle.sf_call.specs.Routes.{Route}
 use Rattle.sf_walk.specs.Ways.{AreWays}
 use Rattle.sf_engine_cases.proofs.Located.{located_now}
