@@ -169,7 +169,7 @@ impl<B: RollName + Ledger> SessionLane for OwnLane<'_, B> {
     }
 
     fn step(&mut self) -> StepResult {
-        self.transcript_lane.step(self.core).told
+        self.transcript_lane.step(self.core).outcome
     }
 
     fn rest(&mut self) {}
