@@ -72,12 +72,17 @@ pub struct Call {
     pub reply: Option<Reply>,
 }
 
-/// A call in memory of its own, so that a map of calls moves a pointer and not the call; with the
-/// kind of its route, which is found once.
+/// A call with the kind of its route, which is found once.
+#[derive(Drop)]
+struct RoutedCall {
+    call: Call,
+    kind: RouteKind,
+}
+
+/// A call in memory of its own, so that a map of calls moves a pointer and not the call.
 #[derive(Drop)]
 pub struct PlacedCall {
-    call: Box<Call>,
-    kind: RouteKind,
+    routed: Box<RoutedCall>,
 }
 
 impl Model for PlacedCall {
@@ -85,12 +90,13 @@ impl Model for PlacedCall {
 
     ghost Value = { Call };
 
-    ghost view = { λ placed. placed.call.value };
+    ghost view = { λ placed. placed.routed.value.call };
 
     ghost use Rattle.std.specs.Prelude.{◌≡◌};
     ghost use Rattle.sf_call.specs.Routes.{route_of, route_kind};
 
-    ghost invariant = { λ placed. placed.kind ≡ route_kind (route_of placed.call.value.request) };
+    ghost invariant = { λ placed. placed.routed.value.kind
+        ≡ route_kind (route_of placed.routed.value.call.request) };
 }
 
 impl PlacedCall {
@@ -98,8 +104,8 @@ impl PlacedCall {
         ensures { IfOk result (λ placed. placed ≡ call) }
     {
         let kind = call.request.route_kind();
-        match Box::new(alloc, call) {
-            Ok(call) => Ok(PlacedCall { call, kind }),
+        match Box::new(alloc, RoutedCall { call, kind }) {
+            Ok(routed) => Ok(PlacedCall { routed }),
             Err(_) => Err(AllocError),
         }
     }
@@ -116,7 +122,7 @@ impl PlacedCall {
             stage: _,
             copy: _copy,
             reply: _waiting,
-        } = Box::into_inner(self.call);
+        } = Box::into_inner(self.routed).call;
         Record::Did {
             number,
             session,
@@ -130,21 +136,23 @@ impl PlacedCall {
     fn into_reply(self) -> Option<Reply>
         ensures { result ≡ self.reply }
     {
-        Box::into_inner(self.call).reply
+        let RoutedCall { call, kind: _ } = Box::into_inner(self.routed);
+        call.reply
     }
 
     /// The call.
     pub fn as_call(&self) -> &Call
         ensures { result.now ≡ self.now }
     {
-        self.call.as_ref()
+        &self.routed.as_ref().call
     }
 
     /// The paths that the call walks.
     pub fn route(&self) -> RoutePaths<'_>
         ensures { route_in result ≡ route_of self.now.request }
     {
-        self.call.as_ref().request.route(self.kind)
+        let routed = self.routed.as_ref();
+        routed.call.request.route(routed.kind)
     }
 }
 
@@ -223,7 +231,7 @@ impl Calls {
         ensures { self.new ≡ staged self.old number stage }
     {
         if let Some(placed) = self.calls.get_mut(&number) {
-            placed.call.stage = stage;
+            placed.routed.call.stage = stage;
         }
     }
 
@@ -235,8 +243,8 @@ impl Calls {
             (lookup (is_at (nat_cmp number)) self.old) }
     {
         let placed = self.calls.get_mut(&number)?;
-        placed.call.reply = Some(reply);
-        placed.call.copy.take()
+        placed.routed.call.reply = Some(reply);
+        placed.routed.call.copy.take()
     }
 
     /// Takes out the call of a number, if its reply waits.
