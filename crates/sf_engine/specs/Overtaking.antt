@@ -58,7 +58,7 @@ made_inside = Did 2 2 101 inner ok
 abbrev pub renamed : Record
 renamed = Did 3 1 102 rename ok
 
--- an event that done_entry to this, added these records, and wrote this
+-- an event that came to this, added these records, and wrote this
 abbrev pub done_entry : Event → Happened → List Record → List Response → LogEntry
 done_entry ev result added wrote = log_entry ev (Ok result) added wrote
 
