@@ -2,6 +2,9 @@
 use Rattle.std.specs.Prelude.{Bool, true, false, ◌||◌, if◌then◌else◌, is_some}
 use Rattle.sf_path.specs.Names.{Path}
 use Rattle.sf_call.specs.declared.request.Request.{Request}
+use Rattle.sf_call.specs.declared.route.RequestPaths.{RequestPaths}
+use Rattle.sf_call.specs.declared.route.RequestPaths.TheVariants.{OnePath, TwoPaths}
+use Rattle.sf_call.specs.declared.route.RequestPaths.TheVariants as request_paths
 use Rattle.sf_call.specs.declared.route.RouteKind.{RouteKind}
 use Rattle.sf_call.specs.declared.route.RouteKind.TheVariants as kind
 use Rattle.sf_call.specs.declared.route.RoutePaths.{RoutePaths}
@@ -37,6 +40,12 @@ route_at (OnPaths old new) = route_between old new
 
 abbrev pub route_of : Request → Route
 route_of request = route_at (target_of request)
+
+-- the route of a request with these paths
+abbrev pub route_along : RequestPaths → Route
+route_along request_paths.NoPath = NoPath
+route_along (OnePath path) = Along path.now
+route_along (TwoPaths old new) = route_between old.now new.now
 
 -- no path is walked
 abbrev pub walks_nothing : Route → Bool

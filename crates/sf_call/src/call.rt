@@ -103,11 +103,13 @@ impl PlacedCall {
     fn new(alloc: Global, call: Call) -> Result<PlacedCall, AllocError>
         ensures { IfOk result (λ placed. placed ≡ call) }
     {
-        let kind = call.request.route_kind();
-        match Box::new(alloc, RoutedCall { call, kind }) {
-            Ok(routed) => Ok(PlacedCall { routed }),
-            Err(_) => Err(AllocError),
-        }
+        let kind = RouteKind::NoPath;
+        let Ok(mut routed) = Box::new(alloc, RoutedCall { call, kind }) else {
+            return Err(AllocError);
+        };
+        // The request is read where it is placed, so that the call is moved as one piece.
+        routed.kind = routed.call.request.route_kind();
+        Ok(PlacedCall { routed })
     }
 
     /// The call's record, with the reply that it was given.

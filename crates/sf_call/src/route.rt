@@ -1,7 +1,7 @@
 //! The paths that a call walks.
 
 ghost use Rattle.std.specs.Prelude.{◌≡◌, ◌≢◌, ◌⊎◌, true, false, []};
-ghost use Rattle.sf_call.specs.Routes.{are_nested, route_of, route_in, route_between, route_kind, walks_nothing};
+ghost use Rattle.sf_call.specs.Routes.{are_nested, route_of, route_along, route_in, route_between, route_kind, walks_nothing};
 
 use crate::request::Request;
 use sf_path::Path;
@@ -25,57 +25,18 @@ pub enum RouteKind {
     Between,
 }
 
+/// The paths of a request.
+#[derive(Clone, Copy)]
+enum RequestPaths<'a> {
+    NoPath,
+    OnePath(&'a Path),
+    TwoPaths(&'a Path, &'a Path),
+}
+
 impl Request {
-    /// Whether it walks no path: it has none, or the root is one of two.
-    pub fn walks_nothing(&self) -> bool
-        ensures { result ≡ walks_nothing (route_of self.now) }
-    {
-        match self {
-            Request::Stat(_)
-            | Request::SetStat(_, _)
-            | Request::Mkdir(_, _)
-            | Request::Rmdir(_)
-            | Request::Remove(_)
-            | Request::OpenDir(_)
-            | Request::Open(_, _, _) => false,
-            Request::Rename(old, new) | Request::PosixRename(old, new) | Request::Link(old, new) =>
-                has_root(old, new),
-            Request::Close(_)
-            | Request::FStat(_)
-            | Request::FSetStat(_, _)
-            | Request::Read { .. }
-            | Request::Write { .. }
-            | Request::ReadDir(_) => true,
-        }
-    }
-
-    /// Of which kind its route is. Two paths are compared once.
-    pub fn route_kind(&self) -> RouteKind
-        ensures { result ≡ route_kind (route_of self.now) }
-    {
-        match self {
-            Request::Stat(_)
-            | Request::SetStat(_, _)
-            | Request::Mkdir(_, _)
-            | Request::Rmdir(_)
-            | Request::Remove(_)
-            | Request::OpenDir(_)
-            | Request::Open(_, _, _) => RouteKind::Along,
-            Request::Rename(old, new) | Request::PosixRename(old, new) | Request::Link(old, new) =>
-                kind_between(old, new),
-            Request::Close(_)
-            | Request::FStat(_)
-            | Request::FSetStat(_, _)
-            | Request::Read { .. }
-            | Request::Write { .. }
-            | Request::ReadDir(_) => RouteKind::NoPath,
-        }
-    }
-
-    /// The paths of its route, which is of this kind.
-    pub fn route(&self, kind: RouteKind) -> RoutePaths<'_>
-        requires { kind ≡ route_kind (route_of self.now) }
-        ensures { route_in result ≡ route_of self.now }
+    #[inline(always)]
+    fn paths(&self) -> RequestPaths<'_>
+        ensures { route_along result ≡ route_of self.now }
     {
         match self {
             Request::Stat(path)
@@ -84,15 +45,49 @@ impl Request {
             | Request::Rmdir(path)
             | Request::Remove(path)
             | Request::OpenDir(path)
-            | Request::Open(path, _, _) => RoutePaths::Along(path),
+            | Request::Open(path, _, _) => RequestPaths::OnePath(path),
             Request::Rename(old, new) | Request::PosixRename(old, new) | Request::Link(old, new) =>
-                paths_between(old, new, kind),
+                RequestPaths::TwoPaths(old, new),
             Request::Close(_)
             | Request::FStat(_)
             | Request::FSetStat(_, _)
             | Request::Read { .. }
             | Request::Write { .. }
-            | Request::ReadDir(_) => RoutePaths::NoPath,
+            | Request::ReadDir(_) => RequestPaths::NoPath,
+        }
+    }
+
+    /// Whether it walks no path: it has none, or the root is one of two.
+    pub fn walks_nothing(&self) -> bool
+        ensures { result ≡ walks_nothing (route_of self.now) }
+    {
+        match self.paths() {
+            RequestPaths::NoPath => true,
+            RequestPaths::OnePath(_) => false,
+            RequestPaths::TwoPaths(old, new) => has_root(old, new),
+        }
+    }
+
+    /// Of which kind its route is. Two paths are compared once.
+    pub fn route_kind(&self) -> RouteKind
+        ensures { result ≡ route_kind (route_of self.now) }
+    {
+        match self.paths() {
+            RequestPaths::NoPath => RouteKind::NoPath,
+            RequestPaths::OnePath(_) => RouteKind::Along,
+            RequestPaths::TwoPaths(old, new) => kind_between(old, new),
+        }
+    }
+
+    /// The paths of its route, which is of this kind.
+    pub fn route(&self, kind: RouteKind) -> RoutePaths<'_>
+        requires { kind ≡ route_kind (route_of self.now) }
+        ensures { route_in result ≡ route_of self.now }
+    {
+        match self.paths() {
+            RequestPaths::NoPath => RoutePaths::NoPath,
+            RequestPaths::OnePath(path) => RoutePaths::Along(path),
+            RequestPaths::TwoPaths(old, new) => paths_between(old, new, kind),
         }
     }
 }
