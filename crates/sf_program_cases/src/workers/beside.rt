@@ -10,12 +10,23 @@ use sf_line::LineFault;
 
 const STAT_Q: &str = "0000000b 11 00000008 00000002 2f71";
 
+/// What a client that is idle waits for before it sends more.
+#[derive(Clone, Copy)]
+enum Until {
+    /// Nothing: it isn't idle.
+    Now,
+    /// A call sleeps.
+    Asleep,
+    /// So many calls of others were answered.
+    Done(u64),
+}
+
 /// How far the sessions are.
 #[derive(Drop)]
 struct Signs {
-    // The calls that are to be held are held, or the client is idle.
+    // So often a client was idle, or a call was held.
     ready: AtomicU64,
-    // So many calls sleep, or are about to.
+    // A call sleeps, or is about to.
     asleep: AtomicU64,
     // So many calls were answered that others wait for.
     done: AtomicU64,
@@ -39,6 +50,22 @@ impl Signs {
         }
     }
 
+    /// A client is idle.
+    fn idle(&self, until: Until) {
+        match until {
+            Until::Now => {}
+            Until::Asleep => {
+                self.ready.fetch_add(1, Ordering::SeqCst);
+                self.wait_for(&self.asleep, 1);
+                let_run(LONGER);
+            }
+            Until::Done(calls) => {
+                self.ready.fetch_add(1, Ordering::SeqCst);
+                self.wait_for(&self.done, calls);
+            }
+        }
+    }
+
     /// All came that was waited for.
     fn are_in_time(&self, rt: &impl Abort, done: u64) {
         assert_eq!(rt; self.done.load(Ordering::SeqCst), done);
@@ -46,23 +73,26 @@ impl Signs {
     }
 }
 
-/// A line in memory, whose client sends all its packets at once. Where it is idle after them, its
-/// next read waits until so many calls of others were answered. It tells no bytes.
+/// A line in memory, whose client is idle before what its second read gives, before the third, or
+/// never. It tells no bytes.
 #[derive(Drop)]
 struct IdleLine<'a> {
     line: MemoryLine<'a>,
     signs: &'a Signs,
-    waits_for: u64,
+    before_second: Until,
+    before_third: Until,
     reads: u64,
     failures: u64,
 }
 
 impl<'a> IdleLine<'a> {
-    fn new(alloc: Global, input: &'a [u8], signs: &'a Signs, waits_for: u64) -> IdleLine<'a> {
+    /// A client that is never idle.
+    fn new(line: MemoryLine<'a>, signs: &'a Signs) -> IdleLine<'a> {
         IdleLine {
-            line: line(alloc, input),
+            line,
             signs,
-            waits_for,
+            before_second: Until::Now,
+            before_third: Until::Now,
             reads: 0,
             failures: 0,
         }
@@ -88,9 +118,10 @@ impl Line for IdleLine<'_> {
 
     fn read(&mut self, buffer: &mut [u8]) -> Result<usize, LineFault> {
         self.reads = self.reads.saturating_add(1);
-        if self.reads == 2 && self.waits_for != 0 {
-            self.signs.ready.store(1, Ordering::SeqCst);
-            self.signs.wait_for(&self.signs.done, self.waits_for);
+        match self.reads {
+            2 => self.signs.idle(self.before_second),
+            3 => self.signs.idle(self.before_third),
+            _ => {}
         }
         match self.line.read(buffer) {
             Ok(n) => Ok(n),
@@ -167,8 +198,11 @@ fn six_calls_beside_an_idle_client(rt: HostRuntime) -> Result<(), Fail> {
     let packets = [INIT, STAT_A, STAT_A, STAT_A, STAT_A, STAT_A, STAT_A];
     let input = hex_packets(alloc, &packets)?;
     let signs = Signs::new();
-    let first = IdleLine::new(alloc, &input, &signs, 6);
-    let second = IdleLine::new(alloc, &input, &signs, 0);
+    let first = IdleLine {
+        before_second: Until::Done(6),
+        ..IdleLine::new(line(alloc, &input), &signs)
+    };
+    let second = IdleLine::new(line(alloc, &input), &signs);
     let observer = SecondsAnswers { signs: &signs };
     let ended = serve_second(&rt, alloc, first, second, &signs, &observer)?;
     signs.are_in_time(&rt, 6);
@@ -176,8 +210,8 @@ fn six_calls_beside_an_idle_client(rt: HostRuntime) -> Result<(), Fail> {
     Ok(())
 }
 
-/// The WRITE of the first session is call 3, and is held half way. The SETSTAT of the second one,
-/// call 4, waits for it, and sleeps. The third session isn't stopped.
+/// The WRITE of the second session is call 8, and is held half way. The SETSTAT of the third one,
+/// call 9, waits for it, and sleeps. The first session isn't stopped.
 #[derive(Drop)]
 struct WakesWithThePermit<'a> {
     signs: &'a Signs,
@@ -187,28 +221,28 @@ impl CallObserver for WakesWithThePermit<'_> {}
 
 impl StepObserver for WakesWithThePermit<'_> {
     fn stops(&self, session: u64, _number: u64, _steps: u64) -> bool {
-        session != 3
+        session != 1
     }
 
     fn between(&self, _session: u64, number: u64, steps: u64) {
-        if number == 4 && steps >= TRIES.saturating_add(2) {
+        if number == 9 && steps >= TRIES.saturating_add(2) {
             self.signs.asleep.store(1, Ordering::SeqCst);
         }
-        if number == 3 && steps == 1 {
-            self.signs.ready.store(1, Ordering::SeqCst);
+        if number == 8 && steps == 1 {
+            self.signs.ready.fetch_add(1, Ordering::SeqCst);
             self.signs.wait_for(&self.signs.done, 1);
         }
     }
 
     fn answered(&self, _session: u64, number: u64) {
-        if number == 4 {
+        if number == 9 {
             self.signs.done.store(1, Ordering::SeqCst);
         }
     }
 }
 
-/// Sends the second line once the first one's call is held, and the third one once the second
-/// one's sleeps.
+/// Sends the first line, the second one once the first one's client is idle, and the third one once
+/// the second one's call is held.
 fn send_third<'a>(
     rt: &impl Wait,
     sender: Sender<IdleLine<'a>>,
@@ -220,10 +254,9 @@ fn send_third<'a>(
     if sender.send(rt, first).is_err() || !wait_for(&signs.ready, 1) {
         return false;
     }
-    if sender.send(rt, second).is_err() || !wait_for(&signs.asleep, 1) {
+    if sender.send(rt, second).is_err() || !wait_for(&signs.ready, 2) {
         return false;
     }
-    let_run(LONGER);
     sender.send(rt, third).is_ok()
 }
 
@@ -247,20 +280,27 @@ fn serve_third<'a, R: Threads + Wait + Abort + Sync, G: StepObserver + Sync>(
     ended
 }
 
-/// The third session makes five calls and a rename, all with the permit at last, and then its
-/// client is idle. The rename carried out the call that sleeps, which is woken.
+/// The first session makes five calls, so that it takes the permit with its next one: a rename,
+/// which its client sends once a call sleeps. The rename carries out that call, which is woken
+/// while the client is idle again. Nothing but the rename happens from when the call sleeps.
 #[test]
 fn an_idle_client_has_woken_whom_it_carried_out(rt: HostRuntime) -> Result<(), Fail> {
     let alloc = rt.alloc();
-    let mut one = hex_packets(alloc, &[INIT, MKDIR_A, OPEN_A_F])?;
-    add_write(&mut one, 2)?;
-    let two = hex_packets(alloc, &[INIT, SIZE_A_F])?;
-    let packets = [INIT, STAT_Q, STAT_Q, STAT_Q, STAT_Q, STAT_Q, MOVE_A];
-    let three = hex_packets(alloc, &packets)?;
+    let mut one = hex_packets(alloc, &[INIT, STAT_Q, STAT_Q, STAT_Q, STAT_Q, STAT_Q])?;
+    let calls = Pieces::new(one.len().max(1), usize::MAX);
+    one.extend_from_slice(&hex_packets(alloc, &[MOVE_A])?)?;
+    let mut two = hex_packets(alloc, &[INIT, MKDIR_A, OPEN_A_F])?;
+    add_write(&mut two, 7)?;
+    let three = hex_packets(alloc, &[INIT, SIZE_A_F])?;
     let signs = Signs::new();
-    let first = IdleLine::new(alloc, &one, &signs, 0);
-    let second = IdleLine::new(alloc, &two, &signs, 0);
-    let third = IdleLine::new(alloc, &three, &signs, 1);
+    let whole = Pieces::new(usize::MAX, usize::MAX);
+    let first = IdleLine {
+        before_second: Until::Asleep,
+        before_third: Until::Done(1),
+        ..IdleLine::new(MemoryLine::new(alloc, &one, calls, whole), &signs)
+    };
+    let second = IdleLine::new(line(alloc, &two), &signs);
+    let third = IdleLine::new(line(alloc, &three), &signs);
     let observer = WakesWithThePermit { signs: &signs };
     let ended = serve_third(&rt, alloc, first, second, third, &signs, &observer)?;
     signs.are_in_time(&rt, 1);
