@@ -188,17 +188,17 @@ Leaves e s r w = ⊥
 read_of : {turns : ℕ} {start : Since} {s : ℕ} {e : EngineView} {tl : Option (List ℕ)} {t : SessionState} → IsToldBy turns start s e tl t → IsRead t
 read_of {start = start} {s = s} {t = t} T = (told_sessions (start.trace ++ T.0.entries) T.0.fit.world T.0.fit.tells s t T.0.is_session).0
 
-went_to : {turns : ℕ} {start : Since} {s : ℕ} {e : EngineView} {tl : Option (List ℕ)} (r : Result Happened EngineFault) (w : Result SessionStep ServeFault) (t : SessionState) {t' : SessionState} → Leaves e s r w → IsToldBy turns start s e tl t' → HasTurned r t t' → IsSessionStep w t t'
-went_to r (Err f) t leaves T h = tt
-went_to (Ok happened.Idle) (Ok session_step.Waits) t leaves T h = (record { rests = h.1; closed = h.0.0 }, h.2)
-went_to {start = start} {s = s} (Ok happened.Wrote) (Ok session_step.Waits) t {t' = t'} wants T h =
+host_after_turn : {turns : ℕ} {start : Since} {s : ℕ} {e : EngineView} {tl : Option (List ℕ)} (r : Result Happened EngineFault) (w : Result SessionStep ServeFault) (t : SessionState) {t' : SessionState} → Leaves e s r w → IsToldBy turns start s e tl t' → HasTurned r t t' → IsSessionStep w t t'
+host_after_turn r (Err f) t leaves T h = tt
+host_after_turn (Ok happened.Idle) (Ok session_step.Waits) t leaves T h = (record { rests = h.1; closed = h.0.0 }, h.2)
+host_after_turn {start = start} {s = s} (Ok happened.Wrote) (Ok session_step.Waits) t {t' = t'} wants T h =
     let seen = (wants (start.trace ++ T.0.entries) T.0.fit).0 refl in
     let now : WantsBytes t' = subst WantsBytes (same_told T.0.fit.world s seen.0 t' seen.1 T.0.is_session) seen.2 in
     (record { rests = now.0; closed = h.1 }, now.1)
-went_to (Ok happened.Wrote) (Ok session_step.Answered) t leaves T h = (record { rests = h.0; closed = h.1 }, h.2)
-went_to (Ok (happened.Ended cause)) (Ok (session_step.Ended cause')) t {t' = t'} same T h =
+host_after_turn (Ok happened.Wrote) (Ok session_step.Answered) t leaves T h = (record { rests = h.0; closed = h.1 }, h.2)
+host_after_turn (Ok (happened.Ended cause)) (Ok (session_step.Ended cause')) t {t' = t'} same T h =
     subst (λ (c : Cause). IsWhole t' c × (c ≢ Closed)) same (whole_left t' cause (read_of T) h.0 h.1, h.1)
-went_to r w t leaves T h = absurd leaves
+host_after_turn r w t leaves T h = absurd leaves
 
 -- turns so far, after which it may have one more
 abbrev pub MayTurn : (turns : ℕ) → Since → ℕ → EngineView → Option (List ℕ) → Bool → SessionState → Type 0
@@ -217,7 +217,7 @@ gone_at {turns = turns} {start = start} {s = s} {e = e} {tl = tl} r w {t = t} {t
       t',
       mine,
       record { stream = turned.stream; sent = turned.sent; bodies = turned.bodies; answers = turned.answers; batch = batch_of t t' turned.answers.0 turned.answers.1 turned.sent sent (turned.few (few_sent t sent)) (answers_are_short e (start.trace ++ mine.0.entries) mine.0.fit s t' mine.0.is_session); read = read_of mine },
-      went_to r w t leaves mine to,
+      host_after_turn r w t leaves mine to,
     )
 
 -- the last one

@@ -163,7 +163,8 @@ Greets session moment old (Err why) new = IsUngreeted session moment old why new
 -- waits.
 abbrev pub IsClosed : ℕ → ℕ → EngineView → EngineView → Type 0
 IsClosed session moment old new = (closed : EngineView) × (turns : ℕ)
-    × (came left : Result Happened EngineFault) × EventLeads old (event.Close session) came closed
+    × (outcome left : Result Happened EngineFault)
+    × EventLeads old (event.Close session) outcome closed
     × TurnsLead turns closed (event.Turn session moment) left new
 
 -- A session was greeted; or it was closed, since it wasn't.
@@ -192,7 +193,7 @@ HasBegun moment old (Err why) new = Opens old (Err why) new
 
 -- what each operation is on an engine
 abbrev pub IsDone : ℕ → Operation → EngineView → EngineView → Type 0
-IsDone moment (Begins came) old new = HasBegun moment old came new
+IsDone moment (Begins outcome) old new = HasBegun moment old outcome new
 IsDone moment (Asks session q (Ok r)) old new = IsAnswered session moment q old r new
 IsDone moment (Asks session q (Err why)) old new = IsUnanswered session moment q old why new
 IsDone moment (Ends session) old new = IsClosed session moment old new

@@ -26,10 +26,10 @@ fn fault_for(fault: EngineFault) -> TreeFault
 }
 
 /// Why turns that came to this led to no reply.
-fn stuck_by(came: Result<Happened, EngineFault>) -> Option<TreeFault>
-    ensures { result ≡ stuck_by came }
+fn stuck_by(outcome: Result<Happened, EngineFault>) -> Option<TreeFault>
+    ensures { result ≡ stuck_by outcome }
 {
-    match came {
+    match outcome {
         Ok(Happened::Wrote) => None,
         Ok(Happened::Blocked(_)) => Some(TreeFault::Blocked),
         Ok(_) => Some(TreeFault::Reply),
@@ -148,10 +148,10 @@ pub(crate) fn welcome(engine: &mut Engine, session: u64, moment: u32) -> Result<
 }
 
 /// The number of a session that opened.
-fn opened_by(came: Result<Happened, EngineFault>) -> Result<u64, TreeFault>
-    ensures { result ≡ session_opened came }
+fn opened_by(outcome: Result<Happened, EngineFault>) -> Result<u64, TreeFault>
+    ensures { result ≡ session_opened outcome }
 {
-    match came {
+    match outcome {
         Ok(Happened::Opened(session)) => Ok(session),
         Ok(_) => Err(TreeFault::Reply),
         Err(fault) => Err(fault_for(fault)),

@@ -56,8 +56,8 @@ wrote_is (Err f) some = absurd (some refl)
 
 turn_before : (turn : Event) (r : Result Happened EngineFault) (e : LogEntry) (h : Happened) (entries : List LogEntry) → e.event ≡ turn → e.result ≡ Ok h → goes_on h ≡ true → AreTurns turn r entries → AreTurns turn r (e ∷ entries)
 unfolding AreTurns
-turn_before turn r e h [] is came on turns = absurd turns
-turn_before turn r e h (x ∷ entries) is came on turns = (is, (h, came, on), turns)
+turn_before turn r e h [] is was on turns = absurd turns
+turn_before turn r e h (x ∷ entries) is was on turns = (is, (h, was, on), turns)
 
 turn_entries : (n : ℕ) (old new : EngineView) (turn : Event) (r : Result Happened EngineFault) (log : List LogEntry) → HasTurns n old turn r new → ghosts.has_log old log
     → (entries : List LogEntry) × AreTurns turn r entries × (n < length entries) × ghosts.has_log new (log ++ entries)
@@ -127,6 +127,6 @@ pub sent_so : (s n : ℕ) (old new : EngineView) (r r' : Refusals) (result : Res
     → OnErr result ((new ≡ old) × ((journal : List Act) → HasJournal r journal → HasJournal r' journal))
     → IfErr result (λ f. (journal : List Act) → Have ghosts.has_log old r journal → MayRefuseSent journal s n f)
     → OnErr result (new ≡ old) × GoesOn (GoBytes s n result) old r new r'
-sent_so s n old new r r' (Ok h) ok err fault = (tt, λ journal H. let went = ok journal H in (map Did went.1 ++ Delivered s n ∷ [], (sent_is h went.0, (went.1, refl)), behind new r' journal (map Did went.1) (Delivered s n ∷ []) went.2))
+sent_so s n old new r r' (Ok h) ok err fault = (tt, λ journal H. let done = ok journal H in (map Did done.1 ++ Delivered s n ∷ [], (sent_is h done.0, (done.1, refl)), behind new r' journal (map Did done.1) (Delivered s n ∷ []) done.2))
 sent_so s n old new r r' (Err f) ok err fault =
     (err.0, λ journal H. ([], (fault journal H, refl), still new r' journal (err.1 journal H.0, same_log old new (log_of journal) err.0 H.1)))

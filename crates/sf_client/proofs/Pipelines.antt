@@ -193,9 +193,9 @@ pub record ReplyCame (y : ClientAhead) (d : Due) (r : Reply) (z : ClientAhead) :
   pub id : z.ahead.id ≡ y.ahead.id
   pub waiting : z.ahead.waiting ≡ y.ahead.waiting - 1
 
-came : {p : Pipeline} {v : ClientView} {x : p.Gathered} {y z : ClientAhead} {r : Reply} (at : Position p v x y) (phase : PipelinePhase) (now : p.Gathered) → ReplyCame y p.due r z → IsIn phase z.ahead
+replied : {p : Pipeline} {v : ClientView} {x : p.Gathered} {y z : ClientAhead} {r : Reply} (at : Position p v x y) (phase : PipelinePhase) (now : p.Gathered) → ReplyCame y p.due r z → IsIn phase z.ahead
     → ((q : WireRequest) (others : List WireRequest) → p.IsOne q → p.Gathers x at.phase at.made (q ∷ others) → p.Gathers now phase (at.made ++ asked q r ∷ []) others) → Position p v now z
-came {p} {v} {x} {y} {z} {r} at phase now c is_in gathers =
+replied {p} {v} {x} {y} {z} {r} at phase now c is_in gathers =
     let old = something at.coming y.ahead.waiting at.waiting c.some in
     let ones = subst (AllByRecursion p.IsOne) old.2 at.ones in
     record {
@@ -217,7 +217,7 @@ counted : {p : Pipeline} {v : ClientView} {x : p.Gathered} {y z : ClientAhead} {
 counted {p} {v} {x} {y} {z} {r} at phase now c kept is_in gathers =
     let going = counts at c.some kept in
     let there : Position p v x y = record at { phase = Going; is_in = (going.0, kept); gathers = going.1 } in
-    came there phase now c (is_in going.0) gathers
+    replied there phase now c (is_in going.0) gathers
 
 answered : {d : Due} {y z : ClientAhead} {a : Ahead} (r : Reply) → 0 < y.ahead.waiting → TakesOn y d (Ok (Some r)) z → a.id ≡ z.ahead.id → a.waiting ≡ z.ahead.waiting → ReplyCame y d r (sender z.client a)
 answered {d} {y} {z} {a} r some h id waiting = record {
@@ -257,7 +257,7 @@ missed {p} {v} {x} {y} {z} at some h =
     elim h.5 [
       | inl more ↦ let drops = drops_one at more.0 in
           subst (λ (b : Ahead). Position p v x (sender z.client b)) (sym more.1)
-          (came at at.phase x (record { some = some; due = h.2; took = h.3; id = refl; waiting = refl }) drops.1 (λ q others one g. p.drops x at.phase at.made others (asked q h.0) drops.0 one g))
+          (replied at at.phase x (record { some = some; due = h.2; took = h.3; id = refl; waiting = refl }) drops.1 (λ q others one g. p.drops x at.phase at.made others (asked q h.0) drops.0 one g))
       | inr none ↦ subst (λ (b : Ahead). Position p v x (sender z.client b)) (sym none.1)
           (counted at (Stopped h.1) x (record { some = some; due = h.2; took = h.3; id = refl; waiting = refl }) none.0 (λ going. (refl, refl)) (λ q others one g. p.stops x at.made others (asked q h.0) h.1 one (h.4 none.0) g))
     ]

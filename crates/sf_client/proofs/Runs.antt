@@ -50,27 +50,27 @@ by_handle_unopened S opening v w fault.Failed h = h
 pub record HandleOpened (opening : WireRequest) (v : ClientView) : Type 0 where
   pub number : ℕ
   pub client : ClientView
-  pub went : Exchanged v (asked opening (reply.Handle number) ∷ []) client
+  pub exchanged : Exchanged v (asked opening (reply.Handle number) ∷ []) client
 
 -- By these exchanges the client came to what a script says.
-pub record Went {X : Type 0} (Script : List Exchange → Result X ClientFault → Type 0) (v : ClientView) (r : Result X ClientFault) (w : ClientView) : Type 0 where
+pub record ByScript {X : Type 0} (Script : List Exchange → Result X ClientFault → Type 0) (v : ClientView) (r : Result X ClientFault) (w : ClientView) : Type 0 where
   pub made : List Exchange
   pub script : Script made r
-  pub went : Exchanged v made w
+  pub exchanged : Exchanged v made w
 
 -- all the exchanges of a call by a handle
 whole_call : {opening : WireRequest} {v m w : ClientView} {ys : List Exchange} (h : HandleOpened opening v) (r : Reply) → Exchanged h.client ys m → Exchanged m (asked (request.Close (be64 h.number)) r ∷ []) w
     → Exchanged v (asked opening (reply.Handle h.number) ∷ (ys ++ asked (request.Close (be64 h.number)) r ∷ [])) w
-whole_call {opening} {v} {m} {w} {ys} h r used closed = exchanged_then v h.client w (asked opening (reply.Handle h.number) ∷ []) (ys ++ asked (request.Close (be64 h.number)) r ∷ []) h.went (exchanged_then h.client m w ys _ used closed)
+whole_call {opening} {v} {m} {w} {ys} h r used closed = exchanged_then v h.client w (asked opening (reply.Handle h.number) ∷ []) (ys ++ asked (request.Close (be64 h.number)) r ∷ []) h.exchanged (exchanged_then h.client m w ys _ used closed)
 
 -- CLOSE after a success
-closed_badly : {X : Type 0} {opening : WireRequest} {v m : ClientView} {x : X} (S : ℕ → List Exchange → Result X ClientFault → Type 0) (h : HandleOpened opening v) (f : ClientFault) (w : ClientView) → Went (S h.number) h.client (Ok x) m
+closed_badly : {X : Type 0} {opening : WireRequest} {v m : ClientView} {x : X} (S : ℕ → List Exchange → Result X ClientFault → Type 0) (h : HandleOpened opening v) (f : ClientFault) (w : ClientView) → ByScript (S h.number) h.client (Ok x) m
     → SettlesRequest {X = Unit {0}} (λ _. reply.Status Success) m (request.Close (be64 h.number)) (Err f) w → DoesCall (ByHandle opening S) v (Err f) w
-closed_badly {v = v} {m = m} S h fault.Stream w used c = broke_since v m w (omega (arith, h.went.failures, used.went.failures)) c
+closed_badly {v = v} {m = m} S h fault.Stream w used c = broke_since v m w (omega (arith, h.exchanged.failures, used.exchanged.failures)) c
 closed_badly {opening = opening} {v = v} {m = m} S h fault.Protocol w used c =
-    (_, request.Close (be64 h.number), [], unanswered_then v m w _ [] (request.Close (be64 h.number)) [] (exchanged_then v h.client m (asked opening (reply.Handle h.number) ∷ []) used.made h.went used.went) c)
-closed_badly {x = x} S h (fault.Status code) w used c = (_, inr (h.number, used.made ++ asked (request.Close (be64 h.number)) c.0 ∷ [], (used.made, c.0, inr (x, used.script, c.1), refl), refl), whole_call h c.0 used.went c.2)
-closed_badly {x = x} S h fault.OutOfMemory w used c = (_, inr (h.number, used.made ++ asked (request.Close (be64 h.number)) c.0 ∷ [], (used.made, c.0, inr (x, used.script, c.1), refl), refl), whole_call h c.0 used.went c.2)
+    (_, request.Close (be64 h.number), [], unanswered_then v m w _ [] (request.Close (be64 h.number)) [] (exchanged_then v h.client m (asked opening (reply.Handle h.number) ∷ []) used.made h.exchanged used.exchanged) c)
+closed_badly {x = x} S h (fault.Status code) w used c = (_, inr (h.number, used.made ++ asked (request.Close (be64 h.number)) c.0 ∷ [], (used.made, c.0, inr (x, used.script, c.1), refl), refl), whole_call h c.0 used.exchanged c.2)
+closed_badly {x = x} S h fault.OutOfMemory w used c = (_, inr (h.number, used.made ++ asked (request.Close (be64 h.number)) c.0 ∷ [], (used.made, c.0, inr (x, used.script, c.1), refl), refl), whole_call h c.0 used.exchanged c.2)
 closed_badly S h (fault.TooLarge size) w used c = absurd c
 closed_badly S h fault.Failed w used c = absurd c
 
@@ -81,27 +81,27 @@ spoilt_by {v = v} {m = m} {xs = xs} S q f w ex (inr h) = subst (λ (g : ClientFa
 
 -- CLOSE after a fault that leaves the client in step
 fault_then : {X : Type 0} {opening : WireRequest} {v m : ClientView} {first : ClientFault} (S : ℕ → List Exchange → Result X ClientFault → Type 0) (h : HandleOpened opening v) (f : ClientFault) (w : ClientView)
-    → Went (S h.number) h.client (Err first) m → (Went (ByHandle opening S) v (Err first) w → DoesCall (ByHandle opening S) v (Err first) w) → EndsAfter h.number first m f w → DoesCall (ByHandle opening S) v (Err f) w
+    → ByScript (S h.number) h.client (Err first) m → (ByScript (ByHandle opening S) v (Err first) w → DoesCall (ByHandle opening S) v (Err first) w) → EndsAfter h.number first m f w → DoesCall (ByHandle opening S) v (Err f) w
 fault_then {opening = opening} {v = v} S h f w used does (inl c) = subst (λ (g : ClientFault). DoesCall (ByHandle opening S) v (Err g) w) (sym c.0)
-    (does (record { made = _; script = inr (h.number, used.made ++ asked (request.Close (be64 h.number)) c.1.0 ∷ [], (used.made, c.1.0, inl used.script, refl), refl); went = whole_call h c.1.0 used.went c.1.1 }))
+    (does (record { made = _; script = inr (h.number, used.made ++ asked (request.Close (be64 h.number)) c.1.0 ∷ [], (used.made, c.1.0, inl used.script, refl), refl); exchanged = whole_call h c.1.0 used.exchanged c.1.1 }))
 fault_then {opening = opening} {v = v} {m = m} S h f w used does (inr c) =
-    spoilt_by (ByHandle opening S) (request.Close (be64 h.number)) f w (exchanged_then v h.client m (asked opening (reply.Handle h.number) ∷ []) used.made h.went used.went) c
+    spoilt_by (ByHandle opening S) (request.Close (be64 h.number)) f w (exchanged_then v h.client m (asked opening (reply.Handle h.number) ∷ []) used.made h.exchanged used.exchanged) c
 
-pub by_handle_done : {X : Type 0} {opening : WireRequest} {v : ClientView} (S : ℕ → List Exchange → Result X ClientFault → Type 0) (h : HandleOpened opening v) (came : Result X ClientFault) (m : ClientView) (result : Result X ClientFault) (w : ClientView)
-    → DoesCall (S h.number) h.client came m → ClosesAfter h.number came m result w → DoesCall (ByHandle opening S) v result w
+pub by_handle_done : {X : Type 0} {opening : WireRequest} {v : ClientView} (S : ℕ → List Exchange → Result X ClientFault → Type 0) (h : HandleOpened opening v) (outcome : Result X ClientFault) (m : ClientView) (result : Result X ClientFault) (w : ClientView)
+    → DoesCall (S h.number) h.client outcome m → ClosesAfter h.number outcome m result w → DoesCall (ByHandle opening S) v result w
 by_handle_done {X = X} S h (Ok x) m (Ok y) w used c =
     (_, (h.number, used.0 ++ asked (request.Close (be64 h.number)) (reply.Status Success) ∷ [], (used.0, subst (λ (z : X). S h.number used.0 (Ok z)) (sym c.0) used.1, refl), refl), whole_call h (reply.Status Success) used.2 c.1)
-by_handle_done S h (Ok x) m (Err f) w used c = closed_badly S h f w (record { made = used.0; script = used.1; went = used.2 }) c
+by_handle_done S h (Ok x) m (Err f) w used c = closed_badly S h f w (record { made = used.0; script = used.1; exchanged = used.2 }) c
 by_handle_done S h (Err f) m (Ok y) w used c = absurd c
 by_handle_done {opening = opening} {v = v} S h (Err fault.Stream) m (Err f) w used c =
-    subst (λ (g : ClientFault). DoesCall (ByHandle opening S) v (Err g) w) (sym c.0) (subst (Broke v) (sym c.1) (broke_since v h.client m h.went.failures used))
+    subst (λ (g : ClientFault). DoesCall (ByHandle opening S) v (Err g) w) (sym c.0) (subst (Broke v) (sym c.1) (broke_since v h.client m h.exchanged.failures used))
 by_handle_done {opening = opening} {v = v} S h (Err fault.Protocol) m (Err f) w used c =
     subst (λ (g : ClientFault). DoesCall (ByHandle opening S) v (Err g) w) (sym c.0)
-    (_, used.1, used.2, unanswered_then v h.client w (asked opening (reply.Handle h.number) ∷ []) used.0 used.1 used.2 h.went (subst (Unanswered h.client used.0 used.1 used.2) (sym c.1) used.3))
-by_handle_done S h (Err (fault.Status code)) m (Err f) w used c = fault_then S h f w (record { made = used.0; script = used.1; went = used.2 }) (λ k. (k.made, k.script, k.went)) c
-by_handle_done S h (Err fault.OutOfMemory) m (Err f) w used c = fault_then S h f w (record { made = used.0; script = used.1; went = used.2 }) (λ k. (k.made, k.script, k.went)) c
-by_handle_done S h (Err (fault.TooLarge size)) m (Err f) w used c = fault_then S h f w (record { made = used.0; script = used.1; went = used.2 }) (λ k. (k.made, k.script, k.went)) c
-by_handle_done S h (Err fault.Failed) m (Err f) w used c = let going = h.went.going in let failed = used.0 in absurd cc
+    (_, used.1, used.2, unanswered_then v h.client w (asked opening (reply.Handle h.number) ∷ []) used.0 used.1 used.2 h.exchanged (subst (Unanswered h.client used.0 used.1 used.2) (sym c.1) used.3))
+by_handle_done S h (Err (fault.Status code)) m (Err f) w used c = fault_then S h f w (record { made = used.0; script = used.1; exchanged = used.2 }) (λ k. (k.made, k.script, k.exchanged)) c
+by_handle_done S h (Err fault.OutOfMemory) m (Err f) w used c = fault_then S h f w (record { made = used.0; script = used.1; exchanged = used.2 }) (λ k. (k.made, k.script, k.exchanged)) c
+by_handle_done S h (Err (fault.TooLarge size)) m (Err f) w used c = fault_then S h f w (record { made = used.0; script = used.1; exchanged = used.2 }) (λ k. (k.made, k.script, k.exchanged)) c
+by_handle_done S h (Err fault.Failed) m (Err f) w used c = let going = h.exchanged.going in let failed = used.0 in absurd cc
 
 -- ---- what is read to its end
 

@@ -120,12 +120,12 @@ impl<L: Line + Drop> Client<L> {
     fn closed<T: Drop>(
         &mut self,
         handle: u64,
-        came: Result<T, ClientFault>,
+        outcome: Result<T, ClientFault>,
     ) -> Result<T, ClientFault>
-        requires { IsKept came self.old }
-        ensures { ClosesAfter handle came self.old result self.new }
+        requires { IsKept outcome self.old }
+        ensures { ClosesAfter handle outcome self.old result self.new }
     {
-        match came {
+        match outcome {
             Ok(value) => match self.close(handle) {
                 Ok(()) => Ok(value),
                 Err(fault) => Err(fault),

@@ -117,7 +117,7 @@ one_free v n free (inr f) = inr (record {
   ];
 })
 
-one_more : (v : CoreView) (n : ℕ) (x : LaneState) → lane_state v n ≡ x → NoCall v n ⊎ Furthest v n → NoCall v (suc n) ⊎ Furthest v (suc n)
+one_more : (v : CoreView) (n : ℕ) (x : LaneState Call) → lane_state v n ≡ x → NoCall v n ⊎ Furthest v n → NoCall v (suc n) ⊎ Furthest v (suc n)
 one_more v n NoLane at f = one_free v n (λ c busy. let e : NoLane ≡ Busy c = sym at ∙ busy in cc) f
 one_more v n Idle at f = one_free v n (λ c busy. let e : Idle ≡ Busy c = sym at ∙ busy in cc) f
 one_more v n (Busy c) at f = inr (one_busy v n c at f)
@@ -175,17 +175,17 @@ left_falls v w (suc n) s each below less = elim (cases_lt s n) [
       omega (arith, rest, less, old, new)
 ]
 
-same_left : (x y : LaneState) → x ≡ y → steps_left_in x ≤ steps_left_in y
-same_left x y e = let n = ap (λ (z : LaneState). steps_left_in z) e in omega (arith, n)
+same_left : (x y : LaneState Call) → x ≡ y → steps_left_in x ≤ steps_left_in y
+same_left x y e = let n = ap (λ (z : LaneState Call). steps_left_in z) e in omega (arith, n)
 
 pub busy_left : (v : CoreView) (s : ℕ) (c : Call) → lane_state v s ≡ Busy c → steps_left_in (lane_state v s) ≡ left_of c
-busy_left v s c at = ap (λ (z : LaneState). steps_left_in z) at
+busy_left v s c at = ap (λ (z : LaneState Call). steps_left_in z) at
 
 pub idle_left : (v : CoreView) (s : ℕ) → lane_state v s ≡ Idle → steps_left_in (lane_state v s) ≡ 0
-idle_left v s at = ap (λ (z : LaneState). steps_left_in z) at
+idle_left v s at = ap (λ (z : LaneState Call). steps_left_in z) at
 
 pub gone_left : (v : CoreView) (s : ℕ) → lane_state v s ≡ NoLane → steps_left_in (lane_state v s) ≡ 0
-gone_left v s at = ap (λ (z : LaneState). steps_left_in z) at
+gone_left v s at = ap (λ (z : LaneState Call). steps_left_in z) at
 
 -- one session's lane state is another, with less left
 set_falls : (v w : CoreView) (n s : ℕ) → steps_left_in (lane_state w s) < steps_left_in (lane_state v s) → ((i : ℕ) → i ≢ s → steps_left_in (lane_state w i) ≤ steps_left_in (lane_state v i)) → s < n → left_below w n < left_below v n

@@ -23,12 +23,12 @@ pub record CoreView : Type 0 where
   pub look_ups : ℕ
   pub store : StoreState
 
--- what a core has for a session: it never joined or has left, it is at rest, or it has an
--- unanswered call
-pub data LaneState : Type 0 where
-  NoLane : LaneState
-  Idle : LaneState
-  Busy : (call : Call) → LaneState
+-- how far a session is with a core, and what is known of its call: it never joined or has left, it
+-- rests, or it has an unanswered call
+pub data LaneState (Known : Type 0) : Type 0 where
+  NoLane : LaneState Known
+  Idle : LaneState Known
+  Busy : (call : Known) → LaneState Known
 
 abbrev pub call_at : List (ℕ × Call) → ℕ → Option Call
 call_at calls number = lookup (is_at (nat_cmp number)) calls
@@ -37,16 +37,16 @@ abbrev pub session_at : List (ℕ × Option ℕ) → ℕ → Option (Option ℕ)
 session_at sessions session = lookup (is_at (nat_cmp session)) sessions
 
 -- no core has a number without its call
-abbrev pub busy_with : Option Call → LaneState
+abbrev pub busy_with : Option Call → LaneState Call
 busy_with None = NoLane
 busy_with (Some call) = Busy call
 
-abbrev pub lane_state_by : List (ℕ × Call) → Option (Option ℕ) → LaneState
+abbrev pub lane_state_by : List (ℕ × Call) → Option (Option ℕ) → LaneState Call
 lane_state_by calls None = NoLane
 lane_state_by calls (Some None) = Idle
 lane_state_by calls (Some (Some number)) = busy_with (call_at calls number)
 
-abbrev pub lane_state : CoreView → ℕ → LaneState
+abbrev pub lane_state : CoreView → ℕ → LaneState Call
 lane_state v session = lane_state_by v.calls (session_at v.sessions session)
 
 -- how many sessions are joined

@@ -67,7 +67,7 @@ pub record LooksOnly (v w : CoreView) (most : ℕ) : Type 0 where
 
 -- the state of one session's lane is another; those of all others, and the counts of sessions and
 -- calls, stay
-pub record SetsSlot (v w : CoreView) (session : ℕ) (slot : LaneState) : Type 0 where
+pub record SetsSlot (v w : CoreView) (session : ℕ) (slot : LaneState Call) : Type 0 where
   pub own : lane_state w session ≡ slot
   pub others : (s : ℕ) → s ≢ session → lane_state w s ≡ lane_state v s
   pub joined : joined w ≡ joined v

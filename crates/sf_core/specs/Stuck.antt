@@ -31,7 +31,7 @@ IsNeverStuck v =
     (session : ℕ) (call : Call) → lane_state v session ≡ Busy call → (other : ℕ) × CanGoOn v other
 
 -- how many steps are left to a session's call, if it has one
-abbrev pub steps_left_in : LaneState → ℕ
+abbrev pub steps_left_in : LaneState Call → ℕ
 steps_left_in NoLane = 0
 steps_left_in Idle = 0
 steps_left_in (Busy call) = left_of call

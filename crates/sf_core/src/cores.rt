@@ -5,7 +5,7 @@ ghost use Rattle.sf_call.specs.declared.record.Record.{Record};
 ghost use Rattle.sf_call.specs.declared.record.Record.TheVariants.{Left};
 ghost use Rattle.sf_call.specs.Histories.{IsGiven, replay};
 ghost use Rattle.sf_call.specs.Leaves.{leaves_of};
-ghost use Rattle.sf_core.specs.Cores.{LaneState, new_core, lane_state, joined, last_number, most_sessions};
+ghost use Rattle.sf_core.specs.Cores.{new_core, lane_state, joined, last_number, most_sessions};
 ghost use Rattle.sf_core.specs.Cores.LaneState.{Idle};
 ghost use Rattle.sf_core.specs.Histories.{IsHistory};
 ghost use Rattle.sf_core.specs.Progress.{is_at_once};

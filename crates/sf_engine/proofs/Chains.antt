@@ -40,7 +40,7 @@ going v x lane = stand v x (state.UnderWay lane)
 
 -- a session whose call waits to be answered
 abbrev pub answered : CoreView → SessionView → LaneView → AnswerView → Stand
-answered v x lane given = stand v x (state.Answered lane given)
+answered v x lane given = stand v x (state.Decided lane given)
 
 -- steps that moved come before further turns
 moves_give : (n : ℕ) (a : Stand) (lane : LaneView) (w : CoreView) (f : Finding) (k : ℕ) (r : Result Happened EngineFault) (b : Stand)
@@ -126,13 +126,13 @@ moved_walk a lane f most w lane' many k =
     }
 
 -- where a walk comes to an answer: the core, the lane and the answer then
-pub record CameToAnswer : Type 0 where
+pub record AnsweredEnd : Type 0 where
   pub core : CoreView
   pub lane : LaneView
   pub answer : AnswerView
 
 -- a walk that comes to an answer, and the turn that is to write it
-pub answered_walk : (a : Stand) (lane : LaneView) (f : Finding) (most : ℕ) (c : CameToAnswer) (r : Result Happened EngineFault) (b : Stand)
+pub answered_walk : (a : Stand) (lane : LaneView) (f : Finding) (most : ℕ) (c : AnsweredEnd) (r : Result Happened EngineFault) (b : Stand)
     → Walks a.core lane most (walk_end (step.Answered c.answer) c.core c.lane) → TurnsGive 0 (answered c.core a.session c.lane c.answer) f r b × (goes_on_at r ≡ false) → GoesFar (going a.core a.session lane) f r b
 answered_walk a lane f most c r b k last =
     let mid = going k.mid a.session lane in
@@ -157,17 +157,17 @@ pub unwritten_turn : (a : Stand) (lane : LaneView) (given : AnswerView) (f : Fin
 unwritten_turn a lane given f y lane' same kept long =
     let was = answered a.core a.session lane given in
     let now = answered a.core y lane' given in
-    no_turn was f now (stand_eq was now refl kept (ap (λ (l : LaneView). state.Answered l given) same)) long
+    no_turn was f now (stand_eq was now refl kept (ap (λ (l : LaneView). state.Decided l given) same)) long
 
 -- a place has one lane
 pub lane_same : (p : HostedState) (lane other : LaneView) → IsLaneOf p lane → IsLaneOf p other → lane ≡ other
 lane_same (state.Resting own) lane other a b = a ∙ sym b
 lane_same (state.UnderWay own) lane other a b = a ∙ sym b
-lane_same (state.Answered own given) lane other a b = a ∙ sym b
-lane_same (state.Left cause) lane other a b = absurd a
+lane_same (state.Decided own given) lane other a b = a ∙ sym b
+lane_same (state.Gone cause) lane other a b = absurd a
 
 -- and what this turn asks
-pub answered_placed : (a : Stand) (lane : LaneView) (most : ℕ) (c : CameToAnswer) → Walks a.core lane most (walk_end (step.Answered c.answer) c.core c.lane) → IsReady (going a.core a.session lane) → IsHostedState c.core a.session (state.Answered c.lane c.answer)
+pub answered_placed : (a : Stand) (lane : LaneView) (most : ℕ) (c : AnsweredEnd) → Walks a.core lane most (walk_end (step.Answered c.answer) c.core c.lane) → IsReady (going a.core a.session lane) → IsHostedState c.core a.session (state.Decided c.lane c.answer)
 answered_placed a lane most c k ready =
     let own = still_own k.moves a.core k.mid lane a.session k.moved ready.placed in
     let s = k.last own.0 own.2 in
@@ -185,8 +185,8 @@ no_stranger a lane most w lane' k ready =
 resting_lane : (p : HostedState) → is_resting p ≡ true → (lane : LaneView) × (p ≡ state.Resting lane)
 resting_lane (state.Resting lane) rests = (lane, refl)
 resting_lane (state.UnderWay lane) rests = absurd cc
-resting_lane (state.Answered lane given) rests = absurd cc
-resting_lane (state.Left cause) rests = absurd cc
+resting_lane (state.Decided lane given) rests = absurd cc
+resting_lane (state.Gone cause) rests = absurd cc
 
 -- what was read, as a turn, whether the session was closed or not
 read_turn : (a : Stand) (f : Finding) (r : Happened) (b : Stand) → is_resting a.place ≡ true → TurnGives a (finding false f.moment) r b → TurnGives a f r b
@@ -254,7 +254,7 @@ pub record TurnAnswers (a : Stand) (f : Finding) (r : Result Happened EngineFaul
   pub fault : IfErr r (λ f. (f ≡ fault.OutOfMemory) × MayRefuseTurn a.place)
 
 -- one turn of a session whose answer waits
-pub answer_far : (a : Stand) (f : Finding) (r : Result Happened EngineFault) (b : Stand) (lane : LaneView) (given : AnswerView) → a.place ≡ state.Answered lane given → IsReady a → TurnAnswers a f r b → GoesFar a f r b
+pub answer_far : (a : Stand) (f : Finding) (r : Result Happened EngineFault) (b : Stand) (lane : LaneView) (given : AnswerView) → a.place ≡ state.Decided lane given → IsReady a → TurnAnswers a f r b → GoesFar a f r b
 answer_far a f (Ok r) b lane given waits ready t =
     let g = t.ok ready.history ready.is_history in
     let wrote = (subst (λ (o : HostedState). GivesAt o a ready.history f r g.0 b) waits g.2).0 in
@@ -265,9 +265,9 @@ answer_far a f (Err e) b lane given waits ready t =
     subst P (sym why.0) (record { turns = 0; give = no_turn a f b (stand_eq a b t.err.1 t.err.2 t.err.0) why.1; far = λ e. absurd cc })
 
 -- one turn of a session that left
-pub left_far : (v : CoreView) (x : SessionView) (cause : Cause) (f : Finding) → GoesFar (stand v x (state.Left cause)) f (Ok (happened.Ended cause)) (stand v x (state.Left cause))
+pub left_far : (v : CoreView) (x : SessionView) (cause : Cause) (f : Finding) → GoesFar (stand v x (state.Gone cause)) f (Ok (happened.Ended cause)) (stand v x (state.Gone cause))
 left_far v x cause f =
-    let a = stand v x (state.Left cause) in
+    let a = stand v x (state.Gone cause) in
     let turn : TurnGives a f (happened.Ended cause) a = λ h is. ([], subst (λ (l : List Record). IsHistory v l) (sym (append-nil h)) is, (refl, refl, refl, refl, refl)) in
     record { turns = 0; give = one_turn a f (happened.Ended cause) a turn; far = λ e. absurd cc }
 

@@ -31,8 +31,8 @@ use Rattle.sf_engine.proofs.Having.{goes_on_log}
 
 turn_before : (ev : Event) (r : Result Happened EngineFault) (e : LogEntry) (h : Happened) (entries : List LogEntry) → e.event ≡ ev → e.result ≡ Ok h → goes_on h ≡ true → AreTurns ev r entries → AreTurns ev r (e ∷ entries)
 unfolding AreTurns
-turn_before ev r e h [] is came on turns = absurd turns
-turn_before ev r e h (x ∷ entries) is came on turns = (is, (h, came, on), turns)
+turn_before ev r e h [] is was on turns = absurd turns
+turn_before ev r e h (x ∷ entries) is was on turns = (is, (h, was, on), turns)
 
 pub turns_on_log : (n : ℕ) (old new : EngineView) (ev : Event) (r : Result Happened EngineFault) (log : List LogEntry) → HasTurns n old ev r new → HasLog old log
     → (entries : List LogEntry) × AreTurns ev r entries × HasLog new (log ++ entries)

@@ -20,7 +20,7 @@ use Rattle.sf_engine.specs.declared.event.Happened.TheVariants as happened
 use Rattle.sf_engine.specs.declared.event.EngineFault.{EngineFault}
 use Rattle.sf_engine.specs.Traces.{goes_on_at}
 use Rattle.sf_engine.specs.Turns.{GivesAt, IsHostedState, is_resting, Stand, stand, IsReady, TurnGives, TurnsGive, GoesFar, Finding, finding}
-use Rattle.sf_engine.proofs.Chains.{CameToAnswer, going, answered, begun_ready, begun_far, answered_walk, answered_placed}
+use Rattle.sf_engine.proofs.Chains.{AnsweredEnd, going, answered, begun_ready, begun_far, answered_walk, answered_placed}
 
 -- one step is a walk
 walk_of_one : (v w : CoreView) (lane lane' : LaneView) (s : Step) → StepsOn v lane s w lane' → Walks v lane 1 (walk_end s w lane')
@@ -75,20 +75,20 @@ refused_turn a m f z refused wrote = λ h is. (
 )
 
 -- it is answered at once
-abbrev pub IsAnsweredAtOnce : CallAsked → ℕ → CameToAnswer → Type 0
+abbrev pub IsAnsweredAtOnce : CallAsked → ℕ → AnsweredEnd → Type 0
 IsAnsweredAtOnce a m c = AnswersAtOnce a.from.core a.lane a.request m (walk_end (step.Answered c.answer) c.core c.lane)
 
-began : (a : CallAsked) (m : ℕ) (c : CameToAnswer) → IsAnsweredAtOnce a m c → CallBegun a m
+began : (a : CallAsked) (m : ℕ) (c : AnsweredEnd) → IsAnsweredAtOnce a m c → CallBegun a m
 began a m c made = record { core = made.mid; begins = made.begins; history = made.history }
 
-walks : (a : CallAsked) (m : ℕ) (c : CameToAnswer) (made : IsAnsweredAtOnce a m c) → Walks made.mid (begun a.lane made.mid.drawn) 1 (walk_end (step.Answered c.answer) c.core c.lane)
+walks : (a : CallAsked) (m : ℕ) (c : AnsweredEnd) (made : IsAnsweredAtOnce a m c) → Walks made.mid (begun a.lane made.mid.drawn) 1 (walk_end (step.Answered c.answer) c.core c.lane)
 walks a m c made = walk_of_one made.mid c.core (begun a.lane made.mid.drawn) c.lane (step.Answered c.answer) made.steps
 
-pub placed_at_once : (a : CallAsked) (m : ℕ) (c : CameToAnswer) → IsAnsweredAtOnce a m c → IsReady a.from → IsHostedState c.core a.session (state.Answered c.lane c.answer)
+pub placed_at_once : (a : CallAsked) (m : ℕ) (c : AnsweredEnd) → IsAnsweredAtOnce a m c → IsReady a.from → IsHostedState c.core a.session (state.Decided c.lane c.answer)
 unfolding began
 placed_at_once a m c made ready = answered_placed (begun_stand a made.mid) (begun a.lane made.mid.drawn) 1 c (walks a m c made) (can_go_on a m (began a m c made) ready)
 
-pub far_at_once : (a : CallAsked) (f : Finding) (c : CameToAnswer) → IsAnsweredAtOnce a f.moment c → (last : Result Happened EngineFault) (end : Stand)
+pub far_at_once : (a : CallAsked) (f : Finding) (c : AnsweredEnd) → IsAnsweredAtOnce a f.moment c → (last : Result Happened EngineFault) (end : Stand)
     → TurnsGive 0 (answered c.core a.session c.lane c.answer) f last end × (goes_on_at last ≡ false) → GoesFar a.from f last end
 unfolding began
 far_at_once a f c made last end give =

@@ -117,7 +117,7 @@ has_stopped e k c given at here position way undecided =
 -- the session's call was decided, and its answer waits
 decided_now : (e : HostedEvent) (k : Walking) (a : AnswerView) → (is : IsTold (in_phase e (under_way_as k))) → KeepsSession e.change
     → Moves e.change.old.core e.change.core (number e.change) (with_phase e.told (under_way_as k)) (with_phase e.told (Decided k.id k.number k.request a.reply)) 0
-    → lane_state e.change.core (number e.change) ≡ Idle → e.change.now.place ≡ state.Answered (at_rest is.hosted.at.lane) a
+    → lane_state e.change.core (number e.change) ≡ Idle → e.change.now.place ≡ state.Decided (at_rest is.hosted.at.lane) a
     → DecidesCall e.world (number e.change) k.moves (own_did (number e.change) k a.reply) e.added
     → Turned (in_phase e (under_way_as k)) 0 (λ t'. StepLeads (turn_to (in_phase e (under_way_as k)) t') k happened.Decided)
 decided_now e k a is keeps moved idle placed decides =
@@ -323,7 +323,7 @@ step_turned e k happened.Decided is keeps lane' g =
     let at : Goes e k = is.hosted.at in
     let a = g.0 in
     let d = g.1.0 in
-    let placed : e.change.now.place ≡ state.Answered (at_rest at.lane) a = g.3 ∙ ap (λ (l : LaneView). state.Answered l a) g.2.lane in
+    let placed : e.change.now.place ≡ state.Decided (at_rest at.lane) a = g.3 ∙ ap (λ (l : LaneView). state.Decided l a) g.2.lane in
     elim g.1.1 [
       | inl f ↦
           let here : lane_state v s ≡ Busy d = ap (λ (n : ℕ). lane_state v n) (sym at.session) ∙ f.own.slot in

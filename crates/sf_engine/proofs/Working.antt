@@ -129,5 +129,5 @@ turn_works a h found s (Gone cause) r added b is g =
 pub close_same : (p : HostedState) (a : Stand) (added : List Record) (b : Stand) (goes_on : Bool) → ClosesAt p a added b goes_on → b.core.look_ups ≡ a.core.look_ups
 close_same (state.Resting lane) a added b goes_on g = settle_same a lane true added b g.0
 close_same (state.UnderWay lane) a added b goes_on g = ap (λ (z : CoreView). z.look_ups) g.0.0
-close_same (state.Answered lane given) a added b goes_on g = ap (λ (z : CoreView). z.look_ups) g.0.0
-close_same (state.Left cause) a added b goes_on g = ap (λ (z : CoreView). z.look_ups) g.0.0
+close_same (state.Decided lane given) a added b goes_on g = ap (λ (z : CoreView). z.look_ups) g.0.0
+close_same (state.Gone cause) a added b goes_on g = ap (λ (z : CoreView). z.look_ups) g.0.0

@@ -83,7 +83,7 @@ pub record HasAnswer (v : CoreView) (s : ℕ) (x : SessionView) (d : DueReply)
   pub answer : AnswerView
   pub session : lane.session ≡ s
   pub idle : lane.call ≡ None
-  pub place_is : p ≡ state.Answered lane answer
+  pub place_is : p ≡ state.Decided lane answer
   pub reply : answer.reply ≡ d.reply
   pub slot : lane_state v s ≡ Idle
   pub waiting : x.waiting ≡ Some d.id
@@ -95,7 +95,7 @@ PlaceAgrees v s x Resting p = HasNoCall v s x p
 PlaceAgrees v s x (UnderWay id number moment request moves) p =
     IsGoing v s x (walking id number moment request moves) p
 PlaceAgrees v s x (Decided id number request reply) p = HasAnswer v s x (reply_due id reply) p
-PlaceAgrees v s x (Gone cause) p = (p ≡ state.Left cause) × (lane_state v s ≡ NoLane)
+PlaceAgrees v s x (Gone cause) p = (p ≡ state.Gone cause) × (lane_state v s ≡ NoLane)
     × (x.ended ≢ None)
 
 pub record HostedAgrees (v : CoreView) (s : ℕ) (t : SessionState) (p : HostedSession) : Type 0 where

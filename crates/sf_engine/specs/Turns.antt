@@ -62,7 +62,7 @@ StepGives b (happened.Blocked holder) a p = ((c : Call) × IsBlocked b.core a.co
     × AddsNothing b a × (p ≡ state.UnderWay a.lane)
 StepGives b happened.Decided a p =
     (given : AnswerView) × ((c : Call) × (Fetches b a c given.reply ⊎ Decides b a c given.reply))
-    × Answers b given a × (p ≡ state.Answered a.lane given)
+    × Answers b given a × (p ≡ state.Decided a.lane given)
 StepGives b _ a p = ⊥
 
 -- a packet was answered with no call: by the session alone, or since the call could not begin
@@ -87,7 +87,7 @@ ReadGives a lane m happened.Begun added b =
     × (added ≡ []) × (b.place ≡ state.UnderWay (begun lane b.core.drawn))
 ReadGives a lane m (happened.Ended cause) added b =
     NextGives a.session (next.Ended cause) b.session × Leaves a.core b.core lane.session
-    × (added ≡ Left lane.session ∷ []) × (b.place ≡ state.Left cause)
+    × (added ≡ Left lane.session ∷ []) × (b.place ≡ state.Gone cause)
 ReadGives a lane m _ added b = ⊥
 
 -- after a reply: the session rests, or leaves since it was closed
@@ -97,7 +97,7 @@ RestsOrLeaves a lane false added b = (b.core ≡ a.core) × (added ≡ [])
 RestsOrLeaves a lane true added b =
     Leaves a.core b.core lane.session × (added ≡ Left lane.session ∷ [])
     × (b.session ≡ record a.session { unread = []; ended = Some Closed })
-    × (b.place ≡ state.Left Closed)
+    × (b.place ≡ state.Gone Closed)
 
 -- the answer that waited was written
 abbrev pub WritesAnswer : Stand → LaneView → AnswerView → Bool → List Record → Stand → Type 0
@@ -114,22 +114,22 @@ IsHostedState v x (state.Resting lane) =
     (lane.call ≡ None) × (lane_state v lane.session ≡ Idle) × (x.waiting ≡ None)
 IsHostedState v x (state.UnderWay lane) =
     (h : List Record) × (c : Call) × IsHistory v h × OwnCall v lane c
-IsHostedState v x (state.Answered lane a) =
+IsHostedState v x (state.Decided lane a) =
     (lane.call ≡ None) × (lane_state v lane.session ≡ Idle) × IsSome x.waiting
-IsHostedState v x (state.Left cause) = Unit {0}
+IsHostedState v x (state.Gone cause) = Unit {0}
 
 -- whether a session's call goes on: it is under way, or its answer waits
 abbrev pub is_busy : HostedState → Bool
 is_busy (state.Resting lane) = false
 is_busy (state.UnderWay lane) = true
-is_busy (state.Answered lane given) = true
-is_busy (state.Left cause) = false
+is_busy (state.Decided lane given) = true
+is_busy (state.Gone cause) = false
 
 abbrev pub is_resting : HostedState → Bool
 is_resting (state.Resting lane) = true
 is_resting (state.UnderWay lane) = false
-is_resting (state.Answered lane given) = false
-is_resting (state.Left cause) = false
+is_resting (state.Decided lane given) = false
+is_resting (state.Gone cause) = false
 
 abbrev pub is_under_way : HostedState → Bool
 is_under_way (state.UnderWay lane) = true
@@ -139,14 +139,14 @@ is_under_way _ = false
 abbrev pub has_lane : HostedState → Bool
 has_lane (state.Resting lane) = true
 has_lane (state.UnderWay lane) = true
-has_lane (state.Answered lane given) = true
-has_lane (state.Left cause) = false
+has_lane (state.Decided lane given) = true
+has_lane (state.Gone cause) = false
 
 abbrev pub IsLaneOf : HostedState → LaneView → Type 0
 IsLaneOf (state.Resting own) lane = lane ≡ own
 IsLaneOf (state.UnderWay own) lane = lane ≡ own
-IsLaneOf (state.Answered own given) lane = lane ≡ own
-IsLaneOf (state.Left cause) lane = ⊥
+IsLaneOf (state.Decided own given) lane = lane ≡ own
+IsLaneOf (state.Gone cause) lane = ⊥
 
 -- what a turn gives at a place
 abbrev pub GivesAt : HostedState → Stand → List Record → Finding → Happened → List Record → Stand
@@ -155,11 +155,11 @@ GivesAt (state.Resting lane) a h f r added b = ReadGives a lane f.moment r added
 GivesAt (state.UnderWay lane) a h f r added b =
     ((lane' : LaneView) × StepGives (before a.core h lane) r (after_turn b.core added lane')
     b.place) × (b.session ≡ a.session)
-GivesAt (state.Answered lane given) a h f r added b =
+GivesAt (state.Decided lane given) a h f r added b =
     (r ≡ happened.Wrote) × WritesAnswer a lane given f.closed added b
-GivesAt (state.Left cause) a h f r added b =
+GivesAt (state.Gone cause) a h f r added b =
     (r ≡ happened.Ended cause) × (b.core ≡ a.core) × (added ≡ []) × (b.session ≡ a.session)
-    × (b.place ≡ state.Left cause)
+    × (b.place ≡ state.Gone cause)
 
 -- what a turn gives, by the place before it
 abbrev pub PlaceGives : Stand → List Record → Finding → Happened → List Record → Stand → Type 0
@@ -175,8 +175,8 @@ abbrev pub ClosesAt : HostedState → Stand → List Record → Stand → Bool �
 ClosesAt (state.Resting lane) a added b goes_on = RestsOrLeaves a lane true added b
     × (goes_on ≡ false)
 ClosesAt (state.UnderWay lane) a added b goes_on = StaysAs a added b × (goes_on ≡ true)
-ClosesAt (state.Answered lane given) a added b goes_on = StaysAs a added b × (goes_on ≡ true)
-ClosesAt (state.Left cause) a added b goes_on = StaysAs a added b × (goes_on ≡ false)
+ClosesAt (state.Decided lane given) a added b goes_on = StaysAs a added b × (goes_on ≡ true)
+ClosesAt (state.Gone cause) a added b goes_on = StaysAs a added b × (goes_on ≡ false)
 
 -- what closing gives, by the place before it
 abbrev pub CloseGives : Stand → List Record → Stand → Bool → Type 0
@@ -226,9 +226,9 @@ OpenFault v _ = ⊥
 abbrev pub MayRefuseTurn : HostedState → Type 0
 MayRefuseTurn (state.Resting lane) = Unit {0}
 MayRefuseTurn (state.UnderWay lane) = ⊥
-MayRefuseTurn (state.Answered lane a) = (id : ℕ)
+MayRefuseTurn (state.Decided lane a) = (id : ℕ)
     → reply_room < length (packet (reply_body id a.reply))
-MayRefuseTurn (state.Left cause) = ⊥
+MayRefuseTurn (state.Gone cause) = ⊥
 
 -- what turns ask of the core and of the session
 pub record IsReady (a : Stand) : Type 0 where

@@ -32,8 +32,8 @@ pub(crate) enum HostedState {
     /// Its call is in the core.
     UnderWay(Lane),
     /// Its call's answer waits to be written.
-    Answered(Lane, Answer),
-    Left(Cause),
+    Decided(Lane, Answer),
+    Gone(Cause),
 }
 
 impl Drop for HostedState {
@@ -41,8 +41,8 @@ impl Drop for HostedState {
         match self {
             HostedState::Resting(lane) => lane.abandon(),
             HostedState::UnderWay(lane) => lane.abandon(),
-            HostedState::Answered(lane, _answer) => lane.abandon(),
-            HostedState::Left(_cause) => {}
+            HostedState::Decided(lane, _answer) => lane.abandon(),
+            HostedState::Gone(_cause) => {}
         }
     }
 }
@@ -87,7 +87,7 @@ fn settle(core: &mut Core, session: &mut Session, lane: Lane, closed: bool) -> H
     }
     leave(core, lane);
     session.close();
-    HostedState::Left(Cause::Closed)
+    HostedState::Gone(Cause::Closed)
 }
 
 impl HostedState {
@@ -106,8 +106,8 @@ impl HostedState {
         match self {
             HostedState::Resting(lane) => lane,
             HostedState::UnderWay(lane) => lane,
-            HostedState::Answered(lane, _answer) => lane,
-            HostedState::Left(_cause) => unreachable!(),
+            HostedState::Decided(lane, _answer) => lane,
+            HostedState::Gone(_cause) => unreachable!(),
         }
     }
 
@@ -116,7 +116,7 @@ impl HostedState {
         requires { has_lane self.old ≡ true }
         ensures { IsLaneOf self.old result }
     {
-        mem::replace(self, HostedState::Left(Cause::Closed)).into_lane()
+        mem::replace(self, HostedState::Gone(Cause::Closed)).into_lane()
     }
 
     /// What the next packet of a resting session came to, where it asks for no call.
@@ -133,7 +133,7 @@ impl HostedState {
             Next::Call(_request) => unreachable!(),
             Next::Ended(cause) => {
                 leave(core, self.take_lane());
-                *self = HostedState::Left(cause);
+                *self = HostedState::Gone(cause);
                 Happened::Ended(cause)
             }
         }
@@ -197,19 +197,19 @@ impl HostedState {
                 Step::Moved => Ok(Happened::Moved),
                 Step::Blocked(holder) => Ok(Happened::Blocked(holder)),
                 Step::Answered(answer) => {
-                    *self = HostedState::Answered(self.take_lane(), answer);
+                    *self = HostedState::Decided(self.take_lane(), answer);
                     Ok(Happened::Decided)
                 }
                 Step::Stranger => unreachable!(),
             },
-            HostedState::Answered(_, answer) => {
+            HostedState::Decided(_, answer) => {
                 if session.answer(answer).is_err() {
                     return Err(EngineFault::OutOfMemory);
                 }
                 *self = settle(core, session, self.take_lane(), closed);
                 Ok(Happened::Wrote)
             }
-            HostedState::Left(cause) => Ok(Happened::Ended(*cause)),
+            HostedState::Gone(cause) => Ok(Happened::Ended(*cause)),
         }
     }
 
@@ -229,8 +229,8 @@ impl HostedState {
         match self {
             HostedState::Resting(_) => self.read_on(core, session, closed, moment),
             HostedState::UnderWay(_) => self.walk_on(core, session, closed),
-            HostedState::Answered(_, _) => self.turn(core, session, closed, moment),
-            HostedState::Left(cause) => Ok(Happened::Ended(*cause)),
+            HostedState::Decided(_, _) => self.turn(core, session, closed, moment),
+            HostedState::Gone(cause) => Ok(Happened::Ended(*cause)),
         }
     }
 
@@ -308,9 +308,9 @@ impl HostedState {
     ) -> Result<Happened, EngineFault>
         requires under_way { is_under_way self.old ≡ true }
         requires placed { (lane : LaneView) → IsLaneOf self.old lane
-            → IsHostedState core.old session.old (HostedState.Answered lane answer) }
+            → IsHostedState core.old session.old (HostedState.Decided lane answer) }
         ensures { (lane : LaneView) → IsLaneOf self.old lane → (moment : ℕ)
-            → TurnsGive 0 (stand core.old session.old (HostedState.Answered lane answer))
+            → TurnsGive 0 (stand core.old session.old (HostedState.Decided lane answer))
             (finding closed moment)
             result (stand core.new session.new self.new)
             × (goes_on_at result ≡ false) }
@@ -322,7 +322,7 @@ impl HostedState {
                 Ok(Happened::Wrote)
             }
             Err(_) => {
-                *self = HostedState::Answered(lane, answer);
+                *self = HostedState::Decided(lane, answer);
                 Err(EngineFault::OutOfMemory)
             }
         }
@@ -339,8 +339,8 @@ impl HostedState {
         match self {
             HostedState::Resting(lane) => (settle(core, session, lane, true), false),
             HostedState::UnderWay(lane) => (HostedState::UnderWay(lane), true),
-            HostedState::Answered(lane, answer) => (HostedState::Answered(lane, answer), true),
-            HostedState::Left(cause) => (HostedState::Left(cause), false),
+            HostedState::Decided(lane, answer) => (HostedState::Decided(lane, answer), true),
+            HostedState::Gone(cause) => (HostedState::Gone(cause), false),
         }
     }
 }
@@ -389,7 +389,7 @@ pub(crate) fn wants_bytes(hosted: &HostedSession) -> bool
 {
     match hosted.place {
         HostedState::Resting(_) => hosted.session.is_drained(),
-        HostedState::UnderWay(_) | HostedState::Answered(_, _) | HostedState::Left(_) => false,
+        HostedState::UnderWay(_) | HostedState::Decided(_, _) | HostedState::Gone(_) => false,
     }
 }
 
@@ -401,7 +401,7 @@ pub(crate) fn close_hosted(core: &mut Core, hosted: &mut HostedSession)
         (stand core.new hosted.new.session hosted.new.place) goes_on
         × (hosted.new.closed ≡ (hosted.old.closed || goes_on))) }
 {
-    let place = mem::replace(&mut hosted.place, HostedState::Left(Cause::Closed));
+    let place = mem::replace(&mut hosted.place, HostedState::Gone(Cause::Closed));
     let (place, goes_on) = place.close(core, &mut hosted.session);
     hosted.place = place;
     hosted.closed |= goes_on;

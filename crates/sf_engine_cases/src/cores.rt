@@ -17,7 +17,7 @@ mod tree;
 
 /// What a step came to, without the contents of a reply.
 #[derive(Clone, Copy, Debug, PartialEq, Eq)]
-enum Told {
+enum Outcome {
     Moved,
     Blocked(u64),
     Status(StatusCode),
@@ -29,14 +29,14 @@ enum Told {
     Stranger,
 }
 
-fn outcome_of(reply: &Reply) -> Told {
+fn outcome_of(reply: &Reply) -> Outcome {
     match reply {
-        Reply::Status(code) => Told::Status(*code),
-        Reply::NoMemory => Told::NoMemory,
-        Reply::Handle(number) => Told::Handle(*number),
-        Reply::Data(_) => Told::Data,
-        Reply::Names(_) => Told::Names,
-        Reply::Attrs(_) => Told::Attrs,
+        Reply::Status(code) => Outcome::Status(*code),
+        Reply::NoMemory => Outcome::NoMemory,
+        Reply::Handle(number) => Outcome::Handle(*number),
+        Reply::Data(_) => Outcome::Data,
+        Reply::Names(_) => Outcome::Names,
+        Reply::Attrs(_) => Outcome::Attrs,
     }
 }
 
@@ -82,7 +82,7 @@ fn calls(
     core: &mut Core,
     lane: &mut Lane,
     request: Result<Request, Fail>,
-) -> Option<Told> {
+) -> Option<Outcome> {
     let Ok(request) = request else {
         panic!(rt; "no request");
     };
@@ -94,35 +94,35 @@ fn calls(
     }
 }
 
-fn came_of(step: &Step) -> Told {
+fn outcome_of_step(step: &Step) -> Outcome {
     match step {
-        Step::Moved => Told::Moved,
-        Step::Blocked(holder) => Told::Blocked(*holder),
+        Step::Moved => Outcome::Moved,
+        Step::Blocked(holder) => Outcome::Blocked(*holder),
         Step::Answered(answer) => outcome_of(answer.reply()),
-        Step::Stranger => Told::Stranger,
+        Step::Stranger => Outcome::Stranger,
     }
 }
 
-fn step(rt: &impl Abort, core: &mut Core, lane: &mut Lane) -> Told {
+fn step(rt: &impl Abort, core: &mut Core, lane: &mut Lane) -> Outcome {
     assert!(rt; !lane.is_idle());
-    came_of(&core.step(lane))
+    outcome_of_step(&core.step(lane))
 }
 
 /// Steps up to one that doesn't move, and so many at most, come to this.
-fn walks_to(rt: &impl Abort, core: &mut Core, lane: &mut Lane, most: u64, want: Told) {
+fn walks_to(rt: &impl Abort, core: &mut Core, lane: &mut Lane, most: u64, want: Outcome) {
     let told = walk(rt, core, lane, most);
     assert!(rt; told == want, "{told:?}, not {want:?}");
 }
 
 /// Steps up to one that doesn't move, and so many at most.
-fn walk(rt: &impl Abort, core: &mut Core, lane: &mut Lane, most: u64) -> Told {
+fn walk(rt: &impl Abort, core: &mut Core, lane: &mut Lane, most: u64) -> Outcome {
     assert!(rt; !lane.is_idle());
     assert!(rt; most > 0);
-    came_of(&core.walk(lane, most))
+    outcome_of_step(&core.walk(lane, most))
 }
 
 /// Takes the lane's call to its answer, which no other call keeps it from.
-fn finish(rt: &impl Abort, core: &mut Core, lane: &mut Lane) -> Told {
+fn finish(rt: &impl Abort, core: &mut Core, lane: &mut Lane) -> Outcome {
     walk(rt, core, lane, 300)
 }
 

@@ -23,17 +23,17 @@ pub makes_none : (session handle : ℕ) → Makes session handle [] [] handle
 unfolding Makes
 makes_none session handle = (refl, refl)
 
-pub makes_more : (session handle : ℕ) (xs : List Item) (operations : List Operation) (last : ℕ) (x : Item) (came : Result Reply TreeFault) (after : ℕ)
-    → Makes session handle xs operations last → settled_by last x came ≡ Ok after
-    → Makes session handle (xs ++ x ∷ []) (operations ++ Asks session (request_of (be64 last) x) came ∷ []) after
+pub makes_more : (session handle : ℕ) (xs : List Item) (operations : List Operation) (last : ℕ) (x : Item) (outcome : Result Reply TreeFault) (after : ℕ)
+    → Makes session handle xs operations last → settled_by last x outcome ≡ Ok after
+    → Makes session handle (xs ++ x ∷ []) (operations ++ Asks session (request_of (be64 last) x) outcome ∷ []) after
 unfolding Makes
-makes_more session handle [] operations last x came after made is =
-    let parts : operations ++ Asks session (request_of (be64 last) x) came ∷ [] ≡ Asks session (request_of (be64 handle) x) came ∷ [] = rw (made.0, made.1) refl in
-    let settled : settled_by handle x came ≡ Ok after = subst (λ (h : ℕ). settled_by h x came ≡ Ok after) made.1 is in
-    (came, after, [], parts, settled, (refl, refl))
-makes_more session handle (y ∷ xs) operations last x came after made is =
-    let asked = Asks session (request_of (be64 last) x) came ∷ [] in
-    (made.0, made.1, made.2 ++ asked, ap (λ (l : List Operation). l ++ asked) made.3, made.4, makes_more session made.1 xs made.2 last x came after made.5 is)
+makes_more session handle [] operations last x outcome after made is =
+    let parts : operations ++ Asks session (request_of (be64 last) x) outcome ∷ [] ≡ Asks session (request_of (be64 handle) x) outcome ∷ [] = rw (made.0, made.1) refl in
+    let settled : settled_by handle x outcome ≡ Ok after = subst (λ (h : ℕ). settled_by h x outcome ≡ Ok after) made.1 is in
+    (outcome, after, [], parts, settled, (refl, refl))
+makes_more session handle (y ∷ xs) operations last x outcome after made is =
+    let asked = Asks session (request_of (be64 last) x) outcome ∷ [] in
+    (made.0, made.1, made.2 ++ asked, ap (λ (l : List Operation). l ++ asked) made.3, made.4, makes_more session made.1 xs made.2 last x outcome after made.5 is)
 
 -- What was made so far: a server was led from one state to another.
 pub record SoFar {V : Type 0} (reaches : V → List Operation → V → Type 0) (session : ℕ) (a b : V) (old now : Option (List Item)) (last : ℕ) : Type 0 where

@@ -54,13 +54,13 @@ IsAnswered (Ends session) = Unit {0}
 
 -- the packet of an operation
 abbrev pub sent_by : Operation → List ℕ
-sent_by (Begins came) = packet init_body
-sent_by (Asks session q came) = packet (request_body id q)
+sent_by (Begins outcome) = packet init_body
+sent_by (Asks session q outcome) = packet (request_body id q)
 sent_by (Ends session) = []
 
 -- the packet that answered it
 abbrev pub taken_by : Operation → List ℕ
-taken_by (Begins came) = packet version_body
+taken_by (Begins outcome) = packet version_body
 taken_by (Asks session q (Ok r)) = packet (reply_body id r)
 taken_by (Asks session q (Err why)) = []
 taken_by (Ends session) = []

@@ -50,33 +50,34 @@ done_with handle (Err why) = Err why
 
 -- the last file's handle, once an item is made
 abbrev pub settled_by : ℕ → Item → Result Reply TreeFault → Result ℕ TreeFault
-settled_by handle (item.Directory path) came = done_with handle came
-settled_by handle (item.DirectoryAttributes path attrs) came = done_with handle came
-settled_by handle (item.File path) came = opened_by came
-settled_by handle (item.Bytes offset bytes) came = done_with handle came
-settled_by handle (item.FileAttributes attrs) came = done_with handle came
-settled_by handle item.FileEnd came = done_with handle came
+settled_by handle (item.Directory path) outcome = done_with handle outcome
+settled_by handle (item.DirectoryAttributes path attrs) outcome = done_with handle outcome
+settled_by handle (item.File path) outcome = opened_by outcome
+settled_by handle (item.Bytes offset bytes) outcome = done_with handle outcome
+settled_by handle (item.FileAttributes attrs) outcome = done_with handle outcome
+settled_by handle item.FileEnd outcome = done_with handle outcome
 
 -- The items were made, in order, each by its request; and the handle of the last file then.
 unfoldable pub Makes : (session handle : ℕ) → List Item → List Operation → (last : ℕ) → Type 0
 Makes session handle [] operations last = (operations ≡ []) × (last ≡ handle)
-Makes session handle (x ∷ xs) operations last = (came : Result Reply TreeFault) × (after : ℕ)
-    × (rest : List Operation) × (operations ≡ Asks session (request_of (be64 handle) x) came ∷ rest)
-    × (settled_by handle x came ≡ Ok after) × Makes session after xs rest last
+Makes session handle (x ∷ xs) operations last = (outcome : Result Reply TreeFault) × (after : ℕ)
+    × (rest : List Operation)
+    × (operations ≡ Asks session (request_of (be64 handle) x) outcome ∷ rest)
+    × (settled_by handle x outcome ≡ Ok after) × Makes session after xs rest last
 
 -- One item was taken, and made, or refused; or there was none, or the folder failed.
 abbrev pub Turns : (session handle : ℕ) → (old new : Option (List Item)) → List Operation
     → Result (Option ℕ) LoadFault → Type 0
 Turns session handle old new operations (Ok (Some after)) = (x : Item)
-    × (came : Result Reply TreeFault)
-    × Gives old (x ∷ []) new × (operations ≡ Asks session (request_of (be64 handle) x) came ∷ [])
-    × (settled_by handle x came ≡ Ok after)
+    × (outcome : Result Reply TreeFault)
+    × Gives old (x ∷ []) new × (operations ≡ Asks session (request_of (be64 handle) x) outcome ∷ [])
+    × (settled_by handle x outcome ≡ Ok after)
 Turns session handle old new operations (Ok None) = HasNone old new × (operations ≡ [])
 Turns session handle old new operations (Err (fault.Folder why)) = operations ≡ []
 Turns session handle old new operations (Err (fault.Server why)) = (x : Item)
-    × (came : Result Reply TreeFault) × Gives old (x ∷ []) new
-    × (operations ≡ Asks session (request_of (be64 handle) x) came ∷ [])
-    × (settled_by handle x came ≡ Err why)
+    × (outcome : Result Reply TreeFault) × Gives old (x ∷ []) new
+    × (operations ≡ Asks session (request_of (be64 handle) x) outcome ∷ [])
+    × (settled_by handle x outcome ≡ Err why)
 
 -- the last turn
 abbrev pub EndsBy : (session handle : ℕ) → (old new : Option (List Item)) → List Operation

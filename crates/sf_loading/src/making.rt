@@ -77,10 +77,10 @@ fn refusal_of(reply: &Reply) -> TreeFault
 }
 
 /// The handle of a file that was opened.
-fn opened_by(came: &Result<Reply, TreeFault>) -> Result<u64, TreeFault>
-    ensures { result ≡ opened_by came.now }
+fn opened_by(outcome: &Result<Reply, TreeFault>) -> Result<u64, TreeFault>
+    ensures { result ≡ opened_by outcome.now }
 {
-    match came {
+    match outcome {
         Ok(Reply::Handle(number)) => Ok(*number),
         Ok(reply) => Err(refusal_of(reply)),
         Err(fault) => Err(*fault),
@@ -88,10 +88,10 @@ fn opened_by(came: &Result<Reply, TreeFault>) -> Result<u64, TreeFault>
 }
 
 /// The handle that there was, if the request was done.
-fn done_with(handle: u64, came: &Result<Reply, TreeFault>) -> Result<u64, TreeFault>
-    ensures { result ≡ done_with handle came.now }
+fn done_with(handle: u64, outcome: &Result<Reply, TreeFault>) -> Result<u64, TreeFault>
+    ensures { result ≡ done_with handle outcome.now }
 {
-    match came {
+    match outcome {
         Ok(Reply::Status(StatusCode::Success)) => Ok(handle),
         Ok(reply) => Err(refusal_of(reply)),
         Err(fault) => Err(*fault),
@@ -99,12 +99,16 @@ fn done_with(handle: u64, came: &Result<Reply, TreeFault>) -> Result<u64, TreeFa
 }
 
 /// The last file's handle, once an item is made.
-fn settled_by(handle: u64, item: &Item, came: &Result<Reply, TreeFault>) -> Result<u64, TreeFault>
-    ensures { result ≡ settled_by handle item.now came.now }
+fn settled_by(
+    handle: u64,
+    item: &Item,
+    outcome: &Result<Reply, TreeFault>,
+) -> Result<u64, TreeFault>
+    ensures { result ≡ settled_by handle item.now outcome.now }
 {
     match item {
-        Item::File(_) => opened_by(came),
-        _ => done_with(handle, came),
+        Item::File(_) => opened_by(outcome),
+        _ => done_with(handle, outcome),
     }
 }
 
@@ -114,8 +118,8 @@ fn make<S: Server>(server: &mut S, session: u64, handle: u64, item: &Item) -> Re
         (IsAsked session (request_of (be64 handle) item.now) (settled_by handle item.now)) result }
 {
     let text = handle.to_be_bytes();
-    let came = server.ask(session, &request_of(&text, item));
-    settled_by(handle, item, &came)
+    let outcome = server.ask(session, &request_of(&text, item));
+    settled_by(handle, item, &outcome)
 }
 
 /// Takes the next item and makes it; nothing where there is none.

@@ -17,10 +17,9 @@ use Rattle.sf_core.specs.Owners.{OwnsCalls}
 use Rattle.sf_core.specs.Events.{Before, After, Fetches, Decides, Joins, CallBegins, Leaves, TakesStep}
 use Rattle.sf_audit.specs.Audits.{call_records}
 use Rattle.sf_roll.proofs.Laws.{get_set, get_set_else}
-use Rattle.sf_noted.specs.Pages.{Page}
-use Rattle.sf_noted.specs.Pages.Presence.{BetweenCalls, Calling, Departed}
+use Rattle.sf_noted.specs.Pages.{begun_call, Page}
 use Rattle.sf_noted.specs.PageChanges.{page, fresh_page}
-use Rattle.sf_noted.specs.Noted.{waiting_for, waits_in, presence_in, FitsPage, PagesAgree}
+use Rattle.sf_noted.specs.Noted.{waiting_for, waits_in, noted_state, FitsPage, PagesAgree}
 use Rattle.sf_noted.proofs.Lists.{within, one_there, at_end, length_set}
 use Rattle.sf_noted.proofs.Records.{records_append}
 use Rattle.sf_noted.proofs.Keeping.{others_step, idle_of}
@@ -40,7 +39,7 @@ sets v w pages h h' a hist joins place p p' at fits others later = record {
 }
 
 fit_kept : (v w : CoreView) (h : List Record) (s : ℕ) (p : Page) → lane_state w s ≡ lane_state v s → FitsPage v h s p → FitsPage w h s p
-fit_kept v w h s p same f = record { presence = ap presence_in same ∙ f.presence; told = f.told ∙ ap (λ l. p.told ++ waits_in l) (sym same) }
+fit_kept v w h s p same f = record { state = ap noted_state same ∙ f.state; told = f.told ∙ ap (λ l. p.told ++ waits_in l) (sym same) }
 
 -- ---- a session joins
 pub joins : (v w : CoreView) (pages : List Page) (h : List Record) → PagesAgree v pages h → IsHistory w h → Joins v w → PagesAgree w (pages ++ fresh_page ∷ []) h
@@ -58,33 +57,33 @@ joins v w pages h a hist j =
           let is : u + 1 ≡ v.joins + 1 = ap (λ k. k + 1) (new.0 ∙ len) in
           let idle : lane_state w (u + 1) ≡ Idle = ap (lane_state w) is ∙ j.own in
           let none : call_records (u + 1) h ≡ [] = a.later (u + 1) (let e = is in omega arith) in
-          subst (FitsPage w h (u + 1)) new.1 (record { presence = ap presence_in idle; told = none ∙ ap waits_in (sym idle) }))
+          subst (FitsPage w h (u + 1)) new.1 (record { state = ap noted_state idle; told = none ∙ ap waits_in (sym idle) }))
           (at_end pages fresh_page q u e);
       later = λ s less. a.later s (omega arith);
     }
 
 -- ---- a call begins
-pub idle_there : (v : CoreView) (pages : List Page) (h : List Record) → PagesAgree v pages h → (place : ℕ) (p : Page) → slice_get pages place ≡ Some p → p.presence ≡ BetweenCalls → lane_state v (place + 1) ≡ Idle
-idle_there v pages h a place p at rests = idle_of (lane_state v (place + 1)) ((a.each place p at).presence ∙ rests)
+pub idle_there : (v : CoreView) (pages : List Page) (h : List Record) → PagesAgree v pages h → (place : ℕ) (p : Page) → slice_get pages place ≡ Some p → p.state ≡ Idle → lane_state v (place + 1) ≡ Idle
+idle_there v pages h a place p at rests = idle_of (lane_state v (place + 1)) ((a.each place p at).state ∙ rests)
 
 pub begins : (v w : CoreView) (lane : LaneView) (request : Request) (moment : ℕ) (pages : List Page) (h : List Record) → PagesAgree v pages h → IsHistory w h → CallBegins v w lane request moment
-    → (place : ℕ) (p : Page) → slice_get pages place ≡ Some p → lane.session ≡ place + 1 → p.presence ≡ BetweenCalls → (number : ℕ) → number ≡ w.drawn
-    → PagesAgree w (slice_set pages place (page (Calling number moment request) p.told)) h
+    → (place : ℕ) (p : Page) → slice_get pages place ≡ Some p → lane.session ≡ place + 1 → p.state ≡ Idle → (number : ℕ) → number ≡ w.drawn
+    → PagesAgree w (slice_set pages place (page (Busy (begun_call number moment request)) p.told)) h
 begins v w lane request moment pages h a hist b place p at is rests number drawn =
     let idle = idle_there v pages h a place p at rests in
     let c = new_call (v.drawn + 1) lane.session moment request in
     let own : lane_state w (place + 1) ≡ Busy c = ap (lane_state w) (sym is) ∙ b.own in
     let f = a.each place p at in
-    sets v w pages h h a hist b.joins place p (page (Calling number moment request) p.told) at
+    sets v w pages h h a hist b.joins place p (page (Busy (begun_call number moment request)) p.told) at
     (record {
-      presence = ap presence_in own ∙ ap (λ n. Calling n moment request) (sym (drawn ∙ b.drawn));
+      state = ap noted_state own ∙ ap (λ n. Busy (begun_call n moment request)) (sym (drawn ∙ b.drawn));
       told = f.told ∙ (ap (λ l. p.told ++ waits_in l) idle ∙ ap (λ l. p.told ++ l) (sym (ap waits_in own ∙ ap (waiting_for c) b.fresh.0)));
     })
     (λ s apart q g. fit_kept v w h s q (b.others s (λ e. apart (e ∙ is))) g)
     (λ s less. a.later s less)
 
 -- ---- a step
-pub joins_stay : (b : Before) (came : Step) (a : After) → TakesStep b came a → (a.core.joins ≡ b.core.joins) × (a.core.drawn ≡ b.core.drawn)
+pub joins_stay : (b : Before) (made : Step) (a : After) → TakesStep b made a → (a.core.joins ≡ b.core.joins) × (a.core.drawn ≡ b.core.drawn)
 joins_stay b Moved a (inl x) = (x.0.2.slot.joins, x.0.2.slot.drawn)
 joins_stay b Moved a (inr (inl x)) = (x.3.slot.joins, x.3.slot.drawn)
 joins_stay b Moved a (inr (inr x)) = (x.0.2.slot.joins, x.0.2.slot.drawn)
@@ -95,56 +94,56 @@ joins_stay b (Answered given) a x = ⊎_elim
     x.0.1
 joins_stay b Stranger a x = (ap (λ (v : CoreView). v.joins) x.1, ap (λ (v : CoreView). v.drawn) x.1)
 
-pub steps : (b : Before) (came : Step) (a : After) (pages : List Page) → TakesStep b came a → OwnsCalls b.core → OwnsCalls a.core → IsHistory a.core (b.history ++ a.added) → PagesAgree b.core pages b.history
+pub steps : (b : Before) (made : Step) (a : After) (pages : List Page) → TakesStep b made a → OwnsCalls b.core → OwnsCalls a.core → IsHistory a.core (b.history ++ a.added) → PagesAgree b.core pages b.history
     → (place : ℕ) (p p' : Page) → slice_get pages place ≡ Some p → b.lane.session ≡ place + 1 → FitsPage a.core (b.history ++ a.added) b.lane.session p' → PagesAgree a.core (slice_set pages place p') (b.history ++ a.added)
-steps b came a pages takes before after hist agrees place p p' at is fits =
-    let stay = joins_stay b came a takes in
+steps b made a pages takes before after hist agrees place p p' at is fits =
+    let stay = joins_stay b made a takes in
     let len = agrees.joins in
     let n = within pages place p at in
     sets b.core a.core pages b.history (b.history ++ a.added) agrees hist stay.0 place p p' at (subst (λ s. FitsPage a.core (b.history ++ a.added) s p') is fits)
-    (λ s apart q f. others_step b came a takes before after hist s (λ e. apart (e ∙ is)) q f)
+    (λ s apart q f. others_step b made a takes before after hist s (λ e. apart (e ∙ is)) q f)
     (λ s less.
     let apart : s ≢ b.lane.session = λ e. let e' = e ∙ is in omega arith in
     let gone : lane_state b.core s ≡ NoLane = before.later s less in
-    let f = others_step b came a takes before after hist s apart (page Departed []) (record { presence = ap presence_in gone; told = agrees.later s less ∙ ap waits_in (sym gone) }) in
+    let f = others_step b made a takes before after hist s apart (page NoLane []) (record { state = ap noted_state gone; told = agrees.later s less ∙ ap waits_in (sym gone) }) in
     f.told ∙ ap waits_in (after.later s (subst (λ j. j < s) (sym stay.0) less)))
 
 -- what fits a session goes on to, after a step that doesn't answer
-fits_on : (b : Before) (came : Step) (a : After) → TakesStep b came a → OwnsCalls b.core → OwnsCalls a.core → IsHistory a.core (b.history ++ a.added) → ((p : Page) → FitsPage b.core b.history b.lane.session p → FitsPage a.core (b.history ++ a.added) b.lane.session p)
+fits_on : (b : Before) (made : Step) (a : After) → TakesStep b made a → OwnsCalls b.core → OwnsCalls a.core → IsHistory a.core (b.history ++ a.added) → ((p : Page) → FitsPage b.core b.history b.lane.session p → FitsPage a.core (b.history ++ a.added) b.lane.session p)
     → (s : ℕ) (p : Page) → FitsPage b.core b.history s p → FitsPage a.core (b.history ++ a.added) s p
-fits_on b came a takes before after hist own s p f =
+fits_on b made a takes before after hist own s p f =
     dite (ℕ_discrete s b.lane.session)
     (λ same. subst (λ k. FitsPage a.core (b.history ++ a.added) k p) (sym same) (own p (subst (λ k. FitsPage b.core b.history k p) same f)))
-    (λ apart. others_step b came a takes before after hist s apart p f)
+    (λ apart. others_step b made a takes before after hist s apart p f)
 
-pub step_goes : (b : Before) (came : Step) (a : After) (pages : List Page) → TakesStep b came a → OwnsCalls b.core → OwnsCalls a.core → IsHistory a.core (b.history ++ a.added) → PagesAgree b.core pages b.history
+pub step_goes : (b : Before) (made : Step) (a : After) (pages : List Page) → TakesStep b made a → OwnsCalls b.core → OwnsCalls a.core → IsHistory a.core (b.history ++ a.added) → PagesAgree b.core pages b.history
     → ((p : Page) → FitsPage b.core b.history b.lane.session p → FitsPage a.core (b.history ++ a.added) b.lane.session p) → PagesAgree a.core pages (b.history ++ a.added)
-step_goes b came a pages takes before after hist agrees own =
-    let stay = joins_stay b came a takes in
-    let on = fits_on b came a takes before after hist own in
+step_goes b made a pages takes before after hist agrees own =
+    let stay = joins_stay b made a takes in
+    let on = fits_on b made a takes before after hist own in
     record {
       history = hist;
       joins = agrees.joins ∙ sym stay.0;
       each = λ u q e. on (u + 1) q (agrees.each u q e);
       later = λ s less.
           let gone : lane_state b.core s ≡ NoLane = before.later s (subst (λ j. j < s) stay.0 less) in
-          let f = on s (page Departed []) (record { presence = ap presence_in gone; told = agrees.later s (subst (λ j. j < s) stay.0 less) ∙ ap waits_in (sym gone) }) in
+          let f = on s (page NoLane []) (record { state = ap noted_state gone; told = agrees.later s (subst (λ j. j < s) stay.0 less) ∙ ap waits_in (sym gone) }) in
           f.told ∙ ap waits_in (after.later s less);
     }
 
 -- ---- a session leaves
-pub leaves : (v w : CoreView) (session : ℕ) (pages : List Page) (h : List Record) → PagesAgree v pages h → IsHistory w (h ++ Left session ∷ []) → Leaves v w session → (place : ℕ) (p : Page) → slice_get pages place ≡ Some p → session ≡ place + 1 → p.presence ≡ BetweenCalls
-    → PagesAgree w (slice_set pages place (page Departed p.told)) (h ++ Left session ∷ [])
+pub leaves : (v w : CoreView) (session : ℕ) (pages : List Page) (h : List Record) → PagesAgree v pages h → IsHistory w (h ++ Left session ∷ []) → Leaves v w session → (place : ℕ) (p : Page) → slice_get pages place ≡ Some p → session ≡ place + 1 → p.state ≡ Idle
+    → PagesAgree w (slice_set pages place (page NoLane p.told)) (h ++ Left session ∷ [])
 leaves v w session pages h a hist l place p at is rests =
     let idle = idle_there v pages h a place p at rests in
     let gone : lane_state w (place + 1) ≡ NoLane = ap (lane_state w) (sym is) ∙ l.own in
     let same : (s : ℕ) → call_records s (h ++ Left session ∷ []) ≡ call_records s h = λ s. records_append s h (Left session ∷ []) ∙ append-nil (call_records s h) in
     let f = a.each place p at in
-    sets v w pages h (h ++ Left session ∷ []) a hist l.joins place p (page Departed p.told) at
-    (record { presence = ap presence_in gone; told = same (place + 1) ∙ (f.told ∙ (ap (λ x. p.told ++ waits_in x) idle ∙ ap (λ x. p.told ++ waits_in x) (sym gone))) })
+    sets v w pages h (h ++ Left session ∷ []) a hist l.joins place p (page NoLane p.told) at
+    (record { state = ap noted_state gone; told = same (place + 1) ∙ (f.told ∙ (ap (λ x. p.told ++ waits_in x) idle ∙ ap (λ x. p.told ++ waits_in x) (sym gone))) })
     (λ s apart q g.
     let k = fit_kept v w h s q (l.others s (λ e. apart (e ∙ is))) g in
-    record { presence = k.presence; told = same s ∙ k.told })
+    record { state = k.state; told = same s ∙ k.told })
     (λ s less. same s ∙ a.later s less)
 
 -- ---- the end

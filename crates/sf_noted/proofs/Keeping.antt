@@ -4,7 +4,6 @@ use Rattle.std.specs.List.{AllByRecursion}
 use mathlib.Core.Logic.{dite}
 use native.Mathlib.Decide.{ℕ_discrete}
 use Rattle.sf_reply.specs.declared.reply.Reply.{Reply}
-use Rattle.sf_call.specs.declared.request.Request.{Request}
 use Rattle.sf_call.specs.declared.call.Call.{Call}
 use Rattle.sf_call.specs.declared.record.Record.{Record}
 use Rattle.sf_call.specs.declared.record.Record.TheVariants.{Did, Left}
@@ -20,11 +19,9 @@ use Rattle.sf_core.specs.Histories.{IsHistory}
 use Rattle.sf_core.specs.Owners.{OwnsCalls}
 use Rattle.sf_core.specs.Events.{Before, After, OwnCall, Fetches, IsFinished, IsHelped, IsOfOther, Decides, TakesStep}
 use Rattle.sf_audit.specs.Audits.{CallRecord, call_records}
-use Rattle.sf_noted.specs.Pages.{Page}
-use Rattle.sf_noted.specs.Pages.{Presence}
-use Rattle.sf_noted.specs.Pages.Presence.{BetweenCalls, Calling, Departed}
+use Rattle.sf_noted.specs.Pages.{BegunCall, begun_call, Page}
 use Rattle.sf_noted.specs.PageChanges.{page, as_told, IsUnderWay}
-use Rattle.sf_noted.specs.Noted.{told_of, waiting_for, waits_in, presence_in, FitsPage, number_in, lane_of}
+use Rattle.sf_noted.specs.Noted.{told_of, waiting_for, waits_in, noted_state, FitsPage, number_in, lane_of}
 use Rattle.sf_noted.proofs.Records.{records_append, other_did, own_record, other_record, among_behind, among_front, not_new, new_before, legal_behind, legal_front, among_last}
 
 some_is : {A : Type 0} (a b : A) → Some a ≡ Some b → a ≡ b
@@ -33,22 +30,22 @@ some_is a b e = cc
 none_is_some : {A : Type 0} (o : Option A) (a : A) → o ≡ None → o ≡ Some a → ⊥
 none_is_some o a e f = absurd (let x : ⊥ = cc in x)
 
-one_call : (l : LaneState) (c d : Call) → l ≡ Busy c → l ≡ Busy d → c ≡ d
+one_call : (l : LaneState Call) (c d : Call) → l ≡ Busy c → l ≡ Busy d → c ≡ d
 one_call l c d e f = let x : Busy c ≡ Busy d = sym e ∙ f in cc
 
 -- what a session's page has to fit, once its lane is in another state and records of it were added
-fit_more : (v w : CoreView) (h added : List Record) (s : ℕ) (p : Page) (more : List CallRecord) → call_records s added ≡ more → presence_in (lane_state w s) ≡ presence_in (lane_state v s) → waits_in (lane_state w s) ≡ waits_in (lane_state v s) ++ more
+fit_more : (v w : CoreView) (h added : List Record) (s : ℕ) (p : Page) (more : List CallRecord) → call_records s added ≡ more → noted_state (lane_state w s) ≡ noted_state (lane_state v s) → waits_in (lane_state w s) ≡ waits_in (lane_state v s) ++ more
     → FitsPage v h s p → FitsPage w (h ++ added) s p
 fit_more v w h added s p more has stands waits f = record {
-  presence = stands ∙ f.presence;
+  state = stands ∙ f.state;
   told = records_append s h added ∙ ((λ i. f.told i ++ has i) ∙ (append_assoc p.told (waits_in (lane_state v s)) more ∙ ap (λ x. p.told ++ x) (sym waits)));
 }
 
 fit_same : (v w : CoreView) (h added : List Record) (s : ℕ) (p : Page) → call_records s added ≡ [] → lane_state w s ≡ lane_state v s → FitsPage v h s p → FitsPage w (h ++ added) s p
-fit_same v w h added s p none same f = fit_more v w h added s p [] none (ap presence_in same) (ap waits_in same ∙ sym (append-nil (waits_in (lane_state v s)))) f
+fit_same v w h added s p none same f = fit_more v w h added s p [] none (ap noted_state same) (ap waits_in same ∙ sym (append-nil (waits_in (lane_state v s)))) f
 
-same_presence : (c d : Call) → SameCall c d → presence_in (Busy d) ≡ presence_in (Busy c)
-same_presence c d e = λ i. Calling (e.number i) (e.moment i) (e.request i)
+same_state : (c d : Call) → SameCall c d → noted_state (Busy d) ≡ noted_state (Busy c)
+same_state c d e = λ i. Busy (begun_call (e.number i) (e.moment i) (e.request i))
 
 same_told : (c d : Call) (given : Reply) → SameCall c d → told_of d given ≡ told_of c given
 same_told c d given e = λ i. record { number = e.number i; request = e.request i; reply = given }
@@ -120,13 +117,13 @@ others_decided b a c given d before after hist s ne p f =
     let legal = legal_front b.history d.helped (did c given ∷ []) (subst (IsLegalAfter b.history) d.records (legal_behind b.history a.added hist.legal)) in
     let one = one_helped b.core b.lane.session s b.history d.helped h.before h.given d.of_others legal h.was (before.session s h.before h.was) h.recorded in
     fit_more b.core a.core b.history a.added s p (told_of h.before h.given ∷ []) (last ∙ one)
-    (ap presence_in h.now ∙ (same_presence h.before h.after h.same ∙ sym (ap presence_in h.was)))
+    (ap noted_state h.now ∙ (same_state h.before h.after h.same ∙ sym (ap noted_state h.was)))
     (ap waits_in h.now ∙ (one_waits h.after h.given h.decided ∙ (ap (λ x. x ∷ []) (same_told h.before h.after h.given h.same) ∙ sym (ap (λ x. x ++ told_of h.before h.given ∷ []) (ap waits_in h.was ∙ none_waits h.before h.undecided)))))
     f)
     (λ (h : IsFinished b.core a.core s d.helped).
     let none = none_helped b.core b.lane.session s d.helped d.of_others (λ e g busy none among. none_is_some (waiting_reply e) h.given none (subst (λ (x : Call). waiting_reply x ≡ Some h.given) (one_call (lane_state b.core s) h.before e h.was busy) h.had)) in
     fit_more b.core a.core b.history a.added s p [] (last ∙ none)
-    (ap presence_in h.now ∙ (same_presence h.before h.after h.same ∙ sym (ap presence_in h.was)))
+    (ap noted_state h.now ∙ (same_state h.before h.after h.same ∙ sym (ap noted_state h.was)))
     (ap waits_in h.now ∙ (one_waits h.after h.given h.has ∙ (ap (λ x. x ∷ []) (same_told h.before h.after h.given h.same) ∙ (sym (one_waits h.before h.given h.had) ∙ (sym (ap waits_in h.was) ∙ sym (append-nil (waits_in (lane_state b.core s))))))))
     f)
     rest)
@@ -135,7 +132,7 @@ others_decided b a c given d before after hist s ne p f =
 no_added : (s : ℕ) (added : List Record) → added ≡ [] → call_records s added ≡ []
 no_added s added e = ap (call_records s) e
 
-pub others_step : (b : Before) (came : Step) (a : After) → TakesStep b came a → OwnsCalls b.core → OwnsCalls a.core → IsHistory a.core (b.history ++ a.added) → (s : ℕ) → s ≢ b.lane.session → (p : Page) → FitsPage b.core b.history s p → FitsPage a.core (b.history ++ a.added) s p
+pub others_step : (b : Before) (made : Step) (a : After) → TakesStep b made a → OwnsCalls b.core → OwnsCalls a.core → IsHistory a.core (b.history ++ a.added) → (s : ℕ) → s ≢ b.lane.session → (p : Page) → FitsPage b.core b.history s p → FitsPage a.core (b.history ++ a.added) s p
 others_step b Moved a (inl x) before after hist s ne p f = fit_same b.core a.core b.history a.added s p (no_added s a.added x.1.none) (x.0.2.slot.others s ne) f
 others_step b Moved a (inr (inl x)) before after hist s ne p f =
     let w = x.3 in
@@ -150,7 +147,7 @@ others_step b (Answered given) a x before after hist s ne p f =
 others_step b Stranger a x before after hist s ne p f = fit_same b.core a.core b.history a.added s p (no_added s a.added x.2.none) (ap (λ (v : CoreView). lane_state v s) x.1) f
 
 -- ---- a step, to its own session
-empty_more : (l m : LaneState) → waits_in m ≡ waits_in l → waits_in m ≡ waits_in l ++ []
+empty_more : (l m : LaneState Call) → waits_in m ≡ waits_in l → waits_in m ≡ waits_in l ++ []
 empty_more l m e = e ∙ sym (append-nil (waits_in l))
 
 pub own_goes : (b : Before) (a : After) → TakesStep b Moved a → (p : Page) → FitsPage b.core b.history b.lane.session p → FitsPage a.core (b.history ++ a.added) b.lane.session p
@@ -160,7 +157,7 @@ own_goes b a (inl x) p f =
     let was = ap waits_in g.own.slot ∙ none_waits x.0.0 g.before in
     let now = ap waits_in g.slot.own ∙ none_waits x.0.1 g.after in
     fit_more b.core a.core b.history a.added s p [] (no_added s a.added x.1.none)
-    (ap presence_in g.slot.own ∙ (same_presence x.0.0 x.0.1 g.same ∙ sym (ap presence_in g.own.slot)))
+    (ap noted_state g.slot.own ∙ (same_state x.0.0 x.0.1 g.same ∙ sym (ap noted_state g.own.slot)))
     (empty_more (lane_state b.core s) (lane_state a.core s) (now ∙ sym was)) f
 own_goes b a (inr (inl x)) p f =
     let s = b.lane.session in
@@ -168,7 +165,7 @@ own_goes b a (inr (inl x)) p f =
     let was = ap waits_in w.own.slot ∙ none_waits x.0 w.undecided in
     let now = ap waits_in w.slot.own ∙ (one_waits x.1 x.2 w.decided ∙ ap (λ y. y ∷ []) (same_told x.0 x.1 x.2 w.same)) in
     fit_more b.core a.core b.history a.added s p (told_of x.0 x.2 ∷ []) (ap (call_records s) w.records ∙ own_record s x.0 x.2 [] w.own.session)
-    (ap presence_in w.slot.own ∙ (same_presence x.0 x.1 w.same ∙ sym (ap presence_in w.own.slot)))
+    (ap noted_state w.slot.own ∙ (same_state x.0 x.1 w.same ∙ sym (ap noted_state w.own.slot)))
     (now ∙ sym (ap (λ y. y ++ told_of x.0 x.2 ∷ []) was)) f
 own_goes b a (inr (inr x)) p f =
     let s = b.lane.session in
@@ -176,23 +173,23 @@ own_goes b a (inr (inr x)) p f =
     let was = ap waits_in w.own.slot ∙ one_waits x.0.0 w.given w.had in
     let now = ap waits_in w.slot.own ∙ (one_waits x.0.1 w.given w.has ∙ ap (λ y. y ∷ []) (same_told x.0.0 x.0.1 w.given w.same)) in
     fit_more b.core a.core b.history a.added s p [] (no_added s a.added x.1.none)
-    (ap presence_in w.slot.own ∙ (same_presence x.0.0 x.0.1 w.same ∙ sym (ap presence_in w.own.slot)))
+    (ap noted_state w.slot.own ∙ (same_state x.0.0 x.0.1 w.same ∙ sym (ap noted_state w.own.slot)))
     (empty_more (lane_state b.core s) (lane_state a.core s) (now ∙ sym was)) f
 
 pub own_waits : (b : Before) (holder : ℕ) (a : After) → TakesStep b (Blocked holder) a → (p : Page) → FitsPage b.core b.history b.lane.session p → FitsPage a.core (b.history ++ a.added) b.lane.session p
 own_waits b holder a x p f = fit_same b.core a.core b.history a.added b.lane.session p (no_added b.lane.session a.added x.1.none) (x.0.1.looks.slots b.lane.session) f
 
 -- the lane's call was answered so, and its record is the next of the session's
-fits_answer : (v w : CoreView) (h added : List Record) (s : ℕ) (p : Page) (c : Call) (given : Reply) → lane_state v s ≡ Busy c → lane_state w s ≡ Idle → waits_in (Busy c) ++ call_records s added ≡ told_of c given ∷ [] → FitsPage v h s p → FitsPage w (h ++ added) s (page BetweenCalls (p.told ++ as_told p.presence given))
+fits_answer : (v w : CoreView) (h added : List Record) (s : ℕ) (p : Page) (c : Call) (given : Reply) → lane_state v s ≡ Busy c → lane_state w s ≡ Idle → waits_in (Busy c) ++ call_records s added ≡ told_of c given ∷ [] → FitsPage v h s p → FitsPage w (h ++ added) s (page Idle (p.told ++ as_told p.state given))
 fits_answer v w h added s p c given was now has f =
-    let stands : as_told p.presence given ≡ told_of c given ∷ [] = ap (λ st. as_told st given) (sym f.presence ∙ ap presence_in was) in
+    let stands : as_told p.state given ≡ told_of c given ∷ [] = ap (λ st. as_told st given) (sym f.state ∙ ap noted_state was) in
     record {
-      presence = ap presence_in now;
+      state = ap noted_state now;
       told = records_append s h added ∙ (ap (λ x. x ++ call_records s added) (f.told ∙ ap (λ l. p.told ++ waits_in l) was) ∙ (append_assoc p.told (waits_in (Busy c)) (call_records s added)
-          ∙ (ap (λ x. p.told ++ x) (has ∙ sym stands) ∙ (sym (append-nil (p.told ++ as_told p.presence given)) ∙ ap (λ l. (p.told ++ as_told p.presence given) ++ waits_in l) (sym now)))));
+          ∙ (ap (λ x. p.told ++ x) (has ∙ sym stands) ∙ (sym (append-nil (p.told ++ as_told p.state given)) ∙ ap (λ l. (p.told ++ as_told p.state given) ++ waits_in l) (sym now)))));
     }
 
-pub own_answers : (b : Before) (given : AnswerView) (a : After) → TakesStep b (Answered given) a → (p : Page) → FitsPage b.core b.history b.lane.session p → FitsPage a.core (b.history ++ a.added) b.lane.session (page BetweenCalls (p.told ++ as_told p.presence given.reply))
+pub own_answers : (b : Before) (given : AnswerView) (a : After) → TakesStep b (Answered given) a → (p : Page) → FitsPage b.core b.history b.lane.session p → FitsPage a.core (b.history ++ a.added) b.lane.session (page Idle (p.told ++ as_told p.state given.reply))
 own_answers b given a x p f =
     let s = b.lane.session in
     let c = x.0.0 in
@@ -204,23 +201,23 @@ own_answers b given a x p f =
     x.0.1
 
 -- ---- what a page tells of the core
-pub busy_of : (l : LaneState) (number moment : ℕ) (request : Request) → presence_in l ≡ Calling number moment request → (c : Call) × (l ≡ Busy c) × (c.number ≡ number)
-busy_of NoLane number moment request e = absurd cc
-busy_of Idle number moment request e = absurd cc
-busy_of (Busy c) number moment request e = (c, refl, cc)
+pub busy_of : (l : LaneState Call) (call : BegunCall) → noted_state l ≡ Busy call → (c : Call) × (l ≡ Busy c) × (c.number ≡ call.number)
+busy_of NoLane call e = absurd cc
+busy_of Idle call e = absurd cc
+busy_of (Busy c) call e = (c, refl, some_is c.number call.number (ap number_in e))
 
-pub idle_of : (l : LaneState) → presence_in l ≡ BetweenCalls → l ≡ Idle
+pub idle_of : (l : LaneState Call) → noted_state l ≡ Idle → l ≡ Idle
 idle_of NoLane e = absurd cc
 idle_of Idle e = refl
 idle_of (Busy c) e = absurd cc
 
 -- the lane is no stranger's
-pub not_strange : (v : CoreView) (h : List Record) (lane : LaneView) (place : ℕ) (p : Page) → OwnsCalls v → FitsPage v h lane.session p → lane ≡ lane_of (place + 1, p) → IsUnderWay p.presence → ((c : Call) → OwnCall v lane c → ⊥) → ⊥
-not_strange v h lane place p owns f is has never = by_presence p.presence refl has
+pub not_strange : (v : CoreView) (h : List Record) (lane : LaneView) (place : ℕ) (p : Page) → OwnsCalls v → FitsPage v h lane.session p → lane ≡ lane_of (place + 1, p) → IsUnderWay p.state → ((c : Call) → OwnCall v lane c → ⊥) → ⊥
+not_strange v h lane place p owns f is has never = by_state p.state refl has
   where
-    by_presence : (st : Presence) → p.presence ≡ st → IsUnderWay st → ⊥
-    by_presence (Calling number moment request) e has =
-        let x = busy_of (lane_state v lane.session) number moment request (f.presence ∙ e) in
+    by_state : (st : LaneState BegunCall) → p.state ≡ st → IsUnderWay st → ⊥
+    by_state (Busy call) e has =
+        let x = busy_of (lane_state v lane.session) call (f.state ∙ e) in
         never x.0 (record { slot = x.1; session = owns.session lane.session x.0 x.1; number = ap (λ (l : LaneView). l.call) is ∙ (ap number_in e ∙ ap Some (sym x.2)) })
-    by_presence BetweenCalls e has = absurd has
-    by_presence Departed e has = absurd has
+    by_state Idle e has = absurd has
+    by_state NoLane e has = absurd has

@@ -2,13 +2,12 @@
 use Rattle.std.proofs.Common.{◌≡◌, ◌+◌, ◌-◌, ◌^◌, ◌++◌, ◌∷◌, [], ℕ, min, length, None, refl, sym, ap, ◌∙◌, subst, inl, inr, length-append}
 use Rattle.sf_reply.specs.declared.reply.Reply.{Reply}
 use Rattle.sf_core.specs.Lanes.{LaneView, at_rest}
-use Rattle.sf_core.specs.Cores.{CoreView}
+use Rattle.sf_core.specs.Cores.{CoreView, LaneState}
+use Rattle.sf_core.specs.Cores.LaneState.{NoLane, Idle, Busy}
 use Rattle.sf_core.specs.declared.step.Step.{Step}
 use Rattle.sf_core.specs.declared.step.Step.TheVariants.{Moved}
 use Rattle.sf_core.specs.Events.{Before, After, TakesStep, StepsOn}
-use Rattle.sf_noted.specs.Pages.{Page}
-use Rattle.sf_noted.specs.Pages.{Presence}
-use Rattle.sf_noted.specs.Pages.Presence.{BetweenCalls, Calling, Departed}
+use Rattle.sf_noted.specs.Pages.{BegunCall, Page}
 use Rattle.sf_noted.specs.PageChanges.{page, as_told, IsUnderWay}
 use Rattle.sf_noted.specs.Noted.{number_in, begun_by, lane_of}
 
@@ -20,26 +19,26 @@ pub lane_seen : (lane : LaneView) (place : ℕ) (p : Page) → lane ≡ lane_of 
 lane_seen lane place p is = ap (λ s. lane_of (s, p)) (own_place lane place p is) ∙ sym is
 
 -- so many calls were told, and the session stands so
-abbrev lane_at : ℕ → ℕ → Presence → LaneView
-lane_at s told presence = record { session = s; call = number_in presence; begun = begun_by presence told }
+abbrev lane_at : ℕ → ℕ → LaneState BegunCall → LaneView
+lane_at s told state = record { session = s; call = number_in state; begun = begun_by state told }
 
-pub answers_lane : (s : ℕ) (p : Page) (given : Reply) → IsUnderWay p.presence → at_rest (lane_of (s, p)) ≡ lane_of (s, page BetweenCalls (p.told ++ as_told p.presence given))
-answers_lane s p given under_way = by_presence p.presence refl under_way
+pub answers_lane : (s : ℕ) (p : Page) (given : Reply) → IsUnderWay p.state → at_rest (lane_of (s, p)) ≡ lane_of (s, page Idle (p.told ++ as_told p.state given))
+answers_lane s p given under_way = by_state p.state refl under_way
   where
-    by_presence : (presence : Presence) → p.presence ≡ presence → IsUnderWay presence → at_rest (lane_of (s, p)) ≡ lane_of (s, page BetweenCalls (p.told ++ as_told p.presence given))
-    by_presence (Calling number moment request) e busy =
+    by_state : (state : LaneState BegunCall) → p.state ≡ state → IsUnderWay state → at_rest (lane_of (s, p)) ≡ lane_of (s, page Idle (p.told ++ as_told p.state given))
+    by_state (Busy call) e busy =
         ap (λ x. at_rest (lane_at s (length p.told) x)) e
-        ∙ (ap (λ (n : ℕ). record { session = s; call = None; begun = min n (2 ^ 64 - 1) }) (sym (length-append p.told (record { number = number; request = request; reply = given } ∷ [])))
-        ∙ sym (ap (λ x. lane_of (s, page BetweenCalls (p.told ++ as_told x given))) e))
-    by_presence BetweenCalls e busy = absurd busy
-    by_presence Departed e busy = absurd busy
+        ∙ (ap (λ (n : ℕ). record { session = s; call = None; begun = min n (2 ^ 64 - 1) }) (sym (length-append p.told (record { number = call.number; request = call.request; reply = given } ∷ [])))
+        ∙ sym (ap (λ x. lane_of (s, page Idle (p.told ++ as_told x given))) e))
+    by_state Idle e busy = absurd busy
+    by_state NoLane e busy = absurd busy
 
 -- the lane after a step that doesn't answer its call, and its ticket
 pub lane_kept : (lane lane' : LaneView) (t t' : ℕ × Page) → lane ≡ lane_of (t.0 + 1, t.1) → lane' ≡ lane → t' ≡ t → lane' ≡ lane_of (t'.0 + 1, t'.1)
 lane_kept lane lane' t t' is same e = same ∙ (is ∙ ap (λ (u : ℕ × Page). lane_of (u.0 + 1, u.1)) (sym e))
 
 -- and after one that does
-pub lane_answered : (lane lane' : LaneView) (t t' : ℕ × Page) (given : Reply) → lane ≡ lane_of (t.0 + 1, t.1) → IsUnderWay t.1.presence → lane' ≡ at_rest lane → t' ≡ (t.0, page BetweenCalls (t.1.told ++ as_told t.1.presence given)) → lane' ≡ lane_of (t'.0 + 1, t'.1)
+pub lane_answered : (lane lane' : LaneView) (t t' : ℕ × Page) (given : Reply) → lane ≡ lane_of (t.0 + 1, t.1) → IsUnderWay t.1.state → lane' ≡ at_rest lane → t' ≡ (t.0, page Idle (t.1.told ++ as_told t.1.state given)) → lane' ≡ lane_of (t'.0 + 1, t'.1)
 lane_answered lane lane' t t' given is busy rests e = rests ∙ (ap at_rest is ∙ (answers_lane (t.0 + 1) t.1 given busy ∙ ap (λ (u : ℕ × Page). lane_of (u.0 + 1, u.1)) (sym e)))
 
 -- what a step does to the lane

@@ -11,9 +11,7 @@ use Rattle.sf_core.specs.Cores.LaneState.{NoLane, Idle, Busy}
 use Rattle.sf_core.specs.Progress.{waiting_reply}
 use Rattle.sf_core.specs.Histories.{IsHistory}
 use Rattle.sf_audit.specs.Audits.{CallRecord, call_records}
-use Rattle.sf_noted.specs.Pages.{Page}
-use Rattle.sf_noted.specs.Pages.{Presence}
-use Rattle.sf_noted.specs.Pages.Presence.{BetweenCalls, Calling, Departed}
+use Rattle.sf_noted.specs.Pages.{BegunCall, begun_call, Page}
 use Rattle.sf_noted.specs.PageChanges.{page, as_told}
 
 -- a call with its reply, as a session is told
@@ -25,20 +23,21 @@ abbrev pub waiting_for : Call → Option Reply → List CallRecord
 waiting_for c None = []
 waiting_for c (Some given) = told_of c given ∷ []
 
-abbrev pub waits_in : LaneState → List CallRecord
+abbrev pub waits_in : LaneState Call → List CallRecord
 waits_in NoLane = []
 waits_in Idle = []
 waits_in (Busy c) = waiting_for c (waiting_reply c)
 
-abbrev pub presence_in : LaneState → Presence
-presence_in NoLane = Departed
-presence_in Idle = BetweenCalls
-presence_in (Busy c) = Calling c.number c.moment c.request
+-- the state of a session's lane, as it is noted
+abbrev pub noted_state : LaneState Call → LaneState BegunCall
+noted_state NoLane = NoLane
+noted_state Idle = Idle
+noted_state (Busy c) = Busy (begun_call c.number c.moment c.request)
 
 -- The session stands as it is noted; and its calls in the history are those that it was told, and
 -- then the one whose reply waits for it, if one does.
 pub record FitsPage (v : CoreView) (h : List Record) (s : ℕ) (p : Page) : Type 0 where
-  pub presence : presence_in (lane_state v s) ≡ p.presence
+  pub state : noted_state (lane_state v s) ≡ p.state
   pub told : call_records s h ≡ p.told ++ waits_in (lane_state v s)
 
 -- so of each session; sessions are numbered from 1 on
@@ -53,25 +52,25 @@ abbrev pub HasPages : CoreView → List Page → Type 0
 HasPages v pages = (h : List Record) × PagesAgree v pages h
 
 -- the number of the call under way
-abbrev pub number_in : Presence → Option ℕ
-number_in (Calling number moment request) = Some number
+abbrev pub number_in : LaneState BegunCall → Option ℕ
+number_in (Busy call) = Some call.number
 number_in _ = None
 
 -- how many calls a session began that was told so many, as its lane counts them
-abbrev pub begun_by : Presence → ℕ → ℕ
-begun_by (Calling number moment request) told = min (told + 1) (2 ^ 64 - 1)
+abbrev pub begun_by : LaneState BegunCall → ℕ → ℕ
+begun_by (Busy call) told = min (told + 1) (2 ^ 64 - 1)
 begun_by _ told = min told (2 ^ 64 - 1)
 
 abbrev pub begun_on : Page → ℕ
-begun_on p = begun_by p.presence (length p.told)
+begun_on p = begun_by p.state (length p.told)
 
 -- the place in the core of the session of this number, whose page this is
 abbrev pub lane_of : ℕ × Page → LaneView
-lane_of x = record { session = x.0; call = number_in x.1.presence; begun = begun_on x.1 }
+lane_of x = record { session = x.0; call = number_in x.1.state; begun = begun_on x.1 }
 
 -- a session's number, and what is noted of it once its call is answered so
 abbrev pub answered : ℕ × Page → Reply → ℕ × Page
-answered x reply = (x.0, page BetweenCalls (x.1.told ++ as_told x.1.presence reply))
+answered x reply = (x.0, page Idle (x.1.told ++ as_told x.1.state reply))
 
 -- What a step tells: the call goes on, or was answered, and that is noted. A session is never a
 -- stranger to the core that it joined.
@@ -79,5 +78,5 @@ abbrev pub StepTells : ℕ × Page → Step → ℕ × Page → Type 0
 StepTells old Moved new = new ≡ old
 StepTells old (Blocked holder) new = new ≡ old
 StepTells old (Answered given) new = (given.session ≡ old.0)
-    × (number_in old.1.presence ≡ Some given.number) × (new ≡ answered old given.reply)
+    × (number_in old.1.state ≡ Some given.number) × (new ≡ answered old given.reply)
 StepTells old Stranger new = ⊥

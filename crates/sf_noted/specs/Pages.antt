@@ -1,15 +1,20 @@
 -- What is noted of a session.
 use Rattle.std.specs.Prelude.{ℕ, List}
 use Rattle.sf_call.specs.declared.request.Request.{Request}
+use Rattle.sf_core.specs.Cores.{LaneState}
 use Rattle.sf_audit.specs.Audits.{CallRecord}
 
--- it has no call under way; or the call of this number, which began at this moment; or it has left
-pub data Presence : Type 0 where
-  BetweenCalls : Presence
-  Calling : (number moment : ℕ) → (request : Request) → Presence
-  Departed : Presence
+-- a call that began under a number, at a moment
+pub record BegunCall : Type 0 where
+  pub number : ℕ
+  pub moment : ℕ
+  pub request : Request
 
--- how it stands, and the calls that it was told
+abbrev pub begun_call : ℕ → ℕ → Request → BegunCall
+begun_call number moment request =
+    record { number = number; moment = moment; request = request }
+
+-- the state of a session's lane, and the calls that it was told
 pub record Page : Type 0 where
-  pub presence : Presence
+  pub state : LaneState BegunCall
   pub told : List CallRecord

@@ -3,9 +3,10 @@
 ghost use Rattle.std.specs.Prelude.{◌≡◌, ◌≢◌, ◌<◌, ◌+◌, ◌-◌, ◌++◌, ◌∷◌, List, [], Some, Ok, slice_get, IsOk, IfOk, IfErr, OnOk, OnErr};
 ghost use Rattle.sf_call.specs.declared.record.Record.{Record};
 ghost use Rattle.sf_call.specs.declared.record.Record.TheVariants.{Left};
+ghost use Rattle.sf_core.specs.Cores.LaneState.{NoLane, Idle, Busy};
 ghost use Rattle.sf_core.specs.Histories.{IsHistory};
 ghost use Rattle.sf_core.specs.Events.{Joins, CallBegins, StepsOn, Leaves, RefusesJoin, RefusesBegin};
-ghost use Rattle.sf_noted.specs.Pages.Presence.{BetweenCalls, Calling, Departed};
+ghost use Rattle.sf_noted.specs.Pages.{begun_call};
 ghost use Rattle.sf_noted.specs.PageChanges.{page, fresh_page, IsUnderWay};
 ghost use Rattle.sf_noted.specs.Noted.{HasPages, PagesAgree, StepTells, lane_of, begun_on};
 ghost use Rattle.sf_noted.specs.Visits.{IsVisitIn};
@@ -148,10 +149,10 @@ impl<B: RollName + Ledger> NotedCore<B> {
         request: Request,
         moment: u32,
     ) -> Result<u64, CoreFault>
-        requires resting { lane.old.1.presence ≡ BetweenCalls }
+        requires resting { lane.old.1.state ≡ Idle }
         requires part { 0 < share.old.parts }
         ensures ok { IfOk result (λ n. (lane.new
-            ≡ (lane.old.0, page (Calling n moment request) lane.old.1.told))
+            ≡ (lane.old.0, page (Busy (begun_call n moment request)) lane.old.1.told))
             × (share.new.amount ≡ share.old.amount + 1)) }
         ensures err { OnErr result ((lane.new ≡ lane.old) × (share.new.amount ≡ share.old.amount)) }
         ensures parts { share.new.parts ≡ share.old.parts }
@@ -181,7 +182,7 @@ impl<B: RollName + Ledger> NotedCore<B> {
 
     /// One step of the lane's call.
     pub fn step(&mut self, lane: &mut NotedLane<B>) -> Step
-        requires { IsUnderWay lane.old.1.presence }
+        requires { IsUnderWay lane.old.1.state }
         ensures told { StepTells lane.old result lane.new }
         ensures steps { StepsOn self.old.0 (lane_of lane.old) result self.new.0 (lane_of lane.new) }
     {
@@ -211,8 +212,8 @@ impl<B: RollName + Ledger> NotedCore<B> {
 
     /// The session leaves, and its share of the calls is told.
     pub fn leave(&mut self, lane: NotedLane<B>) -> (Share, Visit<B>)
-        requires { lane.1.presence ≡ BetweenCalls }
-        ensures visit { result.1 ≡ (lane.0, page Departed lane.1.told) }
+        requires { lane.1.state ≡ Idle }
+        ensures visit { result.1 ≡ (lane.0, page NoLane lane.1.told) }
         ensures share { result.0 ≡ begun_on lane.1 }
         ensures leaves { Leaves self.old.0 self.new.0 lane.0 }
         ensures history { (h : List Record) → IsHistory self.old.0 h

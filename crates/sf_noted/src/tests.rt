@@ -1,8 +1,8 @@
 //! Two sessions after each other on one core; and what may cross threads.
 
 ghost use Rattle.std.specs.Prelude.{◌≡◌, ◌<◌, [], IfSome};
+ghost use Rattle.sf_core.specs.Cores.LaneState.{Idle};
 ghost use Rattle.sf_core.specs.Histories.{IsHistory};
-ghost use Rattle.sf_noted.specs.Pages.Presence.{BetweenCalls};
 ghost use Rattle.sf_noted.specs.PageChanges.{IsUnderWay};
 
 use super::*;
@@ -31,8 +31,8 @@ fn answered<B: RollName + Ledger>(
     core: &mut NotedCore<B>,
     lane: &mut NotedLane<B>,
 ) -> Option<Answer>
-    requires { IsUnderWay lane.old.1.presence }
-    ensures { IfSome result (λ _. lane.new.1.presence ≡ BetweenCalls) }
+    requires { IsUnderWay lane.old.1.state }
+    ensures { IfSome result (λ _. lane.new.1.state ≡ Idle) }
 {
     for _ in 0..100u32 {
         if let Step::Answered(answer) = core.step(lane) {

@@ -10,6 +10,7 @@ use Rattle.sf_call.specs.declared.request.Request.{Request}
 use Rattle.sf_call.specs.Answers.{AnswerView}
 use Rattle.sf_call.specs.declared.fault.CoreFault.{CoreFault}
 use Rattle.sf_call.specs.ReplyKinds.{longest_packet}
+use Rattle.sf_core.specs.Cores.LaneState.{Busy}
 use Rattle.sf_session.specs.declared.asking.Ask.TheVariants as ask
 use Rattle.sf_session.specs.declared.session.SessionFault.{SessionFault}
 use Rattle.sf_session.specs.Sessions.{SessionView, refusal_of, reply_room}
@@ -17,7 +18,7 @@ use Rattle.sf_session.proofs.Laws.{refusal_short}
 use Rattle.sf_session.specs.Responses.{Response, ByCall, Refused, ask_behind, packet_for}
 use Rattle.sf_session.specs.SessionStates.{HasShortPacket}
 use Rattle.sf_audit.specs.Audits.{CallRecord}
-use Rattle.sf_noted.specs.Pages.Presence.{Calling}
+use Rattle.sf_noted.specs.Pages.{begun_call}
 use Rattle.sf_pool.specs.declared.session_lane.Begin.{Begin}
 use Rattle.sf_pool.specs.SessionLanes.{SessionLaneState, Joined, IsResting, IsLastAnswer, SessionLaneView, Notes}
 use Rattle.sf_pool.specs.Scenes.{response_calls, Attempt, attempt, answer_attempts, BeginsCalls}
@@ -50,7 +51,7 @@ some_pushed (y ∷ ys) x e = cc
 -- From the first of these views of a lane to the second a call began, and from there to the third it was answered.
 pub record IsMade (d d1 d2 : SessionLaneView) (request : Request) (number moment : ℕ) : Type 0 where
   pub rests : IsResting d.place
-  pub begun : d1 ≡ record d { place = Joined (Calling number moment request) }
+  pub begun : d1 ≡ record d { place = Joined (Busy (begun_call number moment request)) }
   pub answered : IsAnsweredAt d1 d2
 
 -- so it is noted behind the calls before it

@@ -2,6 +2,8 @@
 use Rattle.std.proofs.Common.{◌≡◌, ◌≢◌, ℕ, Some, None, length, refl, ap, sym, ◌∙◌, inl, inr, arith}
 use Rattle.sf_call.specs.declared.fault.CoreFault.{CoreFault}
 use Rattle.sf_call.specs.declared.fault.CoreFault.TheVariants as refused
+use Rattle.sf_core.specs.Cores.{LaneState}
+use Rattle.sf_core.specs.Cores.LaneState.{NoLane, Busy}
 use Rattle.sf_session.specs.declared.cause.Cause.{Cause}
 use Rattle.sf_session.specs.declared.fault.ServeFault.{ServeFault}
 use Rattle.sf_session.specs.declared.fault.ServeFault.TheVariants as fault
@@ -10,10 +12,9 @@ use Rattle.sf_session.specs.SessionStates.{Phase, UnderWay, Gone, SessionState}
 use Rattle.sf_serving.specs.Ends.{IsWhole}
 use Rattle.sf_serving.specs.Hosts.{IsLeftFor}
 use Rattle.sf_serving.specs.Serving.{LineView, Progress, Serves, IsServed, HasWrittenFor, IsStopped, IsStop}
+use Rattle.sf_noted.specs.Pages.{BegunCall, begun_call}
 use Rattle.sf_pool.specs.declared.lane_host.Standing.{Standing}
 use Rattle.sf_pool.specs.declared.lane_host.Standing.TheVariants as standing
-use Rattle.sf_noted.specs.Pages.{Presence}
-use Rattle.sf_noted.specs.Pages.Presence.{Calling, Departed}
 use Rattle.sf_pool.specs.SessionLanes.{SessionLaneState, New, JoinRefused, Joined, share_of, SessionLaneView}
 use Rattle.sf_pool.specs.Scenes.{LaneScene, state_calls, NotesCalls, IsShared, join_refusal, IsInCall, ServesLane, HasLeft, LeavesFor, StopsLane, IsLaneFault}
 use Rattle.sf_pool.specs.LaneHosts.{IsToldAt, IsOver, IsCounted, IsAdded}
@@ -25,14 +26,14 @@ not_in_call : (place : SessionLaneState) (f : Phase) (cause : Cause) → f ≡ G
 not_in_call place f cause e h = let no : Gone cause ≡ UnderWay h.id h.number h.moment h.request h.moves = sym e ∙ h.waits in cc
 
 -- a session that was served to its end has left
-leaves_gone : (at : Standing) (d : SessionLaneView) {t : SessionState} {cause : Cause} (old new : ℕ) → IsOver at d None → IsCounted at d t → IsWhole t cause → IsAdded at old new → (d.place ≡ Joined Departed) × IsShared (length (state_calls t)) old new
+leaves_gone : (at : Standing) (d : SessionLaneView) {t : SessionState} {cause : Cause} (old new : ℕ) → IsOver at d None → IsCounted at d t → IsWhole t cause → IsAdded at old new → (d.place ≡ Joined NoLane) × IsShared (length (state_calls t)) old new
 leaves_gone standing.Joined d old new over counts whole added = absurd over
 leaves_gone standing.Unanswered d old new over counts whole added = absurd over
 leaves_gone standing.UnderWay d {t = t} {cause = cause} old new over counts whole added = absurd (not_in_call d.place t.phase cause whole.left counts)
 leaves_gone (standing.Left share) d {t = t} old new over counts whole added = (over.1, shared_by share (length (state_calls t)) old new counts added)
 
 pub leaves_served : {held : ℕ} {start now : LaneScene} {from line : LineView} {at : Standing} {v : SessionView} {cause : Cause} (old new : ℕ) → IsOver at now.lane None → IsAdded at old new → Serves held (IsToldAt start at v now) from line (IsServed line.incoming cause)
-    → Serves held (NotesCalls start now) from line (λ p. ((c : Cause) × IsServed line.incoming c p) × (now.lane.place ≡ Joined Departed) × IsShared (length (state_calls p.state)) old new)
+    → Serves held (NotesCalls start now) from line (λ p. ((c : Cause) × IsServed line.incoming c p) × (now.lane.place ≡ Joined NoLane) × IsShared (length (state_calls p.state)) old new)
 leaves_served {now = now} {at = at} {cause = cause} old new over added serves =
     let left = leaves_gone at now.lane old new over serves.1.counts serves.3.whole added in
     (serves.0, serves.1.notes, serves.2, ((cause, serves.3), left.0, left.1))
@@ -80,15 +81,15 @@ join_fault refused.Stranger failed failed' known = absurd (known refl)
 
 -- ---- the lane of a session that was served was asked to join
 
-joined_not_new : (place : SessionLaneState) (presence : Presence) → place ≡ Joined presence → place ≢ New
-joined_not_new place presence e new = let no : New ≡ Joined presence = sym new ∙ e in cc
+joined_not_new : (place : SessionLaneState) (state : LaneState BegunCall) → place ≡ Joined state → place ≢ New
+joined_not_new place state e new = let no : New ≡ Joined state = sym new ∙ e in cc
 
 pub refused_not_new : (place : SessionLaneState) (refusal : CoreFault) → place ≡ JoinRefused refusal → place ≢ New
 refused_not_new place refusal e new = let no : New ≡ JoinRefused refusal = sym new ∙ e in cc
 
 left_not_new : (d : SessionLaneView) (t : SessionState) (old new : ℕ) → HasLeft d t old new → d.place ≢ New
-left_not_new d t old new (inl left) = joined_not_new d.place Departed left.0
-left_not_new d t old new (inr call) = joined_not_new d.place (Calling call.0.number call.0.moment call.0.request) call.0.placed
+left_not_new d t old new (inl left) = joined_not_new d.place NoLane left.0
+left_not_new d t old new (inr call) = joined_not_new d.place (Busy (begun_call call.0.number call.0.moment call.0.request)) call.0.placed
 
 left_for_not_new : (f : ServeFault) (d : SessionLaneView) (p : Progress) (old new : ℕ) → LeavesFor f d p old new → d.place ≢ New
 left_for_not_new fault.Line d p old new h = left_not_new d p.state old new h
@@ -98,7 +99,7 @@ left_for_not_new fault.Stranger d p old new h = absurd h
 left_for_not_new fault.NumbersSpent d p old new h = left_not_new d p.state old new h.0
 
 pub served_not_new : (start now : LaneScene) (from line : LineView) (old new : ℕ) → ServesLane start now from line old new → now.lane.place ≢ New
-served_not_new start now from line old new (p, notes, served, (ends, left, shared)) = joined_not_new now.lane.place Departed left
+served_not_new start now from line old new (p, notes, served, (ends, left, shared)) = joined_not_new now.lane.place NoLane left
 
 pub stopped_not_new : (f : ServeFault) (start now : LaneScene) (from line : LineView) (failed failed' old new : ℕ) → StopsLane f start now from line failed failed' old new → now.lane.place ≢ New
 stopped_not_new f start now from line failed failed' old new (inl (never, begins, told, same, share)) =

@@ -10,6 +10,7 @@ use Rattle.sf_wire.specs.declared.cutting.Cut.TheVariants as cut
 use Rattle.sf_wire.specs.Packets.{IsBody, IsCut}
 use Rattle.sf_call.specs.declared.request.Request.{Request}
 use Rattle.sf_call.specs.ReplyKinds.{longest_packet}
+use Rattle.sf_core.specs.Cores.LaneState.{Idle}
 use Rattle.sf_session.specs.declared.asking.Ask.{Ask}
 use Rattle.sf_session.specs.declared.asking.Ask.TheVariants as ask
 use Rattle.sf_session.specs.declared.cause.Cause.{Cause}
@@ -30,7 +31,6 @@ use Rattle.sf_pool.specs.declared.calling.Stop.TheVariants as stop
 use Rattle.sf_pool.specs.declared.session_lane.Begin.{Begin}
 use Rattle.sf_pool.specs.declared.lane_host.Standing.{Standing}
 use Rattle.sf_pool.specs.declared.lane_host.Standing.TheVariants as standing
-use Rattle.sf_noted.specs.Pages.Presence.{BetweenCalls}
 use Rattle.sf_pool.specs.SessionLanes.{SessionLaneState, Joined, IsResting, SessionLaneView, Notes, share_of}
 use Rattle.sf_pool.specs.Scenes.{LaneScene, lane_scene, lane_held, response_calls, phase_calls, state_calls, Attempt, attempt_of, answer_attempts, phase_attempts, attempts_told, BeginsCalls, IsInCall}
 use Rattle.sf_pool.specs.LaneHosts.{standing_fault, MakesCall, talk, FailsCall, IsCounted, IsToldAt, standing_after, stop_fault}
@@ -70,7 +70,7 @@ rest_attempts t at = ap (λ (f : Phase). flat_map answer_attempts t.answers ++ p
 
 -- ---- it joins
 
-pub told_new : {start : LaneScene} {d : SessionLaneView} {b : Option (List Begin)} {at : Standing} {v : SessionView} (session : ℕ) → b ≡ start.begins → d ≡ record start.lane { session = session; place = Joined BetweenCalls; calls = [] } → v ≡ new_session → at ≡ standing.Joined
+pub told_new : {start : LaneScene} {d : SessionLaneView} {b : Option (List Begin)} {at : Standing} {v : SessionView} (session : ℕ) → b ≡ start.begins → d ≡ record start.lane { session = session; place = Joined Idle; calls = [] } → v ≡ new_session → at ≡ standing.Joined
     → IsToldAt start at v (lane_scene d b start.moments) new_state
 told_new {start = start} {d = d} {b = b} {v = v} session none joins new at = subst (λ (s : Standing). IsToldAt start s v (lane_scene d b start.moments) new_state) (sym at) (record {
   notes = record {

@@ -5,14 +5,13 @@ use Rattle.sf_reply.specs.declared.reply.Reply.{Reply}
 use Rattle.sf_call.specs.declared.request.Request.{Request}
 use Rattle.sf_call.specs.declared.fault.CoreFault.{CoreFault}
 use Rattle.sf_call.specs.declared.fault.CoreFault.TheVariants as refused
-use Rattle.sf_core.specs.Cores.{CoreView}
+use Rattle.sf_core.specs.Cores.{CoreView, LaneState}
+use Rattle.sf_core.specs.Cores.LaneState.{NoLane, Idle, Busy}
 use Rattle.sf_core.specs.Events.{RefusesJoin}
 use Rattle.sf_audit.specs.declared.transcript.AnsweredCall.{AnsweredCall}
 use Rattle.sf_audit.specs.declared.transcript.Transcript.{Transcript}
 use Rattle.sf_audit.specs.Audits.{CallRecord, call_record}
-use Rattle.sf_noted.specs.Pages.{Page}
-use Rattle.sf_noted.specs.Pages.{Presence}
-use Rattle.sf_noted.specs.Pages.Presence.{BetweenCalls, Calling, Departed}
+use Rattle.sf_noted.specs.Pages.{BegunCall, Page}
 use Rattle.sf_noted.specs.PageChanges.{as_told}
 use Rattle.sf_noted.specs.Noted.{number_in, answered}
 use Rattle.sf_pool.specs.declared.session_lane.StepResult.{StepResult}
@@ -55,15 +54,15 @@ answers {B = B} p lane lane' keeps steps steps' d told reply view at is noted mo
     (subst (λ (n : ℕ). Steps (session_lane_at {B = B} (place.Joined lane) keeps steps) Answered (after (answered lane reply) n)) (sym more) (reply, refl)))))
 
 -- and the answer is the last that was told
-pub last_answered : (lane lane' : ℕ × Page) (number : ℕ) (reply : Reply) → number_in lane.1.presence ≡ Some number → lane' ≡ answered lane reply → IsLastAnswer lane'.1.told number reply
-last_answered lane lane' number reply own noted = subst (λ (l : ℕ × Page). IsLastAnswer l.1.told number reply) (sym noted) (by_presence lane.1.presence own)
+pub last_answered : (lane lane' : ℕ × Page) (number : ℕ) (reply : Reply) → number_in lane.1.state ≡ Some number → lane' ≡ answered lane reply → IsLastAnswer lane'.1.told number reply
+last_answered lane lane' number reply own noted = subst (λ (l : ℕ × Page). IsLastAnswer l.1.told number reply) (sym noted) (by_state lane.1.state own)
   where
-    by_presence : (presence : Presence) → number_in presence ≡ Some number → IsLastAnswer (lane.1.told ++ as_told presence reply) number reply
-    by_presence (Calling n moment request) e =
-        let same : n ≡ number = cc in
-        (lane.1.told, request, ap (λ (k : ℕ). lane.1.told ++ record { number = k; request = request; reply = reply } ∷ []) same)
-    by_presence BetweenCalls e = absurd (cc)
-    by_presence Departed e = absurd (cc)
+    by_state : (state : LaneState BegunCall) → number_in state ≡ Some number → IsLastAnswer (lane.1.told ++ as_told state reply) number reply
+    by_state (Busy call) e =
+        let same : call.number ≡ number = cc in
+        (lane.1.told, call.request, ap (λ (k : ℕ). lane.1.told ++ record { number = k; request = call.request; reply = reply } ∷ []) same)
+    by_state Idle e = absurd (cc)
+    by_state NoLane e = absurd (cc)
 
 -- ---- how it ends
 

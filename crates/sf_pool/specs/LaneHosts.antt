@@ -5,6 +5,7 @@ use Rattle.sf_call.specs.declared.request.Request.{Request}
 use Rattle.sf_field.specs.Fields.{packet}
 use Rattle.sf_reply.specs.declared.reply.Reply.{Reply}
 use Rattle.sf_reply.specs.Replies.{reply_body}
+use Rattle.sf_core.specs.Cores.LaneState.{NoLane, Busy}
 use Rattle.sf_session.specs.declared.asking.Ask.TheVariants as ask
 use Rattle.sf_session.specs.declared.fault.ServeFault.{ServeFault}
 use Rattle.sf_session.specs.declared.fault.ServeFault.TheVariants as fault
@@ -13,7 +14,7 @@ use Rattle.sf_session.specs.Responses.{Response, ask_behind, packet_for, transcr
 use Rattle.sf_session.specs.SessionStates.{Resting, SessionState, HasShortPacket}
 use Rattle.sf_serving.specs.Hosts.{most_counted}
 use Rattle.sf_audit.specs.Audits.{CallRecord}
-use Rattle.sf_noted.specs.Pages.Presence.{Calling, Departed}
+use Rattle.sf_noted.specs.Pages.{begun_call}
 use Rattle.sf_pool.specs.declared.calling.Stop.{Stop}
 use Rattle.sf_pool.specs.declared.calling.Stop.TheVariants as stop
 use Rattle.sf_pool.specs.declared.lane_host.Standing.{Standing}
@@ -61,7 +62,8 @@ LacksReply waiting request number stop.OutOfMemory d d' = (reply : Reply) × (d'
     (record { number = number; request = request; reply = reply } ∷ []) d'.steps)
     × IsLong waiting reply
 LacksReply waiting request number stop.UnderWay d d' = (moment : ℕ)
-    × (d' ≡ after_steps (record d { place = Joined (Calling number moment request) }) d'.steps)
+    × (d' ≡ after_steps (record d { place = Joined (Busy (begun_call number moment request)) })
+    d'.steps)
     × (most_counted ≤ d'.steps)
 
 -- The session's call began, and has no reply. The lane was asked for it alone.
@@ -83,7 +85,7 @@ abbrev pub IsPlaced : Standing → SessionView → SessionLaneView → Type 0
 IsPlaced standing.Joined v d = IsResting d.place × (v.waiting ≡ None)
 IsPlaced standing.Unanswered v d = IsResting d.place
 IsPlaced standing.UnderWay v d = HasCallUnderWay d.place × (most_counted ≤ d.steps)
-IsPlaced (standing.Left share) v d = d.place ≡ Joined Departed
+IsPlaced (standing.Left share) v d = d.place ≡ Joined NoLane
 
 -- and where the session has ended, by no fault
 abbrev pub IsOver : Standing → SessionLaneView → Option ServeFault → Type 0
@@ -91,7 +93,7 @@ IsOver standing.Joined d f = ⊥
 IsOver standing.Unanswered d f = ⊥
 IsOver standing.UnderWay d f =
     (f ≡ None) × HasCallUnderWay d.place × (most_counted ≤ d.steps)
-IsOver (standing.Left share) d f = (f ≡ None) × (d.place ≡ Joined Departed)
+IsOver (standing.Left share) d f = (f ≡ None) × (d.place ≡ Joined NoLane)
 
 -- the share is of all calls that the session was told, and one that was left under way has no reply
 abbrev pub IsCounted : Standing → SessionLaneView → SessionState → Type 0

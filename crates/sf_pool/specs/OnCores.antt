@@ -5,11 +5,10 @@ use Rattle.sf_call.specs.declared.fault.CoreFault.{CoreFault}
 use Rattle.sf_call.specs.declared.fault.CoreFault.TheVariants.{OutOfMemory}
 use Rattle.sf_core.specs.declared.step.Step.{Step}
 use Rattle.sf_core.specs.declared.step.Step.TheVariants as step
-use Rattle.sf_core.specs.Cores.{CoreView}
+use Rattle.sf_core.specs.Cores.{CoreView, LaneState}
+use Rattle.sf_core.specs.Cores.LaneState.{Busy}
 use Rattle.sf_core.specs.Events.{CallBegins, RefusesBegin, StepsOn}
-use Rattle.sf_noted.specs.Pages.{Page}
-use Rattle.sf_noted.specs.Pages.{Presence}
-use Rattle.sf_noted.specs.Pages.Presence.{Calling}
+use Rattle.sf_noted.specs.Pages.{BegunCall, Page}
 use Rattle.sf_noted.specs.Noted.{lane_of}
 use Rattle.sf_pool.specs.declared.session_lane.StepResult.TheVariants.{Going, Answered}
 use Rattle.sf_pool.specs.declared.transcript_lane.Stepped.{Stepped}
@@ -18,7 +17,7 @@ use Rattle.sf_pool.specs.SessionLanes.{JoinRefused, Joined, IsLastAnswer, Sessio
 -- this is the number and the page of the lane's session
 pub record IsPageOf (d : SessionLaneView) (x : ℕ × Page) : Type 0 where
   pub session : x.0 ≡ d.session
-  pub place : Joined x.1.presence ≡ d.place
+  pub place : Joined x.1.state ≡ d.place
   pub told : x.1.told ≡ d.calls
 
 -- and this is what is noted of it, or why it never joined
@@ -27,12 +26,12 @@ IsVisitOf d (Ok x) = IsPageOf d x
 IsVisitOf d (Err refusal) = d.place ≡ JoinRefused refusal
 
 -- how many calls the session began: those that it was told, and the one under way
-abbrev pub under_way : Presence → ℕ
-under_way (Calling number moment request) = 1
+abbrev pub under_way : LaneState BegunCall → ℕ
+under_way (Busy call) = 1
 under_way _ = 0
 
 abbrev pub calls_begun : Page → ℕ
-calls_begun p = length p.told + under_way p.presence
+calls_begun p = length p.told + under_way p.state
 
 abbrev pub calls_begun_by : Result (ℕ × Page) CoreFault → ℕ
 calls_begun_by (Ok x) = calls_begun x.1

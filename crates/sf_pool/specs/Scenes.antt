@@ -6,6 +6,7 @@ use Rattle.sf_line.specs.Lines.{Rose}
 use Rattle.sf_call.specs.declared.request.Request.{Request}
 use Rattle.sf_call.specs.declared.fault.CoreFault.{CoreFault}
 use Rattle.sf_call.specs.declared.fault.CoreFault.TheVariants as refused
+use Rattle.sf_core.specs.Cores.LaneState.{NoLane, Busy}
 use Rattle.sf_session.specs.declared.cause.Cause.{Cause}
 use Rattle.sf_session.specs.declared.fault.ServeFault.{ServeFault}
 use Rattle.sf_session.specs.declared.fault.ServeFault.TheVariants as fault
@@ -14,8 +15,8 @@ use Rattle.sf_session.specs.SessionStates.{Phase, Resting, UnderWay, Decided, Go
 use Rattle.sf_serving.specs.Hosts.{most_counted}
 use Rattle.sf_serving.specs.Serving.{LineView, Progress, Serves, IsServed, HasWrittenFor}
 use Rattle.sf_audit.specs.Audits.{CallRecord}
+use Rattle.sf_noted.specs.Pages.{begun_call}
 use Rattle.sf_pool.specs.declared.session_lane.Begin.{Begin}
-use Rattle.sf_noted.specs.Pages.Presence.{Calling, Departed}
 use Rattle.sf_pool.specs.SessionLanes.{SessionLaneState, JoinRefused, Joined, SessionLaneView, Notes, share_of}
 
 -- A lane, the calls that it was asked to begin, where it tells them, and the moments that a clock
@@ -106,7 +107,7 @@ lane_held = 0
 -- it was answered were added to a share.
 abbrev pub ServesLane : (start now : LaneScene) → (from line : LineView) → (old new : ℕ) → Type 0
 ServesLane start now from line old new = Serves lane_held (NotesCalls start now) from line
-    (λ p. ((cause : Cause) × IsServed line.incoming cause p) × (now.lane.place ≡ Joined Departed)
+    (λ p. ((cause : Cause) × IsServed line.incoming cause p) × (now.lane.place ≡ Joined NoLane)
     × IsShared (length (state_calls p.state)) old new)
 
 -- why a session doesn't join
@@ -128,14 +129,14 @@ pub record IsInCall (place : SessionLaneState) (phase : Phase) : Type 0 where
   pub moment : ℕ
   pub request : Request
   pub moves : ℕ
-  pub placed : place ≡ Joined (Calling number moment request)
+  pub placed : place ≡ Joined (Busy (begun_call number moment request))
   pub waits : phase ≡ UnderWay id number moment request moves
 
 -- How a lane ends that has joined: it has left, and the calls that it was answered were
 -- added to a share; or its call has no answer after 2^64 - 1 steps.
 abbrev pub HasLeft : SessionLaneView → SessionState → (old new : ℕ) → Type 0
 HasLeft lane t old new =
-    ((lane.place ≡ Joined Departed) × IsShared (length (state_calls t)) old new)
+    ((lane.place ≡ Joined NoLane) × IsShared (length (state_calls t)) old new)
     ⊎ (IsInCall lane.place t.phase × (most_counted ≤ lane.steps) × (new ≡ old))
 
 -- no session that joined is a stranger; numbers are spent only by so many bytes or steps

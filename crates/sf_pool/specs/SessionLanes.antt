@@ -3,9 +3,10 @@ use Rattle.std.specs.Prelude.{◌≡◌, ◌+◌, ◌-◌, ◌^◌, ℕ, min, Li
 use Rattle.sf_reply.specs.declared.reply.Reply.{Reply}
 use Rattle.sf_call.specs.declared.request.Request.{Request}
 use Rattle.sf_call.specs.declared.fault.CoreFault.{CoreFault}
+use Rattle.sf_core.specs.Cores.{LaneState}
+use Rattle.sf_core.specs.Cores.LaneState.{Idle}
 use Rattle.sf_audit.specs.Audits.{CallRecord}
-use Rattle.sf_noted.specs.Pages.{Presence}
-use Rattle.sf_noted.specs.Pages.Presence.{BetweenCalls}
+use Rattle.sf_noted.specs.Pages.{BegunCall}
 use Rattle.sf_noted.specs.PageChanges.{as_told, IsUnderWay}
 use Rattle.sf_pool.specs.declared.session_lane.StepResult.{StepResult}
 use Rattle.sf_pool.specs.declared.session_lane.StepResult.TheVariants.{Going, Answered}
@@ -14,13 +15,13 @@ use Rattle.sf_pool.specs.declared.session_lane.StepResult.TheVariants.{Going, An
 pub data SessionLaneState : Type 0 where
   New : SessionLaneState
   JoinRefused : (fault : CoreFault) → SessionLaneState
-  Joined : (presence : Presence) → SessionLaneState
+  Joined : (state : LaneState BegunCall) → SessionLaneState
 
 abbrev pub IsResting : SessionLaneState → Type 0
-IsResting place = place ≡ Joined BetweenCalls
+IsResting place = place ≡ Joined Idle
 
 abbrev pub HasCallUnderWay : SessionLaneState → Type 0
-HasCallUnderWay (Joined presence) = IsUnderWay presence
+HasCallUnderWay (Joined state) = IsUnderWay state
 HasCallUnderWay _ = ⊥
 
 -- the last of the calls was answered so
@@ -65,12 +66,12 @@ stepped d = record d { steps = counted d.steps }
 
 -- the call under way was answered so
 abbrev pub told_at : SessionLaneState → Reply → List CallRecord
-told_at (Joined presence) reply = as_told presence reply
+told_at (Joined state) reply = as_told state reply
 told_at _ reply = []
 
 abbrev pub answered : SessionLaneView → Reply → SessionLaneView
 answered d reply =
-    record d { place = Joined BetweenCalls; calls = d.calls ++ told_at d.place reply }
+    record d { place = Joined Idle; calls = d.calls ++ told_at d.place reply }
 
 -- What a step of the call under way comes to: the call goes on; or it is answered, and that is
 -- noted.

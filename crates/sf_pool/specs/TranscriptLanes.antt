@@ -4,10 +4,10 @@ use Rattle.std.specs.Prelude.{◌≡◌, ◌≢◌, ◌<◌, ◌++◌, ℕ, Bool
 use Rattle.std.specs.Vec.{vec_capacity}
 use Rattle.sf_call.specs.declared.request.Request.{Request}
 use Rattle.sf_call.specs.declared.fault.CoreFault.{CoreFault}
+use Rattle.sf_core.specs.Cores.LaneState.{NoLane, Busy}
 use Rattle.sf_audit.specs.declared.transcript.Transcript.{Transcript}
 use Rattle.sf_audit.specs.Audits.{CallRecord, call_record}
 use Rattle.sf_noted.specs.Pages.{Page}
-use Rattle.sf_noted.specs.Pages.Presence.{Calling, Departed}
 use Rattle.sf_pool.specs.declared.transcript_lane.Place.{Place}
 use Rattle.sf_pool.specs.declared.transcript_lane.Place.TheVariants as place
 use Rattle.sf_pool.specs.SessionLanes.{SessionLaneState, New, JoinRefused, Joined, SessionLaneView}
@@ -45,28 +45,28 @@ session_lane_at (place.Refused fault) keeps steps =
     record { session = 0; place = JoinRefused fault; calls = []; keeps = keeps; steps = steps }
 session_lane_at (place.Joined lane) keeps steps = record {
   session = lane.0;
-  place = Joined lane.1.presence;
+  place = Joined lane.1.state;
   calls = lane.1.told;
   keeps = keeps;
   steps = steps;
 }
 session_lane_at (place.Left visit) keeps steps = record {
   session = visit.0;
-  place = Joined visit.1.presence;
+  place = Joined visit.1.state;
   calls = visit.1.told;
   keeps = keeps;
   steps = steps;
 }
 
--- who has no lane any more has departed
-abbrev pub HasDeparted : {B : Type 0} → Place B → Type 0
-HasDeparted (place.Left visit) = visit.1.presence ≡ Departed
-HasDeparted _ = Unit {0}
+-- where it has left, that is noted
+abbrev pub NotesLeaving : {B : Type 0} → Place B → Type 0
+NotesLeaving (place.Left visit) = visit.1.state ≡ NoLane
+NotesLeaving _ = Unit {0}
 
 -- what the call under way asks for is at hand, and its answer has room
 abbrev pub HasRoom : SessionLaneState → Option Request → Transcript → Type 0
-HasRoom (Joined (Calling number moment request)) asked t =
-    (asked ≡ Some request) × (vec_len t.calls < vec_capacity t.calls)
+HasRoom (Joined (Busy call)) asked t =
+    (asked ≡ Some call.request) × (vec_len t.calls < vec_capacity t.calls)
 HasRoom _ asked t = Unit {0}
 
 -- The transcript is the session's. It has the last of the calls that the session was told, and one

@@ -2,8 +2,9 @@
 
 ghost use Rattle.std.specs.Prelude.{◌≡◌, ◌≢◌, ◌<◌, List, [], ◌∷◌, length, Option, None, OnErr, IfOk, IfErr};
 ghost use Rattle.sf_call.specs.declared.fault.CoreFault.TheVariants.{Stranger};
+ghost use Rattle.sf_core.specs.Cores.LaneState.{NoLane, Idle, Busy};
 ghost use Rattle.sf_audit.specs.Audits.{call_record};
-ghost use Rattle.sf_noted.specs.Pages.Presence.{BetweenCalls, Calling, Departed};
+ghost use Rattle.sf_noted.specs.Pages.{begun_call};
 ghost use Rattle.sf_pool.specs.declared.session_lane.Begin.{Begin};
 ghost use Rattle.sf_pool.specs.SessionLanes.{New, JoinRefused, Joined, IsResting, HasCallUnderWay, IsLast, Notes, share_of, SessionLaneView, Steps};
 
@@ -50,7 +51,7 @@ pub trait SessionLane {
         ensures number { IfOk result (λ session. 0 < session) }
         ensures ok { IfOk result (λ session. at self.new ≡ record (at self.old) {
           session = session;
-          place = Joined BetweenCalls;
+          place = Joined Idle;
           calls = [];
         }) }
         ensures err { IfErr result (λ fault. at self.new
@@ -63,7 +64,7 @@ pub trait SessionLane {
     fn begin(&mut self, request: Request, moment: u32) -> Result<u64, CoreFault>
         requires { IsResting (at self.old).place }
         ensures ok { IfOk result (λ number. at self.new
-            ≡ record (at self.old) { place = Joined (Calling number moment request) }) }
+            ≡ record (at self.old) { place = Joined (Busy (begun_call number moment request)) }) }
         ensures err { OnErr result (at self.new ≡ at self.old) }
         ensures known { IfErr result (λ fault. fault ≢ Stranger) }
         ensures asked { Notes (begins self.old) (begins self.new) (record {
@@ -93,7 +94,7 @@ pub trait SessionLane {
     /// then.
     fn leave(&mut self) -> Share
         requires { IsResting (at self.old).place }
-        ensures at { at self.new ≡ record (at self.old) { place = Joined Departed } }
+        ensures at { at self.new ≡ record (at self.old) { place = Joined NoLane } }
         ensures share { result ≡ share_of (length (at self.old).calls) }
         ensures rests { rests self.new }
         ensures begins { begins self.new ≡ begins self.old };

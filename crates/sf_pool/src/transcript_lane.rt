@@ -5,10 +5,11 @@ ghost use Rattle.std.specs.Vec.{vec_capacity};
 ghost use Rattle.sf_call.specs.declared.record.Record.{Record};
 ghost use Rattle.sf_call.specs.declared.record.Record.TheVariants.{Left};
 ghost use Rattle.sf_call.specs.declared.fault.CoreFault.TheVariants.{Stranger};
+ghost use Rattle.sf_core.specs.Cores.LaneState.{NoLane, Idle, Busy};
 ghost use Rattle.sf_core.specs.Histories.{IsHistory};
 ghost use Rattle.sf_core.specs.Events.{Joins, RefusesJoin, Leaves};
 ghost use Rattle.sf_audit.specs.Audits.{call_record};
-ghost use Rattle.sf_noted.specs.Pages.Presence.{BetweenCalls, Calling, Departed};
+ghost use Rattle.sf_noted.specs.Pages.{begun_call};
 ghost use Rattle.sf_pool.specs.OnCores.{BeginsAt, RefusesAt, StepsAt, stepped_to, IsVisitOf, calls_begun_by};
 ghost use Rattle.sf_pool.specs.TranscriptLanes.{lane_in, WasAsked, EndsAs};
 ghost use Rattle.sf_pool.specs.SessionLanes.{New, JoinRefused, Joined, IsResting, HasCallUnderWay, IsLast, new_session_lane, share_of, Steps};
@@ -124,7 +125,7 @@ pub struct TranscriptLane<B: RollName + Ledger> {
 impl<B: RollName + Ledger> Model for TranscriptLane<B> {
     ghost use Rattle.std.specs.Prelude.{◌≡◌};
     ghost use Rattle.sf_pool.specs.SessionLanes.{SessionLaneView};
-    ghost use Rattle.sf_pool.specs.TranscriptLanes.{session_lane_at, calls_in, HasDeparted, IsTranscriptLane};
+    ghost use Rattle.sf_pool.specs.TranscriptLanes.{session_lane_at, calls_in, NotesLeaving, IsTranscriptLane};
 
     ghost Value = { SessionLaneView };
 
@@ -132,7 +133,7 @@ impl<B: RollName + Ledger> Model for TranscriptLane<B> {
 
     ghost invariant = { λ s.
         IsTranscriptLane (session_lane_at s.place s.keeps s.steps) s.asked s.transcript
-        × HasDeparted s.place × (s.share.parts ≡ 1)
+        × NotesLeaving s.place × (s.share.parts ≡ 1)
         × (s.share.amount ≡ calls_in s.place) };
 }
 
@@ -193,7 +194,7 @@ impl<B: RollName + Ledger> TranscriptLane<B> {
         ensures number { IfOk result (λ session. 0 < session) }
         ensures ok { IfOk result (λ session. self.new ≡ record self.old {
           session = session;
-          place = Joined BetweenCalls;
+          place = Joined Idle;
           calls = [];
         }) }
         ensures err { IfErr result (λ fault. self.new
@@ -228,7 +229,7 @@ impl<B: RollName + Ledger> TranscriptLane<B> {
     ) -> Result<u64, CoreFault>
         requires { IsResting self.old.place }
         ensures ok { IfOk result (λ number. self.new
-            ≡ record self.old { place = Joined (Calling number moment request) }) }
+            ≡ record self.old { place = Joined (Busy (begun_call number moment request)) }) }
         ensures err { OnErr result (self.new ≡ self.old) }
         ensures known { IfErr result (λ fault. fault ≢ Stranger) }
         ensures begins { IfOk result (λ number. (number ≡ core.new.0.drawn)
@@ -285,7 +286,7 @@ impl<B: RollName + Ledger> TranscriptLane<B> {
     /// The session leaves, and its share of the calls is told.
     pub fn leave(&mut self, core: &mut NotedCore<B>) -> Share
         requires { IsResting self.old.place }
-        ensures at { self.new ≡ record self.old { place = Joined Departed } }
+        ensures at { self.new ≡ record self.old { place = Joined NoLane } }
         ensures share { result ≡ share_of (length self.old.calls) }
         ensures leaves { Leaves core.old.0 core.new.0 self.old.session }
         ensures history { (h : List Record) → IsHistory core.old.0 h

@@ -9,7 +9,7 @@ use Rattle.sf_engine.specs.Promise.{LogEntry}
 use Rattle.sf_refusing.specs.declared.rule.Rule.{Rule}
 use Rattle.sf_refusing.specs.declared.given.GivenRule.{GivenRule}
 use Rattle.sf_refusing.specs.Counting.{is_ready, counted_once, counted_if}
-use Rattle.sf_refusing.specs.Journal.{Act, Ruled, Passed, Refused, Packet, ruled, rules_in, since_given, fits_packet, counts, counted, refused_by, refused_in, is_refusing, refuses_since, refuses}
+use Rattle.sf_refusing.specs.Journal.{Act, Ruled, PassedOn, Refused, Packet, ruled, rules_in, since_given, fits_packet, counts, counted, refused_by, refused_in, is_refusing, refuses_since, refuses}
 use Rattle.sf_refusing.specs.Refusing.{IsGiven, AreGiven}
 use Rattle.sf_refusing.proofs.Growing.{more, since_more, since_new, since_none, get_set_same, get_set_other, some_same}
 
@@ -164,16 +164,16 @@ was_counted rules rules' count fit C number now at =
     (got.0, got.1, some_same _ _ (sym (C.1 number got.0 got.1) ∙ at))
 
 pub pass_rules : (journal : List Act) (rules rules' : List GivenRule) (p : Packet) (e : LogEntry) → AreGiven journal rules → AreCounted rules rules' (length rules) (λ given. fits_packet given.rule p) → ((number : ℕ) (given : GivenRule) → slice_get rules number ≡ Some given → (fits_packet given.rule p && is_ready given) ≡ false)
-    → AreGiven (journal ++ Passed p e ∷ []) rules'
+    → AreGiven (journal ++ PassedOn p e ∷ []) rules'
 pass_rules journal rules rules' p e A C none = record {
-  count = C.0 ∙ A.count ∙ ap (λ (rs : List Rule). length rs) (same_rules journal (Passed p e) refl);
+  count = C.0 ∙ A.count ∙ ap (λ (rs : List Rule). length rs) (same_rules journal (PassedOn p e) refl);
   each = λ number now at.
       let was = was_counted rules rules' (length rules) (λ given. fits_packet given.rule p) C number now at in
       let in_all : nat_lt number (length rules) ≡ true = lt-ltb number (length rules) (slice_get_within rules number was.0 was.1) in
       let fit : (nat_lt number (length rules) && fits_packet was.0.rule p) ≡ fits_packet was.0.rule p = ap (λ (b : Bool). b && fits_packet was.0.rule p) in_all in
-      subst (λ (g : GivenRule). IsGiven (journal ++ Passed p e ∷ []) number g)
+      subst (λ (g : GivenRule). IsGiven (journal ++ PassedOn p e ∷ []) number g)
       (ap (λ (b : Bool). counted_if b was.0) (sym fit) ∙ was.2)
-      (pass_given journal number was.0 (Passed p e) (fits_packet was.0.rule p) (A.each number was.0 was.1) (none number was.0 was.1) refl refl);
+      (pass_given journal number was.0 (PassedOn p e) (fits_packet was.0.rule p) (A.each number was.0 was.1) (none number was.0 was.1) refl refl);
 }
 
 pub refuse_rules : (journal : List Act) (rules rules' : List GivenRule) (p : Packet) (id by : ℕ) (code : StatusCode) (e : LogEntry) (given : GivenRule) → AreGiven journal rules → AreCounted rules rules' (by + 1) (λ given. fits_packet given.rule p) → slice_get rules by ≡ Some given → (fits_packet given.rule p && is_ready given) ≡ true → ((number : ℕ) (given : GivenRule) → number < by → slice_get rules number ≡ Some given → (fits_packet given.rule p && is_ready given) ≡ false)

@@ -26,7 +26,7 @@ use Rattle.sf_refusing.specs.declared.given.GivenRule.{GivenRule}
 use Rattle.sf_refusing.specs.declared.passage.Passage.{Passage}
 use Rattle.sf_refusing.specs.Rules.{kind_of, paths_of, fits}
 use Rattle.sf_refusing.specs.Counting.{is_ready, counted_if}
-use Rattle.sf_refusing.specs.Journal.{Act, Ruled, Did, Passed, Refused, Packet, log_of, received_in, taken_in, taken_by, rules_in, since_given, fits_asked, fits_packet, counts, refuses}
+use Rattle.sf_refusing.specs.Journal.{Act, Ruled, Did, PassedOn, Refused, Packet, log_of, received_in, taken_in, taken_by, rules_in, since_given, fits_asked, fits_packet, counts, refuses}
 use Rattle.sf_refusing.specs.Refusing.{IsFed, IsUnruled, MayPass, MayRefuse, IsOwn, Serves, AreGiven, MovesOn}
 use Rattle.sf_refusing.specs.Fronts.{IsAt, Stands, Leaves}
 use Rattle.std.proofs.lemmas.Option.{slice_get_within}
@@ -93,10 +93,10 @@ done_other {E} has_log engine engine' journal s p p' rules e len asked S B asks 
       fed = subst (λ (b : List ℕ). IsFed s b e) (front_packet p.held.items len B) F;
       passes = none_refuses journal rules one S.rules (λ number given at. ap (λ (b : Bool). b && is_ready given) (no given.rule));
     } in (
-      Passed one e ∷ [],
+      PassedOn one e ∷ [],
       refl,
       passed_leaves has_log engine engine' journal p p' rules rules e one S may has (held_is p p' len B held) output begun
-          (rules_stay journal rules (Passed one e) S.rules refl (λ number rule. ap (λ (b : Bool). if b then 1 else 0) (no rule)) (λ number. refl)),
+          (rules_stay journal rules (PassedOn one e) S.rules refl (λ number rule. ap (λ (b : Bool). if b then 1 else 0) (no rule)) (λ number. refl)),
     )
 
 -- ---- a request, as rules see it
@@ -131,7 +131,7 @@ done_pass {E} has_log engine engine' journal s p p' rules rules' e len id reques
       fed = subst (λ (b : List ℕ). IsFed s b e) (front_packet p.held.items len B) F;
       passes = none_refuses journal rules one S.rules none';
     } in (
-      Passed one e ∷ [],
+      PassedOn one e ∷ [],
       refl,
       passed_leaves has_log engine engine' journal p p' rules rules' e one S may has (held_is p p' len B held) output begun
           (pass_rules journal rules rules' one e S.rules (same_fit rules rules' (length rules) (λ given. fits given.rule session kind paths) (λ given. fits_packet given.rule one) (λ given. same given.rule) C) none'),

@@ -13,7 +13,7 @@ use Rattle.sf_engine.specs.declared.event.EngineFault.{EngineFault}
 use Rattle.sf_session.specs.Responses.{Response, packet_for, transcript, if_so}
 use Rattle.sf_engine.specs.Promise.{LogEntry, fed_by, written_by, written_in, sent_at, sent_of, IsUnsent}
 use Rattle.sf_refusing.specs.declared.rule.Rule.{Rule}
-use Rattle.sf_refusing.specs.Journal.{Act, Ruled, Received, Delivered, Did, Apart, Passed, Refused, Packet, logged, log_of, received_by, received_in, taken_by, taken_in, sent_by, sent_in, delivered_by, delivered_in, rules_in, since_given, counts, counted, refused_by, refused_in}
+use Rattle.sf_refusing.specs.Journal.{Act, Ruled, Received, Delivered, Did, Apart, PassedOn, Refused, Packet, logged, log_of, received_by, received_in, taken_by, taken_in, sent_by, sent_in, delivered_by, delivered_in, rules_in, since_given, counts, counted, refused_by, refused_in}
 use Rattle.sf_refusing.specs.Refusing.{MayHappen, AllMayHappen, IsOwn, IsNotApart, IsServed, Serves}
 
 -- ---- lists
@@ -226,7 +226,7 @@ since_more (Received s bytes ∷ journal) number rule since act h = since_more j
 since_more (Delivered s n ∷ journal) number rule since act h = since_more journal number rule since act h
 since_more (Did e ∷ journal) number rule since act h = since_more journal number rule since act h
 since_more (Apart e ∷ journal) number rule since act h = since_more journal number rule since act h
-since_more (Passed p e ∷ journal) number rule since act h = since_more journal number rule since act h
+since_more (PassedOn p e ∷ journal) number rule since act h = since_more journal number rule since act h
 since_more (Refused p id by code e ∷ journal) number rule since act h = since_more journal number rule since act h
 
 pub since_new : (journal : List Act) (rule : Rule) → since_given (journal ++ Ruled rule ∷ []) (length (rules_in journal)) ≡ Some (rule, [])
@@ -236,7 +236,7 @@ since_new (Received s bytes ∷ journal) rule = since_new journal rule
 since_new (Delivered s n ∷ journal) rule = since_new journal rule
 since_new (Did e ∷ journal) rule = since_new journal rule
 since_new (Apart e ∷ journal) rule = since_new journal rule
-since_new (Passed p e ∷ journal) rule = since_new journal rule
+since_new (PassedOn p e ∷ journal) rule = since_new journal rule
 since_new (Refused p id by code e ∷ journal) rule = since_new journal rule
 
 pub since_none : (journal : List Act) (number : ℕ) → length (rules_in journal) ≤ number → since_given journal number ≡ None
@@ -247,5 +247,5 @@ since_none (Received s bytes ∷ journal) number h = since_none journal number h
 since_none (Delivered s n ∷ journal) number h = since_none journal number h
 since_none (Did e ∷ journal) number h = since_none journal number h
 since_none (Apart e ∷ journal) number h = since_none journal number h
-since_none (Passed p e ∷ journal) number h = since_none journal number h
+since_none (PassedOn p e ∷ journal) number h = since_none journal number h
 since_none (Refused p id by code e ∷ journal) number h = since_none journal number h

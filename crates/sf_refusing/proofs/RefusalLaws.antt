@@ -11,7 +11,7 @@ use Rattle.sf_session.specs.Responses.{transcript, if_so}
 use Rattle.sf_engine.specs.Promise.{LogEntry, fed_by, fed_in, written_by, written_in, sent_at}
 use Rattle.sf_refusing.specs.declared.rule.Rule.{Rule}
 use Rattle.sf_refusing.specs.declared.refusals.Refusals.{Refusals}
-use Rattle.sf_refusing.specs.Journal.{Act, Ruled, Received, Delivered, Did, Apart, Passed, Refused, ruled, rules_in, log_of, sent_in, taken_in, since_given}
+use Rattle.sf_refusing.specs.Journal.{Act, Ruled, Received, Delivered, Did, Apart, PassedOn, Refused, ruled, rules_in, log_of, sent_in, taken_in, since_given}
 use Rattle.sf_refusing.specs.Refusing.{AllMayHappen, moves_bytes, IsOwn, Serves, HasJournal}
 use Rattle.sf_refusing.proofs.Growing.{transcript_on, own_front, happened_more, begun_stays, entry_served, since_none}
 use Rattle.sf_refusing.proofs.Counts.{rules_stay}
@@ -65,7 +65,7 @@ ruleless front (Ruled rule ∷ journal) h none s own =
 ruleless front (Received t bytes ∷ journal) h none s own = ruleless (front ++ Received t bytes ∷ []) journal h.1 (none_next front journal (Received t bytes) none) s own.1
 ruleless front (Delivered t n ∷ journal) h none s own = ruleless (front ++ Delivered t n ∷ []) journal h.1 (none_next front journal (Delivered t n) none) s own.1
 ruleless front (Did e ∷ journal) h none s own = one_more s e journal (ruleless (front ++ Did e ∷ []) journal h.1 (none_next front journal (Did e) none) s own.1)
-ruleless front (Passed p e ∷ journal) h none s own = one_more s e journal (ruleless (front ++ Passed p e ∷ []) journal h.1 (none_next front journal (Passed p e) none) s own.1)
+ruleless front (PassedOn p e ∷ journal) h none s own = one_more s e journal (ruleless (front ++ PassedOn p e ∷ []) journal h.1 (none_next front journal (PassedOn p e) none) s own.1)
 ruleless front (Apart e ∷ journal) h none s own =
     let r = one_more s e journal (ruleless (front ++ Apart e ∷ []) journal h.1 (none_next front journal (Apart e) none) s own.1) in (
       r.0,

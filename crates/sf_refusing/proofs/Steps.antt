@@ -23,7 +23,7 @@ use Rattle.sf_refusing.specs.declared.rule.Rule.{Rule}
 use Rattle.sf_refusing.specs.declared.given.GivenRule.{GivenRule}
 use Rattle.sf_refusing.specs.declared.passage.Passage.{Passage}
 use Rattle.sf_refusing.specs.declared.refusals.Refusals.{Refusals}
-use Rattle.sf_refusing.specs.Journal.{Act, Ruled, Received, Delivered, Did, Apart, Passed, Refused, Packet, logged, log_of, received_by, taken_by, taken_in, sent_by, delivered_by, ruled, counts, refused_by, fits_packet}
+use Rattle.sf_refusing.specs.Journal.{Act, Ruled, Received, Delivered, Did, Apart, PassedOn, Refused, Packet, logged, log_of, received_by, taken_by, taken_in, sent_by, delivered_by, ruled, counts, refused_by, fits_packet}
 use Rattle.sf_refusing.specs.Refusing.{IsFed, IsUnruled, MayPass, MayRefuse, MayHappen, AllMayHappen, IsOwn, IsServed, Serves, AreGiven, HasJournal}
 use Rattle.sf_refusing.specs.Fronts.{IsAt, Stands, Changes, Leaves}
 use Rattle.sf_refusing.proofs.Growing.{more, own_so, other_so, none_so, own_front, happened_more, begun_stays, begun_now, entry_served, other_served, received_served, fed_served, IsMoved, moved_served, delivered_served, same_unsent, unsent_more, grown, get_set_same, get_set_other, some_same}
@@ -159,8 +159,8 @@ refused_serves journal s act e held output begun is received taken delivered wro
     entry_serves journal s act e held output begun is received taken delivered (wrote ∙ ap (λ (ws : List Response). transcript ws) (sym none)) sent S
 
 -- a packet is passed on
-pub passed_leaves : {E : Type 0} (has_log : E → List LogEntry → Type 0) (engine engine' : E) (journal : List Act) (p p' : Passage) (rules rules' : List GivenRule) (e : LogEntry) (one : Packet) → Stands has_log engine journal one.session p rules → MayPass journal one e → has_log engine' (log_of journal ++ e ∷ []) → p.held.items ≡ packet one.body ++ p'.held.items → p'.output.items ≡ p.output.items → p'.begun ≡ true → AreGiven (journal ++ Passed one e ∷ []) rules'
-    → Leaves has_log engine' journal one.session p' rules' (journal ++ Passed one e ∷ [])
+pub passed_leaves : {E : Type 0} (has_log : E → List LogEntry → Type 0) (engine engine' : E) (journal : List Act) (p p' : Passage) (rules rules' : List GivenRule) (e : LogEntry) (one : Packet) → Stands has_log engine journal one.session p rules → MayPass journal one e → has_log engine' (log_of journal ++ e ∷ []) → p.held.items ≡ packet one.body ++ p'.held.items → p'.output.items ≡ p.output.items → p'.begun ≡ true → AreGiven (journal ++ PassedOn one e ∷ []) rules'
+    → Leaves has_log engine' journal one.session p' rules' (journal ++ PassedOn one e ∷ [])
 passed_leaves {E} has_log engine engine' journal p p' rules rules' e one S M has held output begun given =
     let s : ℕ = one.session in
     let front : List ℕ = packet one.body in
@@ -168,14 +168,14 @@ passed_leaves {E} has_log engine engine' journal p p' rules rules' e one S M has
     let at : Serves journal s (front ++ p'.held.items) p'.output.items p.begun =
     subst (λ (b : List ℕ). Serves journal s (front ++ p'.held.items) b p.begun) (sym output)
     (subst (λ (b : List ℕ). Serves journal s b p.output.items p.begun) held S.at) in (
-      subst (λ (l : List LogEntry). has_log engine' l) (sym (more logged journal (Passed one e))) has,
+      subst (λ (l : List LogEntry). has_log engine' l) (sym (more logged journal (PassedOn one e))) has,
       record {
-        happened = happened_more [] journal (Passed one e) S.happened M;
-        at = subst (λ (b : Bool). Serves (journal ++ Passed one e ∷ []) s p'.held.items p'.output.items b) (sym begun)
-            (fed_serves journal s (Passed one e) e front p'.held.items p'.output.items p.begun refl refl (fed s ∙ own_so s front) refl refl (none_sent s front e M.fed s) (some_packet one.body) at);
+        happened = happened_more [] journal (PassedOn one e) S.happened M;
+        at = subst (λ (b : Bool). Serves (journal ++ PassedOn one e ∷ []) s p'.held.items p'.output.items b) (sym begun)
+            (fed_serves journal s (PassedOn one e) e front p'.held.items p'.output.items p.begun refl refl (fed s ∙ own_so s front) refl refl (none_sent s front e M.fed s) (some_packet one.body) at);
         rules = given;
         others = λ other held output begun ne serves.
-            entry_serves journal other (Passed one e) e held output begun refl refl (fed other ∙ other_so s other front (λ same. ne (sym same))) refl refl (none_sent s front e M.fed other) serves;
+            entry_serves journal other (PassedOn one e) e held output begun refl refl (fed other ∙ other_so s other front (λ same. ne (sym same))) refl refl (none_sent s front e M.fed other) serves;
       },
     )
 

@@ -29,7 +29,7 @@ pub data Act : Type 0 where
   Delivered : (session count : ℕ) → Act
   Did : (entry : LogEntry) → Act
   Apart : (entry : LogEntry) → Act
-  Passed : (packet : Packet) → (entry : LogEntry) → Act
+  PassedOn : (packet : Packet) → (entry : LogEntry) → Act
   Refused : (packet : Packet) → (id number : ℕ) → (code : StatusCode) → (entry : LogEntry) → Act
 
 -- ---- the engine
@@ -37,7 +37,7 @@ pub data Act : Type 0 where
 abbrev pub logged : Act → List LogEntry
 logged (Did e) = e ∷ []
 logged (Apart e) = e ∷ []
-logged (Passed p e) = e ∷ []
+logged (PassedOn p e) = e ∷ []
 logged (Refused p id number code e) = e ∷ []
 logged act = []
 
@@ -58,7 +58,7 @@ received_in session journal = flat_map (received_by session) journal
 -- those of them that the engine was fed, and the packets that were refused
 abbrev pub taken_by : ℕ → Act → List ℕ
 taken_by session (Did e) = fed_by session e.event e.result
-taken_by session (Passed p e) = fed_by session e.event e.result
+taken_by session (PassedOn p e) = fed_by session e.event e.result
 taken_by session (Refused p id number code e) = if_so (nat_eq p.session session) (packet p.body)
 taken_by session act = []
 
@@ -69,7 +69,7 @@ taken_in session journal = flat_map (taken_by session) journal
 abbrev pub sent_by : ℕ → Act → List ℕ
 sent_by session (Did e) = transcript (written_by session e.event e.wrote)
 sent_by session (Apart e) = transcript (written_by session e.event e.wrote)
-sent_by session (Passed p e) = transcript (written_by session e.event e.wrote)
+sent_by session (PassedOn p e) = transcript (written_by session e.event e.wrote)
 sent_by session (Refused p id number code e) =
     if_so (nat_eq p.session session) (packet (reply_body id (Status code)))
 sent_by session act = []
@@ -112,7 +112,7 @@ fits_packet rule p = fits_asked rule p.session p.asked
 
 -- It counts a packet that it is for, unless one before it refuses that.
 abbrev pub counts : ℕ → Rule → Act → ℕ
-counts number rule (Passed p e) = if fits_packet rule p then 1 else 0
+counts number rule (PassedOn p e) = if fits_packet rule p then 1 else 0
 counts number rule (Refused p id by code e) =
     if not (nat_lt by number) && fits_packet rule p then 1 else 0
 counts number rule act = 0

@@ -21,7 +21,7 @@ use Rattle.sf_refusing.specs.declared.rule.Rule.{Rule}
 use Rattle.sf_refusing.specs.declared.given.GivenRule.{GivenRule}
 use Rattle.sf_refusing.specs.declared.passage.Passage.{Passage}
 use Rattle.sf_refusing.specs.declared.refusals.Refusals.{Refusals}
-use Rattle.sf_refusing.specs.Journal.{Packet, Act, Ruled, Received, Delivered, Did, Apart, Passed, Refused, log_of, received_in, taken_in, sent_in, delivered_in, rules_in, since_given, counted, refused_in, refuses}
+use Rattle.sf_refusing.specs.Journal.{Packet, Act, Ruled, Received, Delivered, Did, Apart, PassedOn, Refused, log_of, received_in, taken_in, sent_in, delivered_in, rules_in, since_given, counted, refused_in, refuses}
 
 -- ---- what may happen
 
@@ -68,7 +68,7 @@ pub record MayRefuse (front : List Act) (p : Packet) (id number : ℕ) (code : S
 
 abbrev pub MayHappen : List Act → Act → Type 0
 MayHappen front (Did e) = (session : ℕ) → IsUnruled front session (fed_by session e.event e.result)
-MayHappen front (Passed p e) = MayPass front p e
+MayHappen front (PassedOn p e) = MayPass front p e
 MayHappen front (Refused p id number code e) = MayRefuse front p id number code e
 MayHappen front act = Unit {0}
 
@@ -154,7 +154,7 @@ NoneIsHeld journal session = WaitsForBytes (log_of journal) session → IsOwn se
 -- what stood at the front was passed on
 abbrev pub IsPassedOn : ℕ → Act → Type 0
 IsPassedOn session (Did e) = 0 < length (fed_by session e.event e.result)
-IsPassedOn session (Passed p e) = p.session ≡ session
+IsPassedOn session (PassedOn p e) = p.session ≡ session
 IsPassedOn session act = ⊥
 
 -- One packet was passed on, or there was none.

@@ -24,7 +24,7 @@ refused_first s Q why does = (
   record {
     first = does.0;
     second = [];
-    came = Err why;
+    outcome = Err why;
     parts = sym (append-nil does.0);
     begins = does.2;
     goes_on = (refl, refl);
@@ -40,7 +40,7 @@ both_done {a = a} {b = b} {c = c} s Q x r does more = (
   record {
     first = does.0;
     second = more.0;
-    came = Ok x;
+    outcome = Ok x;
     parts = refl;
     begins = does.2;
     goes_on = more.2;

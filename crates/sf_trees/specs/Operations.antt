@@ -11,8 +11,8 @@ use Rattle.sf_trees.specs.declared.fault.Refused.{Refused}
 
 -- A session begins, a request of it is answered or isn't, and a session ends.
 pub data Operation : Type 0 where
-  Begins : (came : Result ℕ TreeFault) → Operation
-  Asks : (session : ℕ) → (q : WireRequest) → (came : Result Reply TreeFault) → Operation
+  Begins : (outcome : Result ℕ TreeFault) → Operation
+  Asks : (session : ℕ) → (q : WireRequest) → (outcome : Result Reply TreeFault) → Operation
   Ends : (session : ℕ) → Operation
 
 -- This was done, and came to that.
@@ -24,8 +24,8 @@ Does reaches old new P result = (operations : List Operation) × reaches old ope
 -- a request alone, and what its reply tells
 abbrev pub IsAsked : {R : Type 0} → ℕ → WireRequest → (Result Reply TreeFault → R) → List Operation
     → R → Type 0
-IsAsked session q told operations result = (came : Result Reply TreeFault)
-    × (operations ≡ Asks session q came ∷ []) × (result ≡ told came)
+IsAsked session q told operations result = (outcome : Result Reply TreeFault)
+    × (operations ≡ Asks session q outcome ∷ []) × (result ≡ told outcome)
 
 -- why a reply isn't the one that is due
 abbrev pub fault_in_reply : Reply → TreeFault
@@ -71,10 +71,10 @@ pub record Then {A : Type 0} {R : Type 0} {E : Type 0} (P : List Operation → R
     (result : Result R E) : Type 0 where
   pub first : List Operation
   pub second : List Operation
-  pub came : Result A E
+  pub outcome : Result A E
   pub parts : operations ≡ first ++ second
-  pub begins : P first came
-  pub goes_on : ContinuesWith Q came second result
+  pub begins : P first outcome
+  pub goes_on : ContinuesWith Q outcome second result
 
 -- A session begins, this is done by it, and it ends.
 pub record HasSession {R : Type 0} (P : ℕ → List Operation → Result R Refused → Type 0)

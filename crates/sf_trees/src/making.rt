@@ -64,10 +64,10 @@ fn is_directory(attrs: &Attrs) -> bool
 }
 
 /// Whether a directory was told.
-fn finds_by(place: Place, came: &Result<Reply, TreeFault>) -> Result<bool, Refused>
-    ensures { result ≡ finds_by place came.now }
+fn finds_by(place: Place, outcome: &Result<Reply, TreeFault>) -> Result<bool, Refused>
+    ensures { result ≡ finds_by place outcome.now }
 {
-    match came {
+    match outcome {
         Ok(Reply::Attrs(attrs)) => Ok(is_directory(attrs)),
         Ok(Reply::Status(StatusCode::NoSuchFile)) => Ok(false),
         Ok(reply) => Err(Refused {
@@ -88,13 +88,13 @@ fn finds<S: Server>(server: &mut S, session: u64, path: &[u8]) -> Result<bool, R
         result }
 {
     let length = path.len();
-    let came = server.ask(
+    let outcome = server.ask(
         session,
         &WireRequest::Stat {
             path: ByteStr::new(path),
         },
     );
-    finds_by(Place { kind: 17, length }, &came)
+    finds_by(Place { kind: 17, length }, &outcome)
 }
 
 /// Makes a directory.

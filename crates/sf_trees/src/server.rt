@@ -43,10 +43,10 @@ pub(crate) fn refusal_of(reply: &Reply) -> TreeFault
 }
 
 /// Whether a request was done.
-fn done_by(place: Place, came: &Result<Reply, TreeFault>) -> Result<(), Refused>
-    ensures { result ≡ done_by place came.now }
+fn done_by(place: Place, outcome: &Result<Reply, TreeFault>) -> Result<(), Refused>
+    ensures { result ≡ done_by place outcome.now }
 {
-    match came {
+    match outcome {
         Ok(Reply::Status(StatusCode::Success)) => Ok(()),
         Ok(reply) => Err(Refused {
             fault: refusal_of(reply),
@@ -69,15 +69,15 @@ pub(crate) fn succeed<S: Server>(
     ensures { Does S.reaches server.old server.new
         (IsAsked session request.now (done_by place)) result }
 {
-    let came = server.ask(session, request);
-    done_by(place, &came)
+    let outcome = server.ask(session, request);
+    done_by(place, &outcome)
 }
 
 /// The number of a handle that was opened.
-fn handle_by(place: Place, came: &Result<Reply, TreeFault>) -> Result<u64, Refused>
-    ensures { result ≡ handle_by place came.now }
+fn handle_by(place: Place, outcome: &Result<Reply, TreeFault>) -> Result<u64, Refused>
+    ensures { result ≡ handle_by place outcome.now }
 {
-    match came {
+    match outcome {
         Ok(Reply::Handle(number)) => Ok(*number),
         Ok(reply) => Err(Refused {
             fault: refusal_of(reply),
@@ -100,8 +100,8 @@ pub(crate) fn open<S: Server>(
     ensures { Does S.reaches server.old server.new
         (IsAsked session request.now (handle_by place)) result }
 {
-    let came = server.ask(session, request);
-    handle_by(place, &came)
+    let outcome = server.ask(session, request);
+    handle_by(place, &outcome)
 }
 
 /// A session begins.

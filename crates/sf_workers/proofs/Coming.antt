@@ -1,11 +1,11 @@
 -- What a line came to, by how the lane of its session ended.
 use Rattle.std.proofs.Common.{◌≡◌, ◌⊎◌, ℕ, Result, Ok, Err, OnOk, IfErr, ap, sym, ◌∙◌, subst, inl, inr}
 use Rattle.sf_call.specs.declared.fault.CoreFault.{CoreFault}
+use Rattle.sf_core.specs.Cores.{LaneState}
+use Rattle.sf_core.specs.Cores.LaneState.{NoLane, Busy}
 use Rattle.sf_session.specs.declared.fault.ServeFault.{ServeFault}
 use Rattle.sf_session.specs.declared.fault.ServeFault.TheVariants as fault
-use Rattle.sf_noted.specs.Pages.{Page}
-use Rattle.sf_noted.specs.Pages.{Presence}
-use Rattle.sf_noted.specs.Pages.Presence.{Calling, Departed}
+use Rattle.sf_noted.specs.Pages.{BegunCall, begun_call, Page}
 use Rattle.sf_session.specs.SessionStates.{SessionState}
 use Rattle.sf_serving.specs.Serving.{LineView, Progress}
 use Rattle.sf_pool.specs.SessionLanes.{SessionLaneState, JoinRefused, Joined, SessionLaneView}
@@ -13,16 +13,16 @@ use Rattle.sf_pool.specs.Scenes.{LaneScene, IsInCall, ServesLane, NeverJoins, Ha
 use Rattle.sf_pool.specs.OnCores.{IsPageOf, IsVisitOf}
 use Rattle.sf_workers.specs.Told.{IsSpentBy, EndsServing, IsOutcomeOf}
 
-pub same_presence : (a b : Presence) → Joined a ≡ Joined b → a ≡ b
-same_presence a b e = cc
+pub same_state : (a b : LaneState BegunCall) → Joined a ≡ Joined b → a ≡ b
+same_state a b e = cc
 
 -- the lane of a session that joined
 abbrev HasJoined : SessionLaneState → Type 0
-HasJoined place = (presence : Presence) × (place ≡ Joined presence)
+HasJoined place = (state : LaneState BegunCall) × (place ≡ Joined state)
 
 left_joined : (lane : SessionLaneView) (t : SessionState) (old new : ℕ) → HasLeft lane t old new → HasJoined lane.place
-left_joined lane t old new (inl left) = (Departed, left.0)
-left_joined lane t old new (inr call) = (Calling call.0.number call.0.moment call.0.request, call.0.placed)
+left_joined lane t old new (inl left) = (NoLane, left.0)
+left_joined lane t old new (inr call) = (Busy (begun_call call.0.number call.0.moment call.0.request), call.0.placed)
 
 left_for : (f : ServeFault) (lane : SessionLaneView) (p : Progress) (old new : ℕ) → LeavesFor f lane p old new → HasLeft lane p.state old new
 left_for fault.Line lane p old new h = h
@@ -39,8 +39,8 @@ spent_by fault.Stranger lane p old new h = absurd h
 spent_by fault.NumbersSpent lane p old new h = h.1
 
 stands : (x : ℕ × Page) (lane : SessionLaneView) (t : SessionState) (old new : ℕ) → IsPageOf lane x → HasLeft lane t old new
-    → (x.1.presence ≡ Departed) ⊎ IsInCall (Joined x.1.presence) t.phase
-stands x lane t old new page (inl left) = inl (same_presence x.1.presence Departed (page.place ∙ left.0))
+    → (x.1.state ≡ NoLane) ⊎ IsInCall (Joined x.1.state) t.phase
+stands x lane t old new page (inl left) = inl (same_state x.1.state NoLane (page.place ∙ left.0))
 stands x lane t old new page (inr call) = inr (subst (λ (place : SessionLaneState). IsInCall place t.phase) (sym page.place) call.0)
 
 -- ---- a session that never joined was refused
@@ -55,9 +55,9 @@ never_joined start now f refused h = refused_not_joined now.place refused.0 (ap 
 
 served_to : (visit : Result (ℕ × Page) CoreFault) (start now : LaneScene) (from line : LineView) (failed failed' steps old new : ℕ) → IsVisitOf now.lane visit → ServesLane start now from line old new
     → IsOutcomeOf visit from line (EndsServing (Ok tt) line.incoming failed failed' steps)
-served_to (Err refusal) start now from line failed failed' steps old new visit (p, notes, served, (ends, left, shared)) = absurd (refused_not_joined now.lane.place refusal visit (Departed, left))
+served_to (Err refusal) start now from line failed failed' steps old new visit (p, notes, served, (ends, left, shared)) = absurd (refused_not_joined now.lane.place refusal visit (NoLane, left))
 served_to (Ok x) start now from line failed failed' steps old new visit (p, notes, served, (ends, left, shared)) =
-    record { progress = p; served = served; told = visit.told ∙ notes.noted; stands = inl (same_presence x.1.presence Departed (visit.place ∙ left)); ends = ends }
+    record { progress = p; served = served; told = visit.told ∙ notes.noted; stands = inl (same_state x.1.state NoLane (visit.place ∙ left)); ends = ends }
 
 stopped_at : (visit : Result (ℕ × Page) CoreFault) (f : ServeFault) (start now : LaneScene) (from line : LineView) (failed failed' steps old new : ℕ) → IsVisitOf now.lane visit → steps ≡ now.lane.steps
     → IsLaneFault f failed failed' → StopsLane f start now from line failed failed' old new → IsOutcomeOf visit from line (EndsServing (Err f) line.incoming failed failed' steps)
@@ -65,7 +65,7 @@ stopped_at (Err refusal) f start now from line failed failed' steps old new visi
 stopped_at (Err refusal) f start now from line failed failed' steps old new visit same_steps why (inr (p, notes, served, (wrote, leaves))) =
     absurd (refused_not_joined now.lane.place refusal visit (left_joined now.lane p.state old new (left_for f now.lane p old new leaves)))
 stopped_at (Ok x) f start now from line failed failed' steps old new visit same_steps why (inl (never, begins, told, same, share)) =
-    absurd (never_joined start.lane now.lane f never (x.1.presence, sym visit.place))
+    absurd (never_joined start.lane now.lane f never (x.1.state, sym visit.place))
 stopped_at (Ok x) f start now from line failed failed' steps old new visit same_steps why (inr (p, notes, served, (wrote, leaves))) =
     record {
       progress = p;
@@ -75,8 +75,8 @@ stopped_at (Ok x) f start now from line failed failed' steps old new visit same_
       ends = (wrote, why, subst (λ (n : ℕ). IsSpentBy f n p) (sym same_steps) (spent_by f now.lane p old new leaves));
     }
 
-pub came_to : (visit : Result (ℕ × Page) CoreFault) (r : Result Unit ServeFault) (start now : LaneScene) (from line : LineView) (failed failed' steps old new : ℕ) → IsVisitOf now.lane visit → steps ≡ now.lane.steps
+pub served_or_stopped : (visit : Result (ℕ × Page) CoreFault) (r : Result Unit ServeFault) (start now : LaneScene) (from line : LineView) (failed failed' steps old new : ℕ) → IsVisitOf now.lane visit → steps ≡ now.lane.steps
     → OnOk r (ServesLane start now from line old new) → IfErr r (λ f. StopsLane f start now from line failed failed' old new) → IfErr r (λ f. IsLaneFault f failed failed')
     → IsOutcomeOf visit from line (EndsServing r line.incoming failed failed' steps)
-came_to visit (Ok tt) start now from line failed failed' steps old new is same_steps serves stops why = served_to visit start now from line failed failed' steps old new is serves
-came_to visit (Err f) start now from line failed failed' steps old new is same_steps serves stops why = stopped_at visit f start now from line failed failed' steps old new is same_steps why stops
+served_or_stopped visit (Ok tt) start now from line failed failed' steps old new is same_steps serves stops why = served_to visit start now from line failed failed' steps old new is serves
+served_or_stopped visit (Err f) start now from line failed failed' steps old new is same_steps serves stops why = stopped_at visit f start now from line failed failed' steps old new is same_steps why stops

@@ -8,20 +8,20 @@ use Rattle.sf_call.specs.declared.request.Request.{Request}
 use Rattle.sf_call.specs.declared.fault.CoreFault.{CoreFault}
 use Rattle.sf_call.specs.declared.record.Record.{Record}
 use Rattle.sf_call.specs.declared.record.Record.TheVariants.{Did, Left}
+use Rattle.sf_core.specs.Cores.{LaneState}
+use Rattle.sf_core.specs.Cores.LaneState.{NoLane, Busy}
 use Rattle.sf_session.specs.declared.asking.Ask.{Ask}
 use Rattle.sf_session.specs.Responses.{RepliedCall, Response, Version, Locally, ByCall, Refused, ask_behind, AreAsked, if_so, recorded_in, answered_in, Due, Nothing, Unrecorded, Recorded, asked_due, recorded_due}
 use Rattle.sf_session.specs.SessionStates.{Phase, Resting, UnderWay, Decided, Gone, pending}
 use Rattle.sf_audit.specs.Audits.{CallRecord, call_records}
-use Rattle.sf_noted.specs.Pages.{Page}
-use Rattle.sf_noted.specs.Pages.{Presence}
-use Rattle.sf_noted.specs.Pages.Presence.{Calling, Departed}
+use Rattle.sf_noted.specs.Pages.{BegunCall, begun_call, Page}
 use Rattle.sf_noted.specs.Visits.{MayWait, IsVisitIn}
 use Rattle.sf_serving.specs.Serving.{LineView, Progress}
 use Rattle.sf_pool.specs.SessionLanes.{Joined}
 use Rattle.sf_pool.specs.Scenes.{response_calls, phase_calls, IsInCall}
 use Rattle.sf_workers.specs.Told.{WasServed, IsOutcomeOf}
 use Rattle.sf_workers.specs.Conversations.{ConversesIn}
-use Rattle.sf_workers.proofs.Coming.{same_presence}
+use Rattle.sf_workers.proofs.Coming.{same_state}
 
 -- ---- a session's calls, in the words of a conversation
 
@@ -63,25 +63,25 @@ none_waits (Decided id number request reply) =
     record { due = Recorded id (record { number = number; request = request; reply = reply }); asked = refl; calls = refl }
 none_waits (Gone cause) = record { due = Nothing; asked = refl; calls = refl }
 
-departed_due : (phase : Phase) (waits : List CallRecord) → MayWait Departed waits → DueFor phase waits
-departed_due phase waits (inl none) = subst (DueFor phase) (sym none) (none_waits phase)
-departed_due phase waits (inr one) = subst (DueFor phase) (sym one.1) (none_waits phase)
+left_due : (phase : Phase) (waits : List CallRecord) → MayWait NoLane waits → DueFor phase waits
+left_due phase waits (inl none) = subst (DueFor phase) (sym none) (none_waits phase)
+left_due phase waits (inr one) = subst (DueFor phase) (sym one.1) (none_waits phase)
 
 in_call_due : (id number moment : ℕ) (request : Request) (moves : ℕ) (waits : List CallRecord)
-    → MayWait (Calling number moment request) waits → DueFor (UnderWay id number moment request moves) waits
+    → MayWait (Busy (begun_call number moment request)) waits → DueFor (UnderWay id number moment request moves) waits
 in_call_due id number moment request moves waits (inl none) =
     subst (DueFor (UnderWay id number moment request moves)) (sym none) (none_waits (UnderWay id number moment request moves))
 in_call_due id number moment request moves waits (inr one) =
     subst (DueFor (UnderWay id number moment request moves)) (sym one.1)
     (record { due = Recorded id (record { number = number; request = request; reply = one.0 }); asked = refl; calls = refl })
 
-due_of : (presence : Presence) (phase : Phase) (waits : List CallRecord) → (presence ≡ Departed) ⊎ IsInCall (Joined presence) phase
-    → MayWait presence waits → DueFor phase waits
-due_of presence phase waits (inl gone) may = departed_due phase waits (subst (λ (p : Presence). MayWait p waits) gone may)
-due_of presence phase waits (inr call) may =
-    let same = same_presence presence (Calling call.number call.moment call.request) call.placed in
+due_of : (state : LaneState BegunCall) (phase : Phase) (waits : List CallRecord) → (state ≡ NoLane) ⊎ IsInCall (Joined state) phase
+    → MayWait state waits → DueFor phase waits
+due_of state phase waits (inl gone) may = left_due phase waits (subst (λ (p : LaneState BegunCall). MayWait p waits) gone may)
+due_of state phase waits (inr call) may =
+    let same = same_state state (Busy (begun_call call.number call.moment call.request)) call.placed in
     subst (λ (f : Phase). DueFor f waits) (sym call.waits)
-    (in_call_due call.id call.number call.moment call.request call.moves waits (subst (λ (p : Presence). MayWait p waits) same may))
+    (in_call_due call.id call.number call.moment call.request call.moves waits (subst (λ (p : LaneState BegunCall). MayWait p waits) same may))
 
 -- ---- what passed
 
@@ -91,7 +91,7 @@ conversing x from line history serves visit =
     let t = p.state in
     let served = serves.served in
     let waits = visit.0 in
-    let d = due_of x.1.presence t.phase waits serves.stands visit.2 in
+    let d = due_of x.1.state t.phase waits serves.stands visit.2 in
     let calls = flat_map response_calls t.answers in
     let more = phase_calls t.phase ++ waits in
     let all : call_records x.0 history ≡ calls ++ more = visit.1 ∙ ap (λ (l : List CallRecord). l ++ waits) serves.told ∙ append_assoc calls (phase_calls t.phase) waits in (

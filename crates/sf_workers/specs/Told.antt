@@ -7,11 +7,11 @@ use Rattle.sf_session.specs.declared.fault.ServeFault.{ServeFault}
 use Rattle.sf_session.specs.declared.fault.ServeFault.TheVariants as fault
 use Rattle.sf_call.specs.declared.record.Record.{Record}
 use Rattle.sf_core.specs.Cores.{CoreView}
+use Rattle.sf_core.specs.Cores.LaneState.{NoLane}
 use Rattle.sf_core.specs.Histories.{IsHistory}
 use Rattle.sf_audit.specs.declared.transcript.Transcript.{Transcript}
 use Rattle.sf_audit.specs.Audits.{CallRecord, call_record}
 use Rattle.sf_noted.specs.Pages.{Page}
-use Rattle.sf_noted.specs.Pages.Presence.{Departed}
 use Rattle.sf_noted.specs.Visits.{IsVisitIn}
 use Rattle.sf_serving.specs.Hosts.{most_counted}
 use Rattle.sf_serving.specs.Serving.{LineView, Progress, ServedSoFar, IsServed, HasWrittenFor}
@@ -54,7 +54,7 @@ pub record WasServed (x : ℕ × Page) (from line : LineView)
   pub progress : Progress
   pub served : ServedSoFar lane_held from line progress
   pub told : x.1.told ≡ state_calls progress.state
-  pub stands : (x.1.presence ≡ Departed) ⊎ IsInCall (Joined x.1.presence) progress.state.phase
+  pub stands : (x.1.state ≡ NoLane) ⊎ IsInCall (Joined x.1.state) progress.state.phase
   pub ends : Ends progress
 
 -- nothing was read or written for one that never joined

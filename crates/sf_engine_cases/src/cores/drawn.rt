@@ -52,8 +52,8 @@ impl Draws {
     }
 
     /// Remembers a handle that was told.
-    pub(super) fn remember(&mut self, came_to: Told) {
-        if let Told::Handle(number) = came_to {
+    pub(super) fn remember(&mut self, outcome: Outcome) {
+        if let Outcome::Handle(number) = outcome {
             let place = self.place(16);
             if let Some(handle) = self.handles.get_mut(place) {
                 *handle = number;
@@ -286,16 +286,16 @@ fn event(
     kept: &mut KeptLane,
     draws: &mut Draws,
     moment: u32,
-) -> Option<Told> {
+) -> Option<Outcome> {
     let Some(lane) = kept.lane.take() else {
         *kept = KeptLane::of(join(rt, core));
         return None;
     };
     let mut lane = lane;
     if !lane.is_idle() {
-        let came_to = step(rt, core, &mut lane);
+        let outcome = step(rt, core, &mut lane);
         *kept = KeptLane::of(lane);
-        return Some(came_to);
+        return Some(outcome);
     }
     if draws.once_in(200) {
         leave(rt, core, lane);
@@ -383,9 +383,9 @@ struct Tally {
 
 impl Tally {
     /// A step that decides adds its own record, behind those of the calls that it helps.
-    fn count(&mut self, came_to: Told, added: &[Record]) {
+    fn count(&mut self, outcome: Outcome, added: &[Record]) {
         self.steps = self.steps.saturating_add(1);
-        if let Told::Blocked(_) = came_to {
+        if let Outcome::Blocked(_) = outcome {
             self.blocked = self.blocked.saturating_add(1);
         }
         let Some((_, helped)) = added.split_last() else {
@@ -450,16 +450,16 @@ fn drawn_events(
         }
         in_row = in_row.saturating_sub(1);
         let before = core.history().len();
-        let came_to = match lanes.get_mut(place) {
+        let outcome = match lanes.get_mut(place) {
             Some(kept) => event(rt, alloc, core, kept, &mut draws, moment),
             None => None,
         };
-        if let Some(came_to) = came_to {
-            draws.remember(came_to);
+        if let Some(outcome) = outcome {
+            draws.remember(outcome);
             draws.follow(core.history().last());
-            tally.count(came_to, core.history().get(before..).unwrap_or(&[]));
+            tally.count(outcome, core.history().get(before..).unwrap_or(&[]));
         }
-        if let Some(Told::Blocked(_)) = came_to {
+        if let Some(Outcome::Blocked(_)) = outcome {
             place = draws.place(SESSIONS);
             in_row = 3;
         }

@@ -100,19 +100,19 @@ struct Counts {
 }
 
 impl Counts {
-    fn count(&mut self, session: &mut DrawnSession, came_to: Told) {
-        if let Told::Blocked(_) = came_to {
+    fn count(&mut self, session: &mut DrawnSession, outcome: Outcome) {
+        if let Outcome::Blocked(_) = outcome {
             self.blocked = self.blocked.saturating_add(1);
             return;
         }
         if session.blocks == 0 {
             return;
         }
-        if let Told::Moved = came_to {
+        if let Outcome::Moved = outcome {
             session.moved = session.moved.saturating_add(1);
             return;
         }
-        if let Told::Status(StatusCode::Success) = came_to {
+        if let Outcome::Status(StatusCode::Success) = outcome {
             self.writes = self.writes.saturating_add(1);
             if session.moved > 0 {
                 self.long = self.long.saturating_add(1);
@@ -132,7 +132,7 @@ fn event(
     session: &mut DrawnSession,
     hand: &mut Hand,
     moment: u32,
-) -> Option<Told> {
+) -> Option<Outcome> {
     let Some(lane) = session.kept.lane.take() else {
         session.kept = KeptLane::of(join(rt, core));
         return None;
@@ -149,9 +149,9 @@ fn event(
         session.kept = KeptLane::of(lane);
         return None;
     }
-    let came_to = step(rt, core, &mut lane);
+    let outcome = step(rt, core, &mut lane);
     session.kept = KeptLane::of(lane);
-    Some(came_to)
+    Some(outcome)
 }
 
 fn is_done(reply: &Reply) -> bool {
@@ -183,13 +183,13 @@ fn counted_event(
     moment: u32,
 ) {
     let before = core.history().len();
-    let Some(came_to) = event(rt, alloc, core, session, hand, moment) else {
+    let Some(outcome) = event(rt, alloc, core, session, hand, moment) else {
         return;
     };
-    if let Told::Handle(number) = came_to {
+    if let Outcome::Handle(number) = outcome {
         session.handle = number;
     }
-    counts.count(session, came_to);
+    counts.count(session, outcome);
     if core.history().len() > before && has_moved(core.history().last()) {
         hand.home = hand.other();
     }
@@ -319,21 +319,21 @@ fn begin_kept(
     }
 }
 
-fn step_kept(rt: &impl Abort, core: &mut Core, kept: &mut KeptLane) -> Told {
+fn step_kept(rt: &impl Abort, core: &mut Core, kept: &mut KeptLane) -> Outcome {
     match &mut kept.lane {
         Some(lane) => step(rt, core, lane),
         None => panic!(rt; "no lane"),
     }
 }
 
-fn kept_comes_to(rt: &impl Abort, core: &mut Core, kept: &mut KeptLane, want: Told) {
+fn kept_comes_to(rt: &impl Abort, core: &mut Core, kept: &mut KeptLane, want: Outcome) {
     let told = step_kept(rt, core, kept);
     assert!(rt; told == want, "{told:?}, not {want:?}");
 }
 
 fn kept_waits(rt: &impl Abort, core: &mut Core, kept: &mut KeptLane) {
     let told = step_kept(rt, core, kept);
-    assert!(rt; matches!(told, Told::Blocked(_)), "{told:?}");
+    assert!(rt; matches!(told, Outcome::Blocked(_)), "{told:?}");
 }
 
 /// The truncation comes to the file's parent.
@@ -346,8 +346,8 @@ fn cuts(rt: &impl Abort, alloc: Global, core: &mut Core, kept: &mut KeptLane, ha
         set_stat(alloc, &path, sized(size))
     };
     begin_kept(rt, core, kept, request);
-    kept_comes_to(rt, core, kept, Told::Moved);
-    kept_comes_to(rt, core, kept, Told::Moved);
+    kept_comes_to(rt, core, kept, Outcome::Moved);
+    kept_comes_to(rt, core, kept, Outcome::Moved);
 }
 
 /// A drawn WRITE of three blocks or more copies some of them. How many it has, and copied, is told.
@@ -369,7 +369,7 @@ fn writes(
         .below(blocks.saturating_sub(1))
         .saturating_add(1);
     for _ in 0..moves {
-        kept_comes_to(rt, core, kept, Told::Moved);
+        kept_comes_to(rt, core, kept, Outcome::Moved);
     }
     (blocks, moves)
 }
@@ -404,14 +404,19 @@ fn round(
     kept_waits(rt, core, &mut four.reader);
     let moved = rename(alloc, &[b'/', hand.home], &[b'/', hand.other()]);
     begin_kept(rt, core, &mut four.mover, moved);
-    kept_comes_to(rt, core, &mut four.mover, Told::Moved);
-    kept_comes_to(rt, core, &mut four.mover, Told::Status(StatusCode::Success));
+    kept_comes_to(rt, core, &mut four.mover, Outcome::Moved);
+    kept_comes_to(
+        rt,
+        core,
+        &mut four.mover,
+        Outcome::Status(StatusCode::Success),
+    );
     hand.home = hand.other();
     kept_comes_to(
         rt,
         core,
         &mut four.writer,
-        Told::Status(StatusCode::Success),
+        Outcome::Status(StatusCode::Success),
     );
     step_kept(rt, core, &mut four.reader);
     step_kept(rt, core, &mut four.cutter);
@@ -421,10 +426,10 @@ fn round(
 /// A session opens the file. Its handle is told.
 fn opens_file(rt: &impl Abort, alloc: Global, core: &mut Core, kept: &mut KeptLane) -> u64 {
     begin_kept(rt, core, kept, open(alloc, b"/a/f", b"rwc"));
-    kept_comes_to(rt, core, kept, Told::Moved);
-    kept_comes_to(rt, core, kept, Told::Moved);
+    kept_comes_to(rt, core, kept, Outcome::Moved);
+    kept_comes_to(rt, core, kept, Outcome::Moved);
     match step_kept(rt, core, kept) {
-        Told::Handle(number) => number,
+        Outcome::Handle(number) => number,
         other => panic!(rt; "no handle: {other:?}"),
     }
 }
@@ -440,12 +445,12 @@ fn renames_finish_writes(rt: HostRuntime) -> Result<(), Fail> {
         mover: joined(&rt, &mut core),
     };
     begin_kept(&rt, &mut core, &mut four.mover, mkdir(alloc, b"/a"));
-    kept_comes_to(&rt, &mut core, &mut four.mover, Told::Moved);
+    kept_comes_to(&rt, &mut core, &mut four.mover, Outcome::Moved);
     kept_comes_to(
         &rt,
         &mut core,
         &mut four.mover,
-        Told::Status(StatusCode::Success),
+        Outcome::Status(StatusCode::Success),
     );
     let written = opens_file(&rt, alloc, &mut core, &mut four.writer);
     let read_by = opens_file(&rt, alloc, &mut core, &mut four.reader);

@@ -6,7 +6,7 @@ use crate::leaves::{at, has_bytes, text_of};
 use sf_call::Leaf;
 use sf_cases::requests::write;
 
-const OK: Told = Told::Status(StatusCode::Success);
+const OK: Outcome = Outcome::Status(StatusCode::Success);
 
 fn tree_of(rt: &impl Abort, alloc: Global, core: &Core) -> Vec<Leaf> {
     match core.tree(alloc) {
@@ -21,7 +21,7 @@ fn comes_to(
     core: &mut Core,
     lane: &mut Lane,
     request: Result<Request, Fail>,
-    want: Told,
+    want: Outcome,
 ) {
     begin(rt, core, lane, request);
     walks_to(rt, core, lane, 10_000, want);
@@ -59,7 +59,7 @@ fn leaves_stay_as_they_were(rt: HostRuntime) -> Result<(), Fail> {
     let mut core = made(&rt, alloc);
     let mut lane = join(&rt, &mut core);
     let opened = open(alloc, b"/f", b"rwc");
-    comes_to(&rt, &mut core, &mut lane, opened, Told::Handle(1));
+    comes_to(&rt, &mut core, &mut lane, opened, Outcome::Handle(1));
     comes_to(&rt, &mut core, &mut lane, write(alloc, 1, 0, &old), OK);
     begin(&rt, &mut core, &mut lane, write(alloc, 1, 0, &new));
     let before = tree_of(&rt, alloc, &core);
@@ -67,7 +67,7 @@ fn leaves_stay_as_they_were(rt: HostRuntime) -> Result<(), Fail> {
     let more = write(alloc, 1, 50_000, b"x");
     comes_to(&rt, &mut core, &mut lane, more, OK);
     let cut = open(alloc, b"/f", b"wt");
-    comes_to(&rt, &mut core, &mut lane, cut, Told::Handle(5));
+    comes_to(&rt, &mut core, &mut lane, cut, Outcome::Handle(5));
     has_bytes(&rt, alloc, at(&rt, &tree_of(&rt, alloc, &core), 1), b"");
     has_bytes(&rt, alloc, at(&rt, &before, 1), &old);
     assert_eq!(&rt; looks.len(), 25);

@@ -412,11 +412,11 @@ fn draw_events(
         let Some(client) = clients.get_mut(*place) else {
             panic!(rt; "no client");
         };
-        let came_to = event(rt, alloc, engine, &mut draws, &mut tally, client, moment)?;
-        if let Some(Happened::Ended(_)) = came_to {
+        let outcome = event(rt, alloc, engine, &mut draws, &mut tally, client, moment)?;
+        if let Some(Happened::Ended(_)) = outcome {
             *place = add_client(rt, alloc, engine, clients)?;
         }
-        match came_to {
+        match outcome {
             Some(Happened::Blocked(_)) => {
                 nth = draws.place(SESSIONS);
                 in_row = 3;

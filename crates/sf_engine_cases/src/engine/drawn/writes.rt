@@ -36,8 +36,8 @@ fn begins(
 }
 
 fn waits(rt: &impl Abort, engine: &mut Engine, session: u64) {
-    let came_to = engine.apply(&Event::Turn(session, 100));
-    assert!(rt; matches!(came_to, Ok(Happened::Blocked(_))), "{came_to:?}");
+    let outcome = engine.apply(&Event::Turn(session, 100));
+    assert!(rt; matches!(outcome, Ok(Happened::Blocked(_))), "{outcome:?}");
 }
 
 fn is_over(rt: &impl Abort, engine: &mut Engine, session: u64) {

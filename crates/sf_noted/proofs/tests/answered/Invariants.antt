@@ -3,5 +3,5 @@ use Rattle.sf_noted.proofs.tests.answered.Given as goal
 
 abbrev pub invariant-loop : goal.invariant-loop
 invariant-loop g l = record {
-  under_way : IsUnderWay l.lane.1.presence;
+  under_way : IsUnderWay l.lane.1.state;
 }

@@ -8,4 +8,4 @@ pub returns-in-Err : goal.returns-in-Err
 returns-in-Err g c = by_handle_unopened ReadsAll (request.Open c.args.path.now to_read no_attrs) _ _ c.in-Err.fault c.in-Err.ensures
 
 pub returns : goal.returns
-returns g c = by_handle_done ReadsAll (record { number = c.in-Ok.handle; client = c.open_file.new.self; went = c.in-Ok.ensures }) c.read_all-bytes.result _ c.closed.result _ c.read_all-bytes.ensures c.closed.ensures
+returns g c = by_handle_done ReadsAll (record { number = c.in-Ok.handle; client = c.open_file.new.self; exchanged = c.in-Ok.ensures }) c.read_all-bytes.result _ c.closed.result _ c.read_all-bytes.ensures c.closed.ensures

@@ -8,4 +8,4 @@ pub returns-in-Err : goal.returns-in-Err
 returns-in-Err g c = by_handle_unopened (WritesAll c.args.bytes.now) (request.Open c.args.path.now to_write no_attrs) _ _ c.in-Err.fault c.in-Err.ensures
 
 pub returns : goal.returns
-returns g c = by_handle_done (WritesAll c.args.bytes.now) (record { number = c.in-Ok.handle; client = c.open_file.new.self; went = c.in-Ok.ensures }) c.write_pieces-written.result _ c.closed.result _ c.write_pieces-written.ensures c.closed.ensures
+returns g c = by_handle_done (WritesAll c.args.bytes.now) (record { number = c.in-Ok.handle; client = c.open_file.new.self; exchanged = c.in-Ok.ensures }) c.write_pieces-written.result _ c.closed.result _ c.write_pieces-written.ensures c.closed.ensures

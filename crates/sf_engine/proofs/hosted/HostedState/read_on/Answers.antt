@@ -10,7 +10,7 @@ use Rattle.sf_core.specs.Histories.{IsHistory}
 use Rattle.sf_engine.specs.declared.event.Happened.TheVariants as happened
 use Rattle.sf_engine.specs.declared.hosted.HostedState.TheVariants as state
 use Rattle.sf_engine.specs.Turns.{IsHostedState, IsReady, GoesFar, TurnGives, Stand, stand, finding}
-use Rattle.sf_engine.proofs.Chains.{CameToAnswer, going, read_far, unread_far}
+use Rattle.sf_engine.proofs.Chains.{AnsweredEnd, going, read_far, unread_far}
 use Rattle.sf_engine.proofs.Packets.{CallAsked, CallBegun, IsAnsweredAtOnce, refused_turn, can_go_on, goes_far, placed_at_once, far_at_once}
 use Rattle.sf_engine.proofs.hosted.HostedState.read_on.Goals as goal
 
@@ -55,9 +55,9 @@ write_on-requires-clause-placed c = λ lane is.
       gave = subst (λ (n : Next). NextGives old.session.now n c.next.new.self) c.in-Call.is c.in-Ok.ensures.ok;
       at = c.in-Resting.is;
     } in
-    let came_to : CameToAnswer = record { core = c.call.new.self; lane = c.call.new.lane; answer = c.in-Some.answer } in
-    let made : IsAnsweredAtOnce a old.moment came_to = subst (λ (o : Option AnswerView). IfSome o (λ answer. AnswersAtOnce old.core.now a.lane a.request old.moment (walk_end (step.Answered answer) c.call.new.self c.call.new.lane))) c.in-Some.is c.in-Ok-call.ensures.answered in
-    subst (λ (l : LaneView). IsHostedState came_to.core a.session (state.Answered l came_to.answer)) (sym (is ∙ c.take_lane.ensures)) (placed_at_once a old.moment came_to made c.requires.ready)
+    let end : AnsweredEnd = record { core = c.call.new.self; lane = c.call.new.lane; answer = c.in-Some.answer } in
+    let made : IsAnsweredAtOnce a old.moment end = subst (λ (o : Option AnswerView). IfSome o (λ answer. AnswersAtOnce old.core.now a.lane a.request old.moment (walk_end (step.Answered answer) c.call.new.self c.call.new.lane))) c.in-Some.is c.in-Ok-call.ensures.answered in
+    subst (λ (l : LaneView). IsHostedState end.core a.session (state.Decided l end.answer)) (sym (is ∙ c.take_lane.ensures)) (placed_at_once a old.moment end made c.requires.ready)
 
 pub walk_on-requires-clause-ready : goal.walk_on-requires-clause-ready
 walk_on-requires-clause-ready c =
@@ -85,10 +85,10 @@ returns-in-Some c =
       gave = subst (λ (n : Next). NextGives old.session.now n c.next.new.self) c.in-Call.is c.in-Ok.ensures.ok;
       at = c.in-Resting.is;
     } in
-    let came_to : CameToAnswer = record { core = c.call.new.self; lane = c.call.new.lane; answer = c.in-Some.answer } in
-    let made : IsAnsweredAtOnce a old.moment came_to = subst (λ (o : Option AnswerView). IfSome o (λ answer. AnswersAtOnce old.core.now a.lane a.request old.moment (walk_end (step.Answered answer) c.call.new.self c.call.new.lane))) c.in-Some.is c.in-Ok-call.ensures.answered in
+    let end : AnsweredEnd = record { core = c.call.new.self; lane = c.call.new.lane; answer = c.in-Some.answer } in
+    let made : IsAnsweredAtOnce a old.moment end = subst (λ (o : Option AnswerView). IfSome o (λ answer. AnswersAtOnce old.core.now a.lane a.request old.moment (walk_end (step.Answered answer) c.call.new.self c.call.new.lane))) c.in-Some.is c.in-Ok-call.ensures.answered in
     let wrote = c.write_on.ensures c.call.new.lane (sym c.take_lane.ensures) old.moment in
-    far_at_once a (finding old.closed old.moment) came_to made c.write_on.result (stand c.write_on.new.core c.write_on.new.session c.write_on.new.self) wrote
+    far_at_once a (finding old.closed old.moment) end made c.write_on.result (stand c.write_on.new.core c.write_on.new.session c.write_on.new.self) wrote
 
 pub returns-in-None : goal.returns-in-None
 returns-in-None c =

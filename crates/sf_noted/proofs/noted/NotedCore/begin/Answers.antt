@@ -5,10 +5,9 @@ use Rattle.sf_call.specs.declared.fault.CoreFault.{CoreFault}
 use Rattle.sf_call.specs.declared.fault.CoreFault.TheVariants.{Stranger}
 use Rattle.sf_core.specs.Lanes.{LaneView}
 use Rattle.sf_core.specs.Cores.{CoreView, lane_state}
-use Rattle.sf_core.specs.Cores.LaneState.{Idle}
+use Rattle.sf_core.specs.Cores.LaneState.{Idle, Busy}
 use Rattle.sf_core.specs.Events.{RefusesBegin}
-use Rattle.sf_noted.specs.Pages.{Page}
-use Rattle.sf_noted.specs.Pages.Presence.{Calling}
+use Rattle.sf_noted.specs.Pages.{begun_call, Page}
 use Rattle.sf_noted.specs.declared.page.PageChange.TheVariants.{Begins}
 use Rattle.sf_noted.specs.PageChanges.{page, page_after}
 use Rattle.sf_noted.specs.Noted.{PagesAgree}
@@ -24,7 +23,7 @@ returns-in-Err-clause-known g c =
     let n = c.self.invariant in
     let t = c.lane.inside.ticket in
     let lane = c.lane.inside.lane in
-    let rests = ap (λ (x : ℕ × Page). x.1.presence) c.lane.view_is ∙ c.requires.resting in
+    let rests = ap (λ (x : ℕ × Page). x.1.state) c.lane.view_is ∙ c.requires.resting in
     let idle = idle_there c.self.inside.core c.self.inside.keeper n.0.0 n.0.1 t.0 t.1 c.agrees.ensures.known rests in
     no_stranger c.self.inside.core lane c.in-Err.fault c.in-Err.ensures.fault (ap (lane_state c.self.inside.core) (own_place _ _ _ c.lane.invariant) ∙ idle)
 
@@ -36,10 +35,10 @@ invariant_of-self-2 g c =
     let e = c.in_default.ensures in
     let number = c.calls-number.result in
     let request = c.args.request in
-    let rests = ap (λ (x : ℕ × Page). x.1.presence) c.lane.view_is ∙ c.requires.resting in
+    let rests = ap (λ (x : ℕ × Page). x.1.state) c.lane.view_is ∙ c.requires.resting in
     let b = begins c.self.inside.core c.begin.new.self c.lane.inside.lane request c.args.moment c.self.inside.keeper n.0.0 n.0.1 (e.history n.0.0 n.0.1.history) e.ok t.0 t.1 a.known (own_place _ _ _ c.lane.invariant) rests number c.calls-number.ensures in
-    let lines : c.change.new.self ≡ slice_set c.self.inside.keeper t.0 (page (Calling number c.args.moment request) t.1.told) =
-    c.change.ensures.all ∙ ((λ i. slice_set (a.all i) (a.ticket i).0 (page_after (a.ticket i).1 (Begins number c.args.moment c.of-asked.result))) ∙ ap (λ (r : Request). slice_set c.self.inside.keeper t.0 (page (Calling number c.args.moment r) t.1.told)) c.of-asked.ensures) in (
+    let lines : c.change.new.self ≡ slice_set c.self.inside.keeper t.0 (page (Busy (begun_call number c.args.moment request)) t.1.told) =
+    c.change.ensures.all ∙ ((λ i. slice_set (a.all i) (a.ticket i).0 (page_after (a.ticket i).1 (Begins number c.args.moment c.of-asked.result))) ∙ ap (λ (r : Request). slice_set c.self.inside.keeper t.0 (page (Busy (begun_call number c.args.moment r)) t.1.told)) c.of-asked.ensures) in (
       (n.0.0, subst (λ (ps : List Page). PagesAgree c.begin.new.self ps n.0.0) (sym lines) b),
       c.add.ensures.total ∙ (ap (λ k. k + 1) n.1 ∙ sym e.ok.drawn),
     )

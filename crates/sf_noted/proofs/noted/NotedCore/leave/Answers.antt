@@ -2,9 +2,8 @@ use Rattle.std.proofs.Common.{◌≡◌, ◌≢◌, ◌++◌, ◌∷◌, [], ℕ
 use Rattle.std.specs.Prelude.{slice_set, IsOk, OnOk, OnErr}
 use Rattle.sf_call.specs.declared.record.Record.TheVariants as record'
 use Rattle.sf_core.specs.Cores.{lane_state}
-use Rattle.sf_core.specs.Cores.LaneState.{Idle}
+use Rattle.sf_core.specs.Cores.LaneState.{NoLane, Idle}
 use Rattle.sf_noted.specs.Pages.{Page}
-use Rattle.sf_noted.specs.Pages.Presence.{Departed}
 use Rattle.sf_noted.specs.declared.page.PageChange.TheVariants.{Leaves}
 use Rattle.sf_noted.specs.PageChanges.{page, page_after}
 use Rattle.sf_noted.specs.Noted.{PagesAgree}
@@ -24,7 +23,7 @@ pub left-share-requires : goal.left-share-requires
 left-share-requires g c =
     let n = c.self.invariant in
     let t = c.lane.inside.ticket in
-    let rests = ap (λ (x : ℕ × Page). x.1.presence) c.lane.view_is ∙ c.requires in
+    let rests = ap (λ (x : ℕ × Page). x.1.state) c.lane.view_is ∙ c.requires in
     let idle = idle_there c.self.inside.core c.self.inside.keeper n.0.0 n.0.1 t.0 t.1 c.agrees.ensures.known rests in
     ok_unless c.leave.result c.leave.ensures.err (λ x. x.1 (ap (lane_state c.self.inside.core) (own_place _ _ _ c.lane.invariant) ∙ idle))
 
@@ -35,13 +34,13 @@ invariant_of-self g c =
     let a = c.agrees.ensures in
     let e = c.leave.ensures in
     let session = c.lane.inside.lane.session in
-    let rests = ap (λ (x : ℕ × Page). x.1.presence) c.lane.view_is ∙ c.requires in
+    let rests = ap (λ (x : ℕ × Page). x.1.state) c.lane.view_is ∙ c.requires in
     let idle = idle_there c.self.inside.core c.self.inside.keeper n.0.0 n.0.1 t.0 t.1 a.known rests in
     let never = λ (x : (c.leave.new.self ≡ c.self.inside.core) × (lane_state c.self.inside.core session ≢ Idle)). x.1 (ap (lane_state c.self.inside.core) (own_place _ _ _ c.lane.invariant) ∙ idle) in
     let l = at_ok c.leave.result e.err never e.ok in
     let hist = at_ok c.leave.result e.err never e.history in
     let h = n.0.0 ++ record'.Left session ∷ [] in
-    let lines : c.change.new.self ≡ slice_set c.self.inside.keeper t.0 (page Departed t.1.told) =
+    let lines : c.change.new.self ≡ slice_set c.self.inside.keeper t.0 (page NoLane t.1.told) =
     c.change.ensures.all ∙ (λ i. slice_set (a.all i) (a.ticket i).0 (page_after (a.ticket i).1 Leaves)) in (
       (h, subst (λ (ps : List Page). PagesAgree c.leave.new.self ps h) (sym lines) (leaves c.self.inside.core c.leave.new.self session c.self.inside.keeper n.0.0 n.0.1 (hist n.0.0 n.0.1.history) l t.0 t.1 a.known (own_place _ _ _ c.lane.invariant) rests)),
       n.1 ∙ sym l.drawn,

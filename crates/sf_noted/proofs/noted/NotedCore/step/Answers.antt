@@ -1,11 +1,11 @@
 use Rattle.std.proofs.Common.{◌≡◌, ◌+◌, ◌++◌, ℕ, List, refl, sym, ap, ◌∙◌, subst}
 use Rattle.std.specs.Prelude.{slice_set}
 use Rattle.sf_core.specs.declared.step.Step.{Step}
-use Rattle.sf_core.specs.declared.step.Step.TheVariants as came
+use Rattle.sf_core.specs.declared.step.Step.TheVariants as step
 use Rattle.sf_core.specs.Cores.{CoreView}
+use Rattle.sf_core.specs.Cores.LaneState.{Idle}
 use Rattle.sf_core.specs.Events.{Before, After, TakesStep}
 use Rattle.sf_noted.specs.Pages.{Page}
-use Rattle.sf_noted.specs.Pages.Presence.{BetweenCalls}
 use Rattle.sf_noted.specs.declared.page.PageChange.TheVariants.{Answered}
 use Rattle.sf_noted.specs.PageChanges.{page, page_after, as_told, IsUnderWay}
 use Rattle.sf_noted.specs.Noted.{FitsPage, PagesAgree, HasPages, lane_of}
@@ -25,7 +25,7 @@ unreachable-requires g c =
     let B : Before = record { core = c.self.inside.core; history = n.0.0; lane = lane } in
     let A : After = record { core = c.step-step.new.self; added = x.0; lane = c.step-step.new.lane } in
     let takes = subst (λ (s : Step). TakesStep B s A) c.in-Stranger.is x.2 in
-    not_strange c.self.inside.core n.0.0 lane t.0 t.1 c.owners.ensures fits c.lane.invariant (subst (λ (y : ℕ × Page). IsUnderWay y.1.presence) (sym c.lane.view_is) c.requires) takes.0
+    not_strange c.self.inside.core n.0.0 lane t.0 t.1 c.owners.ensures fits c.lane.invariant (subst (λ (y : ℕ × Page). IsUnderWay y.1.state) (sym c.lane.view_is) c.requires) takes.0
 
 pub invariant_of-self : goal.invariant_of-self
 invariant_of-self g c =
@@ -40,22 +40,22 @@ invariant_of-self g c =
       | in-Moved w ↦
           let takes = subst (λ (s : Step). TakesStep B s A) w.in-Moved.is x.2 in
           subst (λ s. HasPages s.core s.keeper × (s.calls.total ≡ s.core.drawn)) (sym w.self-inside-is)
-          ((n.0.0 ++ x.0, step_goes B came.Moved A c.self.inside.keeper takes c.owners.ensures c.owners-2.ensures x.1 n.0.1 (own_goes B A takes)), n.1 ∙ sym (joins_stay B came.Moved A takes).1)
+          ((n.0.0 ++ x.0, step_goes B step.Moved A c.self.inside.keeper takes c.owners.ensures c.owners-2.ensures x.1 n.0.1 (own_goes B A takes)), n.1 ∙ sym (joins_stay B step.Moved A takes).1)
       | in-Blocked w ↦
           let holder = w.in-Blocked.holder in
           let takes = subst (λ (s : Step). TakesStep B s A) w.in-Blocked.is x.2 in
           subst (λ s. HasPages s.core s.keeper × (s.calls.total ≡ s.core.drawn)) (sym w.self-inside-is)
-          ((n.0.0 ++ x.0, step_goes B (came.Blocked holder) A c.self.inside.keeper takes c.owners.ensures c.owners-2.ensures x.1 n.0.1 (own_waits B holder A takes)), n.1 ∙ sym (joins_stay B (came.Blocked holder) A takes).1)
+          ((n.0.0 ++ x.0, step_goes B (step.Blocked holder) A c.self.inside.keeper takes c.owners.ensures c.owners-2.ensures x.1 n.0.1 (own_waits B holder A takes)), n.1 ∙ sym (joins_stay B (step.Blocked holder) A takes).1)
       | in-Answered w ↦
           let given = w.in-Answered.answer in
           let a = w.agrees.ensures in
           let takes = subst (λ (s : Step). TakesStep B s A) w.in-Answered.is x.2 in
           let fits = subst (λ s. FitsPage c.self.inside.core n.0.0 s t.1) (sym is) (n.0.1.each t.0 t.1 a.known) in
-          let now = page BetweenCalls (t.1.told ++ as_told t.1.presence given.reply) in
+          let now = page Idle (t.1.told ++ as_told t.1.state given.reply) in
           let lines : w.change.new.self ≡ slice_set c.self.inside.keeper t.0 now =
-          w.change.ensures.all ∙ ((λ i. slice_set (a.all i) (a.ticket i).0 (page_after (a.ticket i).1 (Answered w.of.result))) ∙ ap (λ r. slice_set c.self.inside.keeper t.0 (page BetweenCalls (t.1.told ++ as_told t.1.presence r))) (w.of.ensures ∙ w.reply.ensures.reply)) in
+          w.change.ensures.all ∙ ((λ i. slice_set (a.all i) (a.ticket i).0 (page_after (a.ticket i).1 (Answered w.of.result))) ∙ ap (λ r. slice_set c.self.inside.keeper t.0 (page Idle (t.1.told ++ as_told t.1.state r))) (w.of.ensures ∙ w.reply.ensures.reply)) in
           subst (λ s. HasPages s.core s.keeper × (s.calls.total ≡ s.core.drawn)) (sym w.self-inside-is)
-          ((n.0.0 ++ x.0, subst (λ (ps : List Page). PagesAgree A.core ps (n.0.0 ++ x.0)) (sym lines) (steps B (came.Answered given) A c.self.inside.keeper takes c.owners.ensures c.owners-2.ensures x.1 n.0.1 t.0 t.1 now a.known is (own_answers B given A takes t.1 fits))), n.1 ∙ sym (joins_stay B (came.Answered given) A takes).1)
+          ((n.0.0 ++ x.0, subst (λ (ps : List Page). PagesAgree A.core ps (n.0.0 ++ x.0)) (sym lines) (steps B (step.Answered given) A c.self.inside.keeper takes c.owners.ensures c.owners-2.ensures x.1 n.0.1 t.0 t.1 now a.known is (own_answers B given A takes t.1 fits))), n.1 ∙ sym (joins_stay B (step.Answered given) A takes).1)
     ]
 
 pub invariant_of-lane : goal.invariant_of-lane
@@ -64,7 +64,7 @@ invariant_of-lane g c =
     let t = c.lane.inside.ticket in
     let lane = c.lane.inside.lane in
     let x = c.step-step.ensures n.0.0 n.0.1.history in
-    let busy = subst (λ (y : ℕ × Page). IsUnderWay y.1.presence) (sym c.lane.view_is) c.requires in
+    let busy = subst (λ (y : ℕ × Page). IsUnderWay y.1.state) (sym c.lane.view_is) c.requires in
     let B : Before = record { core = c.self.inside.core; history = n.0.0; lane = lane } in
     let A : After = record { core = c.step-step.new.self; added = x.0; lane = c.step-step.new.lane } in
     elim c.match-step.branch [
@@ -78,7 +78,7 @@ invariant_of-lane g c =
           let given = w.in-Answered.answer in
           let a = w.agrees.ensures in
           let takes = subst (λ (s : Step). TakesStep B s A) w.in-Answered.is x.2 in
-          let told = w.change.ensures.ticket ∙ ((λ i. ((a.ticket i).0, page_after (a.ticket i).1 (Answered w.of.result))) ∙ ap (λ r. (t.0, page BetweenCalls (t.1.told ++ as_told t.1.presence r))) (w.of.ensures ∙ w.reply.ensures.reply)) in
+          let told = w.change.ensures.ticket ∙ ((λ i. ((a.ticket i).0, page_after (a.ticket i).1 (Answered w.of.result))) ∙ ap (λ r. (t.0, page Idle (t.1.told ++ as_told t.1.state r))) (w.of.ensures ∙ w.reply.ensures.reply)) in
           subst (λ l. l.lane ≡ lane_of (l.ticket.0 + 1, l.ticket.1)) (sym w.lane-inside-is) (lane_answered lane A.lane t _ given.reply c.lane.invariant busy takes.1.lane told)
     ]
 
