@@ -207,9 +207,9 @@ class Line(asyncio.Protocol):
 
     def connection_lost(self, exc: Optional[Exception]) -> None:
         """The session has ended. OpenSSH's client waits until the channel is closed too, which
-        `exit` does; it is told so in any case, since asyncssh calls a channel closing from its end
-        of output on."""
+        `exit` does once all output is sent. No end of output is told before that (RFC 4254, 5.3,
+        asks for none): Go's pkg/sftp would end its own input once more then, for which asyncssh
+        breaks its connection off."""
         self.channel.front.lines.discard(self.transport)
         if not self.channel.is_lost:
-            self.channel.channel.write_eof()
             self.channel.channel.exit(0 if self.channel.has_ended else 1)

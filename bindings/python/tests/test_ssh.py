@@ -330,7 +330,8 @@ def test_a_client_that_is_slow_to_read_keeps_nobody_waiting(
 
 
 def test_a_session_that_ends_closes_its_channel(client: paramiko.SSHClient) -> None:
-    """By a packet of length 0: its client is told by the exit status."""
+    """By a packet of length 0: its client is told by the exit status. The end of its output is told
+    by closing alone: for Go's pkg/sftp would answer to it by a second end of input."""
     transport = client.get_transport()
     assert transport is not None
     channel = transport.open_session(timeout=LIMIT)
@@ -344,6 +345,7 @@ def test_a_session_that_ends_closes_its_channel(client: paramiko.SSHClient) -> N
     with channel.makefile("rb") as replies:
         assert len(replies.read()) == 71 + 28
     assert channel.recv_exit_status() == 0
+    assert channel.closed and not channel.eof_received
 
 
 def test_where_it_is_left_its_connections_are_cut(sftp_tree: Server) -> None:
