@@ -41,7 +41,7 @@ reaches (e ∷ entries) {s = s} {t = t} {w' = w'} {t' = t'} stands goes is had =
     let parts = all_front HadMemoryFor e.added (order entries) goes.heard in
     let now = moment_begun e.event e.result in
     let on = leads_on s (record { now = e.added; later = order entries; legal = goes.legal; heard = parts.0 }) t runs.0 e.event e.result stands goes.own.0 runs.1 in
-    let later : GoesAlone (onward s e.added on.more now) on.told entries w' = record {
+    let later : GoesAlone (onward s e.added on.more now) on.known entries w' = record {
       runs = subst (λ (z : World). Runs z entries w') on.world runs.2;
       own = goes.own.1;
       legal = subst IsLegal (sym (append_assoc s.records e.added (order entries))) goes.legal;

@@ -128,7 +128,7 @@ only_one h begun s t u is = let at : s - 1 ≡ 0 = only_there t u (s - 1) is.1 i
 
 no_helped : (h : List Record) (begun : ℕ) (t : SessionState) (helped : List Record) → AllByRecursion (IsHelpedRecord (lone h begun t) 1) helped → helped ≡ []
 no_helped h begun t [] k = refl
-no_helped h begun t (Did n s m q given ∷ helped) k = absurd (k.0.other (only_one h begun s t k.0.told k.0.is_session))
+no_helped h begun t (Did n s m q given ∷ helped) k = absurd (k.0.other (only_one h begun s t k.0.known k.0.is_session))
 no_helped h begun t (Left s ∷ helped) k = absurd k.0
 
 -- all calls that are recorded have lower numbers
@@ -256,7 +256,7 @@ gone_after s added cause answers h = (tree_of s, subst (λ (ms : List ℕ). Foll
 
 -- a turn of the session alone
 abbrev turn_at : LoneSession → List Record → (t t' : SessionState) → Turn
-turn_at s added t t' = record { world = lone s.records s.begun t; session = 1; told = t; added = added; now = t' }
+turn_at s added t t' = record { world = lone s.records s.begun t; session = 1; known = t; added = added; now = t' }
 
 rest_goes : (s : LoneSession) (added : List Record) (m : ℕ) (t t' : SessionState) (r : Happened) → Stands Resting s t.answers → RestLeads m (turn_at s added (with_phase t Resting) t') r → After s added (calls_begun r) (moment_begun (event.Turn 1 m) (Ok r)) t'
 rest_goes s added m t t' happened.Idle k g = after_by s added 0 [] t' _ g.2 (still Resting s added t.answers g.1 k)
@@ -385,10 +385,10 @@ close_goes f s added t k e = still f s added t.answers e k
 
 -- the entry leads to a world with this session, which stands so
 pub record LeadsOn (s : LoneSession) (added : List Record) (now : List ℕ) (w' : World) : Type 0 where
-  pub told : SessionState
+  pub known : SessionState
   pub more : ℕ
-  pub world : w' ≡ lone (s.records ++ added) (s.begun + more) told
-  pub stands : After s added more now told
+  pub world : w' ≡ lone (s.records ++ added) (s.begun + more) known
+  pub stands : After s added more now known
 
 same_told : (h : List Record) (begun : ℕ) (t u : SessionState) → IsSession (lone h begun t) 1 u → u ≡ t
 same_told h begun t u is = let e : Some t ≡ Some u = is.1 in cc
@@ -396,7 +396,7 @@ same_told h begun t u is = let e : Some t ≡ Some u = is.1 in cc
 -- an event that adds nothing, and answers nothing
 stays_on : {s : LoneSession} {added : List Record} (t t' : SessionState) {now : List ℕ} {w' : World} → now ≡ [] → added ≡ [] → t'.phase ≡ t.phase → t'.answers ≡ t.answers → w' ≡ lone (s.records ++ []) (s.begun + 0) t' → Stands t.phase s t.answers → LeadsOn s added now w'
 stays_on {s = s} {added = added} t t' none nothing phase answers world k = record {
-  told = t';
+  known = t';
   more = 0;
   world = world ∙ ap (λ (xs : List Record). lone (s.records ++ xs) (s.begun + 0) t') (sym nothing);
   stands =
@@ -415,15 +415,15 @@ happens_on s x t w' (event.Feed n bytes) r k own g =
     stays_on t (fed u bytes.items) (ap (λ (y : Happened). moment_begun (event.Feed n bytes) (Ok y)) is) none (ap (λ (z : SessionState). z.phase) same) (ap (λ (z : SessionState). z.answers) same) now k
 happens_on s x t w' (event.Turn n m) r k own g =
     let (u, t', session, leads, now) = subst (λ (y : ℕ). Happens (lone s.records s.begun t) (event.Turn y m) r x.now w') own g in
-    let L : SessionState → Type 0 = λ z. TurnLeads m (record { world = lone s.records s.begun t; session = 1; told = z; added = x.now; now = t' }) z.phase r in
+    let L : SessionState → Type 0 = λ z. TurnLeads m (record { world = lone s.records s.begun t; session = 1; known = z; added = x.now; now = t' }) z.phase r in
     let stands = turn_goes t.phase s x m t t' r k (subst L (same_told s.records s.begun t u session) leads) in
-    record { told = t'; more = calls_begun r; world = now; stands = subst (λ (y : ℕ). After s x.now (calls_begun r) (moment_begun (event.Turn y m) (Ok r)) t') (sym own) stands }
+    record { known = t'; more = calls_begun r; world = now; stands = subst (λ (y : ℕ). After s x.now (calls_begun r) (moment_begun (event.Turn y m) (Ok r)) t') (sym own) stands }
 happens_on s x t w' (event.Close n) r k own g =
     let (is, (u, session, left, now)) = subst (λ (y : ℕ). Happens (lone s.records s.begun t) (event.Close y) r x.now w') own g in
     let same = same_told s.records s.begun t u session in
     let mine : x.now ≡ left_by_close t.phase 1 = subst (λ (z : SessionState). x.now ≡ left_by_close z.phase 1) same left in
     let stands : After s x.now 0 [] (closed_now u u.phase) = after_by s x.now 0 [] _ _ (ap (λ (z : SessionState). closed_now z z.phase) same) (close_goes t.phase s x.now t k mine) in
-    subst (λ (y : Happened). LeadsOn s x.now (moment_begun (event.Close n) (Ok y)) w') (sym is) (record { told = closed_now u u.phase; more = 0; world = now; stands = stands })
+    subst (λ (y : Happened). LeadsOn s x.now (moment_begun (event.Close n) (Ok y)) w') (sym is) (record { known = closed_now u u.phase; more = 0; world = now; stands = stands })
 happens_on s x t w' (event.Sent n count) r k own g =
     let (is, none, (u, session, fits, now)) = subst (λ (y : ℕ). Happens (lone s.records s.begun t) (event.Sent y count) r x.now w') own g in
     let same = same_told s.records s.begun t u session in

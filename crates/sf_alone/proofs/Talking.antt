@@ -13,7 +13,7 @@ use Rattle.sf_engine.specs.declared.event.Happened.TheVariants as happened
 use Rattle.sf_engine.specs.declared.event.EngineFault.{EngineFault}
 use Rattle.std.specs.Prelude.{Result, Ok, Err, IfOk, IfErr}
 use Rattle.sf_session.specs.declared.asking.Ask.{Ask}
-use Rattle.sf_session.specs.Responses.{ask_behind, transcript, has_begun, AreAsked, Nothing}
+use Rattle.sf_session.specs.Responses.{ask_behind, transcript, has_begun, AreAsked, NothingDue}
 use Rattle.sf_engine.specs.Worlds.{TraceEntry}
 use Rattle.sf_session.specs.SessionStates.{pending}
 use Rattle.sf_engine.specs.Fits.{Fits}
@@ -63,7 +63,7 @@ nothing_said = record {
   bodies = [];
   rest = [];
   answers = [];
-  due = Nothing;
+  due = NothingDue;
   unsent = [];
   are_bodies = tt;
   read = refl;

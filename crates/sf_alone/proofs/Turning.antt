@@ -108,19 +108,19 @@ one_longer xs x = omega (arith, length-append xs (x ∷ []))
 phase_on : (t : SessionState) (f : Phase) → Turned t (with_phase t f)
 phase_on t f = record { stream = refl; sent = refl; bodies = front_all t.bodies; answers = front_all t.answers; few = λ few. few }
 
-rest_turn : (x : Turn) (m : ℕ) (r : Happened) → x.told.phase ≡ Resting → TakesBytes x.told → RestLeads m x r → IsTurn r x.told x.now
-rest_turn x m happened.Idle rests takes g = turn_to happened.Idle _ _ _ g.2 ((λ low. turned_none x.told), (takes, rests, g.0))
+rest_turn : (x : Turn) (m : ℕ) (r : Happened) → x.known.phase ≡ Resting → TakesBytes x.known → RestLeads m x r → IsTurn r x.known x.now
+rest_turn x m happened.Idle rests takes g = turn_to happened.Idle _ _ _ g.2 ((λ low. turned_none x.known), (takes, rests, g.0))
 rest_turn x m happened.Wrote rests takes g =
-    turn_to happened.Wrote _ _ _ g.0.now ((λ low. answered x.told g.0.rest (g.0.body ∷ []) g.0.answer low), (refl, takes.0, one_longer x.told.answers g.0.answer))
-rest_turn x m happened.Begun rests takes g = turn_to happened.Begun _ _ _ g.0.now ((λ low. read_on x.told g.0.rest (g.0.body ∷ []) _), ((takes.0, refl), tt, refl))
+    turn_to happened.Wrote _ _ _ g.0.now ((λ low. answered x.known g.0.rest (g.0.body ∷ []) g.0.answer low), (refl, takes.0, one_longer x.known.answers g.0.answer))
+rest_turn x m happened.Begun rests takes g = turn_to happened.Begun _ _ _ g.0.now ((λ low. read_on x.known g.0.rest (g.0.body ∷ []) _), ((takes.0, refl), tt, refl))
 rest_turn x m (happened.Ended cause) rests takes g =
-    turn_to (happened.Ended cause) _ _ _ g.2 ((λ low. record { stream = refl; sent = refl; bodies = front_all x.told.bodies; answers = front_all x.told.answers; few = λ few. few }), (refl, g.0))
+    turn_to (happened.Ended cause) _ _ _ g.2 ((λ low. record { stream = refl; sent = refl; bodies = front_all x.known.bodies; answers = front_all x.known.answers; few = λ few. few }), (refl, g.0))
 rest_turn x m r rests takes g = absurd g
 
-step_turn : (x : Turn) (call : Walking) (r : Happened) → TakesBytes x.told → MayBegin false x.told.phase → StepLeads x call r → IsTurn r x.told x.now
-step_turn x call happened.Moved takes busy g = turn_to happened.Moved _ _ _ g.2 ((λ low. phase_on x.told _), ((takes.0, refl), tt, refl))
-step_turn x call (happened.Blocked holder) takes busy g = turn_to (happened.Blocked holder) _ _ _ g.2 ((λ low. turned_none x.told), (takes, busy, refl))
-step_turn x call happened.Decided takes busy g = turn_to happened.Decided _ _ _ g.2 ((λ low. phase_on x.told _), ((takes.0, refl), tt, refl))
+step_turn : (x : Turn) (call : Walking) (r : Happened) → TakesBytes x.known → MayBegin false x.known.phase → StepLeads x call r → IsTurn r x.known x.now
+step_turn x call happened.Moved takes busy g = turn_to happened.Moved _ _ _ g.2 ((λ low. phase_on x.known _), ((takes.0, refl), tt, refl))
+step_turn x call (happened.Blocked holder) takes busy g = turn_to (happened.Blocked holder) _ _ _ g.2 ((λ low. turned_none x.known), (takes, busy, refl))
+step_turn x call happened.Decided takes busy g = turn_to happened.Decided _ _ _ g.2 ((λ low. phase_on x.known _), ((takes.0, refl), tt, refl))
 step_turn x call r takes busy g = absurd g
 
 -- a reply is written
@@ -132,11 +132,11 @@ write_turn t t' a takes now =
       (refl, takes.0, one_longer t.answers a),
     )
 
-turn_by : (x : Turn) (m : ℕ) (f : Phase) (r : Happened) → x.told.phase ≡ f → TakesBytes x.told → TurnLeads m x f r → IsTurn r x.told x.now
+turn_by : (x : Turn) (m : ℕ) (f : Phase) (r : Happened) → x.known.phase ≡ f → TakesBytes x.known → TurnLeads m x f r → IsTurn r x.known x.now
 turn_by x m Resting r at takes g = rest_turn x m r at takes g
 turn_by x m (UnderWay id n k q moves) r at takes g = step_turn x (walking id n k q moves) r takes (subst (λ (f : Phase). MayBegin false f) (sym at) tt) g
 turn_by x m (Decided id n q given) r at takes g =
-    subst (λ (z : Happened). IsTurn z x.told x.now) (sym g.0) (write_turn x.told x.now (ByCall id n q given) takes g.2)
+    subst (λ (z : Happened). IsTurn z x.known x.now) (sym g.0) (write_turn x.known x.now (ByCall id n q given) takes g.2)
 turn_by x m (Gone cause) r at takes g =
     let here : is_here_in (Gone cause) ≡ true = subst (λ (f : Phase). is_here_in f ≡ true) at takes.1 in absurd (let no : false ≡ true = here in cc)
 
@@ -149,10 +149,10 @@ begins_none x m (Gone cause) r busy g e = let no : happened.Ended cause ≡ happ
 
 -- the turn that an entry tells
 turn_of : (s m : ℕ) (t : SessionState) (r : Happened) (w w' : World) (added : List Record) → IsSession w s t → Happens w (event.Turn s m) r added w'
-    → (t' : SessionState) × TurnLeads m (record { world = w; session = s; told = t; added = added; now = t' }) t.phase r × IsSession w' s t'
+    → (t' : SessionState) × TurnLeads m (record { world = w; session = s; known = t; added = added; now = t' }) t.phase r × IsSession w' s t'
 turn_of s m t r w w' added session leads =
     let same : leads.0 ≡ t = same_told w s leads.0 t leads.2 session in
-    let L : SessionState → Type 0 = λ z. TurnLeads m (record { world = w; session = s; told = z; added = added; now = leads.1 }) z.phase r in
+    let L : SessionState → Type 0 = λ z. TurnLeads m (record { world = w; session = s; known = z; added = added; now = leads.1 }) z.phase r in
     (leads.1, subst L same leads.3, subst (λ (z : World). IsSession z s leads.1) (sym leads.4) (told_now w s leads.0 leads.1 added (calls_begun r) leads.2))
 
 -- where a session may have a turn
@@ -178,7 +178,7 @@ has_turned r t t' low to = record { takes = to.0; low = subst (λ (b : List ℕ)
 turn_leads : (s m : ℕ) (t : SessionState) (begin : Bool) (r : Result Happened EngineFault) → HasTurn begin t → Leading s t (event.Turn s m) r (λ t'. Turned t t' × HasTurned r t t')
 turn_leads s m t begin (Ok r) has w w' added session leads =
     let x = turn_of s m t r w w' added session leads in
-    let by = turn_by (record { world = w; session = s; told = t; added = added; now = x.0 }) m t.phase r refl has.takes x.1 in
+    let by = turn_by (record { world = w; session = s; known = t; added = added; now = x.0 }) m t.phase r refl has.takes x.1 in
     (x.0, x.2, (by.0 has.low, has_turned r t x.0 has.low by.1))
 turn_leads s m t begin (Err f) has w w' added session leads = (t, subst (λ (z : World). IsSession z s t) (sym leads.2) session, (turned_none t, tt))
 
@@ -189,7 +189,7 @@ turn_timed s m t (Err f) begin moments may (inr none) w w' added session leads =
 turn_timed s m t (Ok r) begin moments may (inr none) w w' added session leads =
     let x = turn_of s m t r w w' added session leads in
     let busy : MayBegin false t.phase = subst (λ (b : Bool). MayBegin b t.phase) none.1 may in
-    inr (none.0, λ e. begins_none (record { world = w; session = s; told = t; added = added; now = x.0 }) m t.phase r busy x.1 (let begun : r ≡ happened.Begun = cc in begun))
+    inr (none.0, λ e. begins_none (record { world = w; session = s; known = t; added = added; now = x.0 }) m t.phase r busy x.1 (let begun : r ≡ happened.Begun = cc in begun))
 
 -- a session was told more by its turns
 pub record ToldOn (start : Since) (s : ℕ) (e' : EngineView) (tl' : Option (List ℕ)) (n : ℕ) (t : SessionState) (r : Result Happened EngineFault) : Type 0 where

@@ -15,7 +15,7 @@ use Rattle.sf_engine.specs.Views.{EngineView}
 use Rattle.sf_engine.specs.contracts.promise.EngineSftp.TheImpl.{ghosts}
 use Rattle.sf_asking.proofs.Laws.{event_leads}
 use Rattle.sf_refusing.specs.declared.refusals.Refusals.{Refusals}
-use Rattle.sf_refusing.specs.Journal.{Act, Received, Delivered, Did, log_of}
+use Rattle.sf_refusing.specs.Journal.{Act, Received, Delivered, Made, log_of}
 use Rattle.sf_refusing.specs.Refusing.{HasJournal, Have, PassesOn, IsFed, MayRefuseFeed, MayRefuseSent}
 use Rattle.sf_refusing.proofs.Laws.{have_turned}
 use Rattle.sf_c.specs.declared.turns.Settled.{Settled}
@@ -80,8 +80,8 @@ turned_on n s m mid new r journal passed result on H turns far =
     let made = turn_entries n mid new (event.Turn s m) result (log_of (journal ++ passed)) turns H.1 in
     let entries : List LogEntry = made.0 in
     let more : n < length entries = made.2 in
-    let count : length (passed ++ map Did entries) ≡ length passed + length entries = length-append passed (map Did entries) ∙ ap (λ (k : ℕ). length passed + k) (length-map entries Did) in (
-      passed ++ map Did entries,
+    let count : length (passed ++ map Made entries) ≡ length passed + length entries = length-append passed (map Made entries) ∙ ap (λ (k : ℕ). length passed + k) (length-map entries Made) in (
+      passed ++ map Made entries,
       (
         inr (inl (passed, entries, on, made.1, refl)),
         λ none leads. let few : 2 ^ 64 - 2 ≤ n = far (lead_goes result none leads) in omega arith,
@@ -111,11 +111,11 @@ same_log : (old new : EngineView) (log : List LogEntry) → new ≡ old → ghos
 same_log old new log same has = subst (λ (e : EngineView). ghosts.has_log e log) (sym same) has
 
 pub fed_so : (s : ℕ) (bytes : List ℕ) (old new : EngineView) (r r' : Refusals) (result : Result Happened EngineFault)
-    → OnOk result ((journal : List Act) → Have ghosts.has_log old r journal → (asked : LogEntry) × IsFed s [] asked × (asked.result ≡ result) × Have ghosts.has_log new r' (journal ++ Did asked ∷ Received s bytes ∷ []))
+    → OnOk result ((journal : List Act) → Have ghosts.has_log old r journal → (asked : LogEntry) × IsFed s [] asked × (asked.result ≡ result) × Have ghosts.has_log new r' (journal ++ Made asked ∷ Received s bytes ∷ []))
     → OnErr result ((new ≡ old) × ((journal : List Act) → HasJournal r journal → HasJournal r' journal))
     → IfErr result (λ f. (journal : List Act) → Have ghosts.has_log old r journal → MayRefuseFeed (log_of journal) s f)
     → OnErr result (new ≡ old) × GoesOn (ComeBytes s bytes result) old r new r'
-fed_so s bytes old new r r' (Ok h) ok err fault = (tt, λ journal H. let fed = ok journal H in (Did fed.0 ∷ Received s bytes ∷ [], (fed.0, fed.1, fed.2, refl), fed.3))
+fed_so s bytes old new r r' (Ok h) ok err fault = (tt, λ journal H. let fed = ok journal H in (Made fed.0 ∷ Received s bytes ∷ [], (fed.0, fed.1, fed.2, refl), fed.3))
 fed_so s bytes old new r r' (Err f) ok err fault =
     (err.0, λ journal H. ([], (fault journal H, refl), still new r' journal (err.1 journal H.0, same_log old new (log_of journal) err.0 H.1)))
 
@@ -123,10 +123,10 @@ sent_is : (h : Happened) → (let r : Result Happened EngineFault = Ok h in r �
 sent_is h is = cc
 
 pub sent_so : (s n : ℕ) (old new : EngineView) (r r' : Refusals) (result : Result Happened EngineFault)
-    → OnOk result ((journal : List Act) → Have ghosts.has_log old r journal → (result ≡ Ok happened.Sent) × (entries : List LogEntry) × Have ghosts.has_log new r' (journal ++ map Did entries ++ Delivered s n ∷ []))
+    → OnOk result ((journal : List Act) → Have ghosts.has_log old r journal → (result ≡ Ok happened.Sent) × (entries : List LogEntry) × Have ghosts.has_log new r' (journal ++ map Made entries ++ Delivered s n ∷ []))
     → OnErr result ((new ≡ old) × ((journal : List Act) → HasJournal r journal → HasJournal r' journal))
     → IfErr result (λ f. (journal : List Act) → Have ghosts.has_log old r journal → MayRefuseSent journal s n f)
     → OnErr result (new ≡ old) × GoesOn (GoBytes s n result) old r new r'
-sent_so s n old new r r' (Ok h) ok err fault = (tt, λ journal H. let done = ok journal H in (map Did done.1 ++ Delivered s n ∷ [], (sent_is h done.0, (done.1, refl)), behind new r' journal (map Did done.1) (Delivered s n ∷ []) done.2))
+sent_so s n old new r r' (Ok h) ok err fault = (tt, λ journal H. let done = ok journal H in (map Made done.1 ++ Delivered s n ∷ [], (sent_is h done.0, (done.1, refl)), behind new r' journal (map Made done.1) (Delivered s n ∷ []) done.2))
 sent_so s n old new r r' (Err f) ok err fault =
     (err.0, λ journal H. ([], (fault journal H, refl), still new r' journal (err.1 journal H.0, same_log old new (log_of journal) err.0 H.1)))

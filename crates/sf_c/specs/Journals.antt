@@ -11,7 +11,7 @@ use Rattle.sf_engine.specs.Promise.{LogEntry, IsKnown, AreTurns, WaitsForBytes}
 use Rattle.sf_engine.specs.Views.{EngineView}
 use Rattle.sf_engine.specs.contracts.promise.EngineSftp.TheImpl.{ghosts}
 use Rattle.sf_refusing.specs.declared.refusals.Refusals.{Refusals}
-use Rattle.sf_refusing.specs.Journal.{Act, Received, Delivered, Did, log_of, received_in, taken_in}
+use Rattle.sf_refusing.specs.Journal.{Act, Received, Delivered, Made, log_of, received_in, taken_in}
 use Rattle.sf_refusing.specs.Refusing.{Have, IsOwn, IsFed, IsTurn, IsNextOutput, MayRefuseFeed, MayRefuseSent}
 use Rattle.sf_c.specs.declared.turns.Settled.{Settled}
 use Rattle.sf_c.specs.Numbers.{IsNumber, IsFresh, leads_on, replies_of}
@@ -37,13 +37,13 @@ InBoth before rules Leads after rules' =
 -- The engine was asked whether it takes bytes, and they came; or they were refused.
 abbrev pub ComeBytes : ℕ → List ℕ → Result Happened EngineFault → List Act → List Act → Type 0
 ComeBytes session bytes (Ok h) journal acts = (asked : LogEntry) × IsFed session [] asked
-    × (asked.result ≡ Ok h) × (acts ≡ Did asked ∷ Received session bytes ∷ [])
+    × (asked.result ≡ Ok h) × (acts ≡ Made asked ∷ Received session bytes ∷ [])
 ComeBytes session bytes (Err f) journal acts =
     MayRefuseFeed (log_of journal) session f × (acts ≡ [])
 
 abbrev pub GoBytes : ℕ → ℕ → Result Happened EngineFault → List Act → List Act → Type 0
 GoBytes session count (Ok h) journal acts = (h ≡ happened.Sent)
-    × ((entries : List LogEntry) × (acts ≡ map Did entries ++ Delivered session count ∷ []))
+    × ((entries : List LogEntry) × (acts ≡ map Made entries ++ Delivered session count ∷ []))
 GoBytes session count (Err f) journal acts =
     MayRefuseSent journal session count f × (acts ≡ [])
 

@@ -25,7 +25,7 @@ use Rattle.sf_client.proofs.Pipelines.{PipelinePhase, Going, Skipping, Stopped, 
 
 -- a refusal tells no size
 pub no_size : (r : Reply) (code : StatusCode) → Refuses r code → 0 ≡ size_of r
-no_size (reply.Status told) code h = refl
+no_size (reply.Status given) code h = refl
 no_size reply.NoMemory code h = refl
 no_size (reply.Handle number) code h = absurd h
 no_size (reply.Data bytes) code h = absurd h

@@ -106,7 +106,7 @@ by_handle_done S h (Err fault.Failed) m (Err f) w used c = let going = h.exchang
 -- ---- what is read to its end
 
 eof_reply : (r : Reply) → Refuses r EndOfFile → r ≡ reply.Status EndOfFile
-eof_reply (reply.Status told) h = ap reply.Status (sym h.1)
+eof_reply (reply.Status given) h = ap reply.Status (sym h.1)
 eof_reply reply.NoMemory h = absurd cc
 eof_reply (reply.Handle number) h = absurd h
 eof_reply (reply.Data bytes) h = absurd h

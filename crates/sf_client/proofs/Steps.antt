@@ -104,21 +104,21 @@ success_is (reply.Names entries) e = absurd cc
 success_is (reply.Attrs attrs) e = absurd cc
 
 -- a fault says the same whatever was to be told
-pub same_fault : {X Y : Type 0} (told : X → Reply) (other : Y → Reply) (v w : ClientView) (q : WireRequest) (f : ClientFault) → SettlesRequest told v q (Err f) w → SettlesRequest other v q (Err f) w
-same_fault told other v w q fault.Stream h = h
-same_fault told other v w q fault.Protocol h = h
-same_fault told other v w q (fault.Status code) h = h
-same_fault told other v w q fault.OutOfMemory h = h
-same_fault told other v w q (fault.TooLarge size) h = h
-same_fault told other v w q fault.Failed h = h
+pub same_fault : {X Y : Type 0} (as_reply : X → Reply) (other : Y → Reply) (v w : ClientView) (q : WireRequest) (f : ClientFault) → SettlesRequest as_reply v q (Err f) w → SettlesRequest other v q (Err f) w
+same_fault as_reply other v w q fault.Stream h = h
+same_fault as_reply other v w q fault.Protocol h = h
+same_fault as_reply other v w q (fault.Status code) h = h
+same_fault as_reply other v w q fault.OutOfMemory h = h
+same_fault as_reply other v w q (fault.TooLarge size) h = h
+same_fault as_reply other v w q fault.Failed h = h
 
-pub settled_comes : {X : Type 0} (told : X → Reply) (v w : ClientView) (q : WireRequest) (f : ClientFault) → v.failed ≡ false → SettlesRequest told v q (Err f) w → Comes told v q (Err f) w
-settled_comes told v w q fault.Stream began h = h
-settled_comes told v w q fault.Protocol began h = h
-settled_comes told v w q (fault.Status code) began h = h
-settled_comes told v w q fault.OutOfMemory began h = (began, inr h)
-settled_comes told v w q (fault.TooLarge size) began h = absurd h
-settled_comes told v w q fault.Failed began h = absurd h
+pub settled_comes : {X : Type 0} (as_reply : X → Reply) (v w : ClientView) (q : WireRequest) (f : ClientFault) → v.failed ≡ false → SettlesRequest as_reply v q (Err f) w → Comes as_reply v q (Err f) w
+settled_comes as_reply v w q fault.Stream began h = h
+settled_comes as_reply v w q fault.Protocol began h = h
+settled_comes as_reply v w q (fault.Status code) began h = h
+settled_comes as_reply v w q fault.OutOfMemory began h = (began, inr h)
+settled_comes as_reply v w q (fault.TooLarge size) began h = absurd h
+settled_comes as_reply v w q fault.Failed began h = absurd h
 
 -- ---- VERSION
 

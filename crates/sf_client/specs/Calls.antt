@@ -250,9 +250,9 @@ ended_by (Some (fault.Status EndOfFile)) x = Ok x
 ended_by (Some f) x = Err f
 ended_by None x = Ok x
 
--- the replies that data, and names, tell
-abbrev pub told_by : {X : Type 0} → (X → Reply) → Result (Option X) ClientFault
+-- the replies that have data, and names
+abbrev pub reply_by : {X : Type 0} → (X → Reply) → Result (Option X) ClientFault
     → Result (Option Reply) ClientFault
-told_by told (Ok (Some x)) = Ok (Some (told x))
-told_by told (Ok None) = Ok None
-told_by told (Err f) = Err f
+reply_by as_reply (Ok (Some x)) = Ok (Some (as_reply x))
+reply_by as_reply (Ok None) = Ok None
+reply_by as_reply (Err f) = Err f

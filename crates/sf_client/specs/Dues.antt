@@ -55,12 +55,12 @@ is_due d r = is_answer d r || is_refusal r
 
 -- the reply refuses by this code
 abbrev pub Refuses : Reply → StatusCode → Type 0
-Refuses (reply.Status code) told = (code ≢ Success) × (told ≡ code)
-Refuses reply.NoMemory told = told ≡ Failure
-Refuses (reply.Handle number) told = ⊥
-Refuses (reply.Data bytes) told = ⊥
-Refuses (reply.Names entries) told = ⊥
-Refuses (reply.Attrs attrs) told = ⊥
+Refuses (reply.Status code) given = (code ≢ Success) × (given ≡ code)
+Refuses reply.NoMemory given = given ≡ Failure
+Refuses (reply.Handle number) given = ⊥
+Refuses (reply.Data bytes) given = ⊥
+Refuses (reply.Names entries) given = ⊥
+Refuses (reply.Attrs attrs) given = ⊥
 
 -- memory is taken for a file's bytes and for names alone
 abbrev pub TakesMemory : Reply → Type 0

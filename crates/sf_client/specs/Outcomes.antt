@@ -27,29 +27,29 @@ pub record Broke (v w : ClientView) : Type 0 where
 -- the names of the reply that was taken. A client that failed before does nothing.
 abbrev pub Comes : {X : Type 0} → (X → Reply) → ClientView → WireRequest → Result X ClientFault
     → ClientView → Type 0
-Comes told v q (Ok x) w = Exchanged v (asked q (told x) ∷ []) w
-Comes told v q (Err fault.Stream) w = Broke v w
-Comes told v q (Err fault.Protocol) w = Unanswered v [] q [] w
-Comes told v q (Err (fault.Status code)) w =
+Comes as_reply v q (Ok x) w = Exchanged v (asked q (as_reply x) ∷ []) w
+Comes as_reply v q (Err fault.Stream) w = Broke v w
+Comes as_reply v q (Err fault.Protocol) w = Unanswered v [] q [] w
+Comes as_reply v q (Err (fault.Status code)) w =
     (r : Reply) × Refuses r code × Exchanged v (asked q r ∷ []) w
-Comes told v q (Err fault.OutOfMemory) w = (v.failed ≡ false)
+Comes as_reply v q (Err fault.OutOfMemory) w = (v.failed ≡ false)
     × ((w ≡ v) ⊎ ((r : Reply) × TakesMemory r × Exchanged v (asked q r ∷ []) w))
-Comes told v q (Err (fault.TooLarge size)) w = ⊥
-Comes told v q (Err fault.Failed) w = (v.failed ≡ true) × (w ≡ v)
+Comes as_reply v q (Err (fault.TooLarge size)) w = ⊥
+Comes as_reply v q (Err fault.Failed) w = (v.failed ≡ true) × (w ≡ v)
 
 -- The same of a request that was sent without memory: its one reply was taken in any case.
 abbrev pub SettlesRequest : {X : Type 0} → (X → Reply) → ClientView → WireRequest
     → Result X ClientFault
     → ClientView → Type 0
-SettlesRequest told v q (Ok x) w = Exchanged v (asked q (told x) ∷ []) w
-SettlesRequest told v q (Err fault.Stream) w = Broke v w
-SettlesRequest told v q (Err fault.Protocol) w = Unanswered v [] q [] w
-SettlesRequest told v q (Err (fault.Status code)) w =
+SettlesRequest as_reply v q (Ok x) w = Exchanged v (asked q (as_reply x) ∷ []) w
+SettlesRequest as_reply v q (Err fault.Stream) w = Broke v w
+SettlesRequest as_reply v q (Err fault.Protocol) w = Unanswered v [] q [] w
+SettlesRequest as_reply v q (Err (fault.Status code)) w =
     (r : Reply) × Refuses r code × Exchanged v (asked q r ∷ []) w
-SettlesRequest told v q (Err fault.OutOfMemory) w =
+SettlesRequest as_reply v q (Err fault.OutOfMemory) w =
     (r : Reply) × TakesMemory r × Exchanged v (asked q r ∷ []) w
-SettlesRequest told v q (Err (fault.TooLarge size)) w = ⊥
-SettlesRequest told v q (Err fault.Failed) w = ⊥
+SettlesRequest as_reply v q (Err (fault.TooLarge size)) w = ⊥
+SettlesRequest as_reply v q (Err fault.Failed) w = ⊥
 
 -- what came of taking a reply
 abbrev pub TakesReply : ClientView → Due → Result Reply ClientFault → ClientView → Type 0

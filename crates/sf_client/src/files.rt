@@ -10,7 +10,7 @@ ghost use Rattle.sf_reply.specs.declared.reply.Reply.TheVariants as reply;
 ghost use Rattle.sf_client.specs.Dues.{due_of};
 ghost use Rattle.sf_client.specs.Outcomes.{Comes};
 ghost use Rattle.sf_client.specs.Ahead.{SendsOn, TakesOn, GathersPiece, GathersNames, most_ahead, sender};
-ghost use Rattle.sf_client.specs.Calls.{DoesCall, ByHandle, ClosesAfter, EndsAfter, IsKept, AsksSize, first_fault, told_by, ended_by, read_from, to_read, to_write, Reads, ReadsAll, WritesAll, ListsAll, items_of};
+ghost use Rattle.sf_client.specs.Calls.{DoesCall, ByHandle, ClosesAfter, EndsAfter, IsKept, AsksSize, first_fault, reply_by, ended_by, read_from, to_read, to_write, Reads, ReadsAll, WritesAll, ListsAll, items_of};
 
 use crate::ahead::Ahead;
 use crate::client::Client;
@@ -53,7 +53,7 @@ const TO_WRITE: OpenFlags = OpenFlags {
 
 /// The fault that a call tells after a fault and its CLOSE: the first one, unless the client
 /// failed.
-fn told_after(first: ClientFault, closing: Result<(), ClientFault>) -> ClientFault
+fn fault_after(first: ClientFault, closing: Result<(), ClientFault>) -> ClientFault
     ensures { result ≡ first_fault first closing }
 {
     match closing {
@@ -152,11 +152,11 @@ impl<L: Line + Drop> Client<L> {
         ensures { EndsAfter handle first self.old result self.new }
     {
         let closing = self.close(handle);
-        told_after(first, closing)
+        fault_after(first, closing)
     }
 
     /// The size that FSTAT tells, for what it is worth: 0 where it is refused, or tells none.
-    fn told_size(&mut self, handle: u64) -> Result<u64, ClientFault>
+    fn stated_size(&mut self, handle: u64) -> Result<u64, ClientFault>
         requires { self.old.failed ≡ false }
         ensures { AsksSize handle self.old result self.new }
     {
@@ -195,7 +195,7 @@ impl<L: Line + Drop> Client<L> {
     /// Takes the bytes of a READ.
     fn take_piece(&mut self, ahead: &mut Ahead) -> Result<Option<ByteString>, ClientFault>
         requires { 0 < ahead.old.waiting }
-        ensures { TakesOn (sender self.old ahead.old) (Due.Data 32768) (told_by reply.Data result)
+        ensures { TakesOn (sender self.old ahead.old) (Due.Data 32768) (reply_by reply.Data result)
             (sender self.new ahead.new) }
     {
         match self.take_on(ahead, Due::Data(32768)) {
@@ -243,7 +243,7 @@ impl<L: Line + Drop> Client<L> {
         requires { self.old.failed ≡ false }
         ensures { DoesCall (ReadsAll handle) self.old result self.new }
     {
-        let size = match self.told_size(handle) {
+        let size = match self.stated_size(handle) {
             Ok(size) => size,
             Err(fault) => return Err(fault),
         };
@@ -279,7 +279,7 @@ impl<L: Line + Drop> Client<L> {
     fn take_success(&mut self, ahead: &mut Ahead) -> Result<Option<()>, ClientFault>
         requires { 0 < ahead.old.waiting }
         ensures { TakesOn (sender self.old ahead.old) Due.Success
-            (told_by (λ _. reply.Status Success) result) (sender self.new ahead.new) }
+            (reply_by (λ _. reply.Status Success) result) (sender self.new ahead.new) }
     {
         match self.take_on(ahead, Due::Success) {
             Ok(Some(_reply)) => Ok(Some(())),
@@ -335,7 +335,7 @@ impl<L: Line + Drop> Client<L> {
     /// Takes the names of a READDIR.
     fn take_names(&mut self, ahead: &mut Ahead) -> Result<Option<Listing>, ClientFault>
         requires { 0 < ahead.old.waiting }
-        ensures { TakesOn (sender self.old ahead.old) Due.Names (told_by reply.Names result)
+        ensures { TakesOn (sender self.old ahead.old) Due.Names (reply_by reply.Names result)
             (sender self.new ahead.new) }
     {
         match self.take_on(ahead, Due::Names) {

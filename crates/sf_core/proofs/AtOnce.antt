@@ -24,7 +24,7 @@ use Rattle.sf_call.specs.Routes.{Route, route_of, walks_nothing}
 use Rattle.sf_walk.specs.Routes.{HoldsWay}
 use Rattle.sf_call.specs.Routes.Route.{NoPath, Along, Between}
 use Rattle.sf_walk.specs.Files.{IsFileFree, IsSettled, file_handle, file_holder_of, holder_by}
-use Rattle.sf_walk.specs.Steps.{walker, DecidesNow as Ready}
+use Rattle.sf_walk.specs.Steps.{walker, DecidesNow}
 use Rattle.sf_walk.specs.Ways.{no_path, AreWays, IsLocated}
 use Rattle.sf_walk.proofs.Laws.{at_once, nowhere_stays, stands_fresh}
 use Rattle.sf_core.specs.declared.step.Step.TheVariants as step
@@ -161,7 +161,7 @@ module _ (lane : LaneView) (p q : PartsView) (core : IsCore p) (request : Reques
   walked : Walked at.mid at.mid its its.number (walk.Ready nowhere)
   walked = record {
     advances =
-        subst (λ (r : Route). Ready at.mid.store at.mid.store (walker its.number r stage.Fresh) nowhere) (sym route)
+        subst (λ (r : Route). DecidesNow at.mid.store at.mid.store (walker its.number r stage.Fresh) nowhere) (sym route)
         (at_once at.mid.store its.number stage.Fresh (subst (λ (r : Route). HoldsWay at.mid.store r stage.Fresh) route (stands_fresh at.mid.store request)));
     book = refl;
     sessions = refl;

@@ -34,7 +34,7 @@ use Rattle.sf_inode.specs.Stores.{StoreState, node_in, child_of, holder_of, is_d
 use Rattle.sf_keeps.specs.Steps.{walk}
 use Rattle.sf_keeps.specs.Keeps.{Keeps}
 use Rattle.sf_keeps.proofs.Laws.{reached_node, label_found, walk_on, one_way}
-use Rattle.sf_coupling.specs.Walks.{HeldPath, Holds, IsNodeOf, IsOnWayTo, Between as IsBetween, IsFree}
+use Rattle.sf_coupling.specs.Walks.{HeldPath, Holds, IsNodeOf, IsOnWayTo, IsBetween, IsFree}
 use Rattle.sf_coupling.specs.Fronts.{IsPrefix}
 use Rattle.sf_coupling.proofs.Laws.{begins_trans, same_or_not}
 use Rattle.sf_walk.specs.declared.finding.Ways.{Ways}

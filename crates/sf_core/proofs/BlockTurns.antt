@@ -19,7 +19,7 @@ use Rattle.sf_core.specs.Parts.{PartsView, core_of}
 use Rattle.sf_core.specs.Sound.{Sound, IsCore}
 use Rattle.sf_core.specs.Stepping.{session_set_by, FetchState}
 use Rattle.sf_core.specs.Finishing.{write_finished}
-use Rattle.sf_core.specs.Writing.{part_copied, CopiedBlock as CopiesOne, CopiedOn}
+use Rattle.sf_core.specs.Writing.{part_copied, CopiedBlock, CopiedOn}
 use Rattle.sf_core.proofs.Maps.{some_eq, reply_is}
 use Rattle.sf_core.proofs.Updates.{Updates, updates_set, updates_removed, updates_staged}
 use Rattle.sf_core.proofs.Ledgers.{other_call}
@@ -37,7 +37,7 @@ pub record OnTurn (p : PartsView) (lane : LaneView) (n : ℕ) : Type 0 where
 module _ (lane : LaneView) (n : ℕ) (call : lane.call ≡ Some n) where
   module _ (p : PartsView) (on : OnTurn p lane n) where
     -- ---- a block more
-    module _ (left : ℕ) (q : PartsView) (b : CopiesOne p q n (suc left)) where
+    module _ (left : ℕ) (q : PartsView) (b : CopiedBlock p q n (suc left)) where
       abbrev c : Call
       c = b.was.call
 
@@ -113,7 +113,7 @@ module _ (lane : LaneView) (n : ℕ) (call : lane.call ≡ Some n) where
       }
 
     -- ---- the last one, after which its reply is fetched
-    module _ (mid q : PartsView) (b : CopiesOne p mid n 0) (fetched : FetchState mid q lane.session n) where
+    module _ (mid q : PartsView) (b : CopiedBlock p mid n 0) (fetched : FetchState mid q lane.session n) where
       abbrev e : Call
       e = b.was.call
 

@@ -15,7 +15,7 @@ use Rattle.sf_inode.specs.Stores.{StoreState, node_in, child_of, holder_of, is_d
 use Rattle.sf_keeps.specs.Steps.{walk}
 use Rattle.sf_keeps.specs.Keeps.{Keeps}
 use Rattle.sf_keeps.proofs.Laws.{reached_node}
-use Rattle.sf_coupling.specs.Walks.{HeldPath, Holds, IsNodeOf, Between, IsShaped, LeadsTo, walkers_at, AreWalks, HandsOver}
+use Rattle.sf_coupling.specs.Walks.{HeldPath, Holds, IsNodeOf, IsBetween, IsShaped, LeadsTo, walkers_at, AreWalks, HandsOver}
 use Rattle.sf_coupling.proofs.Laws.{same_or_not, keeps_walks}
 use Rattle.sf_call.specs.Routes.{route_of}
 use Rattle.sf_walk.specs.Routes.{IsPosition, held_paths_of, namespace}
@@ -121,6 +121,6 @@ module _ (old mid : StoreState) (history : List Record) (n session moment : ℕ)
         shaped = subst IsShaped (sym none) tt;
         spared = λ m s other hold _. spared m s other hold;
         leads = λ s h. absurd (nothing s h);
-        apart = λ m s other hold b. subst (λ (x : List HeldPath). Between x s.path) none b;
+        apart = λ m s other hold b. subst (λ (x : List HeldPath). IsBetween x s.path) none b;
         aside = λ m s other h b. nothing s h;
       })

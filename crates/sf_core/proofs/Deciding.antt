@@ -39,13 +39,12 @@ use Rattle.sf_walk.specs.Routes.{HoldsWay}
 use Rattle.sf_walk.specs.Files.{IsFileFree, IsSettled}
 use Rattle.sf_walk.specs.Served.{IsUnused}
 use Rattle.sf_walk.specs.Steps.{is_one_of, walker, LeadsNowhere, EndsAt, MayDecideAt, AreFree}
-use Rattle.sf_walk.specs.Steps.MayDecideAt.{AtOnce as NowAtOnce, AtRoot as NowAtRoot, AtEnd as NowAtEnd}
+use Rattle.sf_walk.specs.Steps.MayDecideWhere.{AtOnce, AtRoot, AtEnd}
 use Rattle.sf_walk.proofs.Laws.{looked_nodes, ground_stays}
 use Rattle.sf_core.specs.declared.step.Step.TheVariants as step
 use Rattle.sf_core.specs.Lanes.{LaneView, at_rest}
 use Rattle.sf_core.specs.Cores.{call_at, session_at, lane_state}
 use Rattle.sf_core.specs.Progress.{waiting_reply, IsCopying, EndsWalk, MayDecideBy, did, overtaken}
-use Rattle.sf_core.specs.Progress.MayDecideBy.{AtOnce, AtRoot, AtEnd}
 use Rattle.sf_core.specs.Sure.{IsSure, AreSure}
 use Rattle.sf_core.specs.Events.{AreRecordsOf, IsOfOther, HasCut, IsHelped, IsFinished, Decides}
 use Rattle.sf_core.specs.Parts.{PartsView, core_of}
@@ -118,9 +117,9 @@ module _ (s : StoreState) (t : Tree) (keeps : Keeps s t) (path : Path) (w node :
       ] refl
 
 pub may_by : (s : StoreState) (t : Tree) → Keeps s t → (r : Route) (at : Stage) → HoldsWay s r at → MayDecideAt s.nodes r at → MayDecideBy t r at
-may_by s t keeps r at stands NowAtOnce = AtOnce
-may_by s t keeps r at stands NowAtRoot = AtRoot
-may_by s t keeps r at stands (NowAtEnd o g path from goes ends) = AtEnd r at path from goes (by ends)
+may_by s t keeps r at stands AtOnce = AtOnce
+may_by s t keeps r at stands AtRoot = AtRoot
+may_by s t keeps r at stands (AtEnd o g path from goes ends) = AtEnd r at path from goes (by ends)
   where
     by : EndsAt s.nodes path from → EndsWalk t path from.walked
     by (inl h) = inl h

@@ -12,7 +12,7 @@ use Rattle.sf_inode.specs.Stores.{StoreState}
 use Rattle.sf_coupling.specs.Walks.{HeldPath, Holds}
 use Rattle.sf_coupling.proofs.Laws.{same_or_not}
 use Rattle.sf_call.specs.Routes.{route_of}
-use Rattle.sf_walk.specs.Ways.{request_names as path_names}
+use Rattle.sf_walk.specs.Ways.{request_names}
 use Rattle.sf_walk.specs.Files.{cuts_file}
 use Rattle.sf_walk.specs.Served.{LookedUp, MakesLookUps, after_look_ups}
 use Rattle.sf_walk.proofs.Laws.{IsSameGround, same_itself, same_trans}
@@ -130,11 +130,11 @@ module _ (p : PartsView) (h : List Record) (sound : Sound p h) (looked : StoreSt
       looks = record { count = looks_up.count; few = looks_up.few; look_ups = looks_up.look_ups };
     }
 
-pub readied : (p q : PartsView) (h : List Record) → Sound p h → (c : Call) → FinishesWriter p q c → Readied p q h (path_names c.request) c.request
+pub readied : (p q : PartsView) (h : List Record) → Sound p h → (c : Call) → FinishesWriter p q c → Readied p q h (request_names c.request) c.request
 readied p q h sound c fin = elim fin.finished [
-  | inl none ↦ subst (λ (x : PartsView). Readied p x h (path_names c.request) c.request) (sym none.1) (readied_alone p h sound fin.looked (path_names c.request) fin.looks c.request)
+  | inl none ↦ subst (λ (x : PartsView). Readied p x h (request_names c.request) c.request) (sym none.1) (readied_alone p h sound fin.looked (request_names c.request) fin.looks c.request)
   | inr w ↦
-      let most = path_names c.request in
+      let most = request_names c.request in
       let looked = sound_m p h sound fin.looked most fin.looks c.request in
       let f = file_writer fin.looked p.calls looked.copied.copies w.0.node w.0.number (writer_is fin.looked.nodes w.0.node w.0.number w.1.file w.1.held) in
       let number : f.0.number ≡ w.0.number = (sound.ledger.calls w.0.number f.0 f.2).is_number in

@@ -34,7 +34,7 @@ use Rattle.sf_call.specs.Routes.Route.{NoPath, Along, Between}
 use Rattle.sf_walk.specs.Steps.{is_one_of}
 use Rattle.sf_walk.specs.Served.{IsRefused, IsCarriedOut}
 use Rattle.sf_walk.proofs.Laws.{walk_same}
-use Rattle.sf_walk.specs.Ways.{request_names as path_names}
+use Rattle.sf_walk.specs.Ways.{request_names}
 use Rattle.sf_core.specs.Cores.{call_at}
 use Rattle.sf_core.specs.Progress.{waiting_reply, did, copy_of, IsCopying, names_in_record, names_in_records, record_number}
 use Rattle.sf_core.specs.Sure.{AreSure}
@@ -48,7 +48,7 @@ use Rattle.sf_core.proofs.Updates.{Updates, updates_answered}
 use Rattle.sf_core.proofs.LookUps.{looks_fit, looks_between}
 use Rattle.sf_core.proofs.Finished.{still_for, IsStill, still_on, still_undecided, Readied, readied}
 use Rattle.sf_core.proofs.Spared.{keeps_after, leads_still, directory_still, own_either}
-use Rattle.sf_core.proofs.Recorded.{new_to, helped as helped_sound}
+use Rattle.sf_core.proofs.Recorded.{new_to, helped_sound}
 use Rattle.sf_core.proofs.Numbers.{AreApart}
 use Rattle.sf_core.proofs.Passing.{LiesBelow, begins_below, or_false}
 
@@ -286,13 +286,13 @@ nothing_led old p h sound fits = record {
 record ReadiedFor (p : PartsView) (h : List Record) (c : Call) : Type 0 where
   mid : PartsView
   fits : p.store.look_ups < 2 ^ 64
-  readied : Readied p mid h (path_names c.request) c.request
+  readied : Readied p mid h (request_names c.request) c.request
 
 readied_led : (old : Path) (p q : PartsView) (h : List Record) (c : Call) (given : Reply) → (x : ReadiedFor p h c) → AreLed old x.mid q h (did c given ∷ []) → q.store.look_ups ≡ x.mid.store.look_ups → AreLed old p q h (did c given ∷ [])
 readied_led old p q h c given x led e =
     let r = x.readied in
     let same = walk_same p.store x.mid.store r.ground in
-    let looks = looks_between p.store x.mid.store (path_names c.request) x.fits r.looks in
+    let looks = looks_between p.store x.mid.store (request_names c.request) x.fits r.looks in
     record {
       sound = led.sound;
       sure = led.sure;
@@ -373,7 +373,7 @@ help_all (n ∷ ns) old p q h may ready apart helps =
     let given = step.2 in
     let done : HelpState f mid c c.number given.0 = subst (λ k. HelpState f mid c k given.0) (sym is) given.1 in
     let clear_f : IsClear f old = λ m s hold. may.clear m s (before.stood m s hold) in
-    let fits_f = looks_fit p.store f.store (path_names c.request) before.looks may.fits in
+    let fits_f = looks_fit p.store f.store (request_names c.request) before.looks may.fits in
     let led = one_led old f h before.sound clear_f c at r.undecided r.fresh r.below fits_f mid given.0 done in
     let one = readied_led old p mid h c given.0 (record { mid = f; fits = may.fits; readied = before }) led done.look_ups in
     let now = calls_now old f h before.sound clear_f c at r.undecided r.fresh r.below fits_f mid given.0 done in

@@ -13,7 +13,7 @@ use Rattle.sf_call.specs.Routes.{Route, is_rooted, are_nested, route_at, route_o
 use Rattle.sf_walk.specs.Routes.{IsPosition}
 use Rattle.sf_call.specs.Routes.Route.{NoPath, Along, Between}
 use Rattle.sf_walk.specs.Routes.IsPosition.{Starts, IsOn, IsBefore, IsApart}
-use Rattle.sf_walk.specs.Ways.{target_names, names_on, request_names as path_names}
+use Rattle.sf_walk.specs.Ways.{target_names, names_on, request_names}
 use Rattle.sf_walk.specs.Steps.{AdvancesOne}
 use Rattle.sf_walk.specs.Steps.AdvancesOne.{TakesRoot, PartsAtRoot, GoesOn, Parts, OldGoesOn, NewGoesOn}
 use Rattle.sf_core.specs.Lanes.{LaneView}
@@ -105,7 +105,7 @@ fit_by (OnPaths old new) = elim (is_rooted old new) as (λ a. names_on (if a the
   | false ↦ elim (are_nested old new) as (λ b. names_on (if b then Along old else Between old new) ≤ length old + length new) [ true ↦ omega arith | false ↦ omega arith ]
 ]
 
-pub names_fit : (r : Request) → names_on (route_of r) ≤ path_names r
+pub names_fit : (r : Request) → names_on (route_of r) ≤ request_names r
 names_fit r = fit_by (target_of r)
 
 -- how many names a call has walked, on both ways
@@ -121,11 +121,11 @@ walked_on r at (IsOn path walked node less) = omega (arith, less)
 walked_on r at (IsBefore old new walked node count part less) = let short = part.short in omega (arith, less, short)
 walked_on r at (IsApart old new common from to is) = let a = is.short in let b = is.short_new in omega (arith, a, b)
 
-pub walked_few : (c : Call) (at : Stage) → IsPosition (route_of c.request) at → walked_in at ≤ path_names c.request
+pub walked_few : (c : Call) (at : Stage) → IsPosition (route_of c.request) at → walked_in at ≤ request_names c.request
 walked_few c at is = let a = walked_on (route_of c.request) at is in let b = names_fit c.request in omega (arith, a, b)
 
 -- some steps are left, and fewer after each one
-some_by : (r : Request) (g : Route) (at : Stage) → IsPosition g at → walked_in at ≤ path_names r → 0 < steps_left_at r at
+some_by : (r : Request) (g : Route) (at : Stage) → IsPosition g at → walked_in at ≤ request_names r → 0 < steps_left_at r at
 some_by r g at (Starts o is) few = omega arith
 some_by r g at (IsOn path walked node less) few = omega (arith, few)
 some_by r g at (IsBefore old new walked node count part less) few = omega (arith, few)
@@ -134,7 +134,7 @@ some_by r g at (IsApart old new common from to is) few = omega (arith, few)
 pub some_left : (c : Call) (at : Stage) → IsPosition (route_of c.request) at → 0 < steps_left_at c.request at
 some_left c at is = some_by c.request (route_of c.request) at is (walked_few c at is)
 
-pub less_left : (r : Request) (at after : Stage) → AdvancesOne at after → walked_in after ≤ path_names r → steps_left_at r after < steps_left_at r at
+pub less_left : (r : Request) (at after : Stage) → AdvancesOne at after → walked_in after ≤ request_names r → steps_left_at r after < steps_left_at r at
 less_left r at after (TakesRoot node) few = omega arith
 less_left r at after (PartsAtRoot to e) few = omega (arith, e, few)
 less_left r at after (GoesOn walked node to e) few = omega (arith, e, few)

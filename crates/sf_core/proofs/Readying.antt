@@ -15,7 +15,7 @@ use Rattle.sf_walk.specs.declared.finding.Located.TheVariants as located
 use Rattle.sf_walk.specs.Files.{HasNoWriter, IsWriter}
 use Rattle.sf_call.specs.Routes.{Route, route_of}
 use Rattle.sf_call.specs.Routes.Route.{NoPath, Along, Between}
-use Rattle.sf_walk.specs.Ways.{way_from, missing, request_names as path_names, AreWays, IsLocated}
+use Rattle.sf_walk.specs.Ways.{way_from, missing, request_names, AreWays, IsLocated}
 use Rattle.sf_walk.specs.Served.{LookedUp, IsAsBefore, NodesStay}
 use Rattle.sf_walk.proofs.Laws.{IsSameGround, same_trans, same_held}
 use Rattle.sf_core.specs.Parts.{PartsView}
@@ -47,12 +47,12 @@ finished_ground s node = same_trans s (left_set s node 0) (edited (with_holder N
 if_free : (nodes : List (Option Node)) (id : ℕ) → is_file_at nodes id ≡ true → holder_of nodes id ≡ None → writer_of_file nodes id ≡ None
 if_free nodes id file none = ap (λ (b : Bool). if b then holder_of nodes id else None) file ∙ none
 
-module _ (p : PartsView) (c : Call) (ways : Ways) (looked : StoreState) (settled : IsSettledWhereFree p.store) (are_located : IsLocated p.store c.request ways) (looks : LookedUp p.store looked (path_names c.request)) where
+module _ (p : PartsView) (c : Call) (ways : Ways) (looked : StoreState) (settled : IsSettledWhereFree p.store) (are_located : IsLocated p.store c.request ways) (looks : LookedUp p.store looked (request_names c.request)) where
   settled_looked : IsSettledWhereFree looked
-  settled_looked id free = let f = files_looked p.store looked (path_names c.request) looks in f.0.left id ∙ settled id (sym (f.1 id) ∙ free)
+  settled_looked id free = let f = files_looked p.store looked (request_names c.request) looks in f.0.left id ∙ settled id (sym (f.1 id) ∙ free)
 
   ground : IsSameGround p.store looked
-  ground = ground_looked p.store looked (path_names c.request) looks
+  ground = ground_looked p.store looked (request_names c.request) looks
 
   pub ready_alone : HasNoWriter looked c.request ways.path → IsReadyToHelp p (record p { store = looked }) c ways
   ready_alone none = record {

@@ -233,8 +233,8 @@ module _ (p q : PartsView) (h : List Record) (sound : Sound p h) (c : Call) (at 
   reply_now = refl
 
   -- it was carried out by another: its reply waits
-  pub helped : c.stage ≡ stage.Fresh → HelpState p q c c.number given → Sound q (h ++ did c given ∷ [])
-  helped fresh help =
+  pub helped_sound : c.stage ≡ stage.Fresh → HelpState p q c c.number given → Sound q (h ++ did c given ∷ [])
+  helped_sound fresh help =
       recorded p q h sound c given help.records (Some (with_reply given c)) (Some c.number)
       (subst (λ cs. Updates p.calls cs c.number (Some c) (Some (with_reply given c))) (sym help.calls) (updates_answered p.calls c.number c given at))
       (subst (λ ss. Updates p.sessions ss c.session (Some (Some c.number)) (Some (Some c.number))) (sym help.sessions) (updates_none p.sessions c.session (Some c.number) busy))

@@ -22,7 +22,7 @@ use Rattle.sf_call.proofs.Laws.{after_told, replay-push}
 use Rattle.sf_keeps.proofs.Laws.{shows_one, keeps_held, keeps_left, edited_apart, edited_itself, left_there, left_holders}
 use Rattle.sf_copying.specs.Copies.{copying}
 use Rattle.sf_copying.proofs.Laws.{starts_keeps}
-use Rattle.sf_walk.specs.declared.files.Copying.{Copying as Into}
+use Rattle.sf_walk.specs.declared.files.Copying.{Copying}
 use Rattle.sf_walk.specs.declared.finding.Located.TheVariants.{NoWay}
 use Rattle.sf_walk.specs.Files.{StartsWriting, IsWriteRequest, IsSettled, file_handle}
 use Rattle.sf_walk.specs.Served.{IsCarriedOut, NodesStay}
@@ -39,14 +39,14 @@ use Rattle.sf_core.proofs.CopySteps.{is_a_write, is_file, stays_started}
 use Rattle.sf_core.proofs.Writers.{copied_by, files_held, opens_same, writer_is}
 use Rattle.sf_core.proofs.SparedFiles.{file_node, file_writer, copying_is}
 use Rattle.sf_core.proofs.Spared.{label_by_handle}
-use Rattle.sf_core.proofs.Recorded.{helped}
+use Rattle.sf_core.proofs.Recorded.{helped_sound}
 use Rattle.sf_core.proofs.BlockSteps.{ground_left, file_left, rest_sound, changes_by, staged_reply}
 
 same_sym : (s t : StoreState) → IsSameGround s t → IsSameGround t s
 same_sym s t g = record { step = λ x n. sym (g.step x n); root = sym g.root; directory = λ x. sym (g.directory x) }
 
 module _ (p q : PartsView) (h : List Record) (sound : Sound p h) (c : Call) (at : call_at p.calls c.number ≡ Some c) (undecided : waiting_reply c ≡ None) (fresh : c.stage ≡ stage.Fresh)
-    (write : IsWriteRequest c.request) (settled : IsSettled p.store c.session c.request NoWay) (given : Reply) (into : Into) (w : WriteState p q c c.number given into) where
+    (write : IsWriteRequest c.request) (settled : IsSettled p.store c.session c.request NoWay) (given : Reply) (into : Copying) (w : WriteState p q c c.number given into) where
   -- ---- the request, and the file that its handle opens
   pub is : (number : ℕ) × (offset : ℕ) × (bytes : List ℕ) × (c.request ≡ request.Write number offset bytes)
   is = is_a_write c.request write
@@ -134,7 +134,7 @@ module _ (p q : PartsView) (h : List Record) (sound : Sound p h) (c : Call) (at 
 
   sound_decided : Sound decided (h ++ did c given ∷ [])
   sound_decided =
-      helped p decided h sound c at undecided given
+      helped_sound p decided h sound c at undecided given
       (λ path l holder leads held other.
       label_by_handle p.store whole h c.number c.session c.moment c.request given sound.history.legal call.above new_number sound.history.tree (inr whole_carried) whole_stays is.0 (ap target_of is.3) path)
       fresh helps

@@ -32,7 +32,7 @@ use Rattle.sf_core.specs.Parts.{PartsView, core_of}
 use Rattle.sf_core.specs.Sound.{Sound}
 use Rattle.sf_core.specs.Stepping.{Moved, WalkState, ending, Walked, FinishState, Overtakes}
 use Rattle.sf_core.specs.Writing.{IsCopyingOn, CopiedBlock, CopiedOn, EndsCopying, HasBegunWrite, IsReadyToWrite, WritesOn, ReportsStep}
-use Rattle.sf_core.specs.Writing.WritesOn.{AtOnce, ToTheEnd, UpToThere}
+use Rattle.sf_core.specs.Writing.WritesOn.{ByFirstStep, ToTheEnd, UpToThere}
 use Rattle.sf_core.proofs.Maps.{some_eq, none_some, reply_is}
 use Rattle.sf_core.proofs.Updates.{updates_staged}
 use Rattle.sf_core.proofs.SparedFiles.{copying_is, copying_stage}
@@ -308,7 +308,7 @@ module _ (lane : LaneView) (n : ℕ) (call : lane.call ≡ Some n) (p : PartsVie
       more_by (suc m) mid e b it = more_done 1 mid (turn_w mid b) (fits_w mid b) (moved_w mid b) r (suc m) (omega arith) (omega (arith, e)) it
 
       writes_by : (o : Option Reply) → WritesOn q r w.last.comes.0 lane.session n most o → (s : Step) (lane' : LaneView) → ReportsStep n lane o s lane' → Done r s lane'
-      writes_by (Some given) (AtOnce x fin one) s lane' tells =
+      writes_by (Some given) (ByFirstStep x fin one) s lane' tells =
           rest_lane r (step.Answered (record { number = n; session = lane.session; reply = given })) s (at_rest lane) lane' tells.0 tells.1
           (decided_end lane n call p most places fit v ev l el ways q w q over r given (λ d at. subst (λ (y : Call). FinishState q r y n given) (some_eq its d (sym at_n ∙ at)) fin) (λ d at. subst (λ (y : Call). CopiesOne q.store y given) (some_eq its d (sym at_n ∙ at)) one)
           (record { number = n; session = lane.session; reply = given }) refl)
@@ -322,7 +322,7 @@ module _ (lane : LaneView) (n : ℕ) (call : lane.call ≡ Some n) (p : PartsVie
       writes_end o on s lane' tells = writes_by o (on its at_n) s lane' (subst (λ (x : LaneView). ReportsStep n x o s lane') (sym el) tells)
 
       given_by : (o : Option Reply) → WritesOn q r w.last.comes.0 lane.session n most o → (given : Reply) → o ≡ Some given → IsGiven n lane.session given
-      given_by (Some x) (AtOnce y fin one) given e =
+      given_by (Some x) (ByFirstStep y fin one) given e =
           subst (λ (g : Reply). IsGiven n lane.session g) (some_eq x given e)
           (its_given lane n call p most places fit v ev l el ways q w q over r x (λ d at. subst (λ (z : Call). FinishState q r z n x) (some_eq its d (sym at_n ∙ at)) fin) (λ d at. subst (λ (z : Call). CopiesOne q.store z x) (some_eq its d (sym at_n ∙ at)) one))
       given_by (Some x) (ToTheEnd y mid b ends) given e = subst (λ (g : Reply). IsGiven n lane.session g) (some_eq x given e) (over_given 1 mid (turn_w mid b) (fits_w mid b) (moved_w mid b) r (most - 1) x ends)

@@ -15,10 +15,10 @@ use Rattle.sf_call.specs.declared.call.Reached.{Reached}
 use Rattle.sf_call.specs.Routes.{Route, route_of, walks_nothing}
 use Rattle.sf_walk.specs.Routes.{paths_on, reached_at}
 use Rattle.sf_call.specs.Routes.Route.{NoPath, Along, Between}
-use Rattle.sf_walk.specs.Steps.{GoesFrom}
+use Rattle.sf_walk.specs.Steps.{MayDecideWhere}
 use Rattle.sf_walk.specs.Files.{holder_by}
 use Rattle.sf_inode.specs.Stores.{StoreState}
-use Rattle.sf_walk.specs.Ways.{request_names as path_names}
+use Rattle.sf_walk.specs.Ways.{request_names}
 use Rattle.sf_call.specs.Requests.{Target}
 use Rattle.sf_call.specs.Requests.Target.{ByHandle, OnPath, OnPaths}
 
@@ -45,14 +45,14 @@ blocks_in other = 0
 
 -- the most steps of a call that aren't blocked
 unfoldable pub bound_of : Request → ℕ
-bound_of request = path_names request + 3 + blocks_in request
+bound_of request = request_names request + 3 + blocks_in request
 
 -- how many of them are left: to a call that copies, as many as there are blocks left
 abbrev pub steps_left_at : Request → Stage → ℕ
-steps_left_at request stage.Fresh = path_names request + 3 + blocks_in request
-steps_left_at request (stage.At walked node) = path_names request + 2 - walked
+steps_left_at request stage.Fresh = request_names request + 3 + blocks_in request
+steps_left_at request (stage.At walked node) = request_names request + 2 - walked
 steps_left_at request (stage.Ends common old new) =
-    path_names request + 2 - (old.walked + new.walked)
+    request_names request + 2 - (old.walked + new.walked)
 steps_left_at request (stage.Copies node left) = left
 
 -- a call whose reply waits and that copies nothing makes one step more, which fetches it
@@ -101,13 +101,9 @@ abbrev pub EndsWalk : Tree → Path → ℕ → Type 0
 EndsWalk tree path walked = (walked + 1 ≡ length path)
     ⊎ ((walked + 1 < length path) × (is_directory tree (take (walked + 1) path) ≡ false))
 
--- Where a call may decide: at once, if it walks no path or the root's; else where the walk ends
--- that it is on.
-pub data MayDecideBy (tree : Tree) : Route → Stage → Type 0 where
-  AtOnce : MayDecideBy tree NoPath stage.Fresh
-  AtRoot : MayDecideBy tree (Along []) stage.Fresh
-  AtEnd : (r : Route) (at : Stage) (path : Path) (from : Reached) → GoesFrom r at path from
-      → EndsWalk tree path from.walked → MayDecideBy tree r at
+-- where a call may decide, by the tree
+abbrev pub MayDecideBy : Tree → Route → Stage → Type 0
+MayDecideBy tree = MayDecideWhere (λ path from. EndsWalk tree path from.walked)
 
 abbrev pub MayDecide : Tree → Request → Stage → Type 0
 MayDecide tree request at = MayDecideBy tree (route_of request) at
@@ -175,7 +171,7 @@ undecided_in calls = length (filter (λ e. is_none (waiting_reply e.1)) calls)
 
 -- how many names the paths of the calls among the records have
 abbrev pub names_in_record : Record → ℕ
-names_in_record (Did number session moment request given) = path_names request
+names_in_record (Did number session moment request given) = request_names request
 names_in_record (Left session) = 0
 
 abbrev pub names_in_records : List Record → ℕ

@@ -135,7 +135,7 @@ CopiesOne s c given = (number offset : ℕ) (bytes : List ℕ) (h : OpenHandle)
 -- it copied on, and ended, or has more to copy.
 pub data WritesOn (p q : PartsView) (c : Call) (session number most : ℕ)
     : Option Reply → Type 0 where
-  AtOnce : (given : Reply) → FinishState p q c number given → CopiesOne p.store c given
+  ByFirstStep : (given : Reply) → FinishState p q c number given → CopiesOne p.store c given
       → WritesOn p q c session number most (Some given)
   ToTheEnd : (given : Reply) (mid : PartsView) → HasBegunWrite p mid c number
       → EndsCopying mid q session number (most - 1) given

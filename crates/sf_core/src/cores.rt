@@ -247,12 +247,12 @@ impl Core {
             }
             WalkOutcome::Copies => {
                 let reply = self.parts.copy_on(lane.session, number, most);
-                told(lane, number, reply)
+                reported(lane, number, reply)
             }
             WalkOutcome::FileHeld(holder) => Step::Blocked(holder),
             WalkOutcome::Writes => {
                 let reply = self.parts.write_on(lane.session, number, most);
-                told(lane, number, reply)
+                reported(lane, number, reply)
             }
             WalkOutcome::Walked(Walk::Moved(_)) => Step::Moved,
             WalkOutcome::Walked(Walk::Blocked(holder)) => Step::Blocked(holder),
@@ -332,7 +332,7 @@ impl Core {
 }
 
 /// What steps of a WRITE came to: it is answered, and the lane is at rest; or it has more to copy.
-fn told(lane: &mut Lane, number: u64, reply: Option<Reply>) -> Step
+fn reported(lane: &mut Lane, number: u64, reply: Option<Reply>) -> Step
     requires { (given : Reply) → reply ≡ Some given → IsGiven number lane.old.session given }
     ensures { ReportsStep number lane.old reply result lane.new }
 {

@@ -2,7 +2,7 @@
 use Rattle.std.specs.Prelude.{◌≡◌, ◌≢◌, ◌⊎◌, ℕ, true, false, nat_eq, List, [], ◌∷◌, Option, Some, None, refl}
 use Rattle.std.proofs.Common.{sym, ap, subst, ◌∙◌, inl, inr, eqb-true}
 use Rattle.std.proofs.lemmas.Bool.{eqb-false}
-use Rattle.sf_coupling.specs.Walks.{Namespace, HeldPath, Holds, IsNodeOf, Between, IsShaped, LeadsTo, Walkers, walkers_at, AreWalks, HandsOver, HoldsOthers}
+use Rattle.sf_coupling.specs.Walks.{Namespace, HeldPath, Holds, IsNodeOf, IsBetween, IsShaped, LeadsTo, Walkers, walkers_at, AreWalks, HandsOver, HoldsOthers}
 
 pub same_or_not : (n m : ℕ) → (n ≡ m) ⊎ (n ≢ m)
 same_or_not n m =
@@ -100,13 +100,13 @@ module _ (old new : Walkers) (n : ℕ) (walks : AreWalks old) (goes : HoldsOther
     | inr e ↦ subst (λ (x : List HeldPath). IsNodeOf x l) (sym (goes.same m e)) (walks.holds l m (no_more l m e at))
   ]
 
-  apart' : (a b : ℕ) (s : HeldPath) → a ≢ b → Holds (new.held_paths b) s → Between (new.held_paths a) s.path → ⊥
+  apart' : (a b : ℕ) (s : HeldPath) → a ≢ b → Holds (new.held_paths b) s → IsBetween (new.held_paths a) s.path → ⊥
   apart' a b s differ hold between = elim (same_or_not n a) [
     | inl e ↦
         let other : n ≢ b = λ x. differ (sym e ∙ x) in
-        goes.apart b s other (was_held b s other hold) (subst (λ x. Between (new.held_paths x) s.path) (sym e) between)
+        goes.apart b s other (was_held b s other hold) (subst (λ x. IsBetween (new.held_paths x) s.path) (sym e) between)
     | inr e ↦
-        let was = subst (λ (x : List HeldPath). Between x s.path) (goes.same a e) between in
+        let was = subst (λ (x : List HeldPath). IsBetween x s.path) (goes.same a e) between in
         elim (same_or_not n b) [
           | inl i ↦ goes.aside a s e (own_held b s i hold) was
           | inr i ↦ walks.apart a b s differ (was_held b s i hold) was
@@ -130,6 +130,6 @@ module _ (t : Namespace) (f f' : ℕ → List HeldPath) (k k' : ℕ → Option �
     shaped = subst IsShaped (sym none) tt;
     spared = λ m s other h leads. leads;
     leads = λ s h. absurd (holds_none s h);
-    apart = λ m s other h b. subst (λ (x : List HeldPath). Between x s.path) none b;
+    apart = λ m s other h b. subst (λ (x : List HeldPath). IsBetween x s.path) none b;
     aside = λ m s other h b. holds_none s h;
   })

@@ -3,7 +3,7 @@ use Rattle.std.specs.Prelude.{◌≡◌, ◌≢◌, ◌⊎◌, ℕ, List, [], �
 use Rattle.std.proofs.Common.{sym, ap, subst, ◌∙◌, inl, inr}
 use Rattle.sf_path.specs.Names.{Path}
 use Rattle.sf_coupling.specs.Fronts.{IsPrefix}
-use Rattle.sf_coupling.specs.Walks.{Namespace, HeldPath, Holds, IsNodeOf, IsOnWayTo, Between, AreBelow, IsShaped, LeadsTo, IsFree, Walkers, walkers_at, AreWalks, HandsOver}
+use Rattle.sf_coupling.specs.Walks.{Namespace, HeldPath, Holds, IsNodeOf, IsOnWayTo, IsBetween, AreBelow, IsShaped, LeadsTo, IsFree, Walkers, walkers_at, AreWalks, HandsOver}
 use Rattle.sf_coupling.specs.Stepping.{IsNextTo, IsFrom, AreAllAt, TakesPath}
 use Rattle.sf_coupling.specs.Stepping.TakesPath.{Comes, GoesOnWith}
 use Rattle.sf_coupling.proofs.Fronts.{begins_itself, begins_trans, begins_snoc, begins_both, begins_nothing}
@@ -54,7 +54,7 @@ takes_held q was now s (GoesOnWith top front p rest next) (inl e) = inr (inl e)
 takes_held q was now s (GoesOnWith top front p rest next) (inr h) = elim (kept_held q p front rest s h) [ inl e ↦ inl e | inr k ↦ inr (inr k) ]
 
 -- a path between is new, or was between
-takes_between : (q : HeldPath) (was now : List HeldPath) (path : Path) → TakesPath q was now → Between now path → Between was path ⊎ (path ≡ q.path)
+takes_between : (q : HeldPath) (was now : List HeldPath) (path : Path) → TakesPath q was now → IsBetween now path → IsBetween was path ⊎ (path ≡ q.path)
 takes_between q was now path (Comes w [] from some all) h = absurd h
 takes_between q was now path (Comes w (top ∷ ends) from some all) h =
     inr (begins_both path q.path (all_on_way q ends path all.1 h.1) (subst (λ (s : HeldPath). IsPrefix s.path path) all.0 h.0))
@@ -95,14 +95,14 @@ module _ (t : Namespace) (f : ℕ → List HeldPath) (k : ℕ → Option ℕ) (n
   on_way_up (s ∷ held_paths) p path b (inr h) = inr (on_way_up held_paths p path b h)
 
   -- no other call's way leads through q
-  pub q_aside : IsFrom (f n) q → (m : ℕ) → n ≢ m → (held_paths : List HeldPath) → f m ≡ held_paths → Between held_paths q.path → ⊥
+  pub q_aside : IsFrom (f n) q → (m : ℕ) → n ≢ m → (held_paths : List HeldPath) → f m ≡ held_paths → IsBetween held_paths q.path → ⊥
   q_aside from m other [] is b = b
   q_aside (inl root) m other (top ∷ ends) is b = above m top ends other is (begins_nothing top.path (subst (IsPrefix top.path) root b.0) ∙ sym root)
   q_aside (inr next) m other (top ∷ ends) is b =
       let p = next.0 in
       elim (begins_snoc top.path p.path next.2.name (subst (IsPrefix top.path) next.2.is b.0)) [
         | inr e ↦ above m top ends other is (e ∙ sym next.2.is)
-        | inl e ↦ walks.apart m n p (λ i. other (sym i)) next.1 (subst (λ (x : List HeldPath). Between x p.path) (sym is) (e, on_way_up ends p.path q.path (up p q next.2) b.1))
+        | inl e ↦ walks.apart m n p (λ i. other (sym i)) next.1 (subst (λ (x : List HeldPath). IsBetween x p.path) (sym is) (e, on_way_up ends p.path q.path (up p q next.2) b.1))
       ]
 
   -- a step that takes a free directory keeps the facts
@@ -126,7 +126,7 @@ module _ (t : Namespace) (f : ℕ → List HeldPath) (k : ℕ → Option ℕ) (n
           | inr e ↦ not_there m s other hold e
         ];
         aside = λ m s other h b. elim (takes_held q (f n) (f' n) s takes h) [
-          | inl e ↦ q_aside (takes_from q (f n) (f' n) takes) m other (f m) refl (subst (λ (x : HeldPath). Between (f m) x.path) e b)
+          | inl e ↦ q_aside (takes_from q (f n) (f' n) takes) m other (f m) refl (subst (λ (x : HeldPath). IsBetween (f m) x.path) e b)
           | inr was ↦ walks.apart m n s (λ i. other (sym i)) was b
         ];
       })
@@ -152,5 +152,5 @@ waits_at_top walks {n = n} {m = m} other held_path (inr next) {top = top} {ends 
     let below = below_held top.path ends held_path (subst IsShaped is (walks.shaped m)) h in
     elim (begins_snoc top.path p.path next.2.name (subst (IsPrefix top.path) next.2.is below)) [
       | inr e ↦ next.2.is ∙ sym e
-      | inl e ↦ absurd (walks.apart m n p (λ i. other (sym i)) next.1 (subst (λ (x : List HeldPath). Between x p.path) (sym is) (e, held_on_way ends held_path p.path (up p held_path next.2) h)))
+      | inl e ↦ absurd (walks.apart m n p (λ i. other (sym i)) next.1 (subst (λ (x : List HeldPath). IsBetween x p.path) (sym is) (e, held_on_way ends held_path p.path (up p held_path next.2) h)))
     ]

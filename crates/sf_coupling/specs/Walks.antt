@@ -31,9 +31,9 @@ IsOnWayTo [] q = ⊥
 IsOnWayTo (p ∷ held_paths) q = IsPrefix q p.path ⊎ IsOnWayTo held_paths q
 
 -- the paths from the first one that is held down to the others, both ends included
-abbrev pub Between : List HeldPath → Path → Type 0
-Between [] q = ⊥
-Between (top ∷ ends) q = IsPrefix top.path q × IsOnWayTo ends q
+abbrev pub IsBetween : List HeldPath → Path → Type 0
+IsBetween [] q = ⊥
+IsBetween (top ∷ ends) q = IsPrefix top.path q × IsOnWayTo ends q
 
 abbrev pub AreBelow : Path → List HeldPath → Type 0
 AreBelow p [] = Unit {0}
@@ -68,7 +68,7 @@ pub record AreWalks (s : Walkers) : Type 0 where
   pub held : (n : ℕ) (at : HeldPath) → Holds (s.held_paths n) at → s.holder at.node ≡ Some n
   pub holds : (l n : ℕ) → s.holder l ≡ Some n → IsNodeOf (s.held_paths n) l
   pub apart : (n m : ℕ) (at : HeldPath) → n ≢ m → Holds (s.held_paths m) at
-      → Between (s.held_paths n) at.path → ⊥
+      → IsBetween (s.held_paths n) at.path → ⊥
 
 -- no other call holds the node
 abbrev pub IsFree : (ℕ → Option ℕ) → ℕ → ℕ → Type 0
@@ -93,6 +93,6 @@ pub record HoldsOthers (old new : Walkers) (n : ℕ) : Type 0 where
       → LeadsTo new.namespace s
   pub leads : (s : HeldPath) → Holds (new.held_paths n) s → LeadsTo new.namespace s
   pub apart : (m : ℕ) (s : HeldPath) → n ≢ m → Holds (old.held_paths m) s
-      → Between (new.held_paths n) s.path → ⊥
+      → IsBetween (new.held_paths n) s.path → ⊥
   pub aside : (m : ℕ) (s : HeldPath) → n ≢ m → Holds (new.held_paths n) s
-      → Between (old.held_paths m) s.path → ⊥
+      → IsBetween (old.held_paths m) s.path → ⊥

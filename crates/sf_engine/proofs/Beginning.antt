@@ -63,7 +63,7 @@ later front e n s m q b = record {
   parts = ap (λ (xs : List TraceEntry). xs ++ e ∷ []) b.parts ∙ append_assoc b.front (begins_at s m ∷ b.back) (e ∷ []);
   world = b.world;
   tells = b.tells;
-  told = b.told;
+  known = b.known;
   id = b.id;
   is_session = b.is_session;
   began = b.began;
@@ -79,9 +79,9 @@ record HaveBegun (front : List TraceEntry) (w : World) : Type 0 where
 
 -- a call that is under way in a world
 pub record IsCallIn (w : World) (c : CallTold) : Type 0 where
-  pub told : SessionState
-  pub is_session : IsSession w c.session told
-  pub under_way : IsCallUnderWay told.phase c.number c.moment c.request
+  pub known : SessionState
+  pub is_session : IsSession w c.session known
+  pub under_way : IsCallUnderWay known.phase c.number c.moment c.request
 
 abbrev BeganIn : List TraceEntry → CallTold → Type 0
 BeganIn front c = Began front c.number c.session c.moment c.request
@@ -89,7 +89,7 @@ BeganIn front c = Began front c.number c.session c.moment c.request
 of_session : (front : List TraceEntry) (w : World) → HaveBegun front w → (c : CallTold) → IsCallIn w c → BeganIn front c
 of_session front w h c is =
     let num : c.session - 1 + 1 ≡ c.session = omega (arith, is.is_session.0) in
-    subst (λ (k : ℕ). Began front c.number k c.moment c.request) num (h.each (c.session - 1) is.told is.is_session.1 c.number c.moment c.request is.under_way)
+    subst (λ (k : ℕ). Began front c.number k c.moment c.request) num (h.each (c.session - 1) is.known is.is_session.1 c.number c.moment c.request is.under_way)
 
 -- ---- the records that an entry adds
 
@@ -107,7 +107,7 @@ decided_began front w added h d c given among = elim d.decides [
   | inr now ↦ elim (among_either (record_of c given) now.helped (record_of d.call d.reply ∷ []) (subst (λ (xs : List Record). IsAmong (record_of c given) xs) now.records among)) [
     | inl a ↦
         let o = among_all (IsHelpedRecord w d.call.session) (record_of c given) now.helped now.of_others a in
-        of_session front w h c (record { told = o.told; is_session = o.is_session; under_way = o.under_way })
+        of_session front w h c (record { known = o.known; is_session = o.is_session; under_way = o.under_way })
     | inr b ↦
         let is : record_of d.call d.reply ≡ record_of c given = among_one (record_of c given) (record_of d.call d.reply) b in
         let number : d.call.number ≡ c.number = cc in
@@ -144,11 +144,11 @@ module _ (c : CallTold) (given : Reply) where
   close_began (Decided id n r reply) z added e a = among_none (record_of c given) added e a
   close_began (Gone cause) z added e a = among_none (record_of c given) added e a
 
-  step_began : (front : List TraceEntry) (x : Turn) (k : Walking) (r : Happened) → HaveBegun front x.world → IsSession x.world x.session (with_phase x.told (under_way_as k)) → StepLeads (turn_in x (under_way_as k)) k r
+  step_began : (front : List TraceEntry) (x : Turn) (k : Walking) (r : Happened) → HaveBegun front x.world → IsSession x.world x.session (with_phase x.known (under_way_as k)) → StepLeads (turn_in x (under_way_as k)) k r
       → IsAmong (record_of c given) x.added → BeganIn front c
   step_began front x k happened.Moved h session g a =
       let own : CallTold = record { number = k.number; session = x.session; moment = k.moment; request = k.request } in
-      let is_in : IsCallIn x.world own = record { told = with_phase x.told (under_way_as k); is_session = session; under_way = (refl, refl, refl) } in
+      let is_in : IsCallIn x.world own = record { known = with_phase x.known (under_way_as k); is_session = session; under_way = (refl, refl, refl) } in
       elim g.1 [
         | inl none ↦ absurd (among_none (record_of c given) x.added none.0 a)
         | inr writes ↦ decided_began front x.world x.added h (record { call = own; is_in = is_in; reply = writes.2.0; moves = 0; decides = inr writes.2.1 }) c given a
@@ -156,7 +156,7 @@ module _ (c : CallTold) (given : Reply) where
   step_began front x k (happened.Blocked holder) h session g a = absurd (among_none (record_of c given) x.added g.1 a)
   step_began front x k happened.Decided h session g a =
       let own : CallTold = record { number = k.number; session = x.session; moment = k.moment; request = k.request } in
-      let is_in : IsCallIn x.world own = record { told = with_phase x.told (under_way_as k); is_session = session; under_way = (refl, refl, refl) } in
+      let is_in : IsCallIn x.world own = record { known = with_phase x.known (under_way_as k); is_session = session; under_way = (refl, refl, refl) } in
       decided_began front x.world x.added h (record { call = own; is_in = is_in; reply = g.0; moves = k.moves; decides = g.1 }) c given a
   step_began front x k (happened.Opened n) h session g a = absurd g
   step_began front x k happened.Fed h session g a = absurd g
@@ -167,16 +167,16 @@ module _ (c : CallTold) (given : Reply) where
   step_began front x k happened.Closed h session g a = absurd g
   step_began front x k happened.Sent h session g a = absurd g
 
-  turn_began : (front : List TraceEntry) (x : Turn) (m : ℕ) (f : Phase) (r : Happened) → HaveBegun front x.world → IsSession x.world x.session (with_phase x.told f) → TurnLeads m (turn_in x f) f r → IsAmong (record_of c given) x.added → BeganIn front c
+  turn_began : (front : List TraceEntry) (x : Turn) (m : ℕ) (f : Phase) (r : Happened) → HaveBegun front x.world → IsSession x.world x.session (with_phase x.known f) → TurnLeads m (turn_in x f) f r → IsAmong (record_of c given) x.added → BeganIn front c
   turn_began front x m Resting r h session g a = absurd (rest_began m r (turn_in x Resting) g a)
   turn_began front x m (UnderWay id n k q moves) r h session g a = step_began front x (walking id n k q moves) r h session g a
-  turn_began front x m (Decided id n q reply) r h session g a = absurd (leaving_began x.told.closed x.session x.added g.1 a)
+  turn_began front x m (Decided id n q reply) r h session g a = absurd (leaving_began x.known.closed x.session x.added g.1 a)
   turn_began front x m (Gone cause) r h session g a = absurd (among_none (record_of c given) x.added g.1 a)
 
   happens_began : (front : List TraceEntry) (w w' : World) (ev : Event) (r : Happened) (added : List Record) → HaveBegun front w → Happens w ev r added w' → IsAmong (record_of c given) added → BeganIn front c
   happens_began front w w' event.Open r added h g a = absurd (among_none (record_of c given) added g.2 a)
   happens_began front w w' (event.Feed z bytes) r added h g a = absurd (among_none (record_of c given) added g.1 a)
-  happens_began front w w' (event.Turn z k) r added h g a = turn_began front (record { world = w; session = z; told = g.0; added = added; now = g.1 }) k g.0.phase r h g.2 g.3 a
+  happens_began front w w' (event.Turn z k) r added h g a = turn_began front (record { world = w; session = z; known = g.0; added = added; now = g.1 }) k g.0.phase r h g.2 g.3 a
   happens_began front w w' (event.Close z) r added h g a = absurd (close_began g.1.0.phase z added g.1.2 a)
   happens_began front w w' (event.Sent z n) r added h g a = absurd (among_none (record_of c given) added g.1 a)
 
@@ -205,7 +205,7 @@ module _ (n k : ℕ) (q : Request) where
   same_under : (t t' : SessionState) → t' ≡ t → IsCallUnderWay t'.phase n k q → IsCallUnderWay t.phase n k q
   same_under t t' e under = subst (λ (z : SessionState). IsCallUnderWay z.phase n k q) e under
 
-  rest_goes : (w : World) (s m : ℕ) (t t' : SessionState) (r : Happened) (added : List Record) → RestLeads m (record { world = w; session = s; told = t; added = added; now = t' }) r → t.phase ≡ Resting → IsCallUnderWay t'.phase n k q → BeginsNow m r added t'.phase n k q
+  rest_goes : (w : World) (s m : ℕ) (t t' : SessionState) (r : Happened) (added : List Record) → RestLeads m (record { world = w; session = s; known = t; added = added; now = t' }) r → t.phase ≡ Resting → IsCallUnderWay t'.phase n k q → BeginsNow m r added t'.phase n k q
   rest_goes w s m t t' happened.Idle added g e under = absurd (subst (λ (z : Phase). IsCallUnderWay z n k q) e (same_under t t' g.2 under))
   rest_goes w s m t t' happened.Wrote added g e under = absurd (subst (λ (z : SessionState). IsCallUnderWay z.phase n k q) g.0.now under)
   rest_goes w s m t t' happened.Begun added g e under =
@@ -225,7 +225,7 @@ module _ (n k : ℕ) (q : Request) where
   left_idle true t e under = under
   left_idle false t e under = subst (λ (z : Type 0). z) e under
 
-  turn_goes : (w : World) (s m : ℕ) (t t' : SessionState) (f : Phase) (r : Happened) (added : List Record) → TurnLeads m (record { world = w; session = s; told = t; added = added; now = t' }) f r → t.phase ≡ f → IsCallUnderWay t'.phase n k q
+  turn_goes : (w : World) (s m : ℕ) (t t' : SessionState) (f : Phase) (r : Happened) (added : List Record) → TurnLeads m (record { world = w; session = s; known = t; added = added; now = t' }) f r → t.phase ≡ f → IsCallUnderWay t'.phase n k q
       → IsCallUnderWay f n k q ⊎ BeginsNow m r added t'.phase n k q
   turn_goes w s m t t' Resting r added g e under = inr (rest_goes w s m t t' r added g e under)
   turn_goes w s m t t' (UnderWay id c o p moves) happened.Moved added g e under = inl (subst (λ (z : SessionState). IsCallUnderWay z.phase n k q) g.2 under)
@@ -264,7 +264,7 @@ module _ (front : List TraceEntry) (w : World) (h : HaveBegun front w) where
 
   -- a session that goes on as it was
   goes_later : (e : TraceEntry) (s : ℕ) (t : SessionState) → IsSession w s t → (n k : ℕ) (q : Request) → IsCallUnderWay t.phase n k q → Began (front ++ e ∷ []) n s k q
-  goes_later e s t session n k q under = later front e n s k q (of_session front w h (record { number = n; session = s; moment = k; request = q }) (record { told = t; is_session = session; under_way = under }))
+  goes_later e s t session n k q under = later front e n s k q (of_session front w h (record { number = n; session = s; moment = k; request = q }) (record { known = t; is_session = session; under_way = under }))
 
   begins_there : (s m : ℕ) (t t' : SessionState) (r : Happened) (added : List Record) (w' : World) → ReachesWorld front w → IsSession w s t → w' ≡ with_state w s t' added (calls_begun r) → Leads w (trace_entry (event.Turn s m) (Ok r) added) w'
       → (n k : ℕ) (q : Request) → BeginsNow m r added t'.phase n k q → Began (front ++ trace_entry (event.Turn s m) (Ok r) added ∷ []) n s k q
@@ -279,7 +279,7 @@ module _ (front : List TraceEntry) (w : World) (h : HaveBegun front w) where
         parts = ap (λ (z : TraceEntry). front ++ z ∷ []) same;
         world = w';
         tells = subst (λ (z : TraceEntry). ReachesWorld (front ++ z ∷ []) w') same (Runs-push start w w' front e tells leads);
-        told = t';
+        known = t';
         id = b.3.0;
         is_session = (session.0, ap (λ (z : World). slice_get z.sessions (s - 1)) is ∙ get_set_same w.sessions (s - 1) t t' session.1);
         began = b.3.1;

@@ -18,7 +18,7 @@ use Rattle.sf_engine.specs.declared.event.Happened.{Happened}
 use Rattle.sf_engine.specs.declared.event.Happened.TheVariants as happened
 use Rattle.sf_engine.specs.declared.event.EngineFault.{EngineFault}
 use Rattle.sf_engine.specs.Worlds.{TraceEntry, World, start, with_state}
-use Rattle.sf_session.specs.Responses.{Response, Version, Locally, ByCall, Refused, if_so, RepliedCall, recorded_by, recorded_in, answered_by, answered_in, Due, Nothing, Unrecorded, Recorded, recorded_due}
+use Rattle.sf_session.specs.Responses.{Response, Version, Locally, ByCall, Refused, if_so, RepliedCall, recorded_by, recorded_in, answered_by, answered_in, Due, NothingDue, Unrecorded, Recorded, recorded_due}
 use Rattle.sf_session.specs.SessionStates.{Phase, Resting, UnderWay, Decided, Gone, SessionState, new_state, left_if_closed, with_answer, closed_now, fed, sent_more}
 use Rattle.sf_engine.specs.Traces.{Turn, Walking, walking, IsSession, IsCallUnderWay, IsHelpedRecord, IsAtOnce, DecidesCall, CarriesOut, RestLeads, StepLeads, TurnLeads, Happens, LeadsBy, Leads, Runs, ReachesWorld, order, calls_begun, leaving, left_by_close}
 use Rattle.sf_engine.specs.Promised.{replied, IsAbove, HasCalls, HaveCalls, CallsIn}
@@ -178,14 +178,14 @@ module _ (w : World) where
     each = λ i t at. elim (cases_eq (i + 1) c.session) [
       | inl e ↦
           let index : i ≡ c.session - 1 = omega (arith, e) in
-          let same : is.told ≡ t = let a : slice_get w.sessions (c.session - 1) ≡ Some t = ap (λ (j : ℕ). slice_get w.sessions j) (sym index) ∙ at in let b = is.is_session.1 in cc in
+          let same : is.known ≡ t = let a : slice_get w.sessions (c.session - 1) ≡ Some t = ap (λ (j : ℕ). slice_get w.sessions j) (sym index) ∙ at in let b = is.is_session.1 in cc in
           let under = subst (λ (z : SessionState). IsCallUnderWay z.phase c.number c.moment c.request) same is.under_way in
           let old = subst (λ (s : ℕ). HasCalls w.begun h s t.answers t.phase) e (x.each i t at) in
           subst (λ (s : ℕ). HasCalls w.begun (h ++ record_of c given ∷ []) s t.answers t.phase) (sym e) (pushed_own w.begun h c given t.answers t.phase (number_is_new h c given legal) under old)
       | inr ne ↦ not_own w.begun (i + 1) h (record_of c given) t.answers t.phase (others_record (i + 1) c given (λ k. ne (sym k))) (x.each i t at)
     ];
     nobody = λ s out.
-        let within : c.session - 1 < length w.sessions = slice_get_within w.sessions (c.session - 1) is.told is.is_session.1 in
+        let within : c.session - 1 < length w.sessions = slice_get_within w.sessions (c.session - 1) is.known is.is_session.1 in
         let ne : c.session ≢ s = λ k. absurd (omega (arith, k, out, within, is.is_session.0)) in
         none_more s h (record_of c given) (others_record s c given ne) (x.nobody s out);
   }
@@ -205,7 +205,7 @@ module _ (w : World) where
       let c : CallTold = record { number = n; session = z; moment = m; request = q } in
       let o = all.0 in
       let legal' : IsLegal ((h ++ record_of c given ∷ []) ++ helped) = subst IsLegal (sym (append_assoc h (record_of c given ∷ []) helped)) legal in
-      let first = push_call h c given (record { told = o.told; is_session = o.is_session; under_way = o.under_way }) (legal_front (h ++ record_of c given ∷ []) helped legal') x in
+      let first = push_call h c given (record { known = o.known; is_session = o.is_session; under_way = o.under_way }) (legal_front (h ++ record_of c given ∷ []) helped legal') x in
       subst (λ (xs : List Record). HaveCalls w.sessions w.begun xs) (append_assoc h (record_of c given ∷ []) helped) (push_helped s (h ++ record_of c given ∷ []) helped all.1 legal' first)
 
   -- a call is carried out
@@ -229,7 +229,7 @@ module _ (w : World) where
   decided_calls c moves given added is (inl g) legal x = nothing_more added g.0 x
   decided_calls c moves given added is (inr g) legal x = push_carried c moves given added is g legal x
 
-  rest_added : (s m : ℕ) (t t' : SessionState) (r : Happened) (added : List Record) → RestLeads m (record { world = w; session = s; told = t; added = added; now = t' }) r → CallsIn w → HaveCalls w.sessions w.begun (w.records ++ added)
+  rest_added : (s m : ℕ) (t t' : SessionState) (r : Happened) (added : List Record) → RestLeads m (record { world = w; session = s; known = t; added = added; now = t' }) r → CallsIn w → HaveCalls w.sessions w.begun (w.records ++ added)
   rest_added s m t t' happened.Idle added g x = nothing_more added g.1 x
   rest_added s m t t' happened.Wrote added g x = nothing_more added g.1 x
   rest_added s m t t' happened.Begun added g x = nothing_more added g.1 x
@@ -242,10 +242,10 @@ module _ (w : World) where
   rest_added s m t t' happened.Closed added g x = absurd g
   rest_added s m t t' happened.Sent added g x = absurd g
 
-  step_added : (x : Turn) (k : Walking) (r : Happened) → x.world ≡ w → IsSession w x.session (record x.told { phase = under_way_as k }) → StepLeads (record x { world = w }) k r → IsLegal (w.records ++ x.added) → CallsIn w → HaveCalls w.sessions w.begun (w.records ++ x.added)
+  step_added : (x : Turn) (k : Walking) (r : Happened) → x.world ≡ w → IsSession w x.session (record x.known { phase = under_way_as k }) → StepLeads (record x { world = w }) k r → IsLegal (w.records ++ x.added) → CallsIn w → HaveCalls w.sessions w.begun (w.records ++ x.added)
   step_added x k happened.Moved is session g legal y =
       let own : CallTold = record { number = k.number; session = x.session; moment = k.moment; request = k.request } in
-      let is_in : IsCallIn w own = record { told = record x.told { phase = under_way_as k }; is_session = session; under_way = (refl, refl, refl) } in
+      let is_in : IsCallIn w own = record { known = record x.known { phase = under_way_as k }; is_session = session; under_way = (refl, refl, refl) } in
       elim g.1 [
         | inl none ↦ nothing_more x.added none.0 y
         | inr writes ↦ push_carried own 0 writes.2.0 x.added is_in writes.2.1 legal y
@@ -253,7 +253,7 @@ module _ (w : World) where
   step_added x k (happened.Blocked holder) is session g legal y = nothing_more x.added g.1 y
   step_added x k happened.Decided is session g legal y =
       let own : CallTold = record { number = k.number; session = x.session; moment = k.moment; request = k.request } in
-      let is_in : IsCallIn w own = record { told = record x.told { phase = under_way_as k }; is_session = session; under_way = (refl, refl, refl) } in
+      let is_in : IsCallIn w own = record { known = record x.known { phase = under_way_as k }; is_session = session; under_way = (refl, refl, refl) } in
       decided_calls own k.moves g.0 x.added is_in g.1 legal y
   step_added x k (happened.Opened n) is session g legal y = absurd g
   step_added x k happened.Fed is session g legal y = absurd g
@@ -268,10 +268,10 @@ module _ (w : World) where
   left_added true s added e x = one_left added s e x
   left_added false s added e x = nothing_more added e x
 
-  turn_added : (s m : ℕ) (t t' : SessionState) (f : Phase) (r : Happened) (added : List Record) → IsSession w s (record t { phase = f }) → TurnLeads m (record { world = w; session = s; told = record t { phase = f }; added = added; now = t' }) f r → IsLegal (w.records ++ added) → CallsIn w → HaveCalls w.sessions w.begun (w.records ++ added)
+  turn_added : (s m : ℕ) (t t' : SessionState) (f : Phase) (r : Happened) (added : List Record) → IsSession w s (record t { phase = f }) → TurnLeads m (record { world = w; session = s; known = record t { phase = f }; added = added; now = t' }) f r → IsLegal (w.records ++ added) → CallsIn w → HaveCalls w.sessions w.begun (w.records ++ added)
   turn_added s m t t' Resting r added session g legal x = rest_added s m (record t { phase = Resting }) t' r added g x
   turn_added s m t t' (UnderWay id n k q moves) r added session g legal x =
-      step_added (record { world = w; session = s; told = record t { phase = UnderWay id n k q moves }; added = added; now = t' }) (walking id n k q moves) r refl session g legal x
+      step_added (record { world = w; session = s; known = record t { phase = UnderWay id n k q moves }; added = added; now = t' }) (walking id n k q moves) r refl session g legal x
   turn_added s m t t' (Decided id n q given) r added session g legal x = left_added t.closed s added g.1 x
   turn_added s m t t' (Gone cause) r added session g legal x = nothing_more added g.1 x
 
@@ -352,7 +352,7 @@ answered_calls begun s id n q given h answers x =
     let below' : AllByRecursion (λ (c : RepliedCall). c.number < begun + 1) (answered_in answers) =
     all_map (λ (c : RepliedCall). c.number < x.top) (λ c. c.number < begun + 1) (answered_in answers) (λ c k. omega (arith, k, x.above.0, x.above.1)) x.below in
     record {
-      due = Nothing;
+      due = NothingDue;
       is_due = refl;
       calls = x.calls ∙ ap (λ (d : Due). answered_in answers ++ recorded_due d) x.is_due ∙ sym same ∙ sym (append-nil (answered_in (answers ++ ByCall id n q given ∷ [])));
       top = begun + 1;
@@ -372,7 +372,7 @@ left_calls begun s h true t rests x = gone_calls begun s Closed h t.answers x
 left_calls begun s h false t rests x = subst (λ (f : Phase). HasCalls begun h s t.answers f) (sym rests) x
 
 module _ (w : World) (s : ℕ) (h : List Record) where
-  rest_calls : (m : ℕ) (t t' : SessionState) (r : Happened) (added : List Record) → RestLeads m (record { world = w; session = s; told = record t { phase = Resting }; added = added; now = t' }) r → HasCalls w.begun h s t.answers Resting → HasCalls (w.begun + calls_begun r) h s t'.answers t'.phase
+  rest_calls : (m : ℕ) (t t' : SessionState) (r : Happened) (added : List Record) → RestLeads m (record { world = w; session = s; known = record t { phase = Resting }; added = added; now = t' }) r → HasCalls w.begun h s t.answers Resting → HasCalls (w.begun + calls_begun r) h s t'.answers t'.phase
   rest_calls m t t' happened.Idle added g x = subst (λ (z : SessionState). HasCalls (w.begun + 0) h s z.answers z.phase) (sym g.2) (more_begun w.begun 0 s h t.answers Resting x)
   rest_calls m t t' happened.Wrote added g x =
       subst (λ (z : SessionState). HasCalls (w.begun + 0) h s z.answers z.phase) (sym g.0.now)
@@ -389,7 +389,7 @@ module _ (w : World) (s : ℕ) (h : List Record) where
   rest_calls m t t' happened.Closed added g x = absurd g
   rest_calls m t t' happened.Sent added g x = absurd g
 
-  step_calls : (t t' : SessionState) (k : Walking) (r : Happened) (added : List Record) → h ≡ w.records ++ added → StepLeads (record { world = w; session = s; told = record t { phase = under_way_as k }; added = added; now = t' }) k r → HasCalls w.begun h s t.answers (under_way_as k)
+  step_calls : (t t' : SessionState) (k : Walking) (r : Happened) (added : List Record) → h ≡ w.records ++ added → StepLeads (record { world = w; session = s; known = record t { phase = under_way_as k }; added = added; now = t' }) k r → HasCalls w.begun h s t.answers (under_way_as k)
       → HasCalls (w.begun + calls_begun r) h s t'.answers t'.phase
   step_calls t t' k happened.Moved added is g x =
       subst (λ (z : SessionState). HasCalls (w.begun + 0) h s z.answers z.phase) (sym g.2)
@@ -409,7 +409,7 @@ module _ (w : World) (s : ℕ) (h : List Record) where
   step_calls t t' k happened.Closed added is g x = absurd g
   step_calls t t' k happened.Sent added is g x = absurd g
 
-  turn_calls : (m : ℕ) (t t' : SessionState) (f : Phase) (r : Happened) (added : List Record) → h ≡ w.records ++ added → TurnLeads m (record { world = w; session = s; told = record t { phase = f }; added = added; now = t' }) f r → HasCalls w.begun h s t.answers f
+  turn_calls : (m : ℕ) (t t' : SessionState) (f : Phase) (r : Happened) (added : List Record) → h ≡ w.records ++ added → TurnLeads m (record { world = w; session = s; known = record t { phase = f }; added = added; now = t' }) f r → HasCalls w.begun h s t.answers f
       → HasCalls (w.begun + calls_begun r) h s t'.answers t'.phase
   turn_calls m t t' Resting r added is g x = rest_calls m t t' r added g x
   turn_calls m t t' (UnderWay id n k q moves) r added is g x = step_calls t t' (walking id n k q moves) r added is g x
@@ -456,7 +456,7 @@ happens_calls w w' event.Open r added legal x g = subst CallsIn (sym g.3) (recor
   each = λ i t at. elim (new_at w.sessions i new_state t at) [
     | inl old ↦ x.each i t old
     | inr new ↦ subst (λ (z : SessionState). HasCalls w.begun w.records (i + 1) z.answers z.phase) new.1
-        (record { due = Nothing; is_due = refl; calls = x.nobody (i + 1) (omega (arith, new.0)); top = 0; above = omega arith; below = tt })
+        (record { due = NothingDue; is_due = refl; calls = x.nobody (i + 1) (omega (arith, new.0)); top = 0; above = omega arith; below = tt })
   ];
   nobody = λ s out. x.nobody s (omega (arith, out, length-append w.sessions (new_state ∷ [])));
 })

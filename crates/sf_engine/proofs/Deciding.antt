@@ -12,7 +12,7 @@ use Rattle.sf_walk.specs.Steps.{AdvancesOne}
 use Rattle.sf_walk.specs.Steps.AdvancesOne.{TakesRoot, PartsAtRoot, GoesOn, Parts, OldGoesOn, NewGoesOn}
 use Rattle.sf_walk.specs.Steps.GoesFrom.{OnOne, Together, OldEnd, NewEnd}
 use Rattle.sf_core.specs.Progress.{MayDecideBy}
-use Rattle.sf_core.specs.Progress.MayDecideBy.{AtOnce, AtRoot, AtEnd}
+use Rattle.sf_walk.specs.Steps.MayDecideWhere.{AtOnce, AtRoot, AtEnd}
 use Rattle.sf_core.specs.Events.{Before, After, Decides}
 use Rattle.sf_engine.specs.Deciding.{StopsOnWay, WalkStops, AreSure}
 use Rattle.sf_engine.specs.Fits.{HasMoved}

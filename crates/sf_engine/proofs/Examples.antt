@@ -2,7 +2,7 @@
 use Rattle.std.proofs.Common.{◌≡◌, ℕ, ◌<◌, List, [], ◌∷◌, ◌++◌, true, false, refl, ap, sym, arith, inl, inr, Vec, Global}
 use Rattle.std.specs.Ordering.{nat_cmp}
 use Rattle.std.specs.List.Sorted.{IsStrictlySortedBy}
-use Rattle.sf_request.specs.declared.request.Asked.TheVariants.{Init, Request as Requested}
+use Rattle.sf_request.specs.declared.request.Asked.TheVariants.{Init, Request}
 use Rattle.sf_request.specs.declared.request.WireRequest.TheVariants as wire
 use Rattle.sf_request.proofs.Laws.{sent_asks, init_asks}
 use Rattle.sf_request.specs.Requests.{request_body, init_body}
@@ -88,10 +88,10 @@ sure_found = (λ e k. cc, tt)
 
 module _ (first second : Vec ℕ Global) (one : first.items ≡ init_packet ++ mkdir_packet) (other : second.items ≡ init_packet ++ stat_packet) where
   mkdir_asks : AsksFor true mkdir_body (ask.Call 7 mkdir)
-  mkdir_asks = (Requested 7 (wire.Mkdir (47 ∷ 97 ∷ []) no_attrs), sent_asks 7 (wire.Mkdir (47 ∷ 97 ∷ []) no_attrs) (omega arith) (omega arith, record { size = tt; owner = tt; permissions = tt; times = tt }), refl)
+  mkdir_asks = (Request 7 (wire.Mkdir (47 ∷ 97 ∷ []) no_attrs), sent_asks 7 (wire.Mkdir (47 ∷ 97 ∷ []) no_attrs) (omega arith) (omega arith, record { size = tt; owner = tt; permissions = tt; times = tt }), refl)
 
   stat_asks : AsksFor true stat_body (ask.Call 8 stat_a)
-  stat_asks = (Requested 8 (wire.Stat (47 ∷ 97 ∷ [])), sent_asks 8 (wire.Stat (47 ∷ 97 ∷ [])) (omega arith) (omega arith), refl)
+  stat_asks = (Request 8 (wire.Stat (47 ∷ 97 ∷ [])), sent_asks 8 (wire.Stat (47 ∷ 97 ∷ [])) (omega arith) (omega arith), refl)
 
   version_asks : AsksFor false init_body ask.Version
   version_asks = (Init 3, init_asks, refl)
@@ -143,7 +143,7 @@ module _ (first second : Vec ℕ Global) (one : first.items ≡ init_packet ++ m
   }
 
   holds : IsOthersCall (two (with_phase t2 (UnderWay 7 1 100 mkdir 1)) u2 [] 2) 2 (other_call 1 1 100 mkdir)
-  holds = record { other = λ e. absurd (omega (arith, e)); told = with_phase t2 (UnderWay 7 1 100 mkdir 1); is_session = (omega arith, refl); under_way = (refl, refl, refl) }
+  holds = record { other = λ e. absurd (omega (arith, e)); known = with_phase t2 (UnderWay 7 1 100 mkdir 1); is_session = (omega arith, refl); under_way = (refl, refl, refl) }
 
   makes : CarriesOut (two (with_phase t2 (UnderWay 7 1 100 mkdir 1)) u2 [] 2) 1 1 made (made ∷ [])
   makes = record { stopped = inl refl; helped = []; of_others = tt; rising = none_rise; records = refl; sure = sure_made }

@@ -88,8 +88,8 @@ any_feed_steps s bytes (Ok r) gives w agrees =
     let t = told_of s w [] agrees in
     let h = t.1.hosted in
     let ok = gives.ok in
-    let told = fed t.0 bytes.items in
-    let now : HostedAgrees v n told s.now = subst (λ (z : HostedSession). HostedAgrees v n told z) (sym ok.now) (record {
+    let known = fed t.0 bytes.items in
+    let now : HostedAgrees v n known s.now = subst (λ (z : HostedSession). HostedAgrees v n known z) (sym ok.now) (record {
       unread = ap (λ (b : List ℕ). b ++ bytes.items) h.unread;
       output = h.output;
       begun = h.begun;
@@ -98,10 +98,10 @@ any_feed_steps s bytes (Ok r) gives w agrees =
     }) in
     by_number s (λ k. event.Feed k bytes) (Ok r) w (record {
       added = [];
-      after = with_state w n told [] 0;
+      after = with_state w n known [] 0;
       leads = (ok.fed, refl, (t.0, t.1.session, (sym h.closed ∙ ok.unclosed, here_if v n x t.0.phase s.was.place h.at ok.unended), refl));
       records = refl;
-      agrees = still_agrees s w t.0 told t.1 gives.core refl now;
+      agrees = still_agrees s w t.0 known t.1 gives.core refl now;
       step = tt;
       work = ap (λ (z : CoreView). z.look_ups) gives.core;
     })

@@ -65,17 +65,17 @@ record_of c given = Did c.number c.session c.moment c.request given
 -- session, and the records that it added.
 pub record HostedEvent : Type 0 where
   pub world : World
-  pub told : SessionState
+  pub known : SessionState
   pub change : HostedChange
   pub added : List Record
 
 -- the same of a session that is so far
 abbrev pub in_phase : HostedEvent → Phase → HostedEvent
-in_phase e f = record e { told = with_phase e.told f }
+in_phase e f = record e { known = with_phase e.known f }
 
 -- a turn of a session that is so far
 abbrev pub turn_in : Turn → Phase → Turn
-turn_in x f = record x { told = with_phase x.told f }
+turn_in x f = record x { known = with_phase x.known f }
 
 -- a session whose call is under way as is told
 abbrev pub under_way_as : Walking → Phase
@@ -86,7 +86,7 @@ abbrev pub turn_to : HostedEvent → SessionState → Turn
 turn_to e now = record {
   world = e.world;
   session = number e.change;
-  told = e.told;
+  known = e.known;
   added = e.added;
   now = now;
 }
@@ -94,9 +94,9 @@ turn_to e now = record {
 -- before the event the engine agreed with the world, and the session with what is told of it
 pub record IsTold (e : HostedEvent) : Type 0 where
   pub agrees : Agrees e.world e.change.old
-  pub told : slice_get e.world.sessions e.change.at ≡ Some e.told
-  pub session : IsSession e.world (number e.change) e.told
-  pub hosted : HostedAgrees e.change.old.core (number e.change) e.told e.change.was
+  pub known : slice_get e.world.sessions e.change.at ≡ Some e.known
+  pub session : IsSession e.world (number e.change) e.known
+  pub hosted : HostedAgrees e.change.old.core (number e.change) e.known e.change.was
 
 -- the core stays, and so does how far the session is and whether it was closed
 pub record IsUnmoved (s : HostedChange) : Type 0 where

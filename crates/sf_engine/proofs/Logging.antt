@@ -408,22 +408,22 @@ record TurnGoes (log : List LogEntry) (s m : ℕ) (t : SessionState) (f : Phase)
 module _ (log : List LogEntry) (w : World) (h : Stands log w) where
   -- a call under way has its turn
   call_turn : (c : CallTold) → IsCallIn w c → (0 < c.number) × (slice_get (begun_in log) (c.number - 1) ≡ Some (record { session = c.session; moment = c.moment }))
-  call_turn c is = under_turn (begun_in log) c.session is.told.phase c.number c.moment c.request is.under_way (of_session log w h c.session is.told is.is_session).began
+  call_turn c is = under_turn (begun_in log) c.session is.known.phase c.number c.moment c.request is.under_way (of_session log w h c.session is.known is.is_session).began
 
   -- a call in the way
   in_the_way : (s n z k : ℕ) (q : Request) → IsOthersCall w s (other_call n z k q) → IsInTheWay log s n
   in_the_way s n z k q o =
       let c : CallTold = record { number = n; session = z; moment = k; request = q } in
-      let turn = call_turn c (record { told = o.told; is_session = o.is_session; under_way = o.under_way }) in
+      let turn = call_turn c (record { known = o.known; is_session = o.is_session; under_way = o.under_way }) in
       let num : z - 1 + 1 ≡ z = omega (arith, o.is_session.0) in
-      let calls = subst (λ (i : ℕ). HasCalls w.begun w.records i o.told.answers o.told.phase) num (h.calls.each (z - 1) o.told o.is_session.1) in
-      let low = below_call o.told.phase n k q w.begun calls.top o.under_way calls.above in (
+      let calls = subst (λ (i : ℕ). HasCalls w.begun w.records i o.known.answers o.known.phase) num (h.calls.each (z - 1) o.known o.is_session.1) in
+      let low = below_call o.known.phase n k q w.begun calls.top o.under_way calls.above in (
         z,
         k,
         o.other,
         turn,
-        subst (λ (rs : List Response). AllByRecursion (λ (x : RepliedCall). x.number ≢ n) (answered_in rs)) (sym (of_session log w h z o.told o.is_session).wrote)
-            (all_map (λ (x : RepliedCall). x.number < calls.top) (λ x. x.number ≢ n) (answered_in o.told.answers) (λ x lt e. omega (arith, lt, e, low)) calls.below),
+        subst (λ (rs : List Response). AllByRecursion (λ (x : RepliedCall). x.number ≢ n) (answered_in rs)) (sym (of_session log w h z o.known o.is_session).wrote)
+            (all_map (λ (x : RepliedCall). x.number < calls.top) (λ x. x.number ≢ n) (answered_in o.known.answers) (λ x lt e. omega (arith, lt, e, low)) calls.below),
       )
     where
       below_call : (f : Phase) (n m : ℕ) (q : Request) (begun top : ℕ) → IsCallUnderWay f n m q → IsAbove f begun top → top ≤ n
@@ -436,7 +436,7 @@ module _ (log : List LogEntry) (w : World) (h : Stands log w) where
   helped_may s ev result (Left z) o = absurd o
   helped_may s ev result (Did n z m q given) o =
       let c : CallTold = record { number = n; session = z; moment = m; request = q } in
-      call_turn c (record { told = o.told; is_session = o.is_session; under_way = o.under_way })
+      call_turn c (record { known = o.known; is_session = o.is_session; under_way = o.under_way })
 
   carried_may : (ev : Event) (result : Happened) (c : CallTold) (moves : ℕ) (given : Reply) (added : List Record) → IsCallIn w c → CarriesOut w c.session moves (record_of c given) added → AllByRecursion (MayAdd log ev (Ok result)) added
   carried_may ev result c moves given added is carries =
@@ -498,7 +498,7 @@ module _ (log : List LogEntry) (w : World) (h : Stands log w) where
       turn_front more s (Gone cause) x = tt
       turn_front more s (UnderWay id n k q moves) x = (x.0, get_front (begun_in log) more (n - 1) (record { session = s; moment = k }) x.1)
 
-  rest_goes : (s m : ℕ) (t t' : SessionState) (r : Happened) (added : List Record) → IsHere log s → (t.closed ≡ true → ⊥) → RestLeads m (record { world = w; session = s; told = record t { phase = Resting }; added = added; now = t' }) r → TurnGoes log s m t Resting t' r added
+  rest_goes : (s m : ℕ) (t t' : SessionState) (r : Happened) (added : List Record) → IsHere log s → (t.closed ≡ true → ⊥) → RestLeads m (record { world = w; session = s; known = record t { phase = Resting }; added = added; now = t' }) r → TurnGoes log s m t Resting t' r added
   rest_goes s m t t' happened.Idle added here unclosed g =
       stays s m t t' Resting happened.Idle added g.2 tt (λ cause k. absurd cc) refl (λ k. g.0) (λ c k. unclosed c) refl g.1 here refl
   rest_goes s m t t' happened.Wrote added here unclosed g =
@@ -596,10 +596,10 @@ module _ (log : List LogEntry) (w : World) (h : Stands log w) where
       }
 
   step_goes : (s m : ℕ) (t t' : SessionState) (k : Walking) (r : Happened) (added : List Record) → IsHere log s → IsSession w s (record t { phase = under_way_as k }) → HasItsTurn (begun_in log) s (under_way_as k)
-      → StepLeads (record { world = w; session = s; told = record t { phase = under_way_as k }; added = added; now = t' }) k r → TurnGoes log s m t (under_way_as k) t' r added
+      → StepLeads (record { world = w; session = s; known = record t { phase = under_way_as k }; added = added; now = t' }) k r → TurnGoes log s m t (under_way_as k) t' r added
   step_goes s m t t' k happened.Moved added here session turn g =
       let own : CallTold = record { number = k.number; session = s; moment = k.moment; request = k.request } in
-      let is_in : IsCallIn w own = record { told = record t { phase = under_way_as k }; is_session = session; under_way = (refl, refl, refl) } in
+      let is_in : IsCallIn w own = record { known = record t { phase = under_way_as k }; is_session = session; under_way = (refl, refl, refl) } in
       let begun : Beginning = record { session = s; moment = k.moment } in
       steps_on s m t t' (under_way_as k) (UnderWay k.id k.number k.moment k.request (k.moves + 1)) happened.Moved added g.2 (turn.0, get_front (begun_in log) [] (k.number - 1) begun turn.1)
       refl (λ cause e. absurd cc) (λ e. absurd cc) refl (λ l. l) refl (λ e. absurd cc) here
@@ -613,7 +613,7 @@ module _ (log : List LogEntry) (w : World) (h : Stands log w) where
       refl (λ cause e. absurd cc) (λ e. absurd cc) refl (λ l. l) refl (λ e. absurd cc) (here, in_the_way s holder g.0.0 g.0.1 g.0.2 g.0.3) (none_may (MayAdd log (event.Turn s m) (Ok (happened.Blocked holder))) added g.1) refl
   step_goes s m t t' k happened.Decided added here session turn g =
       let own : CallTold = record { number = k.number; session = s; moment = k.moment; request = k.request } in
-      let is_in : IsCallIn w own = record { told = record t { phase = under_way_as k }; is_session = session; under_way = (refl, refl, refl) } in
+      let is_in : IsCallIn w own = record { known = record t { phase = under_way_as k }; is_session = session; under_way = (refl, refl, refl) } in
       steps_on s m t t' (under_way_as k) (Decided k.id k.number k.request g.0) happened.Decided added g.2 tt
       refl (λ cause e. absurd cc) (λ e. absurd cc) refl (λ l. l) (k.id, k.number, k.request, g.0, refl) (λ e. absurd cc) here (decided_may (event.Turn s m) happened.Decided own k.moves g.0 added is_in g.1) refl
   step_goes s m t t' k (happened.Opened n) added here session turn g = absurd g
@@ -672,7 +672,7 @@ module _ (log : List LogEntry) (w : World) (h : Stands log w) where
       }
 
   turn_goes : (s m : ℕ) (t t' : SessionState) (f : Phase) (r : Happened) (added : List Record) → IsSession w s (record t { phase = f }) → IsLogged log s (record t { phase = f }) → IsPhaseRecorded w.records s f
-      → TurnLeads m (record { world = w; session = s; told = record t { phase = f }; added = added; now = t' }) f r → TurnGoes log s m t f t' r added
+      → TurnLeads m (record { world = w; session = s; known = record t { phase = f }; added = added; now = t' }) f r → TurnGoes log s m t f t' r added
   turn_goes s m t t' Resting r added session x recorded g = rest_goes s m t t' r added (is_here_as s (record t { phase = Resting }) session refl) (λ c. x.rests c refl) g
   turn_goes s m t t' (UnderWay id n k q moves) r added session x recorded g = step_goes s m t t' (walking id n k q moves) r added (is_here_as s (record t { phase = UnderWay id n k q moves }) session refl) session x.began g
   turn_goes s m t t' (Decided id n q given) r added session x recorded g =

@@ -16,7 +16,7 @@ use Rattle.sf_engine.specs.declared.event.Event.TheVariants as event
 use Rattle.sf_engine.specs.declared.event.Happened.{Happened}
 use Rattle.sf_engine.specs.declared.event.Happened.TheVariants as happened
 use Rattle.sf_engine.specs.declared.event.EngineFault.{EngineFault}
-use Rattle.sf_session.specs.Responses.{Response, Version, Locally, ByCall, Refused, ask_behind, transcript, AreAsked, if_so, recorded_in, answered_in, Due, Nothing, Unrecorded, Recorded, asked_due}
+use Rattle.sf_session.specs.Responses.{Response, Version, Locally, ByCall, Refused, ask_behind, transcript, AreAsked, if_so, recorded_in, answered_in, Due, NothingDue, Unrecorded, Recorded, asked_due}
 use Rattle.sf_engine.specs.Worlds.{TraceEntry, World}
 use Rattle.sf_session.specs.SessionStates.{SessionState, pending}
 use Rattle.sf_engine.specs.Traces.{IsSession, ReachesWorld, order}
@@ -245,7 +245,7 @@ told_talk trace w s t rest unsent input moments output legal tells own session b
       due = due;
     }
 
-pub none_due : (d : Due) → asked_due d ≡ [] → d ≡ Nothing
-none_due Nothing e = refl
+pub none_due : (d : Due) → asked_due d ≡ [] → d ≡ NothingDue
+none_due NothingDue e = refl
 none_due (Unrecorded id q) e = absurd cc
 none_due (Recorded id c) e = absurd cc

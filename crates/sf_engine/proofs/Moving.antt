@@ -154,41 +154,41 @@ with_at_is w at t added more = let num : at + 1 - 1 ≡ at = omega arith in ap (
 
 -- what an event leaves of its session, and of the core for it
 pub record Turned (e : HostedEvent) (more : ℕ) (leads : SessionState → Type 0) : Type 0 where
-  pub told : SessionState
-  pub lead : leads told
-  pub moves : Moves e.change.old.core e.change.core (number e.change) e.told told more
-  pub agrees : HostedAgrees e.change.core (number e.change) told e.change.now
+  pub known : SessionState
+  pub lead : leads known
+  pub moves : Moves e.change.old.core e.change.core (number e.change) e.known known more
+  pub agrees : HostedAgrees e.change.core (number e.change) known e.change.now
 
 keeps_at : (e : HostedEvent) {more : ℕ} {leads : SessionState → Type 0} → IsTold e → IsHistory e.change.core (e.world.records ++ e.added) → (o : Turned e more leads)
-    → Agrees (with_at e.world e.change.at o.told e.added more) (changed e.change)
+    → Agrees (with_at e.world e.change.at o.known e.added more) (changed e.change)
 keeps_at e {more = more} is history o =
-    let told = e.world.sessions in
+    let known = e.world.sessions in
     let hosted = e.change.old.hosted in
     let at = e.change.at in
-    let t = e.told in
-    let t' = o.told in
+    let t = e.known in
+    let t' = o.known in
     let p = e.change.was in
     let q = e.change.now in
     let core = e.change.core in
-    let within : at < length told = slice_get_within told at t is.told in record {
+    let within : at < length known = slice_get_within known at t is.known in record {
       history = history;
       begun = o.moves.drawn ∙ ap (λ (n : ℕ). n + more) is.agrees.begun;
-      opened = o.moves.joins ∙ is.agrees.opened ∙ sym (length-set told at t');
-      here = omega (arith, o.moves.joined, is.agrees.here, sum_by_write here_in told at t t' is.told);
-      count = length-set hosted at q ∙ is.agrees.count ∙ sym (length-set told at t');
+      opened = o.moves.joins ∙ is.agrees.opened ∙ sym (length-set known at t');
+      here = omega (arith, o.moves.joined, is.agrees.here, sum_by_write here_in known at t t' is.known);
+      count = length-set hosted at q ∙ is.agrees.count ∙ sym (length-set known at t');
       each = λ i u o' hu ho. elim (cases_eq i at) [
         | inl same ↦
-            let hu' : slice_get (slice_set told at t') at ≡ Some u = ap (λ (n : ℕ). slice_get (slice_set told at t') n) (sym same) ∙ hu in
+            let hu' : slice_get (slice_set known at t') at ≡ Some u = ap (λ (n : ℕ). slice_get (slice_set known at t') n) (sym same) ∙ hu in
             let ho' : slice_get (slice_set hosted at q) at ≡ Some o' = ap (λ (n : ℕ). slice_get (slice_set hosted at q) n) (sym same) ∙ ho in
-            let tu : t' ≡ u = let k : slice_get (slice_set told at t') at ≡ Some t' = get_set_same told at t t' is.told in cc in
+            let tu : t' ≡ u = let k : slice_get (slice_set known at t') at ≡ Some t' = get_set_same known at t t' is.known in cc in
             let qo : q ≡ o' = let k : slice_get (slice_set hosted at q) at ≡ Some q = get_set_same hosted at p q e.change.stood in cc in
             subst (λ (n : ℕ). HostedAgrees core (n + 1) u o') (sym same) (subst (λ (z : SessionState). HostedAgrees core (at + 1) z o') tu (subst (λ (z : HostedSession). HostedAgrees core (at + 1) t' z) qo o.agrees))
         | inr ne ↦
             hosted_stays e.change.old.core core (i + 1) u o' (o.moves.others (i + 1) (λ k. ne (omega (arith, k))))
-            (is.agrees.each i u o' (sym (get_set_other told at i t' ne) ∙ hu) (sym (get_set_other hosted at i q ne) ∙ ho))
+            (is.agrees.each i u o' (sym (get_set_other known at i t' ne) ∙ hu) (sym (get_set_other hosted at i q ne) ∙ ho))
       ];
       nobody = λ s out.
-          let out' : (s ≡ 0) ⊎ (length told < s) = elim out [ inl z ↦ inl z | inr lt ↦ inr (omega (arith, lt, length-set told at t')) ] in
+          let out' : (s ≡ 0) ⊎ (length known < s) = elim out [ inl z ↦ inl z | inr lt ↦ inr (omega (arith, lt, length-set known at t')) ] in
           let apart : s ≢ at + 1 = λ k. elim out' [ inl z ↦ absurd (omega (arith, k, z)) | inr lt ↦ absurd (omega (arith, k, lt, within)) ] in
           elim (o.moves.others s apart) [
             | inl same ↦ same ∙ is.agrees.nobody s out'
@@ -197,23 +197,23 @@ keeps_at e {more = more} is history o =
     }
 
 pub keeps_agrees : (e : HostedEvent) {more : ℕ} {leads : SessionState → Type 0} → IsTold e → IsHistory e.change.core (e.world.records ++ e.added) → (o : Turned e more leads)
-    → Agrees (with_state e.world (number e.change) o.told e.added more) (changed e.change)
+    → Agrees (with_state e.world (number e.change) o.known e.added more) (changed e.change)
 keeps_agrees e {more = more} is history o =
     let P : World → Type 0 = λ z. Agrees z (changed e.change) in
-    subst P (sym (with_at_is e.world e.change.at o.told e.added more)) (keeps_at e is history o)
+    subst P (sym (with_at_is e.world e.change.at o.known e.added more)) (keeps_at e is history o)
 
 -- an event that leaves the core and adds no record, after which this is told
-pub still_agrees : (s : HostedChange) (w : World) (t told : SessionState) → IsTold (record { world = w; told = t; change = s; added = [] }) → s.core ≡ s.old.core → here_in t ≡ here_in told
-    → HostedAgrees s.old.core (number s) told s.now → Agrees (with_state w (number s) told [] 0) (changed s)
-still_agrees s w t told is same here now =
-    let e : HostedEvent = record { world = w; told = t; change = s; added = [] } in
+pub still_agrees : (s : HostedChange) (w : World) (t known : SessionState) → IsTold (record { world = w; known = t; change = s; added = [] }) → s.core ≡ s.old.core → here_in t ≡ here_in known
+    → HostedAgrees s.old.core (number s) known s.now → Agrees (with_state w (number s) known [] 0) (changed s)
+still_agrees s w t known is same here now =
+    let e : HostedEvent = record { world = w; known = t; change = s; added = [] } in
     let v = s.old.core in
     let P : List Record → Type 0 = λ h. IsHistory s.core h in
     let history = subst P (sym (append-nil w.records)) (subst (λ (z : CoreView). IsHistory z w.records) (sym same) is.agrees.history) in
     let o : Turned e 0 (λ t'. Unit {0}) = record {
-      told = told;
+      known = known;
       lead = tt;
-      moves = subst (λ (z : CoreView). Moves v z (number s) t told 0) (sym same) (moves_none v (number s) t told here);
-      agrees = subst (λ (z : CoreView). HostedAgrees z (number s) told s.now) (sym same) now;
+      moves = subst (λ (z : CoreView). Moves v z (number s) t known 0) (sym same) (moves_none v (number s) t known here);
+      agrees = subst (λ (z : CoreView). HostedAgrees z (number s) known s.now) (sym same) now;
     } in
     keeps_agrees e is history o

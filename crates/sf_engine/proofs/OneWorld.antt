@@ -118,7 +118,7 @@ one_reply w moves c a b added legal (inr h) (inr g) =
 -- ---- one world after an entry
 
 module _ (w : World) (legal : IsLegal w.records) where
-  one_rest : (s m : ℕ) (t a b : SessionState) (r : Happened) (added : List Record) → AreBytes t.unread → RestLeads m (record { world = w; session = s; told = t; added = added; now = a }) r → RestLeads m (record { world = w; session = s; told = t; added = added; now = b }) r → a ≡ b
+  one_rest : (s m : ℕ) (t a b : SessionState) (r : Happened) (added : List Record) → AreBytes t.unread → RestLeads m (record { world = w; session = s; known = t; added = added; now = a }) r → RestLeads m (record { world = w; session = s; known = t; added = added; now = b }) r → a ≡ b
   one_rest s m t a b happened.Idle added bytes g h = g.2 ∙ sym h.2
   one_rest s m t a b happened.Wrote added bytes g h =
       let x = g.0 in
@@ -156,7 +156,7 @@ module _ (w : World) (legal : IsLegal w.records) where
   one_rest s m t a b happened.Closed added bytes g h = absurd g
   one_rest s m t a b happened.Sent added bytes g h = absurd g
 
-  one_turn : (s m : ℕ) (t a b : SessionState) (f : Phase) (r : Happened) (added : List Record) → AreBytes t.unread → TurnLeads m (record { world = w; session = s; told = t; added = added; now = a }) f r → TurnLeads m (record { world = w; session = s; told = t; added = added; now = b }) f r → a ≡ b
+  one_turn : (s m : ℕ) (t a b : SessionState) (f : Phase) (r : Happened) (added : List Record) → AreBytes t.unread → TurnLeads m (record { world = w; session = s; known = t; added = added; now = a }) f r → TurnLeads m (record { world = w; session = s; known = t; added = added; now = b }) f r → a ≡ b
   one_turn s m t a b Resting r added bytes g h = one_rest s m t a b r added bytes g h
   one_turn s m t a b (UnderWay id n k q moves) happened.Moved added bytes g h = g.2 ∙ sym h.2
   one_turn s m t a b (UnderWay id n k q moves) (happened.Blocked holder) added bytes g h = g.2 ∙ sym h.2
@@ -183,7 +183,7 @@ module _ (w : World) (legal : IsLegal w.records) where
       g.2.3 ∙ ap (λ (z : SessionState). with_state w s (fed z items.items) [] 0) same ∙ sym h.2.3
   one_after v v' (event.Turn s m) r added bytes g h =
       let same = one_told s h.0 g.0 h.2 g.2 in
-      let g' = subst (λ (z : SessionState). TurnLeads m (record { world = w; session = s; told = z; added = added; now = g.1 }) z.phase r) same g.3 in
+      let g' = subst (λ (z : SessionState). TurnLeads m (record { world = w; session = s; known = z; added = added; now = g.1 }) z.phase r) same g.3 in
       let now = one_turn s m h.0 g.1 h.1 h.0.phase r added (bytes (s - 1) h.0 h.2.1) g' h.3 in
       g.4 ∙ ap (λ (z : SessionState). with_state w s z added (calls_begun r)) now ∙ sym h.4
   one_after v v' (event.Close s) r added bytes g h =
@@ -220,7 +220,7 @@ module _ (w : World) (s m : ℕ) (t : SessionState) (bytes : AreBytes t.unread) 
   begun_read : (unread body rest : List ℕ) → unread ≡ t.unread → Begins unread body rest → AreBytes rest
   begun_read unread body rest e b = rest_bytes body rest (All-same (λ c. c < 256) (packet body ++ rest) t.unread (sym b.whole ∙ e) bytes)
 
-  rest_read : (r : Happened) (added : List Record) (t' : SessionState) → RestLeads m (record { world = w; session = s; told = t; added = added; now = t' }) r → AreBytes t'.unread
+  rest_read : (r : Happened) (added : List Record) (t' : SessionState) → RestLeads m (record { world = w; session = s; known = t; added = added; now = t' }) r → AreBytes t'.unread
   rest_read happened.Idle added t' g = subst (λ (z : SessionState). AreBytes z.unread) (sym g.2) bytes
   rest_read happened.Wrote added t' g = subst (λ (z : SessionState). AreBytes z.unread) (sym g.0.now) (begun_read t.unread g.0.body g.0.rest refl g.0.begins)
   rest_read happened.Begun added t' g = subst (λ (z : SessionState). AreBytes z.unread) (sym g.0.now) (begun_read t.unread g.0.body g.0.rest refl g.0.begins)
@@ -237,7 +237,7 @@ module _ (w : World) (s m : ℕ) (t : SessionState) (bytes : AreBytes t.unread) 
   left_read true u h = no_bytes
   left_read false u h = h
 
-  turn_read : (f : Phase) (r : Happened) (added : List Record) (t' : SessionState) → TurnLeads m (record { world = w; session = s; told = t; added = added; now = t' }) f r → AreBytes t'.unread
+  turn_read : (f : Phase) (r : Happened) (added : List Record) (t' : SessionState) → TurnLeads m (record { world = w; session = s; known = t; added = added; now = t' }) f r → AreBytes t'.unread
   turn_read Resting r added t' g = rest_read r added t' g
   turn_read (UnderWay id n k q moves) happened.Moved added t' g = subst (λ (z : SessionState). AreBytes z.unread) (sym g.2) bytes
   turn_read (UnderWay id n k q moves) (happened.Blocked holder) added t' g = subst (λ (z : SessionState). AreBytes z.unread) (sym g.2) bytes
@@ -320,6 +320,6 @@ one_output trace session of x y =
     let b = y.is_sent trace y.fits in
     let same : x.fits.world ≡ y.fits.world = one_world trace x.fits.world y.fits.world of x.fits.legal x.fits.tells y.fits.tells in
     let at : IsSession y.fits.world session a.0 = subst (λ (z : World). IsSession z session a.0) same a.1 in
-    let told : a.0 ≡ b.0 = let z : Some a.0 ≡ Some b.0 = sym at.1 ∙ b.1.1 in cc in
-    let both : a.0.sent ++ x.output ≡ a.0.sent ++ y.output = sym a.2 ∙ ap (λ (z : SessionState). transcript z.answers) told ∙ b.2 ∙ ap (λ (z : SessionState). z.sent ++ y.output) (sym told) in
+    let known : a.0 ≡ b.0 = let z : Some a.0 ≡ Some b.0 = sym at.1 ∙ b.1.1 in cc in
+    let both : a.0.sent ++ x.output ≡ a.0.sent ++ y.output = sym a.2 ∙ ap (λ (z : SessionState). transcript z.answers) known ∙ b.2 ∙ ap (λ (z : SessionState). z.sent ++ y.output) (sym known) in
     sym (drop-append_seam a.0.sent x.output) ∙ ap (λ (z : List ℕ). drop (length a.0.sent) z) both ∙ drop-append_seam a.0.sent y.output

@@ -11,7 +11,7 @@ use Rattle.sf_engine.specs.declared.event.Event.{Event}
 use Rattle.sf_engine.specs.declared.event.Event.TheVariants as event
 use Rattle.sf_engine.specs.declared.event.Happened.{Happened}
 use Rattle.sf_engine.specs.declared.event.EngineFault.{EngineFault}
-use Rattle.sf_session.specs.Responses.{ask_behind, RepliedCall, Due, Nothing, Recorded, asked_due, has_begun}
+use Rattle.sf_session.specs.Responses.{ask_behind, RepliedCall, Due, NothingDue, Recorded, asked_due, has_begun}
 use Rattle.sf_engine.specs.Worlds.{TraceEntry, World}
 use Rattle.sf_session.specs.SessionStates.{Phase, Resting, UnderWay, Decided, Gone, SessionState, is_here_in, IsRest}
 use Rattle.sf_engine.specs.Traces.{IsSession, goes_on, ReachesWorld}
@@ -105,7 +105,7 @@ none_from : (k : ℕ) (ts : List SessionState) (i : ℕ) (t : SessionState) → 
 none_from k [] i t none at = absurd cc
 none_from k (x ∷ ts) i t none at = none_here k x t ts (λ j none' at'. none_from (k + 1) ts j t none' at') (is_unanswered x.phase) i refl at none
 
-decided_due : (f : Phase) (due : Due) → is_unanswered f ≡ false → IsDue f due → (due ≡ Nothing) ⊎ ((id : ℕ) × (call : RepliedCall) × (due ≡ Recorded id call))
+decided_due : (f : Phase) (due : Due) → is_unanswered f ≡ false → IsDue f due → (due ≡ NothingDue) ⊎ ((id : ℕ) × (call : RepliedCall) × (due ≡ Recorded id call))
 decided_due Resting due not is = inl is
 decided_due (UnderWay id n m q moves) due not is = absurd cc
 decided_due (Decided id n q given) due not is = inr (id, replied n q given, is)
@@ -157,7 +157,7 @@ one_rest (x ∷ xs) (y ∷ ys) a b h k same e =
     one_rest xs ys a b h.1 k.1 (omega (arith, same)) (one_packet x y front back h.0 k.0 parts).1
 
 -- a session has one rest where nothing is due
-one_answered : (log : List LogEntry) (s : ℕ) (x y : IsAnswered log s) → x.due ≡ Nothing → y.due ≡ Nothing → x.rest ≡ y.rest
+one_answered : (log : List LogEntry) (s : ℕ) (x y : IsAnswered log s) → x.due ≡ NothingDue → y.due ≡ NothingDue → x.rest ≡ y.rest
 one_answered log s x y none none' =
     let asks = map ask_behind (written_in s log) in
     let xs : length (asks ++ asked_due x.due) ≡ length x.bodies = asked_each false x.bodies (asks ++ asked_due x.due) x.asked in
@@ -166,7 +166,7 @@ one_answered log s x y none none' =
     one_rest x.bodies y.bodies x.rest y.rest x.are_bodies y.are_bodies same (sym x.fed ∙ y.fed)
 
 -- a call that is due is one that began
-due_begun : (log : List LogEntry) (s : ℕ) (x y : IsAnswered log s) → x.due ≡ Nothing → length (asked_due y.due) ≡ 1 → ⊥
+due_begun : (log : List LogEntry) (s : ℕ) (x y : IsAnswered log s) → x.due ≡ NothingDue → length (asked_due y.due) ≡ 1 → ⊥
 due_begun log s x y none one =
     omega (arith, x.begun, y.begun, one, ap (λ (d : Due). length (asked_due d)) none)
 
@@ -174,7 +174,7 @@ due_begun log s x y none one =
 rests_for : (e : EngineView) (log : List LogEntry) (s : ℕ) (has : HasLog e log) (waits : WaitsForBytes log s) (t : SessionState) (own : IsAnswered log s) → IsLogged log s t → IsDue t.phase own.due
     → IsRest (has_begun t.bodies) t.phase t.unread own.rest → (f : Phase) → t.phase ≡ f → WantsBytes t
 rests_for e log s has waits t own x is left Resting f =
-    let none : own.due ≡ Nothing = subst (λ (z : Phase). IsDue z own.due) f is in
+    let none : own.due ≡ NothingDue = subst (λ (z : Phase). IsDue z own.due) f is in
     let rest : t.unread ≡ own.rest = subst (λ (z : Phase). IsRest (has_begun t.bodies) z t.unread own.rest) f left in
     (f, subst (λ (bs : List ℕ). IsCut bs cut.More) (one_answered log s waits.answered own waits.none_due none ∙ sym rest) waits.cut)
 rests_for e log s has waits t own x is left (UnderWay id n m q moves) f =

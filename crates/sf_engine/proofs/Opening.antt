@@ -60,9 +60,9 @@ opened_agrees w v v' hosted agrees j history =
       here = omega (arith, j.joined, agrees.here, sum_by-append here_in w.sessions (new_state ∷ []));
       count = length-append hosted (new_hosted (v.joins + 1) ∷ []) ∙ ap (λ (n : ℕ). n + 1) agrees.count ∙ sym (length-append w.sessions (new_state ∷ []));
       each = λ i t p ht hp. elim (get_push w.sessions i new_state t ht) [
-        | inl told ↦ elim (get_push hosted i (new_hosted (v.joins + 1)) p hp) [
-          | inl was ↦ hosted_stays v v' (i + 1) t p (inl (j.others (i + 1) (λ e. absurd (omega (arith, e, num, slice_get_within w.sessions i t told))))) (agrees.each i t p told was)
-          | inr out ↦ absurd (omega (arith, out.0, agrees.count, slice_get_within w.sessions i t told))
+        | inl known ↦ elim (get_push hosted i (new_hosted (v.joins + 1)) p hp) [
+          | inl was ↦ hosted_stays v v' (i + 1) t p (inl (j.others (i + 1) (λ e. absurd (omega (arith, e, num, slice_get_within w.sessions i t known))))) (agrees.each i t p known was)
+          | inr out ↦ absurd (omega (arith, out.0, agrees.count, slice_get_within w.sessions i t known))
         ]
         | inr new ↦ elim (get_push hosted i (new_hosted (v.joins + 1)) p hp) [
           | inl was ↦ absurd (omega (arith, new.0, agrees.count, slice_get_within hosted i p was))

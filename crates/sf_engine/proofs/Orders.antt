@@ -53,7 +53,7 @@ close_sure h added s (UnderWay id n m q moves) e = no_sure h added e
 close_sure h added s (Decided id n q given) e = no_sure h added e
 close_sure h added s (Gone cause) e = no_sure h added e
 
-rest_sure : (w : World) (s m : ℕ) (t t' : SessionState) (r : Happened) (added : List Record) → RestLeads m (record { world = w; session = s; told = t; added = added; now = t' }) r → AreSure w.records added
+rest_sure : (w : World) (s m : ℕ) (t t' : SessionState) (r : Happened) (added : List Record) → RestLeads m (record { world = w; session = s; known = t; added = added; now = t' }) r → AreSure w.records added
 rest_sure w s m t t' happened.Idle added g = no_sure w.records added g.1
 rest_sure w s m t t' happened.Wrote added g = no_sure w.records added g.1
 rest_sure w s m t t' happened.Begun added g = no_sure w.records added g.1
@@ -70,7 +70,7 @@ decides_sure : (w : World) (s moves : ℕ) (own : Record) (added : List Record) 
 decides_sure w s moves own added (inl g) = no_sure w.records added g.0
 decides_sure w s moves own added (inr g) = g.sure
 
-turn_sure : (w : World) (s m : ℕ) (t t' : SessionState) (f : Phase) (r : Happened) (added : List Record) → TurnLeads m (record { world = w; session = s; told = t; added = added; now = t' }) f r → AreSure w.records added
+turn_sure : (w : World) (s m : ℕ) (t t' : SessionState) (f : Phase) (r : Happened) (added : List Record) → TurnLeads m (record { world = w; session = s; known = t; added = added; now = t' }) f r → AreSure w.records added
 turn_sure w s m t t' Resting r added g = rest_sure w s m t t' r added g
 turn_sure w s m t t' (UnderWay id n k q moves) happened.Moved added g = elim g.1 [ inl none ↦ no_sure w.records added none.0 | inr writes ↦ writes.2.1.sure ]
 turn_sure w s m t t' (UnderWay id n k q moves) (happened.Blocked holder) added g = no_sure w.records added g.1

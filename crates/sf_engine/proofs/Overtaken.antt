@@ -3,7 +3,7 @@ use Rattle.std.proofs.Common.{◌≡◌, ◌≢◌, ℕ, zero, suc, ◌<◌, Lis
 use Rattle.std.specs.Ordering.{nat_cmp}
 use Rattle.std.specs.List.{AllByRecursion}
 use Rattle.std.specs.List.Sorted.{IsStrictlySortedBy}
-use Rattle.sf_request.specs.declared.request.Asked.TheVariants.{Init, Request as Requested}
+use Rattle.sf_request.specs.declared.request.Asked.TheVariants.{Init, Request}
 use Rattle.sf_request.specs.declared.request.WireRequest.TheVariants as wire
 use Rattle.sf_request.proofs.Laws.{sent_asks, init_asks}
 use Rattle.sf_request.specs.Requests.{request_body, init_body}
@@ -97,13 +97,13 @@ module _ (first second : Vec ℕ Global) (one : first.items ≡ first_stream) (o
   version_asks = (Init 3, init_asks, refl)
 
   mkdir_asks : AsksFor true mkdir_body (ask.Call 7 mkdir)
-  mkdir_asks = (Requested 7 (wire.Mkdir (47 ∷ 97 ∷ []) no_attrs), sent_asks 7 (wire.Mkdir (47 ∷ 97 ∷ []) no_attrs) (omega arith) (omega arith, record { size = tt; owner = tt; permissions = tt; times = tt }), refl)
+  mkdir_asks = (Request 7 (wire.Mkdir (47 ∷ 97 ∷ []) no_attrs), sent_asks 7 (wire.Mkdir (47 ∷ 97 ∷ []) no_attrs) (omega arith) (omega arith, record { size = tt; owner = tt; permissions = tt; times = tt }), refl)
 
   inner_asks : AsksFor true inner_body (ask.Call 8 inner)
-  inner_asks = (Requested 8 (wire.Mkdir (47 ∷ 97 ∷ 47 ∷ 99 ∷ []) no_attrs), sent_asks 8 (wire.Mkdir (47 ∷ 97 ∷ 47 ∷ 99 ∷ []) no_attrs) (omega arith) (omega arith, record { size = tt; owner = tt; permissions = tt; times = tt }), refl)
+  inner_asks = (Request 8 (wire.Mkdir (47 ∷ 97 ∷ 47 ∷ 99 ∷ []) no_attrs), sent_asks 8 (wire.Mkdir (47 ∷ 97 ∷ 47 ∷ 99 ∷ []) no_attrs) (omega arith) (omega arith, record { size = tt; owner = tt; permissions = tt; times = tt }), refl)
 
   rename_asks : AsksFor true rename_body (ask.Call 9 rename)
-  rename_asks = (Requested 9 (wire.Rename (47 ∷ 97 ∷ []) (47 ∷ 98 ∷ [])), sent_asks 9 (wire.Rename (47 ∷ 97 ∷ []) (47 ∷ 98 ∷ [])) (omega arith) (omega arith, omega arith), refl)
+  rename_asks = (Request 9 (wire.Rename (47 ∷ 97 ∷ []) (47 ∷ 98 ∷ [])), sent_asks 9 (wire.Rename (47 ∷ 97 ∷ []) (47 ∷ 98 ∷ [])) (omega arith) (omega arith, omega arith), refl)
 
   first_version : AnswersBodyAtOnce (two (fed_with first_stream) (fed_with second_stream) [] 0) (fed_with first_stream) t1
   first_version = record {
@@ -167,7 +167,7 @@ module _ (first second : Vec ℕ Global) (one : first.items ≡ first_stream) (o
   makes = record { stopped = inl refl; helped = []; of_others = tt; rising = none_rise; records = refl; sure = sure_made }
 
   passed_by : IsOthersCall (two (with_phase t4 (UnderWay 9 3 102 rename 1)) (with_phase u2 (UnderWay 8 2 101 inner 2)) (made ∷ []) 3) 1 (other_call 2 2 101 inner)
-  passed_by = record { other = λ e. absurd (omega (arith, e)); told = with_phase u2 (UnderWay 8 2 101 inner 2); is_session = (omega arith, refl); under_way = (refl, refl, refl) }
+  passed_by = record { other = λ e. absurd (omega (arith, e)); known = with_phase u2 (UnderWay 8 2 101 inner 2); is_session = (omega arith, refl); under_way = (refl, refl, refl) }
 
   renames : CarriesOut (two (with_phase t4 (UnderWay 9 3 102 rename 1)) (with_phase u2 (UnderWay 8 2 101 inner 2)) (made ∷ []) 3) 1 1 renamed (made_inside ∷ renamed ∷ [])
   renames = record {
@@ -188,7 +188,7 @@ module _ (first second : Vec ℕ Global) (one : first.items ≡ first_stream) (o
       let done = with_phase t2 (Decided 7 1 mkdir ok) in
       let at_root = with_phase u2 (UnderWay 8 2 101 inner 1) in
       let at_a = with_phase u2 (UnderWay 8 2 101 inner 2) in
-      let told = with_phase u2 (Decided 8 2 inner ok) in
+      let known = with_phase u2 (Decided 8 2 inner ok) in
       let renaming = with_phase t4 (UnderWay 9 3 102 rename 1) in
       let moved = with_phase t4 (Decided 9 3 rename ok) in
       let h = made ∷ [] in
@@ -210,8 +210,8 @@ module _ (first second : Vec ℕ Global) (one : first.items ≡ first_stream) (o
       (leads_on _ _ (two t4 at_a h 3) (two renaming at_a h 3) end (t4, renaming, (omega arith, refl), (rename_fits, inl (refl, λ e. absurd (let z : false ≡ true = e in cc)), refl), refl)
       (leads_on _ _ (two renaming at_a h 3) (two moved at_a all_records 3) end (renaming, moved, (omega arith, refl), (ok, inr renames, refl), refl)
       (leads_on _ _ (two moved at_a all_records 3) (two t5 at_a all_records 3) end (moved, t5, (omega arith, refl), (refl, refl, refl), refl)
-      (leads_on _ _ (two t5 at_a all_records 3) (two t5 told all_records 3) end (at_a, told, (omega arith, refl), (ok, inl (refl, is_recorded), refl), refl)
-      (leads_on _ _ (two t5 told all_records 3) end end (told, u3, (omega arith, refl), (refl, refl, refl), refl)
+      (leads_on _ _ (two t5 at_a all_records 3) (two t5 known all_records 3) end (at_a, known, (omega arith, refl), (ok, inl (refl, is_recorded), refl), refl)
+      (leads_on _ _ (two t5 known all_records 3) end end (known, u3, (omega arith, refl), (refl, refl, refl), refl)
       (no_more end)))))))))))))))))))
 
 -- ---- the order

@@ -1,6 +1,6 @@
 -- What the next packet of a resting session leads to.
 use Rattle.std.proofs.Common.{◌≡◌, ℕ, List, [], ◌++◌, true, false, None, Result, IfSome, refl, ap, sym, subst, arith, inr, append-nil}
-use Rattle.sf_field.specs.Fields.{packet as packet_of}
+use Rattle.sf_field.specs.Fields.{packet}
 use Rattle.sf_reply.specs.Replies.{reply_body}
 use Rattle.sf_call.specs.declared.record.Record.{Record}
 use Rattle.sf_call.specs.declared.request.Request.{Request}
@@ -66,7 +66,7 @@ goes_far a f b last end far = begun_far a.from f (begun_stand a b.core) last end
 
 -- it is refused
 pub refused_turn : (a : CallAsked) (m : ℕ) (f : CoreFault) (z : SessionView) → RefusesBegin a.from.core a.lane f
-    → IfSome a.session.waiting (λ id. z ≡ record a.session { output = a.session.output ++ packet_of (reply_body id (refusal_of f)); waiting = None })
+    → IfSome a.session.waiting (λ id. z ≡ record a.session { output = a.session.output ++ packet (reply_body id (refusal_of f)); waiting = None })
     → TurnGives a.from (finding false m) happened.Wrote (stand a.from.core z (state.Resting a.lane))
 refused_turn a m f z refused wrote = λ h is. (
   [],

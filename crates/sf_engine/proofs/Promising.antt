@@ -14,7 +14,7 @@ use Rattle.sf_engine.specs.declared.event.Happened.{Happened}
 use Rattle.sf_engine.specs.declared.event.Happened.TheVariants as happened
 use Rattle.sf_engine.specs.declared.event.EngineFault.{EngineFault}
 use Rattle.sf_engine.specs.Worlds.{TraceEntry, World, start}
-use Rattle.sf_session.specs.Responses.{Response, ask_behind, transcript, has_begun, AreAsked, recorded_in, answered_in, Due, Nothing, Recorded, asked_due, recorded_due}
+use Rattle.sf_session.specs.Responses.{Response, ask_behind, transcript, has_begun, AreAsked, recorded_in, answered_in, Due, NothingDue, Recorded, asked_due, recorded_due}
 use Rattle.sf_session.specs.SessionStates.{Phase, Resting, UnderWay, Decided, Gone, SessionState, new_state, is_here_in, IsRest, pending}
 use Rattle.sf_engine.specs.Traces.{IsSession, LeadsBy, Runs, ReachesWorld, order}
 use Rattle.sf_engine.specs.Laws.{sent_in}
@@ -47,7 +47,7 @@ due_count (Decided id n q given) due e = ap (λ (d : Due). length (asked_due d))
 due_count (Gone cause) due e = ap (λ (d : Due). length (asked_due d)) (sym e)
 
 -- where a call is due, something is
-some_due : (f : Phase) (due : Due) → calls_due f ≡ 1 → IsDue f due → due ≡ Nothing → ⊥
+some_due : (f : Phase) (due : Due) → calls_due f ≡ 1 → IsDue f due → due ≡ NothingDue → ⊥
 some_due f due one is none = omega (arith, one, due_count f due is, ap (λ (d : Due). length (asked_due d)) none)
 
 -- what is due is as the last turn told
@@ -69,7 +69,7 @@ leaves_due happened.Closed f due leaves is = some_due f due leaves is
 leaves_due happened.Sent f due leaves is = some_due f due leaves is
 
 -- a session that was closed has left where nothing is due
-closed_left : (log : List LogEntry) (s : ℕ) (t : SessionState) (due : Due) → IsLogged log s t → IsDue t.phase due → WasClosed log s → due ≡ Nothing → (f : Phase) → t.phase ≡ f → HasLeft log s
+closed_left : (log : List LogEntry) (s : ℕ) (t : SessionState) (due : Due) → IsLogged log s t → IsDue t.phase due → WasClosed log s → due ≡ NothingDue → (f : Phase) → t.phase ≡ f → HasLeft log s
 closed_left log s t due x is was none Resting e = elim (x.was_closed was) [
   | inl c ↦ absurd (x.rests c e)
   | inr away ↦ absurd (let z : true ≡ false = sym (ap is_here_in e) ∙ away in cc)

@@ -50,16 +50,16 @@ moves_leaves v v' s t t' l was now = record {
 }
 
 -- nothing changes
-pub unchanged_turned : (e : HostedEvent) (leads : SessionState → Type 0) → HostedAgrees e.change.old.core (number e.change) e.told e.change.was → IsUnmoved e.change → e.change.now.session ≡ e.change.was.session → leads e.told → Turned e 0 leads
+pub unchanged_turned : (e : HostedEvent) (leads : SessionState → Type 0) → HostedAgrees e.change.old.core (number e.change) e.known e.change.was → IsUnmoved e.change → e.change.now.session ≡ e.change.was.session → leads e.known → Turned e 0 leads
 unchanged_turned e leads h stays session lead =
     let v = e.change.old.core in
     let p = e.change.was in
     let q = e.change.now in
     let same : q ≡ p = ap (λ (z : SessionView). hosted_session z q.place q.closed) session ∙ ap (λ (z : HostedState). hosted_session p.session z q.closed) stays.place ∙ ap (λ (z : Bool). hosted_session p.session p.place z) stays.closed in record {
-      told = e.told;
+      known = e.known;
       lead = lead;
-      moves = subst (λ (z : CoreView). Moves v z (number e.change) e.told e.told 0) (sym stays.core) (moves_none v (number e.change) e.told e.told refl);
-      agrees = subst (λ (z : CoreView). HostedAgrees z (number e.change) e.told q) (sym stays.core) (subst (λ (z : HostedSession). HostedAgrees v (number e.change) e.told z) (sym same) h);
+      moves = subst (λ (z : CoreView). Moves v z (number e.change) e.known e.known 0) (sym stays.core) (moves_none v (number e.change) e.known e.known refl);
+      agrees = subst (λ (z : CoreView). HostedAgrees z (number e.change) e.known q) (sym stays.core) (subst (λ (z : HostedSession). HostedAgrees v (number e.change) e.known z) (sym same) h);
     }
 
 -- a session read a body that was answered at once, in this world
@@ -84,12 +84,12 @@ answered_at_once : (e : HostedEvent) (m : ℕ) → IsTold (in_phase e Resting) �
 answered_at_once e m is stays none o =
     let v = e.change.old.core in
     let s = number e.change in
-    let t = e.told in
+    let t = e.known in
     let q = e.change.now in
     let h = is.hosted in
     let at : HasNoCall v s e.change.was.session e.change.was.place = h.at in
-    let told : SessionState = record t { unread = o.rest; bodies = t.bodies ++ o.body ∷ []; answers = t.answers ++ o.answer ∷ []; phase = Resting } in record {
-      told = told;
+    let known : SessionState = record t { unread = o.rest; bodies = t.bodies ++ o.body ∷ []; answers = t.answers ++ o.answer ∷ []; phase = Resting } in record {
+      known = known;
       lead = (
         record {
           body = o.body;
@@ -102,8 +102,8 @@ answered_at_once e m is stays none o =
         },
         none,
       );
-      moves = subst (λ (z : CoreView). Moves v z s (with_phase t Resting) told 0) (sym stays.core) (moves_none v s (with_phase t Resting) told refl);
-      agrees = subst (λ (z : CoreView). HostedAgrees z s told q) (sym stays.core) (subst (λ (z : SessionView). HostedAgrees v s told (hosted_session z q.place q.closed)) (sym o.now) (record {
+      moves = subst (λ (z : CoreView). Moves v z s (with_phase t Resting) known 0) (sym stays.core) (moves_none v s (with_phase t Resting) known refl);
+      agrees = subst (λ (z : CoreView). HostedAgrees z s known q) (sym stays.core) (subst (λ (z : SessionView). HostedAgrees v s known (hosted_session z q.place q.closed)) (sym o.now) (record {
         unread = refl;
         output = output_push t.answers t.sent e.change.was.session.output o.answer h.output;
         begun = sym (begun_push t.bodies o.body);
@@ -169,7 +169,7 @@ rest_turned e m happened.Wrote is closed g =
     answered_at_once e m is (record { core = g.1; place = g.3 ∙ sym at.place_is; closed = closed }) g.2 read
 rest_turned e m happened.Begun is closed g =
     let v' = e.change.core in
-    let t = e.told in
+    let t = e.known in
     let w = e.world in
     let q = e.change.now in
     let h = is.hosted in
@@ -180,11 +180,11 @@ rest_turned e m happened.Begun is closed g =
     let b = g.2 in
     let lane' : LaneView = begun at.lane v'.drawn in
     let n = w.begun + 1 in
-    let told : SessionState = record t { unread = o.rest; bodies = t.bodies ++ o.body ∷ []; phase = UnderWay o.id n m request 0 } in
+    let known : SessionState = record t { unread = o.rest; bodies = t.bodies ++ o.body ∷ []; phase = UnderWay o.id n m request 0 } in
     let call = new_call (e.change.old.core.drawn + 1) at.lane.session m request in
     let number_is : e.change.old.core.drawn + 1 ≡ n = ap (λ (k : ℕ). k + 1) drawn in
     record {
-      told = told;
+      known = known;
       lead = (
         record {
           body = o.body;
@@ -204,7 +204,7 @@ rest_turned e m happened.Begun is closed g =
         joined = ap (λ (k : ℕ). k + 1) b.joined;
         others = λ i ne. inl (b.others i (λ k. ne (k ∙ at.session)));
       };
-      agrees = subst (λ (z : SessionView). HostedAgrees v' (number e.change) told (hosted_session z q.place q.closed)) (sym o.now) (record {
+      agrees = subst (λ (z : SessionView). HostedAgrees v' (number e.change) known (hosted_session z q.place q.closed)) (sym o.now) (record {
         unread = refl;
         output = h.output;
         begun = sym (begun_push t.bodies o.body);
@@ -229,20 +229,20 @@ rest_turned e m (happened.Ended cause) is closed g =
     let q = e.change.now in
     let h = is.hosted in
     let at : HasNoCall e.change.old.core (number e.change) e.change.was.session e.change.was.place = h.at in
-    let was = with_phase e.told Resting in
-    let told = left_for was cause in
+    let was = with_phase e.known Resting in
+    let known = left_for was cause in
     let left : Leaves e.change.old.core v' (number e.change) = subst (λ (n : ℕ). Leaves e.change.old.core v' n) at.session g.1 in
     elim g.0 [
       | inl k ↦ absurd (let none : None ≡ Some cause = sym at.ended ∙ k.0 in cc)
       | inr k ↦ record {
-        told = told;
+        known = known;
         lead = (
           subst (λ (b : Bool). EndsBy b was.unread cause) h.begun (subst (λ (b : List ℕ). EndsBy e.change.was.session.begun b cause) h.unread k.1),
           g.2 ∙ ap (λ (n : ℕ). Left n ∷ []) at.session,
           refl,
         );
-        moves = moves_leaves e.change.old.core v' (number e.change) was told left refl refl;
-        agrees = subst (λ (z : SessionView). HostedAgrees v' (number e.change) told (hosted_session z q.place q.closed)) (sym k.2) (record {
+        moves = moves_leaves e.change.old.core v' (number e.change) was known left refl refl;
+        agrees = subst (λ (z : SessionView). HostedAgrees v' (number e.change) known (hosted_session z q.place q.closed)) (sym k.2) (record {
           unread = refl;
           output = h.output;
           begun = h.begun;

@@ -229,14 +229,14 @@ pub record HasStepped (e : EngineView) (w : World) (at : ℕ) (r : Result Happen
 record ToldUnderWay (e : EngineView) (at : ℕ) : Type 0 where
   trace : List TraceEntry
   fits : Fits e trace
-  told : SessionState
-  is_told : slice_get fits.world.sessions at ≡ Some told
-  under_way : is_unanswered told.phase ≡ true
+  known : SessionState
+  is_told : slice_get fits.world.sessions at ≡ Some known
+  under_way : is_unanswered known.phase ≡ true
 
 stepped : (e e' : EngineView) (at : ℕ) (r : Result Happened EngineFault) → (u : ToldUnderWay e at) → GoesOnTrace e (event.Turn (at + 1) 0) r e' → HasStepped e u.fits.world at r e'
 stepped e e' at (Ok h) u turn =
     let fits = u.fits in
-    let t = u.told in
+    let t = u.known in
     let o = turn u.trace fits in
     let l = o.2 in
     let num : at + 1 - 1 ≡ at = omega arith in
@@ -249,13 +249,13 @@ stepped e e' at (Ok h) u turn =
       fits = o.1;
       count = ap (λ (z : World). length z.sessions) l.4 ∙ length-set fits.world.sessions (at + 1 - 1) l.1;
       others = λ i ne. ap (λ (z : World). slice_get z.sessions i) l.4 ∙ get_set_other fits.world.sessions (at + 1 - 1) i l.1 (λ e. ne (e ∙ num));
-      does = phase_does (record { world = fits.world; session = at + 1; told = l.0; added = o.0; now = l.1 }) l.0.phase (at + 1) 0 e.core fits.world.records o.0 e'.core h still l.3 o.3;
+      does = phase_does (record { world = fits.world; session = at + 1; known = l.0; added = o.0; now = l.1 }) l.0.phase (at + 1) 0 e.core fits.world.records o.0 e'.core h still l.3 o.3;
     }
 stepped e e' at (Err f) u turn =
     let fits = u.fits in
     let o = turn u.trace fits in
     let num : at + 1 - 1 ≡ at = omega arith in
-    absurd (never_refused fits.world (at + 1) 0 u.told (omega arith, ap (λ (n : ℕ). slice_get fits.world.sessions n) num ∙ u.is_told) u.under_way f o.2.0)
+    absurd (never_refused fits.world (at + 1) 0 u.known (omega arith, ap (λ (n : ℕ). slice_get fits.world.sessions n) num ∙ u.is_told) u.under_way f o.2.0)
 
 -- ---- part of a round
 -- the steps of sessions up to a number were all blocked, and no lane state is another
@@ -304,11 +304,11 @@ busy_phase v s x (Gone cause) p c h busy = absurd (let no : NoLane ≡ Busy c = 
 record HostedStill (e e' : EngineView) (at : ℕ) (w w' : World) (p : HostedSession) : Type 0 where
   was : HostedSession
   here : slice_get e.hosted at ≡ Some was
-  told : SessionState
-  first : slice_get w.sessions at ≡ Some told
-  now : slice_get w'.sessions at ≡ Some told
+  known : SessionState
+  first : slice_get w.sessions at ≡ Some known
+  now : slice_get w'.sessions at ≡ Some known
   same : is_under_way was.place ≡ is_under_way p.place
-  phase : is_unanswered told.phase ≡ is_under_way p.place
+  phase : is_unanswered known.phase ≡ is_under_way p.place
 
 still : (e : EngineView) (at : ℕ) (any : Bool) (e' : EngineView) (k : RoundSoFar e at any e') (p : HostedSession) → slice_get e'.hosted at ≡ Some p → HostedStill e e' at k.first.world k.now.world p
 still e at any e' k p was =
@@ -320,7 +320,7 @@ still e at any e' k p was =
     let q = get_within e.hosted at (omega (arith, here, hosted)) in
     let now = phase_place e'.core (at + 1) p.session t.0.phase p.place (k.now.agrees.each at t.0 p t.1 was).at in
     let old = phase_place e.core (at + 1) q.0.session t.0.phase q.0.place (k.first.agrees.each at t.0 q.0 first q.1).at in
-    record { was = q.0; here = q.1; told = t.0; first = first; now = t.1; same = sym old ∙ now; phase = now }
+    record { was = q.0; here = q.1; known = t.0; first = first; now = t.1; same = sym old ∙ now; phase = now }
 
 -- ---- one hosted session more
 -- its call isn't under way
@@ -348,7 +348,7 @@ round_skips e at any e' k p was rests =
             | inl last ↦
                 let num : s ≡ at + 1 = omega (arith, last, le) in
                 let here : lane_state e.core (at + 1) ≡ Busy c = sym (ap (λ (n : ℕ). lane_state e.core n) num) ∙ busy in
-                let under = busy_phase e.core (at + 1) o.was.session o.told.phase o.was.place c (k.first.agrees.each at o.told o.was o.first o.here).at here in
+                let under = busy_phase e.core (at + 1) o.was.session o.known.phase o.was.place c (k.first.agrees.each at o.known o.was o.first o.here).at here in
                 absurd (let no : true ≡ false = sym under ∙ o.phase ∙ rests in cc)
             | inr before ↦ blocked.1 s c before busy
           ],
@@ -396,7 +396,7 @@ round_steps e at any e' k p r e'' turn =
     let list : hosted_from 1 (take (at + 1) e.hosted) ≡ hosted_from 1 (take at e.hosted) ++ (at + 1) ∷ [] =
     hosted_more e.hosted at o.was o.here
     ∙ ap (λ (b : Bool). hosted_from 1 (take at e.hosted) ++ (if b then (at + 1) ∷ [] else [])) now in
-    let d = stepped e' e'' at r (record { trace = k.further; fits = k.now; told = o.told; is_told = o.now; under_way = o.phase ∙ p.under_way }) turn in
+    let d = stepped e' e'' at r (record { trace = k.further; fits = k.now; known = o.known; is_told = o.now; under_way = o.phase ∙ p.under_way }) turn in
     record {
       trace = k.trace;
       first = k.first;

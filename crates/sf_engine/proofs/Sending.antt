@@ -55,8 +55,8 @@ any_send_steps s n (Ok r) gives w agrees =
     let t = told_of s w [] agrees in
     let h = t.1.hosted in
     let ok = gives.ok in
-    let told = sent_more t.0 n in
-    let now : HostedAgrees v k told s.now = subst (λ (z : HostedSession). HostedAgrees v k told z) (sym ok.now) (record {
+    let known = sent_more t.0 n in
+    let now : HostedAgrees v k known s.now = subst (λ (z : HostedSession). HostedAgrees v k known z) (sym ok.now) (record {
       unread = h.unread;
       output = output_sent v k n t.0 s.was h;
       begun = h.begun;
@@ -65,10 +65,10 @@ any_send_steps s n (Ok r) gives w agrees =
     }) in
     by_number s (λ i. event.Sent i n) (Ok r) w (record {
       added = [];
-      after = with_state w k told [] 0;
+      after = with_state w k known [] 0;
       leads = (ok.sent, refl, (t.0, t.1.session, subst (λ (b : List ℕ). n ≤ length b) (sym (output_is v k t.0 s.was h)) ok.within, refl));
       records = refl;
-      agrees = still_agrees s w t.0 told t.1 gives.core refl now;
+      agrees = still_agrees s w t.0 known t.1 gives.core refl now;
       step = tt;
       work = ap (λ (z : CoreView). z.look_ups) gives.core;
     })

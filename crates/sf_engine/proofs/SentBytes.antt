@@ -39,7 +39,7 @@ record MaySay (t t' : SessionState) : Type 0 where
 same_says : (t t' : SessionState) → t' ≡ t → MaySay t t'
 same_says t t' e = record { sent = ap (λ (z : SessionState). z.sent) e; says = inl (ap (λ (z : SessionState). z.answers) e) }
 
-rest_says : (w : World) (s m : ℕ) (t t' : SessionState) (r : Happened) (added : List Record) → RestLeads m (record { world = w; session = s; told = t; added = added; now = t' }) r → MaySay t t'
+rest_says : (w : World) (s m : ℕ) (t t' : SessionState) (r : Happened) (added : List Record) → RestLeads m (record { world = w; session = s; known = t; added = added; now = t' }) r → MaySay t t'
 rest_says w s m t t' happened.Idle added g = same_says t t' g.2
 rest_says w s m t t' happened.Wrote added g = record { sent = ap (λ (z : SessionState). z.sent) g.0.now; says = inr (g.0.answer, ap (λ (z : SessionState). z.answers) g.0.now) }
 rest_says w s m t t' happened.Begun added g = record { sent = ap (λ (z : SessionState). z.sent) g.0.now; says = inl (ap (λ (z : SessionState). z.answers) g.0.now) }
@@ -56,7 +56,7 @@ left_says : (closed : Bool) (t u : SessionState) → MaySay t u → MaySay t (le
 left_says false t u h = h
 left_says true t u h = record { sent = h.sent; says = h.says }
 
-turn_says : (w : World) (s m : ℕ) (t t' : SessionState) (f : Phase) (r : Happened) (added : List Record) → TurnLeads m (record { world = w; session = s; told = t; added = added; now = t' }) f r → MaySay t t'
+turn_says : (w : World) (s m : ℕ) (t t' : SessionState) (f : Phase) (r : Happened) (added : List Record) → TurnLeads m (record { world = w; session = s; known = t; added = added; now = t' }) f r → MaySay t t'
 turn_says w s m t t' Resting r added g = rest_says w s m t t' r added g
 turn_says w s m t t' (UnderWay id n k q moves) happened.Moved added g = record { sent = ap (λ (z : SessionState). z.sent) g.2; says = inl (ap (λ (z : SessionState). z.answers) g.2) }
 turn_says w s m t t' (UnderWay id n k q moves) (happened.Blocked holder) added g = same_says t t' g.2

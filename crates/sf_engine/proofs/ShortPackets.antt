@@ -45,5 +45,5 @@ all_short h session begun (body ∷ bodies) (a ∷ answers) more legal asked rec
 
 pub answers_are_short : (e : EngineView) (trace : List TraceEntry) (fits : Fits e trace) (session : ℕ) (t : SessionState) → IsSession fits.world session t → AllByRecursion HasShortPacket t.answers
 answers_are_short e trace fits session t is =
-    let told = told_sessions trace fits.world fits.tells session t is in
-    all_short fits.world.records session false t.bodies t.answers (pending t.phase) (subst IsLegal (sym fits.ordered) fits.legal) told.0.asked told.1.answers
+    let known = told_sessions trace fits.world fits.tells session t is in
+    all_short fits.world.records session false t.bodies t.answers (pending t.phase) (subst IsLegal (sym fits.ordered) fits.legal) known.0.asked known.1.answers

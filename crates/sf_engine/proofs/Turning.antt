@@ -63,10 +63,10 @@ told_at w v hosted at p agrees was =
     (t.0, t.1, (omega arith, ap (λ (n : ℕ). slice_get w.sessions n) num ∙ t.1), agrees.each at t.0 p t.1 was)
 
 -- an event on a hosted session, in a world that the engine agrees with
-pub told_of : (s : HostedChange) (w : World) (added : List Record) → Agrees w s.old → (t : SessionState) × IsTold (record { world = w; told = t; change = s; added = added })
+pub told_of : (s : HostedChange) (w : World) (added : List Record) → Agrees w s.old → (t : SessionState) × IsTold (record { world = w; known = t; change = s; added = added })
 told_of s w added agrees =
     let t = told_at w s.old.core s.old.hosted s.at s.was agrees s.stood in
-    (t.0, record { agrees = agrees; told = t.1; session = t.2; hosted = t.3 })
+    (t.0, record { agrees = agrees; known = t.1; session = t.2; hosted = t.3 })
 
 -- the number of the session, as it is told
 pub by_number : (s : HostedChange) (ev : ℕ → Event) (r : Result Happened EngineFault) (w : World) → Steps s.old (ev (number s)) r (changed s) w → Steps s.old (ev s.session) r (changed s) w
@@ -84,13 +84,13 @@ turn_steps : (s : HostedChange) (m : ℕ) (r : Happened) → TurnsHosted s m (Ok
 turn_steps s m r gives w agrees =
     let g = gives.ok w.records agrees.history in
     let t = told_of s w g.0 agrees in
-    let e : HostedEvent = record { world = w; told = t.0; change = s; added = g.0 } in
+    let e : HostedEvent = record { world = w; known = t.0; change = s; added = g.0 } in
     let does = turn_works (stand_before s) w.records (finding s.was.closed m) (number s) t.0.phase r g.0 (stand_after s) t.1.hosted.at g.2 in
     let o : Turned e (calls_begun r) (λ t'. TurnLeads m (turn_to e t') t.0.phase r) = phase_turned e t.0.phase m r t.1 gives.closed g.2 in
     record {
       added = g.0;
-      after = with_state w (number s) o.told g.0 (calls_begun r);
-      leads = (t.0, o.told, t.1.session, o.lead, refl);
+      after = with_state w (number s) o.known g.0 (calls_begun r);
+      leads = (t.0, o.known, t.1.session, o.lead, refl);
       records = refl;
       agrees = keeps_agrees e t.1 g.1 o;
       step = does.step;
@@ -173,7 +173,7 @@ pub close_steps : (s : HostedChange) → ClosesHosted s → (w : World) → Agre
 close_steps s gives w agrees =
     let g = gives w.records agrees.history in
     let t = told_of s w g.0 agrees in
-    let e : HostedEvent = record { world = w; told = t.0; change = s; added = g.0 } in
+    let e : HostedEvent = record { world = w; known = t.0; change = s; added = g.0 } in
     let o : Turned e 0 (λ t'. CloseLeads t.0 t.0.phase (number s) g.0 t') = close_turned e t.0.phase g.2.0 t.1 g.2.1 g.2.2 in
     let T : SessionState → Type 0 = λ z. Agrees (with_state w (number s) z g.0 0) (changed s) in
     by_number s (λ k. event.Close k) (Ok happened.Closed) w (record {

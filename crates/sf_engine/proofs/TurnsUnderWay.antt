@@ -23,7 +23,7 @@ use Rattle.sf_core.specs.Lanes.{LaneView, at_rest}
 use Rattle.sf_core.specs.Cores.{CoreView, lane_state}
 use Rattle.sf_core.specs.Progress.{waiting_reply, left_of, bound_of, is_write, IsCopying, MayDecide, did}
 use Rattle.sf_core.specs.Events.{IsOfOther, IsFinished}
-use Rattle.sf_core.specs.Events.{IsHelped as IsHelpedAt}
+use Rattle.sf_core.specs.Events.{IsHelped}
 use Rattle.sf_engine.specs.declared.hosted.HostedSession.{HostedSession}
 use Rattle.sf_engine.specs.declared.hosted.HostedState.{HostedState}
 use Rattle.sf_engine.specs.declared.hosted.HostedState.TheVariants as state
@@ -66,7 +66,7 @@ others_call w v hosted s other c agrees here apart = elim (place_of other (lengt
       let num : other - 1 ≡ i = omega (arith, at.2) in
       record {
         other = apart;
-        told = t.0;
+        known = t.0;
         is_session = (omega (arith, at.2), ap (λ (n : ℕ). slice_get w.sessions n) num ∙ t.1);
         under_way = under_way v (i + 1) p.0.session t.0.phase p.0.place c (ap (λ (n : ℕ). lane_state v n) (sym at.2) ∙ here) had.at;
       }
@@ -87,11 +87,11 @@ are_helped : (w : World) (v : CoreView) (hosted : List HostedSession) (s : ℕ) 
 are_helped w v hosted s [] agrees h = tt
 are_helped w v hosted s (r ∷ rs) agrees h = (helped_one w v hosted s r agrees h.0, are_helped w v hosted s rs agrees h.1)
 
--- the record of a call that is under way as is told, with this reply
+-- the record of a call that is under way as is known, with this reply
 abbrev pub own_did : ℕ → Walking → Reply → Record
 own_did s k given = Did k.number s k.moment k.request given
 
--- the record of the session's call, by what is told of it
+-- the record of the session's call, by what is known of it
 own_record : (v : CoreView) (s : ℕ) (x : SessionView) (k : Walking) (p : HostedState) (c : Call) (given : Reply) → IsGoing v s x k p → lane_state v s ≡ Busy c → did c given ≡ own_did s k given
 own_record v s x k p c given at here =
     let own : at.call ≡ c = let w : Busy at.call ≡ Busy c = sym at.slot ∙ here in cc in
@@ -101,7 +101,7 @@ own_record v s x k p c given at here =
     ∙ ap (λ (n : ℕ). Did k.number s n at.call.request given) at.own.2
     ∙ ap (λ (q : Request). Did k.number s k.moment q given) at.own.3
 
--- a session of the event whose call is under way as is told
+-- a session of the event whose call is under way as is known
 abbrev pub Goes : HostedEvent → Walking → Type 0
 Goes e k = IsGoing e.change.old.core (number e.change) e.change.was.session k e.change.was.place
 
@@ -116,7 +116,7 @@ has_stopped e k c given at here position way undecided =
 
 -- the session's call was decided, and its answer waits
 decided_now : (e : HostedEvent) (k : Walking) (a : AnswerView) → (is : IsTold (in_phase e (under_way_as k))) → KeepsSession e.change
-    → Moves e.change.old.core e.change.core (number e.change) (with_phase e.told (under_way_as k)) (with_phase e.told (Decided k.id k.number k.request a.reply)) 0
+    → Moves e.change.old.core e.change.core (number e.change) (with_phase e.known (under_way_as k)) (with_phase e.known (Decided k.id k.number k.request a.reply)) 0
     → lane_state e.change.core (number e.change) ≡ Idle → e.change.now.place ≡ state.Decided (at_rest is.hosted.at.lane) a
     → DecidesCall e.world (number e.change) k.moves (own_did (number e.change) k a.reply) e.added
     → Turned (in_phase e (under_way_as k)) 0 (λ t'. StepLeads (turn_to (in_phase e (under_way_as k)) t') k happened.Decided)
@@ -124,11 +124,11 @@ decided_now e k a is keeps moved idle placed decides =
     let h = is.hosted in
     let at : Goes e k = h.at in
     let q = e.change.now in
-    let told = with_phase e.told (Decided k.id k.number k.request a.reply) in record {
-      told = told;
+    let known = with_phase e.known (Decided k.id k.number k.request a.reply) in record {
+      known = known;
       lead = (a.reply, decides, refl);
       moves = moved;
-      agrees = subst (λ (z : SessionView). HostedAgrees e.change.core (number e.change) told (hosted_session z q.place q.closed)) (sym keeps.session) (record {
+      agrees = subst (λ (z : SessionView). HostedAgrees e.change.core (number e.change) known (hosted_session z q.place q.closed)) (sym keeps.session) (record {
         unread = h.unread;
         output = h.output;
         begun = h.begun;
@@ -141,7 +141,7 @@ not_on_way : (c : Call) (given : Reply) → waiting_reply c ≡ Some given → c
 not_on_way c given has rests (inl none) = let k : Some given ≡ None = sym has ∙ none in cc
 not_on_way c given has rests (inr copies) = subst IsCopying rests copies
 
-helped_stays : (v v' : CoreView) (s : ℕ) (helped : List Record) → (lane_state v' s ≡ lane_state v s) ⊎ IsHelpedAt v v' s helped ⊎ IsFinished v v' s helped → OtherStays v v' s
+helped_stays : (v v' : CoreView) (s : ℕ) (helped : List Record) → (lane_state v' s ≡ lane_state v s) ⊎ IsHelped v v' s helped ⊎ IsFinished v v' s helped → OtherStays v v' s
 helped_stays v v' s helped (inl e) = inl e
 helped_stays v v' s helped (inr (inl h)) = inr (record { before = h.before; after = h.after; was = h.was; now = h.now; same = h.same; less = h.less; done = not_on_way h.after h.given h.decided h.rests })
 helped_stays v v' s helped (inr (inr h)) = inr (record { before = h.before; after = h.after; was = h.was; now = h.now; same = h.same; less = h.less; done = not_on_way h.after h.given h.has h.rests })
@@ -245,19 +245,19 @@ step_turned e k happened.Moved is keeps lane' g =
     let at : Goes e k = h.at in
     let q = e.change.now in
     let b = moves_by (before e.change.old.core e.world.records at.lane) (after_turn v' e.added lane') g.0 in
-    let told = with_phase e.told (UnderWay k.id k.number k.moment k.request (k.moves + 1)) in
+    let known = with_phase e.known (UnderWay k.id k.number k.moment k.request (k.moves + 1)) in
     let same = own e k is lane' b in
     let few : k.moves + 1 + left_of b.after ≤ bound_of k.request = let less = b.less in omega (arith, at.few, less, ap left_of same) in
     record {
-      told = told;
-      lead = (let some = b.some in omega (arith, few, some), move_adds e k is lane' b told, refl);
+      known = known;
+      lead = (let some = b.some in omega (arith, few, some), move_adds e k is lane' b known, refl);
       moves = record {
         joins = b.slot.joins;
         drawn = b.slot.drawn ∙ omega arith;
         joined = ap (λ (i : ℕ). i + 1) b.slot.joined;
         others = λ i ne. inl (b.slot.others i (λ z. ne (z ∙ at.session)));
       };
-      agrees = subst (λ (z : SessionView). HostedAgrees v' (number e.change) told (hosted_session z q.place q.closed)) (sym keeps.session) (record {
+      agrees = subst (λ (z : SessionView). HostedAgrees v' (number e.change) known (hosted_session z q.place q.closed)) (sym keeps.session) (record {
         unread = h.unread;
         output = h.output;
         begun = h.begun;
@@ -290,10 +290,10 @@ step_turned e k (happened.Blocked holder) is keeps lane' g =
     let at : Goes e k = h.at in
     let q = e.change.now in
     let b = g.0.1 in
-    let was = with_phase e.told (under_way_as k) in
+    let was = with_phase e.known (under_way_as k) in
     let call = others_call e.world v e.change.old.hosted s b.other b.call is.agrees b.slot (λ z. b.apart (z ∙ sym at.session)) in
     record {
-      told = was;
+      known = was;
       lead = ((b.other, b.call.moment, b.call.request, subst (λ (n : ℕ). IsOthersCall e.world s (other_call n b.other b.call.moment b.call.request)) b.number call), g.1.none, refl);
       moves = record { joins = b.looks.joins; drawn = b.looks.drawn ∙ omega arith; joined = ap (λ (i : ℕ). i + 1) b.looks.joined; others = λ i ne. inl (b.looks.slots i) };
       agrees = subst (λ (z : SessionView). HostedAgrees v' s was (hosted_session z q.place q.closed)) (sym keeps.session) (record {

@@ -16,7 +16,7 @@ use Rattle.sf_engine.specs.declared.hosted.HostedState.TheVariants as state
 use Rattle.sf_engine.specs.declared.event.Event.TheVariants as event
 use Rattle.sf_engine.specs.declared.event.Happened.{Happened}
 use Rattle.sf_engine.specs.declared.event.Happened.TheVariants as happened
-use Rattle.sf_session.specs.SessionStates.{Phase, Resting, UnderWay, Decided as IsDecided, Gone}
+use Rattle.sf_session.specs.SessionStates.{Phase, Resting, UnderWay, Decided, Gone}
 use Rattle.sf_engine.specs.Works.{is_of_other, names_helped, IsWork, IsStep}
 use Rattle.sf_engine.specs.Turns.{Stand, stand, Finding, ReadGives, RestsOrLeaves, StepGives, GivesAt, PlaceGives, ClosesAt, before, after_turn}
 use Rattle.sf_engine.specs.Traces.{walking}
@@ -108,7 +108,7 @@ turn_works a h found s (UnderWay id n k q moves) r added b is g =
     let at : IsGoing a.core s a.session (walking id n k q moves) a.place = is in
     let g' = subst (λ (z : HostedState). GivesAt z a h found r added b) at.place_is g in
     step_works (before a.core h at.lane) s found.moment r (after_turn b.core added g'.0.0) b.place at.session g'.0.1
-turn_works a h found s (IsDecided id n q given) r added b is g =
+turn_works a h found s (Decided id n q given) r added b is g =
     let at : HasAnswer a.core s a.session (reply_due id given) a.place = is in
     let g' = subst (λ (z : HostedState). GivesAt z a h found r added b) at.place_is g in
     let P : Happened → Type 0 = λ z. Works s found.moment z a.core h added b.core in

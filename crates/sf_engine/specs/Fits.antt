@@ -51,21 +51,21 @@ HasMoved (stage.At walked node) moves = moves ≡ walked + 1
 HasMoved (stage.Ends common old new) moves = moves + common.walked ≡ old.walked + new.walked + 1
 HasMoved (stage.Copies node blocks) moves = 0 < moves
 
--- A session whose call is under way as is told: the core has the call, and so many steps are left
+-- A session whose call is under way as is known: the core has the call, and so many steps are left
 -- to it at most.
-pub record IsGoing (v : CoreView) (s : ℕ) (x : SessionView) (told : Walking)
+pub record IsGoing (v : CoreView) (s : ℕ) (x : SessionView) (known : Walking)
     (p : HostedState) : Type 0 where
   pub lane : LaneView
   pub call : Call
   pub session : lane.session ≡ s
-  pub number_is : lane.call ≡ Some told.number
+  pub number_is : lane.call ≡ Some known.number
   pub place_is : p ≡ state.UnderWay lane
   pub slot : lane_state v s ≡ Busy call
-  pub own : (call.session ≡ s) × (call.number ≡ told.number) × (call.moment ≡ told.moment)
-      × (call.request ≡ told.request)
-  pub few : told.moves + left_of call ≤ bound_of told.request
-  pub walked : IsStillWalking call → HasMoved call.stage told.moves
-  pub waiting : x.waiting ≡ Some told.id
+  pub own : (call.session ≡ s) × (call.number ≡ known.number) × (call.moment ≡ known.moment)
+      × (call.request ≡ known.request)
+  pub few : known.moves + left_of call ≤ bound_of known.request
+  pub walked : IsStillWalking call → HasMoved call.stage known.moves
+  pub waiting : x.waiting ≡ Some known.id
   pub ended : x.ended ≡ None
 
 -- a reply that waits for a request

@@ -21,7 +21,7 @@ use Rattle.sf_engine.specs.declared.event.Happened.{Happened}
 use Rattle.sf_engine.specs.declared.event.Happened.TheVariants as happened
 use Rattle.sf_engine.specs.declared.event.EngineFault.{EngineFault}
 use Rattle.sf_engine.specs.declared.event.EngineFault.TheVariants as fault
-use Rattle.sf_session.specs.Responses.{Response, Version, Locally, ByCall, Refused, ask_behind, transcript, has_begun, AreAsked, if_so, RepliedCall, recorded_in, answered_in, Due, Nothing, Recorded, asked_due, recorded_due, most_calls}
+use Rattle.sf_session.specs.Responses.{Response, Version, Locally, ByCall, Refused, ask_behind, transcript, has_begun, AreAsked, if_so, RepliedCall, recorded_in, answered_in, Due, NothingDue, Recorded, asked_due, recorded_due, most_calls}
 
 -- The entry of one event: what the caller was told of it, the records that it added to the order of
 -- all calls, and the reply that it wrote. The caller sees the first two alone.
@@ -230,11 +230,11 @@ pub record EndsIn (session : ℕ) (r : Happened) (log : List LogEntry) : Type 0 
 
 -- what is due to a session after a turn that came to this
 abbrev pub LeavesDue : Happened → Due → Type 0
-LeavesDue happened.Wrote due = due ≡ Nothing
-LeavesDue happened.Idle due = due ≡ Nothing
-LeavesDue (happened.Ended cause) due = due ≡ Nothing
+LeavesDue happened.Wrote due = due ≡ NothingDue
+LeavesDue happened.Idle due = due ≡ NothingDue
+LeavesDue (happened.Ended cause) due = due ≡ NothingDue
 LeavesDue happened.Decided due = (id : ℕ) × (call : RepliedCall) × (due ≡ Recorded id call)
-LeavesDue _ due = due ≢ Nothing
+LeavesDue _ due = due ≢ NothingDue
 
 -- What a session was fed is packets and a rest. Each packet's body was answered what it asks for,
 -- in order, but for one at most, whose reply is due. The session's records are its calls with their
@@ -256,7 +256,7 @@ pub record IsAnswered (log : List LogEntry) (session : ℕ) : Type 0 where
   pub idle : EndsIn session happened.Idle log → IsCut rest cut.More
   pub ended : (cause : Cause) → EndsIn session (happened.Ended cause) log → HasLeft log session
       × (((cause ≡ Closed) × WasClosed log session) ⊎ EndsBy (has_begun bodies) rest cause)
-  pub closed : WasClosed log session → due ≡ Nothing → HasLeft log session
+  pub closed : WasClosed log session → due ≡ NothingDue → HasLeft log session
 
 -- what waits to be sent to a session: the packets of its replies, without what was sent
 pub record IsUnsent (log : List LogEntry) (session : ℕ) (output : List ℕ) : Type 0 where
@@ -312,7 +312,7 @@ IsStepAtZero e = (session : ℕ) × (r : Happened) × (e.event ≡ event.Turn se
 -- no call is under way: what is due to a session has its record
 abbrev pub AreDecided : List LogEntry → Type 0
 AreDecided log = (session : ℕ) → IsKnown log session → (answered : IsAnswered log session)
-    × ((answered.due ≡ Nothing)
+    × ((answered.due ≡ NothingDue)
     ⊎ ((id : ℕ) × (call : RepliedCall) × (answered.due ≡ Recorded id call)))
 
 -- Nothing is due to a session that is here, and neither a whole packet nor a wrong length is left
@@ -320,7 +320,7 @@ AreDecided log = (session : ℕ) → IsKnown log session → (answered : IsAnswe
 pub record WaitsForBytes (log : List LogEntry) (session : ℕ) : Type 0 where
   pub here : IsHere log session
   pub answered : IsAnswered log session
-  pub none_due : answered.due ≡ Nothing
+  pub none_due : answered.due ≡ NothingDue
   pub cut : IsCut answered.rest cut.More
 
 -- ---- all in one

@@ -13,7 +13,7 @@ use Rattle.sf_session.specs.declared.cause.Cause.TheVariants.{Closed}
 use Rattle.sf_engine.specs.declared.event.Happened.{Happened}
 use Rattle.sf_engine.specs.declared.event.Happened.TheVariants as happened
 use Rattle.sf_engine.specs.Worlds.{TraceEntry, World}
-use Rattle.sf_session.specs.Responses.{Response, RepliedCall, recorded_in, answered_in, Due, Nothing, Unrecorded, Recorded, recorded_due}
+use Rattle.sf_session.specs.Responses.{Response, RepliedCall, recorded_in, answered_in, Due, NothingDue, Unrecorded, Recorded, recorded_due}
 use Rattle.sf_session.specs.SessionStates.{Phase, Resting, UnderWay, Decided, Gone, SessionState, is_here, TakesNone}
 use Rattle.sf_engine.specs.Traces.{ReachesWorld}
 use Rattle.sf_engine.specs.Views.{EngineView}
@@ -32,11 +32,11 @@ traced log = map traced_entry log
 
 -- what is due to a session that is so far
 abbrev pub IsDue : Phase → Due → Type 0
-IsDue Resting due = due ≡ Nothing
+IsDue Resting due = due ≡ NothingDue
 IsDue (UnderWay id number moment request moves) due = (due ≡ Unrecorded id request)
     ⊎ ((reply : Reply) × (due ≡ Recorded id (replied number request reply)))
 IsDue (Decided id number request reply) due = due ≡ Recorded id (replied number request reply)
-IsDue (Gone cause) due = due ≡ Nothing
+IsDue (Gone cause) due = due ≡ NothingDue
 
 -- the numbers of the calls that are answered are below this one
 abbrev pub IsAbove : Phase → (begun top : ℕ) → Type 0

@@ -36,8 +36,8 @@ pub(crate) struct Piece {
 
 /// The place that the system tells; nothing where it tells none, or one before the offset.
 fn place_from(file: &OwnedFd, offset: u64, what: i32) -> Option<u64> {
-    let told = lseek(file.as_raw_fd(), i64::try_from(offset).ok()?, what);
-    let place = u64::try_from(told).ok()?;
+    let found = lseek(file.as_raw_fd(), i64::try_from(offset).ok()?, what);
+    let place = u64::try_from(found).ok()?;
     if place < offset { None } else { Some(place) }
 }
 

@@ -65,9 +65,9 @@ pub fn carry<R: Read, W: Write>(alloc: Global, from: &mut R, to: &mut W) -> io::
 /// Carries standard input to the socket, and tells the socket of its end.
 fn send(rt: &HostRuntime, stream: &UnixStream) -> io::Result<()> {
     let sent = carry(rt.alloc(), &mut rt.reader(), &mut &*stream);
-    let told = stream.shutdown(Shutdown::Write);
+    let shut = stream.shutdown(Shutdown::Write);
     sent?;
-    told
+    shut
 }
 
 /// Tells whoever reads standard output of its end, where that is a socket, as OpenSSH's `sftp`

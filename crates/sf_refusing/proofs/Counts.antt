@@ -9,7 +9,7 @@ use Rattle.sf_engine.specs.Promise.{LogEntry}
 use Rattle.sf_refusing.specs.declared.rule.Rule.{Rule}
 use Rattle.sf_refusing.specs.declared.given.GivenRule.{GivenRule}
 use Rattle.sf_refusing.specs.Counting.{is_ready, counted_once, counted_if}
-use Rattle.sf_refusing.specs.Journal.{Act, Ruled, PassedOn, Refused, Packet, ruled, rules_in, since_given, fits_packet, counts, counted, refused_by, refused_in, is_refusing, refuses_since, refuses}
+use Rattle.sf_refusing.specs.Journal.{Act, Ruled, PassedOn, RefusedBy, Packet, ruled, rules_in, since_given, fits_packet, counts, counted, refused_by, refused_in, is_refusing, refuses_since, refuses}
 use Rattle.sf_refusing.specs.Refusing.{IsGiven, AreGiven}
 use Rattle.sf_refusing.proofs.Growing.{more, since_more, since_new, since_none, get_set_same, get_set_other, some_same}
 
@@ -177,22 +177,22 @@ pass_rules journal rules rules' p e A C none = record {
 }
 
 pub refuse_rules : (journal : List Act) (rules rules' : List GivenRule) (p : Packet) (id by : ℕ) (code : StatusCode) (e : LogEntry) (given : GivenRule) → AreGiven journal rules → AreCounted rules rules' (by + 1) (λ given. fits_packet given.rule p) → slice_get rules by ≡ Some given → (fits_packet given.rule p && is_ready given) ≡ true → ((number : ℕ) (given : GivenRule) → number < by → slice_get rules number ≡ Some given → (fits_packet given.rule p && is_ready given) ≡ false)
-    → AreGiven (journal ++ Refused p id by code e ∷ []) rules'
+    → AreGiven (journal ++ RefusedBy p id by code e ∷ []) rules'
 refuse_rules journal rules rules' p id by code e given A C here ready first = record {
-  count = C.0 ∙ A.count ∙ ap (λ (rs : List Rule). length rs) (same_rules journal (Refused p id by code e) refl);
+  count = C.0 ∙ A.count ∙ ap (λ (rs : List Rule). length rs) (same_rules journal (RefusedBy p id by code e) refl);
   each = λ number now at.
       let was = was_counted rules rules' (by + 1) (λ given. fits_packet given.rule p) C number now at in
-      subst (λ (g : GivenRule). IsGiven (journal ++ Refused p id by code e ∷ []) number g) was.2 (one number was.0 was.1);
+      subst (λ (g : GivenRule). IsGiven (journal ++ RefusedBy p id by code e ∷ []) number g) was.2 (one number was.0 was.1);
 }
   where
-    one : (number : ℕ) (given : GivenRule) → slice_get rules number ≡ Some given → IsGiven (journal ++ Refused p id by code e ∷ []) number (counted_if (nat_lt number (by + 1) && fits_packet given.rule p) given)
+    one : (number : ℕ) (given : GivenRule) → slice_get rules number ≡ Some given → IsGiven (journal ++ RefusedBy p id by code e ∷ []) number (counted_if (nat_lt number (by + 1) && fits_packet given.rule p) given)
     one number found at =
         let fit : Bool = fits_packet found.rule p in
         let G : IsGiven journal number found = A.each number found at in
         elim (cases_lt number by) [
           | inl lt ↦
-              subst (λ (b : Bool). IsGiven (journal ++ Refused p id by code e ∷ []) number (counted_if (b && fit) found)) (sym (lt-ltb number (by + 1) (omega (arith, lt))))
-              (pass_given journal number found (Refused p id by code e) fit G (first number found lt at)
+              subst (λ (b : Bool). IsGiven (journal ++ RefusedBy p id by code e ∷ []) number (counted_if (b && fit) found)) (sym (lt-ltb number (by + 1) (omega (arith, lt))))
+              (pass_given journal number found (RefusedBy p id by code e) fit G (first number found lt at)
               (ap (λ (b : Bool). if not b && fit then 1 else 0) (le-ltb by number (omega (arith, lt))))
               (ap (λ (b : Bool). if b then 1 else 0) (ne_eqb by number (λ same. omega (arith, same, lt)))))
           | inr le ↦
@@ -200,15 +200,15 @@ refuse_rules journal rules rules' p id by code e given A C here ready first = re
                 | inl same ↦
                     let same_rule : found ≡ given = some_same found given (sym at ∙ ap (λ (n : ℕ). slice_get rules n) same ∙ here) in
                     let both = and_parts (fits_packet found.rule p) (is_ready found) (subst (λ (g : GivenRule). (fits_packet g.rule p && is_ready g) ≡ true) (sym same_rule) ready) in
-                    let counts_one : counts number found.rule (Refused p id by code e) ≡ 1 =
+                    let counts_one : counts number found.rule (RefusedBy p id by code e) ≡ 1 =
                     ap (λ (b : Bool). if not b && fit then 1 else 0) (le-ltb by number (omega (arith, same))) ∙ ap (λ (b : Bool). if b then 1 else 0) both.0 in
-                    subst (λ (b : Bool). IsGiven (journal ++ Refused p id by code e ∷ []) number (counted_if b found))
+                    subst (λ (b : Bool). IsGiven (journal ++ RefusedBy p id by code e ∷ []) number (counted_if b found))
                     (sym (ap (λ (b : Bool). b && fit) (lt-ltb number (by + 1) (omega (arith, same))) ∙ both.0))
-                    (refuse_given journal number found (Refused p id by code e) G both.1 counts_one (ap (λ (b : Bool). if b then 1 else 0) (eq-eqb by number (sym same))))
+                    (refuse_given journal number found (RefusedBy p id by code e) G both.1 counts_one (ap (λ (b : Bool). if b then 1 else 0) (eq-eqb by number (sym same))))
                 | inr ne ↦
                     let lt : by < number = omega (arith, le, ne) in
-                    subst (λ (b : Bool). IsGiven (journal ++ Refused p id by code e ∷ []) number (counted_if (b && fit) found)) (sym (le-ltb number (by + 1) (omega (arith, lt))))
-                    (same_given journal number found (Refused p id by code e) G
+                    subst (λ (b : Bool). IsGiven (journal ++ RefusedBy p id by code e ∷ []) number (counted_if (b && fit) found)) (sym (le-ltb number (by + 1) (omega (arith, lt))))
+                    (same_given journal number found (RefusedBy p id by code e) G
                     (ap (λ (b : Bool). if not b && fit then 1 else 0) (lt-ltb by number lt))
                     (ap (λ (b : Bool). if b then 1 else 0) (ne_eqb by number (λ same. omega (arith, same, lt)))))
               ]

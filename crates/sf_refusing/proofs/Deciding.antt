@@ -26,7 +26,7 @@ use Rattle.sf_refusing.specs.declared.given.GivenRule.{GivenRule}
 use Rattle.sf_refusing.specs.declared.passage.Passage.{Passage}
 use Rattle.sf_refusing.specs.Rules.{kind_of, paths_of, fits}
 use Rattle.sf_refusing.specs.Counting.{is_ready, counted_if}
-use Rattle.sf_refusing.specs.Journal.{Act, Ruled, Did, PassedOn, Refused, Packet, log_of, received_in, taken_in, taken_by, rules_in, since_given, fits_asked, fits_packet, counts, refuses}
+use Rattle.sf_refusing.specs.Journal.{Act, Ruled, Made, PassedOn, RefusedBy, Packet, log_of, received_in, taken_in, taken_by, rules_in, since_given, fits_asked, fits_packet, counts, refuses}
 use Rattle.sf_refusing.specs.Refusing.{IsFed, IsUnruled, MayPass, MayRefuse, IsOwn, Serves, AreGiven, MovesOn}
 use Rattle.sf_refusing.specs.Fronts.{IsAt, Stands, Leaves}
 use Rattle.std.proofs.lemmas.Option.{slice_get_within}
@@ -72,7 +72,7 @@ none_held {E} has_log engine journal s p rules S more = λ waits own held receiv
 pub done_did : {E : Type 0} (has_log : E → List LogEntry → Type 0) (engine engine' : E) (journal : List Act) (s : ℕ) (p p' : Passage) (rules : List GivenRule) (e : LogEntry) (len : ℕ) → Stands has_log engine journal s p rules → IsFed s (take len p.held.items) e → has_log engine' (log_of journal ++ e ∷ []) → p'.held.items ≡ drop len p.held.items → p'.output.items ≡ p.output.items → p'.begun ≡ true → 0 < length (take len p.held.items) → IsUnruled journal s (take len p.held.items) → IsDone has_log engine' journal s p' rules (Ok false)
 done_did {E} has_log engine engine' journal s p p' rules e len S F has held output begun some unruled =
     let front : List ℕ = take len p.held.items in (
-      Did e ∷ [],
+      Made e ∷ [],
       omega (arith, some, ap (λ (b : List ℕ). length b) (fed_is s front e F s ∙ own_so s front)),
       did_leaves has_log engine engine' journal s p p' rules e front S F has
           (sym (take-append-drop len p.held.items) ∙ ap (λ (b : List ℕ). front ++ b) (sym held)) output begun some unruled,
@@ -164,7 +164,7 @@ done_refuse {E} has_log engine engine' journal s p p' rules rules' e u len id re
       sent = length u;
       event = sent.event;
     } in (
-      Refused one id number code e ∷ [],
+      RefusedBy one id number code e ∷ [],
       (one, id, number, code, e, refl, refl),
       refused_leaves has_log engine engine' journal p p' rules rules' u one id number code e S may sent unsent has (held_is p p' len B held) output begun
           (refuse_rules journal rules rules' one id number code e given S.rules (same_fit rules rules' (number + 1) (λ given. fits given.rule session kind paths) (λ given. fits_packet given.rule one) (λ given. same given.rule) C) here ready' first'),

@@ -13,7 +13,7 @@ use Rattle.sf_engine.specs.declared.event.EngineFault.{EngineFault}
 use Rattle.sf_session.specs.Responses.{Response, packet_for, transcript, if_so}
 use Rattle.sf_engine.specs.Promise.{LogEntry, fed_by, written_by, written_in, sent_at, sent_of, IsUnsent}
 use Rattle.sf_refusing.specs.declared.rule.Rule.{Rule}
-use Rattle.sf_refusing.specs.Journal.{Act, Ruled, Received, Delivered, Did, Apart, PassedOn, Refused, Packet, logged, log_of, received_by, received_in, taken_by, taken_in, sent_by, sent_in, delivered_by, delivered_in, rules_in, since_given, counts, counted, refused_by, refused_in}
+use Rattle.sf_refusing.specs.Journal.{Act, Ruled, Received, Delivered, Made, Apart, PassedOn, RefusedBy, Packet, logged, log_of, received_by, received_in, taken_by, taken_in, sent_by, sent_in, delivered_by, delivered_in, rules_in, since_given, counts, counted, refused_by, refused_in}
 use Rattle.sf_refusing.specs.Refusing.{MayHappen, AllMayHappen, IsOwn, IsNotApart, IsServed, Serves}
 
 -- ---- lists
@@ -186,7 +186,7 @@ pub record IsMoved (journal : List Act) (s : ℕ) (held output rest : List ℕ) 
   pub unsent_is : served.unsent ≡ rest
 
 pub moved_served : (journal : List Act) (s : ℕ) (e : LogEntry) (held output u : List ℕ) (n : ℕ) → fed_by s e.event e.result ≡ [] → written_by s e.event e.wrote ≡ [] → sent_at s e.event e.result ≡ n → n ≤ length u → IsUnsent (log_of journal) s u → IsServed journal s held output
-    → IsMoved (journal ++ Did e ∷ []) s held (output ++ take n u) (drop n u)
+    → IsMoved (journal ++ Made e ∷ []) s held (output ++ take n u) (drop n u)
 unfolding transcript grown
 moved_served journal s e held output u n fed wrote sent le U S =
     let same : S.unsent ≡ u = same_unsent (log_of journal) s S.unsent u S.in_engine U in
@@ -197,7 +197,7 @@ moved_served journal s e held output u n fed wrote sent le U S =
     (ap (λ (b : List ℕ). drop (sent_at s e.event e.result) u ++ b) none ∙ append-nil (drop (sent_at s e.event e.result) u) ∙ ap (λ (k : ℕ). drop k u) sent)
     (unsent_more (log_of journal) e s u U at) in
     record {
-      served = grown journal s (Did e) held held output (output ++ take n u) (drop n u) [] S
+      served = grown journal s (Made e) held held output (output ++ take n u) (drop n u) [] S
           (append-nil held ∙ ap (λ (b : List ℕ). b ++ held) (sym fed))
           V
           refl
@@ -224,20 +224,20 @@ since_more (Ruled r ∷ journal) zero rule since act h =
 since_more (Ruled r ∷ journal) (suc number) rule since act h = since_more journal number rule since act h
 since_more (Received s bytes ∷ journal) number rule since act h = since_more journal number rule since act h
 since_more (Delivered s n ∷ journal) number rule since act h = since_more journal number rule since act h
-since_more (Did e ∷ journal) number rule since act h = since_more journal number rule since act h
+since_more (Made e ∷ journal) number rule since act h = since_more journal number rule since act h
 since_more (Apart e ∷ journal) number rule since act h = since_more journal number rule since act h
 since_more (PassedOn p e ∷ journal) number rule since act h = since_more journal number rule since act h
-since_more (Refused p id by code e ∷ journal) number rule since act h = since_more journal number rule since act h
+since_more (RefusedBy p id by code e ∷ journal) number rule since act h = since_more journal number rule since act h
 
 pub since_new : (journal : List Act) (rule : Rule) → since_given (journal ++ Ruled rule ∷ []) (length (rules_in journal)) ≡ Some (rule, [])
 since_new [] rule = refl
 since_new (Ruled r ∷ journal) rule = since_new journal rule
 since_new (Received s bytes ∷ journal) rule = since_new journal rule
 since_new (Delivered s n ∷ journal) rule = since_new journal rule
-since_new (Did e ∷ journal) rule = since_new journal rule
+since_new (Made e ∷ journal) rule = since_new journal rule
 since_new (Apart e ∷ journal) rule = since_new journal rule
 since_new (PassedOn p e ∷ journal) rule = since_new journal rule
-since_new (Refused p id by code e ∷ journal) rule = since_new journal rule
+since_new (RefusedBy p id by code e ∷ journal) rule = since_new journal rule
 
 pub since_none : (journal : List Act) (number : ℕ) → length (rules_in journal) ≤ number → since_given journal number ≡ None
 since_none [] number h = refl
@@ -245,7 +245,7 @@ since_none (Ruled r ∷ journal) zero h = absurd (omega (arith, h))
 since_none (Ruled r ∷ journal) (suc number) h = since_none journal number (omega (arith, h))
 since_none (Received s bytes ∷ journal) number h = since_none journal number h
 since_none (Delivered s n ∷ journal) number h = since_none journal number h
-since_none (Did e ∷ journal) number h = since_none journal number h
+since_none (Made e ∷ journal) number h = since_none journal number h
 since_none (Apart e ∷ journal) number h = since_none journal number h
 since_none (PassedOn p e ∷ journal) number h = since_none journal number h
-since_none (Refused p id by code e ∷ journal) number h = since_none journal number h
+since_none (RefusedBy p id by code e ∷ journal) number h = since_none journal number h

@@ -11,7 +11,7 @@ use Rattle.sf_session.specs.Responses.{transcript, if_so}
 use Rattle.sf_engine.specs.Promise.{LogEntry, fed_by, fed_in, written_by, written_in, sent_at}
 use Rattle.sf_refusing.specs.declared.rule.Rule.{Rule}
 use Rattle.sf_refusing.specs.declared.refusals.Refusals.{Refusals}
-use Rattle.sf_refusing.specs.Journal.{Act, Ruled, Received, Delivered, Did, Apart, PassedOn, Refused, ruled, rules_in, log_of, sent_in, taken_in, since_given}
+use Rattle.sf_refusing.specs.Journal.{Act, Ruled, Received, Delivered, Made, Apart, PassedOn, RefusedBy, ruled, rules_in, log_of, sent_in, taken_in, since_given}
 use Rattle.sf_refusing.specs.Refusing.{AllMayHappen, moves_bytes, IsOwn, Serves, HasJournal}
 use Rattle.sf_refusing.proofs.Growing.{transcript_on, own_front, happened_more, begun_stays, entry_served, since_none}
 use Rattle.sf_refusing.proofs.Counts.{rules_stay}
@@ -64,16 +64,16 @@ ruleless front (Ruled rule ∷ journal) h none s own =
     absurd (omega (arith, none, ap (λ (rs : List Rule). length rs) (flat_map-append ruled front (Ruled rule ∷ journal)), length-append (rules_in front) (rule ∷ rules_in journal)))
 ruleless front (Received t bytes ∷ journal) h none s own = ruleless (front ++ Received t bytes ∷ []) journal h.1 (none_next front journal (Received t bytes) none) s own.1
 ruleless front (Delivered t n ∷ journal) h none s own = ruleless (front ++ Delivered t n ∷ []) journal h.1 (none_next front journal (Delivered t n) none) s own.1
-ruleless front (Did e ∷ journal) h none s own = one_more s e journal (ruleless (front ++ Did e ∷ []) journal h.1 (none_next front journal (Did e) none) s own.1)
+ruleless front (Made e ∷ journal) h none s own = one_more s e journal (ruleless (front ++ Made e ∷ []) journal h.1 (none_next front journal (Made e) none) s own.1)
 ruleless front (PassedOn p e ∷ journal) h none s own = one_more s e journal (ruleless (front ++ PassedOn p e ∷ []) journal h.1 (none_next front journal (PassedOn p e) none) s own.1)
 ruleless front (Apart e ∷ journal) h none s own =
     let r = one_more s e journal (ruleless (front ++ Apart e ∷ []) journal h.1 (none_next front journal (Apart e) none) s own.1) in (
       r.0,
       ap (λ (b : List ℕ). b ++ taken_in s journal) (sym (apart_fed s e.event e.result own.0)) ∙ r.1,
     )
-ruleless front (Refused p id number code e ∷ journal) h none s own =
+ruleless front (RefusedBy p id number code e ∷ journal) h none s own =
     absurd (no_some (h.0.rule, h.0.since)
-    (sym (since_none front number (omega (arith, none_before front (Refused p id number code e ∷ journal) none))) ∙ h.0.given))
+    (sym (since_none front number (omega (arith, none_before front (RefusedBy p id number code e ∷ journal) none))) ∙ h.0.given))
 
 -- ---- events apart
 

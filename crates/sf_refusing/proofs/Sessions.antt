@@ -18,7 +18,7 @@ use Rattle.sf_engine.specs.Promise.{LogEntry, log_entry, fed_by, written_by, wri
 use Rattle.sf_refusing.specs.declared.given.GivenRule.{GivenRule}
 use Rattle.sf_refusing.specs.declared.passage.Passage.{Passage}
 use Rattle.sf_refusing.specs.declared.refusals.Refusals.{Refusals}
-use Rattle.sf_refusing.specs.Journal.{Act, Received, Delivered, Did, logged, log_of, received_in, taken_in, sent_in, delivered_in}
+use Rattle.sf_refusing.specs.Journal.{Act, Received, Delivered, Made, logged, log_of, received_in, taken_in, sent_in, delivered_in}
 use Rattle.sf_refusing.specs.Refusing.{IsFed, IsOwn, IsServed, Serves, AreGiven, AllMayHappen, HasJournal, Have, NoneIsHeld, PassesOn, MovesOn, IsRefusal, IsTurn, IsNextOutput}
 use Rattle.sf_refusing.specs.Fronts.{IsAt, Stands, Changes, Leaves}
 use Rattle.sf_refusing.proofs.Growing.{more, own_so, other_so, own_front, happened_more, begun_stays, received_served, other_served, IsMoved, moved_served, delivered_served, same_unsent, entry_served}
@@ -96,9 +96,9 @@ received_has r r' journal s at p p' bytes H here number set rules held output be
 -- ---- a turn
 
 -- the turns that the engine made after what stood at the front went on
-pub have_turned : {E : Type 0} (has_log : E → List LogEntry → Type 0) (engine : E) (r : Refusals) (journal passed : List Act) (s m : ℕ) (result : Result Happened EngineFault) (entries : List LogEntry) → HasJournal r (journal ++ passed) → AreTurns (event.Turn s m) result entries → has_log engine (log_of (journal ++ passed) ++ entries) → Have has_log engine r (journal ++ (passed ++ map Did entries))
+pub have_turned : {E : Type 0} (has_log : E → List LogEntry → Type 0) (engine : E) (r : Refusals) (journal passed : List Act) (s m : ℕ) (result : Result Happened EngineFault) (entries : List LogEntry) → HasJournal r (journal ++ passed) → AreTurns (event.Turn s m) result entries → has_log engine (log_of (journal ++ passed) ++ entries) → Have has_log engine r (journal ++ (passed ++ map Made entries))
 have_turned {E} has_log engine r journal passed s m result entries H turns has =
-    let all : (journal ++ passed) ++ map Did entries ≡ journal ++ (passed ++ map Did entries) = append_assoc journal passed (map Did entries) in
+    let all : (journal ++ passed) ++ map Made entries ≡ journal ++ (passed ++ map Made entries) = append_assoc journal passed (map Made entries) in
     subst (λ (j : List Act). Have has_log engine r j) all (
       plain_all r entries (journal ++ passed) (plain_turns s m result entries turns) H,
       subst (λ (l : List LogEntry). has_log engine l) (log_done (journal ++ passed) entries) has,
@@ -106,7 +106,7 @@ have_turned {E} has_log engine r journal passed s m result entries H turns has =
 
 pub turned : {E : Type 0} (has_log : E → List LogEntry → Type 0) (engine : E) (r : Refusals) (journal passed : List Act) (s m : ℕ) (result : Result Happened EngineFault) (AreMade : List LogEntry → Type 0) (entries : List LogEntry) → PassesOn journal s passed → HasJournal r (journal ++ passed) → AreMade entries → AreTurns (event.Turn s m) result entries → has_log engine (log_of (journal ++ passed) ++ entries) → (acts : List Act) × IsTurn journal s AreMade result acts × Have has_log engine r (journal ++ acts)
 turned {E} has_log engine r journal passed s m result AreMade entries on H made turns has =
-    (passed ++ map Did entries, inr (inl (passed, entries, on, made, refl)), have_turned has_log engine r journal passed s m result entries H turns has)
+    (passed ++ map Made entries, inr (inl (passed, entries, on, made, refl)), have_turned has_log engine r journal passed s m result entries H turns has)
 
 -- ---- what is sent
 
@@ -199,17 +199,17 @@ sent_is : (s k : ℕ) (e : LogEntry) → IsGone s k e → (other : ℕ) → sent
 sent_is s k e G other =
     ap (λ (ev : Event). sent_at other ev e.result) G.event ∙ ap (λ (r : Result Happened EngineFault). sent_at other (event.Sent s k) r) G.result
 
-sent_serves : (journal : List Act) (s n k : ℕ) (e : LogEntry) (held output : List ℕ) (begun : Bool) → IsGone s k e → n ≡ length output + k → ((u : List ℕ) → IsUnsent (log_of journal) s u → k ≤ length u) → Serves journal s held output begun → Serves ((journal ++ Did e ∷ []) ++ Delivered s n ∷ []) s held [] begun
+sent_serves : (journal : List Act) (s n k : ℕ) (e : LogEntry) (held output : List ℕ) (begun : Bool) → IsGone s k e → n ≡ length output + k → ((u : List ℕ) → IsUnsent (log_of journal) s u → k ≤ length u) → Serves journal s held output begun → Serves ((journal ++ Made e ∷ []) ++ Delivered s n ∷ []) s held [] begun
 sent_serves journal s n k e held output begun G count there S =
     let fed : fed_by s e.event e.result ≡ [] = ap (λ (ev : Event). fed_by s ev e.result) G.event in
     let written : written_by s e.event e.wrote ≡ [] = ap (λ (ev : Event). written_by s ev e.wrote) G.event in
     let sent : sent_at s e.event e.result ≡ k = sent_is s k e G s ∙ ap (λ (b : Bool). if b then k else 0) (eq-eqb s s refl) in
-    let mid : List Act = journal ++ Did e ∷ [] in
+    let mid : List Act = journal ++ Made e ∷ [] in
     record {
-      begun_is = begun_stays mid s (Delivered s n) begun refl (begun_stays journal s (Did e) begun fed S.begun_is);
+      begun_is = begun_stays mid s (Delivered s n) begun refl (begun_stays journal s (Made e) begun fed S.begun_is);
       served = λ own.
           let own_mid : IsOwn s mid = own_front s mid (Delivered s n) own in
-          let T : IsServed journal s held output = S.served (own_front s journal (Did e) own_mid) in
+          let T : IsServed journal s held output = S.served (own_front s journal (Made e) own_mid) in
           let u : List ℕ = T.unsent in
           let le : k ≤ length u = there u T.in_engine in
           let M : IsMoved mid s held (output ++ take k u) (drop k u) = moved_served journal s e held output u k fed written sent le T.in_engine T in
@@ -217,30 +217,30 @@ sent_serves journal s n k e held output begun G count there S =
           delivered_served mid s n (output ++ take k u) held [] gone (subst (λ (o : List ℕ). IsServed mid s held o) (sym (append-nil (output ++ take k u))) M.served);
     }
 
-others_sent : (journal : List Act) (s n k : ℕ) (e : LogEntry) → IsGone s k e → (other : ℕ) (held output : List ℕ) (begun : Bool) → other ≢ s → Serves journal other held output begun → Serves ((journal ++ Did e ∷ []) ++ Delivered s n ∷ []) other held output begun
+others_sent : (journal : List Act) (s n k : ℕ) (e : LogEntry) → IsGone s k e → (other : ℕ) (held output : List ℕ) (begun : Bool) → other ≢ s → Serves journal other held output begun → Serves ((journal ++ Made e ∷ []) ++ Delivered s n ∷ []) other held output begun
 others_sent journal s n k e G other held output begun ne serves =
     let apart : s ≡ other → ⊥ = λ same. ne (sym same) in
     let fed : fed_by other e.event e.result ≡ [] = ap (λ (ev : Event). fed_by other ev e.result) G.event in
     let sent : sent_at other e.event e.result ≡ 0 = sent_is s k e G other ∙ ap (λ (b : Bool). if b then k else 0) (ne_eqb s other apart) in
-    other_serves (journal ++ Did e ∷ []) other (Delivered s n) held output begun refl refl refl (ap (λ (b : Bool). if b then n else 0) (ne_eqb s other apart)) refl
+    other_serves (journal ++ Made e ∷ []) other (Delivered s n) held output begun refl refl refl (ap (λ (b : Bool). if b then n else 0) (ne_eqb s other apart)) refl
     (record {
-      begun_is = begun_stays journal other (Did e) begun fed serves.begun_is;
-      served = λ own. entry_served journal other (Did e) e held output refl refl fed refl refl sent (serves.served (own_front other journal (Did e) own));
+      begun_is = begun_stays journal other (Made e) begun fed serves.begun_is;
+      served = λ own. entry_served journal other (Made e) e held output refl refl fed refl refl sent (serves.served (own_front other journal (Made e) own));
     })
 
-sent_happened : (journal : List Act) (s n k : ℕ) (e : LogEntry) → IsGone s k e → AllMayHappen [] journal → AllMayHappen [] ((journal ++ Did e ∷ []) ++ Delivered s n ∷ [])
+sent_happened : (journal : List Act) (s n k : ℕ) (e : LogEntry) → IsGone s k e → AllMayHappen [] journal → AllMayHappen [] ((journal ++ Made e ∷ []) ++ Delivered s n ∷ [])
 sent_happened journal s n k e G H =
-    happened_more [] (journal ++ Did e ∷ []) (Delivered s n)
-    (happened_more [] journal (Did e) H (λ other. inl (ap (λ (ev : Event). fed_by other ev e.result) G.event))) tt
+    happened_more [] (journal ++ Made e ∷ []) (Delivered s n)
+    (happened_more [] journal (Made e) H (λ other. inl (ap (λ (ev : Event). fed_by other ev e.result) G.event))) tt
 
-sent_rules : (journal : List Act) (s n : ℕ) (e : LogEntry) (rules : List GivenRule) → AreGiven journal rules → AreGiven ((journal ++ Did e ∷ []) ++ Delivered s n ∷ []) rules
+sent_rules : (journal : List Act) (s n : ℕ) (e : LogEntry) (rules : List GivenRule) → AreGiven journal rules → AreGiven ((journal ++ Made e ∷ []) ++ Delivered s n ∷ []) rules
 sent_rules journal s n e rules A =
-    rules_stay (journal ++ Did e ∷ []) rules (Delivered s n) (rules_stay journal rules (Did e) A refl (λ number rule. refl) (λ number. refl)) refl (λ number rule. refl) (λ number. refl)
+    rules_stay (journal ++ Made e ∷ []) rules (Delivered s n) (rules_stay journal rules (Made e) A refl (λ number rule. refl) (λ number. refl)) refl (λ number rule. refl) (λ number. refl)
 
 -- of a session with a passage, and without one
-pub sent_has : (r r' : Refusals) (journal : List Act) (s at n k : ℕ) (e : LogEntry) (p p' : Passage) → HasJournal r journal → slice_get r.passages.items at ≡ Some p → at + 1 ≡ s → r'.passages.items ≡ slice_set r.passages.items at p' → r'.rules.items ≡ r.rules.items → IsGone s k e → n ≡ length p.output.items + k → ((u : List ℕ) → IsUnsent (log_of journal) s u → k ≤ length u) → p'.output.items ≡ [] → p'.held.items ≡ p.held.items → p'.begun ≡ p.begun → HasJournal r' ((journal ++ Did e ∷ []) ++ Delivered s n ∷ [])
+pub sent_has : (r r' : Refusals) (journal : List Act) (s at n k : ℕ) (e : LogEntry) (p p' : Passage) → HasJournal r journal → slice_get r.passages.items at ≡ Some p → at + 1 ≡ s → r'.passages.items ≡ slice_set r.passages.items at p' → r'.rules.items ≡ r.rules.items → IsGone s k e → n ≡ length p.output.items + k → ((u : List ℕ) → IsUnsent (log_of journal) s u → k ≤ length u) → p'.output.items ≡ [] → p'.held.items ≡ p.held.items → p'.begun ≡ p.begun → HasJournal r' ((journal ++ Made e ∷ []) ++ Delivered s n ∷ [])
 sent_has r r' journal s at n k e p p' H here number set rules G count there output held begun =
-    let after : List Act = (journal ++ Did e ∷ []) ++ Delivered s n ∷ [] in
+    let after : List Act = (journal ++ Made e ∷ []) ++ Delivered s n ∷ [] in
     let S : IsAt journal s p = subst (λ (n : ℕ). IsAt journal n p) number (H.each at p here) in
     let now : Serves after s p.held.items [] p.begun = sent_serves journal s n k e p.held.items p.output.items p.begun G count there S in
     changed_has r r' journal after s at p p' H here number set (record {
@@ -252,13 +252,13 @@ sent_has r r' journal s at n k e p p' H here number set rules G count there outp
       others = others_sent journal s n k e G;
     })
 
-pub sent_none : (r : Refusals) (journal : List Act) (s n : ℕ) (e : LogEntry) → HasJournal r journal → (s ≡ 0) ⊎ (length r.passages.items < s) → IsGone s n e → ((u : List ℕ) → IsUnsent (log_of journal) s u → n ≤ length u) → HasJournal r ((journal ++ Did e ∷ []) ++ Delivered s n ∷ [])
+pub sent_none : (r : Refusals) (journal : List Act) (s n : ℕ) (e : LogEntry) → HasJournal r journal → (s ≡ 0) ⊎ (length r.passages.items < s) → IsGone s n e → ((u : List ℕ) → IsUnsent (log_of journal) s u → n ≤ length u) → HasJournal r ((journal ++ Made e ∷ []) ++ Delivered s n ∷ [])
 sent_none r journal s n e H none G there = record {
   happened = sent_happened journal s n n e G H.happened;
   each = λ i p at. others_sent journal s n n e G (i + 1) p.held.items p.output.items p.begun
       (λ same. elim none [ inl z ↦ omega (arith, z, same) | inr lt ↦ omega (arith, lt, same, slice_get_within r.passages.items i p at) ]) (H.each i p at);
   others = λ t apart. elim (cases_eq t s) [
-    | inl same ↦ subst (λ (x : ℕ). Serves ((journal ++ Did e ∷ []) ++ Delivered s n ∷ []) x [] [] false) (sym same) (sent_serves journal s n n e [] [] false G (omega arith) there (H.others s none))
+    | inl same ↦ subst (λ (x : ℕ). Serves ((journal ++ Made e ∷ []) ++ Delivered s n ∷ []) x [] [] false) (sym same) (sent_serves journal s n n e [] [] false G (omega arith) there (H.others s none))
     | inr ne ↦ others_sent journal s n n e G t [] [] false ne (H.others t apart)
   ];
   rules = sent_rules journal s n e r.rules.items H.rules;
@@ -296,13 +296,13 @@ pub one_turn : (s m : ℕ) (r : Result Happened EngineFault) (e : LogEntry) → 
 unfolding AreTurns
 one_turn s m r e is received = (is, received)
 
-pub log_delivered : (journal : List Act) (e : LogEntry) (s n : ℕ) → log_of journal ++ e ∷ [] ≡ log_of ((journal ++ Did e ∷ []) ++ Delivered s n ∷ [])
+pub log_delivered : (journal : List Act) (e : LogEntry) (s n : ℕ) → log_of journal ++ e ∷ [] ≡ log_of ((journal ++ Made e ∷ []) ++ Delivered s n ∷ [])
 log_delivered journal e s n =
-    sym (more logged (journal ++ Did e ∷ []) (Delivered s n) ∙ append-nil (log_of (journal ++ Did e ∷ [])) ∙ more logged journal (Did e))
+    sym (more logged (journal ++ Made e ∷ []) (Delivered s n) ∙ append-nil (log_of (journal ++ Made e ∷ [])) ∙ more logged journal (Made e))
 
-pub log_received : (journal : List Act) (e : LogEntry) (s : ℕ) (bytes : List ℕ) → log_of journal ++ e ∷ [] ≡ log_of ((journal ++ Did e ∷ []) ++ Received s bytes ∷ [])
+pub log_received : (journal : List Act) (e : LogEntry) (s : ℕ) (bytes : List ℕ) → log_of journal ++ e ∷ [] ≡ log_of ((journal ++ Made e ∷ []) ++ Received s bytes ∷ [])
 log_received journal e s bytes =
-    sym (more logged (journal ++ Did e ∷ []) (Received s bytes) ∙ append-nil (log_of (journal ++ Did e ∷ [])) ∙ more logged journal (Did e))
+    sym (more logged (journal ++ Made e ∷ []) (Received s bytes) ∙ append-nil (log_of (journal ++ Made e ∷ [])) ∙ more logged journal (Made e))
 
 pub log_delivered_alone : (journal : List Act) (s n : ℕ) → log_of journal ≡ log_of (journal ++ Delivered s n ∷ [])
 log_delivered_alone journal s n = sym (more logged journal (Delivered s n) ∙ append-nil (log_of journal))

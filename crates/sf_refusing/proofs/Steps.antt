@@ -23,7 +23,7 @@ use Rattle.sf_refusing.specs.declared.rule.Rule.{Rule}
 use Rattle.sf_refusing.specs.declared.given.GivenRule.{GivenRule}
 use Rattle.sf_refusing.specs.declared.passage.Passage.{Passage}
 use Rattle.sf_refusing.specs.declared.refusals.Refusals.{Refusals}
-use Rattle.sf_refusing.specs.Journal.{Act, Ruled, Received, Delivered, Did, Apart, PassedOn, Refused, Packet, logged, log_of, received_by, taken_by, taken_in, sent_by, delivered_by, ruled, counts, refused_by, fits_packet}
+use Rattle.sf_refusing.specs.Journal.{Act, Ruled, Received, Delivered, Made, Apart, PassedOn, RefusedBy, Packet, logged, log_of, received_by, taken_by, taken_in, sent_by, delivered_by, ruled, counts, refused_by, fits_packet}
 use Rattle.sf_refusing.specs.Refusing.{IsFed, IsUnruled, MayPass, MayRefuse, MayHappen, AllMayHappen, IsOwn, IsServed, Serves, AreGiven, HasJournal}
 use Rattle.sf_refusing.specs.Fronts.{IsAt, Stands, Changes, Leaves}
 use Rattle.sf_refusing.proofs.Growing.{more, own_so, other_so, none_so, own_front, happened_more, begun_stays, begun_now, entry_served, other_served, received_served, fed_served, IsMoved, moved_served, delivered_served, same_unsent, unsent_more, grown, get_set_same, get_set_other, some_same}
@@ -56,35 +56,35 @@ plain_turns s m r [] h = absurd h
 plain_turns s m r (e ∷ []) h = (plain_turn s m e h.0, tt)
 plain_turns s m r (e ∷ x ∷ entries) h = (plain_turn s m e h.0, plain_turns s m r (x ∷ entries) h.2)
 
-plain_serves : (journal : List Act) (s : ℕ) (e : LogEntry) (held output : List ℕ) (begun : Bool) → IsPlain e → Serves journal s held output begun → Serves (journal ++ Did e ∷ []) s held output begun
+plain_serves : (journal : List Act) (s : ℕ) (e : LogEntry) (held output : List ℕ) (begun : Bool) → IsPlain e → Serves journal s held output begun → Serves (journal ++ Made e ∷ []) s held output begun
 plain_serves journal s e held output begun P S = record {
-  begun_is = begun_stays journal s (Did e) begun (P.fed s) S.begun_is;
-  served = λ own. entry_served journal s (Did e) e held output refl refl (P.fed s) refl refl (P.sent s) (S.served (own_front s journal (Did e) own));
+  begun_is = begun_stays journal s (Made e) begun (P.fed s) S.begun_is;
+  served = λ own. entry_served journal s (Made e) e held output refl refl (P.fed s) refl refl (P.sent s) (S.served (own_front s journal (Made e) own));
 }
 
-pub plain_has : (r : Refusals) (journal : List Act) (e : LogEntry) → IsPlain e → HasJournal r journal → HasJournal r (journal ++ Did e ∷ [])
+pub plain_has : (r : Refusals) (journal : List Act) (e : LogEntry) → IsPlain e → HasJournal r journal → HasJournal r (journal ++ Made e ∷ [])
 plain_has r journal e P H = record {
-  happened = happened_more [] journal (Did e) H.happened (λ s. inl (P.fed s));
+  happened = happened_more [] journal (Made e) H.happened (λ s. inl (P.fed s));
   each = λ i p at. plain_serves journal (i + 1) e p.held.items p.output.items p.begun P (H.each i p at);
   others = λ s none. plain_serves journal s e [] [] false P (H.others s none);
-  rules = rules_stay journal r.rules.items (Did e) H.rules refl (λ number rule. refl) (λ number. refl);
+  rules = rules_stay journal r.rules.items (Made e) H.rules refl (λ number rule. refl) (λ number. refl);
 }
 
-pub plain_all : (r : Refusals) (entries : List LogEntry) (journal : List Act) → AllByRecursion IsPlain entries → HasJournal r journal → HasJournal r (journal ++ map Did entries)
+pub plain_all : (r : Refusals) (entries : List LogEntry) (journal : List Act) → AllByRecursion IsPlain entries → HasJournal r journal → HasJournal r (journal ++ map Made entries)
 plain_all r [] journal P H = subst (λ (j : List Act). HasJournal r j) (sym (append-nil journal)) H
 plain_all r (e ∷ entries) journal P H =
-    subst (λ (j : List Act). HasJournal r j) (append_assoc journal (Did e ∷ []) (map Did entries))
-    (plain_all r entries (journal ++ Did e ∷ []) P.1 (plain_has r journal e P.0 H))
+    subst (λ (j : List Act). HasJournal r j) (append_assoc journal (Made e ∷ []) (map Made entries))
+    (plain_all r entries (journal ++ Made e ∷ []) P.1 (plain_has r journal e P.0 H))
 
 -- ---- logs
 
-log_of_did : (entries : List LogEntry) → log_of (map Did entries) ≡ entries
+log_of_did : (entries : List LogEntry) → log_of (map Made entries) ≡ entries
 log_of_did [] = refl
 log_of_did (e ∷ entries) = ap (λ (l : List LogEntry). e ∷ l) (log_of_did entries)
 
-pub log_done : (journal : List Act) (entries : List LogEntry) → log_of journal ++ entries ≡ log_of (journal ++ map Did entries)
+pub log_done : (journal : List Act) (entries : List LogEntry) → log_of journal ++ entries ≡ log_of (journal ++ map Made entries)
 log_done journal entries =
-    ap (λ (l : List LogEntry). log_of journal ++ l) (sym (log_of_did entries)) ∙ sym (flat_map-append logged journal (map Did entries))
+    ap (λ (l : List LogEntry). log_of journal ++ l) (sym (log_of_did entries)) ∙ sym (flat_map-append logged journal (map Made entries))
 
 -- ---- what stands at the front goes in
 
@@ -127,24 +127,24 @@ nothing_leaves {E} has_log engine journal s p rules S =
 
 -- what no rule is asked about goes in
 pub did_leaves : {E : Type 0} (has_log : E → List LogEntry → Type 0) (engine engine' : E) (journal : List Act) (s : ℕ) (p p' : Passage) (rules : List GivenRule) (e : LogEntry) (front : List ℕ) → Stands has_log engine journal s p rules → IsFed s front e → has_log engine' (log_of journal ++ e ∷ []) → p.held.items ≡ front ++ p'.held.items → p'.output.items ≡ p.output.items → p'.begun ≡ true → 0 < length front → IsUnruled journal s front
-    → Leaves has_log engine' journal s p' rules (journal ++ Did e ∷ [])
+    → Leaves has_log engine' journal s p' rules (journal ++ Made e ∷ [])
 did_leaves {E} has_log engine engine' journal s p p' rules e front S F has held output begun some unruled =
     let fed : (other : ℕ) → fed_by other e.event e.result ≡ if_so (nat_eq s other) front = fed_is s front e F in
     let at : Serves journal s (front ++ p'.held.items) p'.output.items p.begun =
     subst (λ (b : List ℕ). Serves journal s (front ++ p'.held.items) b p.begun) (sym output)
     (subst (λ (b : List ℕ). Serves journal s b p.output.items p.begun) held S.at) in (
-      subst (λ (l : List LogEntry). has_log engine' l) (sym (more logged journal (Did e))) has,
+      subst (λ (l : List LogEntry). has_log engine' l) (sym (more logged journal (Made e))) has,
       record {
-        happened = happened_more [] journal (Did e) S.happened
+        happened = happened_more [] journal (Made e) S.happened
             (λ other. elim (cases_eq s other) [
               | inl same ↦ subst (λ (n : ℕ). IsUnruled journal n (fed_by n e.event e.result)) same (subst (λ (b : List ℕ). IsUnruled journal s b) (sym (fed s ∙ own_so s front)) unruled)
               | inr ne ↦ inl (fed other ∙ other_so s other front ne)
             ]);
-        at = subst (λ (b : Bool). Serves (journal ++ Did e ∷ []) s p'.held.items p'.output.items b) (sym begun)
-            (fed_serves journal s (Did e) e front p'.held.items p'.output.items p.begun refl refl (fed s ∙ own_so s front) refl refl (none_sent s front e F s) some at);
-        rules = rules_stay journal rules (Did e) S.rules refl (λ number rule. refl) (λ number. refl);
+        at = subst (λ (b : Bool). Serves (journal ++ Made e ∷ []) s p'.held.items p'.output.items b) (sym begun)
+            (fed_serves journal s (Made e) e front p'.held.items p'.output.items p.begun refl refl (fed s ∙ own_so s front) refl refl (none_sent s front e F s) some at);
+        rules = rules_stay journal rules (Made e) S.rules refl (λ number rule. refl) (λ number. refl);
         others = λ other held output begun ne serves.
-            entry_serves journal other (Did e) e held output begun refl refl (fed other ∙ other_so s other front (λ same. ne (sym same))) refl refl (none_sent s front e F other) serves;
+            entry_serves journal other (Made e) e held output begun refl refl (fed other ∙ other_so s other front (λ same. ne (sym same))) refl refl (none_sent s front e F other) serves;
       },
     )
 
@@ -186,7 +186,7 @@ pub record IsSentAll (s : ℕ) (u : List ℕ) (e : LogEntry) : Type 0 where
   pub result : e.result ≡ Ok happened
 
 refused_served : (journal : List Act) (held held' output output' u : List ℕ) (one : Packet) (id number : ℕ) (code : StatusCode) (e : LogEntry) → held ≡ packet one.body ++ held' → output' ≡ output ++ u ++ packet (reply_body id (Status code)) → written_by one.session e.event e.wrote ≡ [] → sent_at one.session e.event e.result ≡ length u → IsUnsent (log_of journal) one.session u → IsServed journal one.session held output
-    → IsServed (journal ++ Refused one id number code e ∷ []) one.session held' output'
+    → IsServed (journal ++ RefusedBy one id number code e ∷ []) one.session held' output'
 unfolding transcript
 refused_served journal held held' output output' u one id number code e took wrote none sent U S =
     let s : ℕ = one.session in
@@ -197,19 +197,19 @@ refused_served journal held held' output output' u one id number code e took wro
     subst (λ (b : List ℕ). IsUnsent (log_of journal ++ e ∷ []) s b)
     (ap (λ (ws : List Response). drop (sent_at s e.event e.result) u ++ transcript ws) none ∙ append-nil (drop (sent_at s e.event e.result) u) ∙ drop_all (sent_at s e.event e.result) u (omega (arith, sent)))
     (unsent_more (log_of journal) e s u U at) in
-    grown journal s (Refused one id number code e) held held' output output' [] [] S
+    grown journal s (RefusedBy one id number code e) held held' output output' [] [] S
     (append-nil held ∙ took ∙ ap (λ (b : List ℕ). b ++ held') (sym (own_so s (packet one.body))))
     V
     refl
     (ap (λ (b : List ℕ). (output ++ b) ++ if_so (nat_eq s s) status) same
     ∙ ap (λ (b : List ℕ). (output ++ u) ++ b) (own_so s status) ∙ sym wrote ∙ sym (append-nil output'))
 
-pub refused_leaves : {E : Type 0} (has_log : E → List LogEntry → Type 0) (engine engine' : E) (journal : List Act) (p p' : Passage) (rules rules' : List GivenRule) (u : List ℕ) (one : Packet) (id number : ℕ) (code : StatusCode) (e : LogEntry) → Stands has_log engine journal one.session p rules → MayRefuse journal one id number code e → IsSentAll one.session u e → IsUnsent (log_of journal) one.session u → has_log engine' (log_of journal ++ e ∷ []) → p.held.items ≡ packet one.body ++ p'.held.items → p'.output.items ≡ p.output.items ++ u ++ packet (reply_body id (Status code)) → p'.begun ≡ p.begun → AreGiven (journal ++ Refused one id number code e ∷ []) rules'
-    → Leaves has_log engine' journal one.session p' rules' (journal ++ Refused one id number code e ∷ [])
+pub refused_leaves : {E : Type 0} (has_log : E → List LogEntry → Type 0) (engine engine' : E) (journal : List Act) (p p' : Passage) (rules rules' : List GivenRule) (u : List ℕ) (one : Packet) (id number : ℕ) (code : StatusCode) (e : LogEntry) → Stands has_log engine journal one.session p rules → MayRefuse journal one id number code e → IsSentAll one.session u e → IsUnsent (log_of journal) one.session u → has_log engine' (log_of journal ++ e ∷ []) → p.held.items ≡ packet one.body ++ p'.held.items → p'.output.items ≡ p.output.items ++ u ++ packet (reply_body id (Status code)) → p'.begun ≡ p.begun → AreGiven (journal ++ RefusedBy one id number code e ∷ []) rules'
+    → Leaves has_log engine' journal one.session p' rules' (journal ++ RefusedBy one id number code e ∷ [])
 refused_leaves {E} has_log engine engine' journal p p' rules rules' u one id number code e S M sent unsent has held output begun given =
     let s : ℕ = one.session in
     let status : List ℕ = packet (reply_body id (Status code)) in
-    let act : Act = Refused one id number code e in
+    let act : Act = RefusedBy one id number code e in
     let none_written : (other : ℕ) → written_by other e.event e.wrote ≡ [] = λ other. ap (λ (ev : Event). written_by other ev e.wrote) sent.event in
     let sent_is : (other : ℕ) → sent_at other e.event e.result ≡ sent_at other (event.Sent s (length u)) (Ok sent.happened) =
     λ other. ap (λ (ev : Event). sent_at other ev e.result) sent.event ∙ ap (λ (r : Result Happened EngineFault). sent_at other (event.Sent s (length u)) r) sent.result in

@@ -27,18 +27,18 @@ pub data Act : Type 0 where
   Ruled : (rule : Rule) → Act
   Received : (session : ℕ) → (bytes : List ℕ) → Act
   Delivered : (session count : ℕ) → Act
-  Did : (entry : LogEntry) → Act
+  Made : (entry : LogEntry) → Act
   Apart : (entry : LogEntry) → Act
   PassedOn : (packet : Packet) → (entry : LogEntry) → Act
-  Refused : (packet : Packet) → (id number : ℕ) → (code : StatusCode) → (entry : LogEntry) → Act
+  RefusedBy : (packet : Packet) → (id number : ℕ) → (code : StatusCode) → (entry : LogEntry) → Act
 
 -- ---- the engine
 
 abbrev pub logged : Act → List LogEntry
-logged (Did e) = e ∷ []
+logged (Made e) = e ∷ []
 logged (Apart e) = e ∷ []
 logged (PassedOn p e) = e ∷ []
-logged (Refused p id number code e) = e ∷ []
+logged (RefusedBy p id number code e) = e ∷ []
 logged act = []
 
 -- its log
@@ -57,9 +57,9 @@ received_in session journal = flat_map (received_by session) journal
 
 -- those of them that the engine was fed, and the packets that were refused
 abbrev pub taken_by : ℕ → Act → List ℕ
-taken_by session (Did e) = fed_by session e.event e.result
+taken_by session (Made e) = fed_by session e.event e.result
 taken_by session (PassedOn p e) = fed_by session e.event e.result
-taken_by session (Refused p id number code e) = if_so (nat_eq p.session session) (packet p.body)
+taken_by session (RefusedBy p id number code e) = if_so (nat_eq p.session session) (packet p.body)
 taken_by session act = []
 
 abbrev pub taken_in : ℕ → List Act → List ℕ
@@ -67,10 +67,10 @@ taken_in session journal = flat_map (taken_by session) journal
 
 -- what it is sent: the engine's replies, and the statuses of the refusals
 abbrev pub sent_by : ℕ → Act → List ℕ
-sent_by session (Did e) = transcript (written_by session e.event e.wrote)
+sent_by session (Made e) = transcript (written_by session e.event e.wrote)
 sent_by session (Apart e) = transcript (written_by session e.event e.wrote)
 sent_by session (PassedOn p e) = transcript (written_by session e.event e.wrote)
-sent_by session (Refused p id number code e) =
+sent_by session (RefusedBy p id number code e) =
     if_so (nat_eq p.session session) (packet (reply_body id (Status code)))
 sent_by session act = []
 
@@ -113,7 +113,7 @@ fits_packet rule p = fits_asked rule p.session p.asked
 -- It counts a packet that it is for, unless one before it refuses that.
 abbrev pub counts : ℕ → Rule → Act → ℕ
 counts number rule (PassedOn p e) = if fits_packet rule p then 1 else 0
-counts number rule (Refused p id by code e) =
+counts number rule (RefusedBy p id by code e) =
     if not (nat_lt by number) && fits_packet rule p then 1 else 0
 counts number rule act = 0
 
@@ -122,7 +122,7 @@ counted number rule since = sum_by (counts number rule) since
 
 -- how many it refused
 abbrev pub refused_by : ℕ → Act → ℕ
-refused_by number (Refused p id by code e) = if nat_eq by number then 1 else 0
+refused_by number (RefusedBy p id by code e) = if nat_eq by number then 1 else 0
 refused_by number act = 0
 
 abbrev pub refused_in : ℕ → List Act → ℕ

@@ -21,7 +21,7 @@ use Rattle.sf_refusing.specs.declared.rule.Rule.{Rule}
 use Rattle.sf_refusing.specs.declared.given.GivenRule.{GivenRule}
 use Rattle.sf_refusing.specs.declared.passage.Passage.{Passage}
 use Rattle.sf_refusing.specs.declared.refusals.Refusals.{Refusals}
-use Rattle.sf_refusing.specs.Journal.{Packet, Act, Ruled, Received, Delivered, Did, Apart, PassedOn, Refused, log_of, received_in, taken_in, sent_in, delivered_in, rules_in, since_given, counted, refused_in, refuses}
+use Rattle.sf_refusing.specs.Journal.{Packet, Act, Ruled, Received, Delivered, Made, Apart, PassedOn, RefusedBy, log_of, received_in, taken_in, sent_in, delivered_in, rules_in, since_given, counted, refused_in, refuses}
 
 -- ---- what may happen
 
@@ -67,9 +67,9 @@ pub record MayRefuse (front : List Act) (p : Packet) (id number : ℕ) (code : S
   pub event : e.event ≡ event.Sent p.session sent
 
 abbrev pub MayHappen : List Act → Act → Type 0
-MayHappen front (Did e) = (session : ℕ) → IsUnruled front session (fed_by session e.event e.result)
+MayHappen front (Made e) = (session : ℕ) → IsUnruled front session (fed_by session e.event e.result)
 MayHappen front (PassedOn p e) = MayPass front p e
-MayHappen front (Refused p id number code e) = MayRefuse front p id number code e
+MayHappen front (RefusedBy p id number code e) = MayRefuse front p id number code e
 MayHappen front act = Unit {0}
 
 -- each of these might happen, after those before it
@@ -153,7 +153,7 @@ NoneIsHeld journal session = WaitsForBytes (log_of journal) session → IsOwn se
 
 -- what stood at the front was passed on
 abbrev pub IsPassedOn : ℕ → Act → Type 0
-IsPassedOn session (Did e) = 0 < length (fed_by session e.event e.result)
+IsPassedOn session (Made e) = 0 < length (fed_by session e.event e.result)
 IsPassedOn session (PassedOn p e) = p.session ≡ session
 IsPassedOn session act = ⊥
 
@@ -166,7 +166,7 @@ PassesOn journal session (act ∷ other ∷ acts) = ⊥
 -- one request was refused
 abbrev pub IsRefusal : ℕ → List Act → Type 0
 IsRefusal session acts = (p : Packet) × (id number : ℕ) × (code : StatusCode) × (e : LogEntry)
-    × (p.session ≡ session) × (acts ≡ Refused p id number code e ∷ [])
+    × (p.session ≡ session) × (acts ≡ RefusedBy p id number code e ∷ [])
 
 -- Whether what a session has next was refused, or passed on; or there was no memory to take it.
 abbrev pub MovesOn : List Act → ℕ → Result Bool EngineFault → List Act → Type 0
@@ -181,7 +181,7 @@ abbrev pub IsTurn : List Act → ℕ → (List LogEntry → Type 0) → Result H
     → Type 0
 IsTurn journal session AreMade r acts = ((r ≡ Ok happened.Wrote) × IsRefusal session acts)
     ⊎ (((passed : List Act) × (entries : List LogEntry) × PassesOn journal session passed
-    × AreMade entries × (acts ≡ passed ++ map Did entries))
+    × AreMade entries × (acts ≡ passed ++ map Made entries))
     ⊎ ((r ≡ Err fault.OutOfMemory) × (acts ≡ []) × WaitsForBytes (log_of journal) session))
 
 -- what waits to be sent next

@@ -9,7 +9,7 @@ ghost use Rattle.sf_engine.specs.declared.event.Happened.TheVariants as happened
 ghost use Rattle.sf_engine.specs.Promise.{LogEntry, IsKnown, AreTurns, WaitsForBytes};
 ghost use Rattle.sf_refusing.specs.declared.given.GivenRule.{GivenRule};
 ghost use Rattle.sf_refusing.specs.declared.passage.Passage.{Passage};
-ghost use Rattle.sf_refusing.specs.Journal.{Act, Ruled, Received, Delivered, Did, Apart, log_of, received_in, taken_in, since_given, refused_in};
+ghost use Rattle.sf_refusing.specs.Journal.{Act, Ruled, Received, Delivered, Made, Apart, log_of, received_in, taken_in, since_given, refused_in};
 ghost use Rattle.sf_refusing.specs.Refusing.{HasJournal, Have, IsOwn, IsFed, IsTurn, MovesOn, IsNextOutput, MayRefuseFeed, MayRefuseSent};
 
 use crate::front::take_front;
@@ -107,7 +107,7 @@ impl Refusals {
             → Have E.has_log engine.old self.old journal
             → (asked : LogEntry) × IsFed session [] asked × (asked.result ≡ result)
             × Have E.has_log engine.new self.new
-            (journal ++ Did asked ∷ Received session bytes.now ∷ [])) }
+            (journal ++ Made asked ∷ Received session bytes.now ∷ [])) }
         ensures err { OnErr result ((engine.new ≡ engine.old)
             × ((journal : List Act) → HasJournal self.old journal → HasJournal self.new journal)) }
         ensures fault { IfErr result (λ f. (journal : List Act)
@@ -227,7 +227,7 @@ impl Refusals {
             → Have E.has_log engine.old self.old journal
             → (result ≡ Ok happened.Sent) × (told : List LogEntry)
             × Have E.has_log engine.new self.new
-            (journal ++ map Did told ++ Delivered session count ∷ [])) }
+            (journal ++ map Made told ++ Delivered session count ∷ [])) }
         ensures err { OnErr result ((engine.new ≡ engine.old)
             × ((journal : List Act) → HasJournal self.old journal → HasJournal self.new journal)) }
         ensures fault { IfErr result (λ f. (journal : List Act)

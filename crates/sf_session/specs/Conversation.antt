@@ -11,7 +11,7 @@ use Rattle.sf_call.specs.Histories.{IsLegal}
 use Rattle.sf_session.specs.declared.cause.Cause.{Cause}
 use Rattle.sf_session.specs.declared.cause.Cause.TheVariants.{Closed}
 use Rattle.sf_session.specs.Sessions.{EndsBy}
-use Rattle.sf_session.specs.Responses.{most_calls, Response, Version, Locally, ByCall, Refused, ask_behind, transcript, has_begun, AreAsked, recorded_in, answered_in, Due, Nothing, asked_due, recorded_due}
+use Rattle.sf_session.specs.Responses.{most_calls, Response, Version, Locally, ByCall, Refused, ask_behind, transcript, has_begun, AreAsked, recorded_in, answered_in, Due, NothingDue, asked_due, recorded_due}
 
 -- the record is of this session
 abbrev pub IsBy : ℕ → Record → Type 0
@@ -68,7 +68,7 @@ pub record IsConversation (input moments output : List ℕ) : Type 0 where
 -- less than a packet where the input has ended, and else begins with what ends a session.
 pub record IsWholeConversation (input moments output : List ℕ) (cause : Cause) : Type 0 where
   pub talk : IsConversation input moments output
-  pub none_due : talk.due ≡ Nothing
+  pub none_due : talk.due ≡ NothingDue
   pub all_sent : talk.unsent ≡ []
   pub end : ((cause ≡ Closed) × IsCut talk.rest cut.More)
       ⊎ EndsBy (has_begun talk.bodies) talk.rest cause

@@ -89,16 +89,16 @@ answered_in answers = flat_map answered_by answers
 -- What is due to a session: nothing; or the reply to a call of this request's id, which has no
 -- record yet, or has it.
 pub data Due : Type 0 where
-  Nothing : Due
+  NothingDue : Due
   Unrecorded : (id : ℕ) → (request : Request) → Due
   Recorded : (id : ℕ) → (call : RepliedCall) → Due
 
 abbrev pub asked_due : Due → List Ask
-asked_due Nothing = []
+asked_due NothingDue = []
 asked_due (Unrecorded id request) = ask.Call id request ∷ []
 asked_due (Recorded id call) = ask.Call id call.request ∷ []
 
 abbrev pub recorded_due : Due → List RepliedCall
-recorded_due Nothing = []
+recorded_due NothingDue = []
 recorded_due (Unrecorded id request) = []
 recorded_due (Recorded id call) = call ∷ []

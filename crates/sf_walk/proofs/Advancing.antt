@@ -20,12 +20,12 @@ use Rattle.sf_call.specs.Routes.Route.{NoPath, Along, Between}
 use Rattle.sf_walk.specs.Routes.IsPosition.{Starts, IsOn, IsBefore, IsApart}
 use Rattle.sf_walk.specs.Ways.{no_path, along, between, way_from}
 use Rattle.sf_walk.specs.Served.{LookedUp}
-use Rattle.sf_walk.specs.Further.{ComesToBoth as ComesTo, LeadsOnWay, PartLater, IsHeldThere, IsHeldOnWay, IsNextFree}
+use Rattle.sf_walk.specs.Further.{ComesToBoth, LeadsOnWay, PartLater, IsHeldThere, IsHeldOnWay, IsNextFree}
 use Rattle.sf_walk.specs.Steps.{walker, GoesFrom, AdvancesOne, entered, handed_over, AdvancesTo, WaitsFor, EndsAt, MayDecideAt, IsFreeThere, AreFree, DecidesNow}
 use Rattle.sf_walk.specs.Steps.AdvancesOne.{TakesRoot, PartsAtRoot, GoesOn, Parts, OldGoesOn, NewGoesOn}
 use Rattle.sf_walk.specs.Steps.GoesFrom.{NewEnd}
 use Rattle.sf_walk.specs.Steps.LooksUp.{Root, Next}
-use Rattle.sf_walk.specs.Steps.MayDecideAt.{AtOnce, AtRoot, AtEnd}
+use Rattle.sf_walk.specs.Steps.MayDecideWhere.{AtOnce, AtRoot, AtEnd}
 use Rattle.sf_walk.proofs.LookUps.{looked_none, looked_more, looked_less, looked_itself}
 use Rattle.sf_walk.proofs.Onward.{last_leads}
 
@@ -109,7 +109,7 @@ module _ (s : StoreState) (number root : ℕ) (is : root ≡ s.root) where
       state = state;
     }
 
-    pub moves_first_of_two : (from to : Path) (after : Stage) → ComesTo from to (reached 0 root) after → last ≡ handed_over number stage.Fresh after root s → AdvancesTo s last (walker number (Between from to) stage.Fresh) after
+    pub moves_first_of_two : (from to : Path) (after : Stage) → ComesToBoth from to (reached 0 root) after → last ≡ handed_over number stage.Fresh after root s → AdvancesTo s last (walker number (Between from to) stage.Fresh) after
     moves_first_of_two from to after (inl h) state = record {
       held_path = record { path = []; node = root };
       takes = subst (λ (g : Stage). TakesPath (record { path = []; node = root }) [] (held_paths_of (Between from to) g)) (sym h.3) (Comes [] (record { path = []; node = root } ∷ []) (inl refl) tt (refl, tt));
@@ -229,12 +229,12 @@ module _ (old new : StoreState) (looked : new ≡ looked_up old) (number : ℕ) 
       (IsOn path to.walked to.node (next_short old number path at to free)) (GoesOn at.walked at.node to free.walked) refl state
 
   -- ---- on two, which haven't parted
-  pub moves_together : (from to : Path) (at next : Reached) (after : Stage) (last : StoreState) → LeadsOnWay old from at.walked at.node → IsNextFree old number from at next → ComesTo from to next after
+  pub moves_together : (from to : Path) (at next : Reached) (after : Stage) (last : StoreState) → LeadsOnWay old from at.walked at.node → IsNextFree old number from at next → ComesToBoth from to next after
       → last ≡ handed_over number (stage.At at.walked at.node) after next.node new → AdvancesTo old last (walker number (Between from to) (stage.At at.walked at.node)) after
   moves_together from to at next after last way free comes state =
       by (next_to old number from at next free way.short) comes state
     where
-      by : IsNextTo (held_path_on from at) (held_path_on from next) → ComesTo from to next after → last ≡ handed_over number (stage.At at.walked at.node) after next.node new
+      by : IsNextTo (held_path_on from at) (held_path_on from next) → ComesToBoth from to next after → last ≡ handed_over number (stage.At at.walked at.node) after next.node new
           → AdvancesTo old last (walker number (Between from to) (stage.At at.walked at.node)) after
       by goes (inl h) state =
           moves (Between from to) (stage.At at.walked at.node) after from at next last free

@@ -19,7 +19,7 @@ use Rattle.sf_inode.specs.Nodes.{is_directory_content}
 use Rattle.sf_inode.specs.Stores.{StoreState, node_in, child_of, is_directory_at, is_bare_at}
 use Rattle.sf_keeps.specs.Steps.{walk}
 use Rattle.sf_keeps.specs.Keeps.{Keeps}
-use Rattle.sf_call.proofs.Laws.{front_itself as is_front, same_path_is}
+use Rattle.sf_call.proofs.Laws.{front_itself, same_path_is}
 use Rattle.sf_keeps.proofs.Laws.{bare_found, one_node, one_way}
 use Rattle.sf_call.specs.declared.route.RouteKind.TheVariants as kind
 use Rattle.sf_walk.specs.declared.finding.Ways.{Ways}
@@ -60,11 +60,11 @@ root_refused [] q a e = refl
 root_refused (n ∷ p) [] a e = refl
 root_refused (n ∷ p) (m ∷ q) a e = cc
 
-front_itself : (p : Path) → is_some (after_front p p) ≡ true
-front_itself p = ap (λ (x : Option Path). is_some x) (is_front p)
+below_itself : (p : Path) → is_some (after_front p p) ≡ true
+below_itself p = ap (λ (x : Option Path). is_some x) (front_itself p)
 
 nested_itself : (p q : Path) → p ≡ q → are_nested p q ≡ true
-nested_itself p q e = ap (λ (r : Path). is_some (after_front p r) || is_some (after_front r p)) (sym e) ∙ ap (λ b. b || is_some (after_front p p)) (front_itself p)
+nested_itself p q e = ap (λ (r : Path). is_some (after_front p r) || is_some (after_front r p)) (sym e) ∙ ap (λ b. b || is_some (after_front p p)) (below_itself p)
 
 differ : (p q : Path) → are_nested p q ≡ false → same_path p q ≡ false
 differ p q apart = elim (same_path p q) as (λ b. same_path p q ≡ b → b ≡ false) [

@@ -42,15 +42,15 @@ pub record IsAlike (old new : StoreState) : Type 0 where
   pub sessions : new.sessions ≡ old.sessions
 
 -- a node that was there has the holder and the label that it had, and as many blocks are left to be
--- copied into it; a new one has such as are told, and none is left
+-- copied into it; a new one has such as are given, and none is left
 abbrev pub IsAsBefore : (Option ℕ → ℕ → Type 0) → Option Node → Node → Type 0
 IsAsBefore new None node = new node.holder node.label × (blocks_left_in node.content ≡ 0)
 IsAsBefore new (Some was) node = (node.holder ≡ was.holder) × (node.label ≡ was.label)
     × (blocks_left_in node.content ≡ blocks_left_in was.content)
 
-pub record KeepsRest (told : Option ℕ → ℕ → Type 0) (old new : StoreState) : Type 0 where
+pub record KeepsRest (new_as : Option ℕ → ℕ → Type 0) (old new : StoreState) : Type 0 where
   pub node : (id : ℕ) (node : Node) → node_in new.nodes id ≡ Some node
-      → IsAsBefore told (node_in old.nodes id) node
+      → IsAsBefore new_as (node_in old.nodes id) node
 
 -- each node has the holder and the label that it had, and as much is left to be copied; none is new
 abbrev pub HoldersStay : StoreState → StoreState → Type 0
@@ -113,4 +113,4 @@ takes_memory other = wants_room (wanted_by other)
 
 -- want of memory may be told in place of this reply to the request
 abbrev pub may_want_memory : Request → Reply → Bool
-may_want_memory request told = takes_memory request && is_success told
+may_want_memory request given = takes_memory request && is_success given

@@ -117,12 +117,16 @@ abbrev pub EndsAt : List (Option Node) → Path → Reached → Type 0
 EndsAt nodes path at = (at.walked + 1 ≡ length path)
     ⊎ ((at.walked + 1 < length path) × LeadsNowhere nodes at.node (slice_get path at.walked))
 
--- a call may decide: it walks no path, or the root's, or its walk ends
-pub data MayDecideAt (nodes : List (Option Node)) : Route → Stage → Type 0 where
-  AtOnce : MayDecideAt nodes NoPath stage.Fresh
-  AtRoot : MayDecideAt nodes (Along []) stage.Fresh
+-- A call may decide: at once, if it walks no path or the root's; else where the walk ends that it
+-- is on, by what is said of where walks end.
+pub data MayDecideWhere (ends : Path → Reached → Type 0) : Route → Stage → Type 0 where
+  AtOnce : MayDecideWhere ends NoPath stage.Fresh
+  AtRoot : MayDecideWhere ends (Along []) stage.Fresh
   AtEnd : (r : Route) (at : Stage) (path : Path) (from : Reached) → GoesFrom r at path from
-      → EndsAt nodes path from → MayDecideAt nodes r at
+      → ends path from → MayDecideWhere ends r at
+
+abbrev pub MayDecideAt : List (Option Node) → Route → Stage → Type 0
+MayDecideAt nodes = MayDecideWhere (EndsAt nodes)
 
 -- a node that was found is not held by another call
 abbrev pub IsFreeThere : (ℕ → Option ℕ) → ℕ → Located → Type 0

@@ -11,7 +11,7 @@ use Rattle.sf_call.specs.declared.record.Record.TheVariants.{Did, Left}
 use Rattle.sf_core.specs.Cores.{LaneState}
 use Rattle.sf_core.specs.Cores.LaneState.{NoLane, Busy}
 use Rattle.sf_session.specs.declared.asking.Ask.{Ask}
-use Rattle.sf_session.specs.Responses.{RepliedCall, Response, Version, Locally, ByCall, Refused, ask_behind, AreAsked, if_so, recorded_in, answered_in, Due, Nothing, Unrecorded, Recorded, asked_due, recorded_due}
+use Rattle.sf_session.specs.Responses.{RepliedCall, Response, Version, Locally, ByCall, Refused, ask_behind, AreAsked, if_so, recorded_in, answered_in, Due, NothingDue, Unrecorded, Recorded, asked_due, recorded_due}
 use Rattle.sf_session.specs.SessionStates.{Phase, Resting, UnderWay, Decided, Gone, pending}
 use Rattle.sf_audit.specs.Audits.{CallRecord, call_records}
 use Rattle.sf_noted.specs.Pages.{BegunCall, begun_call, Page}
@@ -57,11 +57,11 @@ record DueFor (phase : Phase) (waits : List CallRecord) : Type 0 where
   calls : map replied (phase_calls phase ++ waits) ≡ recorded_due due
 
 none_waits : (phase : Phase) → DueFor phase []
-none_waits Resting = record { due = Nothing; asked = refl; calls = refl }
+none_waits Resting = record { due = NothingDue; asked = refl; calls = refl }
 none_waits (UnderWay id number moment request moves) = record { due = Unrecorded id request; asked = refl; calls = refl }
 none_waits (Decided id number request reply) =
     record { due = Recorded id (record { number = number; request = request; reply = reply }); asked = refl; calls = refl }
-none_waits (Gone cause) = record { due = Nothing; asked = refl; calls = refl }
+none_waits (Gone cause) = record { due = NothingDue; asked = refl; calls = refl }
 
 left_due : (phase : Phase) (waits : List CallRecord) → MayWait NoLane waits → DueFor phase waits
 left_due phase waits (inl none) = subst (DueFor phase) (sym none) (none_waits phase)

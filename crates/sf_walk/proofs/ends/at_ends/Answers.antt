@@ -5,7 +5,7 @@ use Rattle.sf_walk.specs.declared.walking.Walk.{Walk}
 use Rattle.sf_call.specs.Routes.Route.{Between}
 use Rattle.sf_walk.specs.Steps.{walker, DecidesNow, Advances}
 use Rattle.sf_walk.specs.Steps.GoesFrom.{OldEnd}
-use Rattle.sf_walk.specs.Steps.MayDecideAt.{AtEnd}
+use Rattle.sf_walk.specs.Steps.MayDecideWhere.{AtEnd}
 use Rattle.sf_walk.proofs.Onward.{no_way_on}
 use Rattle.sf_walk.proofs.Advancing.{decides_nowhere, waits_on_way, moves_old, ends, old_on_way}
 use Rattle.sf_walk.proofs.ends.at_ends.Goals as goal

@@ -5,7 +5,7 @@ use Rattle.sf_walk.specs.Routes.{reached}
 use Rattle.sf_call.specs.Routes.Route.{Along}
 use Rattle.sf_walk.specs.Steps.{walker, DecidesNow}
 use Rattle.sf_walk.specs.Steps.GoesFrom.{OnOne}
-use Rattle.sf_walk.specs.Steps.MayDecideAt.{AtEnd}
+use Rattle.sf_walk.specs.Steps.MayDecideWhere.{AtEnd}
 use Rattle.sf_walk.proofs.Advancing.{waits_there, decides_one, free_before}
 use Rattle.sf_walk.proofs.walking.at_parent.Goals as goal
 

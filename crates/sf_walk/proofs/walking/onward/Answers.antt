@@ -6,7 +6,7 @@ use Rattle.sf_walk.specs.Routes.{reached, nodes_of}
 use Rattle.sf_call.specs.Routes.Route.{Along}
 use Rattle.sf_walk.specs.Steps.{walker, DecidesNow, free_unless}
 use Rattle.sf_walk.specs.Steps.GoesFrom.{OnOne}
-use Rattle.sf_walk.specs.Steps.MayDecideAt.{AtEnd}
+use Rattle.sf_walk.specs.Steps.MayDecideWhere.{AtEnd}
 use Rattle.sf_walk.proofs.Onward.{no_way_on}
 use Rattle.sf_walk.proofs.Advancing.{decides_one, waits_on_way, moves_one}
 use Rattle.sf_walk.proofs.walking.onward.Goals as goal

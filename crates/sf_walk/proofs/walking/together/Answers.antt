@@ -6,7 +6,7 @@ use Rattle.sf_walk.specs.Routes.{reached, nodes_of}
 use Rattle.sf_call.specs.Routes.Route.{Between}
 use Rattle.sf_walk.specs.Steps.{walker, DecidesNow, free_unless}
 use Rattle.sf_walk.specs.Steps.GoesFrom.{Together}
-use Rattle.sf_walk.specs.Steps.MayDecideAt.{AtEnd}
+use Rattle.sf_walk.specs.Steps.MayDecideWhere.{AtEnd}
 use Rattle.sf_walk.proofs.Onward.{no_way_on}
 use Rattle.sf_walk.proofs.Advancing.{decides_nowhere, waits_on_way, moves_together}
 use Rattle.sf_walk.proofs.walking.together.Goals as goal

@@ -147,20 +147,20 @@ copy_on-reply-requires c =
     let lane : LaneView = record { session = c.lane.inside.session; call = c.lane.inside.call; begun = c.lane.inside.begun } in
     copies_on lane c.in-Some.number c.in-Some.is c.self.inside.parts c.args.most (vec_capacity c.self.inside.overtaken) c.self.invariant.1 c.args.self.now c.self.view_is c.args.lane.now c.lane.view_is c.walk_on.new.self c.in-Copies.ensures.comes
 
-pub told-requires : goal.told-requires
-told-requires c =
+pub reported-requires : goal.reported-requires
+reported-requires c =
     let lane : LaneView = record { session = c.lane.inside.session; call = c.lane.inside.call; begun = c.lane.inside.begun } in
     copies_given lane c.in-Some.number c.in-Some.is c.self.inside.parts c.args.most (vec_capacity c.self.inside.overtaken) c.self.invariant.1 c.args.self.now c.self.view_is c.args.lane.now c.lane.view_is c.walk_on.new.self c.in-Copies.ensures.comes c.copy_on-reply.new.self c.copy_on-reply.result c.copy_on-reply.ensures.some
 
 pub invariant_of-self-in-Copies : goal.invariant_of-self-in-Copies
 invariant_of-self-in-Copies c =
     let lane : LaneView = record { session = c.lane.inside.session; call = c.lane.inside.call; begun = c.lane.inside.begun } in
-    let e = copies_end lane c.in-Some.number c.in-Some.is c.self.inside.parts c.args.most (vec_capacity c.self.inside.overtaken) c.self.invariant.1 c.args.self.now c.self.view_is c.args.lane.now c.lane.view_is c.walk_on.new.self c.in-Copies.ensures.comes c.copy_on-reply.new.self c.copy_on-reply.result c.copy_on-reply.ensures.some c.copy_on-reply.ensures.none c.told.result c.told.new.lane c.told.ensures in (e.0, e.1)
+    let e = copies_end lane c.in-Some.number c.in-Some.is c.self.inside.parts c.args.most (vec_capacity c.self.inside.overtaken) c.self.invariant.1 c.args.self.now c.self.view_is c.args.lane.now c.lane.view_is c.walk_on.new.self c.in-Copies.ensures.comes c.copy_on-reply.new.self c.copy_on-reply.result c.copy_on-reply.ensures.some c.copy_on-reply.ensures.none c.reported.result c.reported.new.lane c.reported.ensures in (e.0, e.1)
 
 pub returns-in-Copies : goal.returns-in-Copies
 returns-in-Copies c =
     let lane : LaneView = record { session = c.lane.inside.session; call = c.lane.inside.call; begun = c.lane.inside.begun } in
-    (copies_end lane c.in-Some.number c.in-Some.is c.self.inside.parts c.args.most (vec_capacity c.self.inside.overtaken) c.self.invariant.1 c.args.self.now c.self.view_is c.args.lane.now c.lane.view_is c.walk_on.new.self c.in-Copies.ensures.comes c.copy_on-reply.new.self c.copy_on-reply.result c.copy_on-reply.ensures.some c.copy_on-reply.ensures.none c.told.result c.told.new.lane c.told.ensures).2
+    (copies_end lane c.in-Some.number c.in-Some.is c.self.inside.parts c.args.most (vec_capacity c.self.inside.overtaken) c.self.invariant.1 c.args.self.now c.self.view_is c.args.lane.now c.lane.view_is c.walk_on.new.self c.in-Copies.ensures.comes c.copy_on-reply.new.self c.copy_on-reply.result c.copy_on-reply.ensures.some c.copy_on-reply.ensures.none c.reported.result c.reported.new.lane c.reported.ensures).2
 
 -- ---- a WRITE that starts
 pub write_on-reply-requires-clause-write : goal.write_on-reply-requires-clause-write
@@ -175,8 +175,8 @@ write_on-reply-requires-clause-room c =
     let w = write_ready lane c.in-Some.number c.in-Some.is c.self.inside.parts c.args.most (vec_capacity c.self.inside.overtaken) c.self.invariant.1 c.args.self.now c.self.view_is c.args.lane.now c.lane.view_is c.walk_on.new.self c.in-Writes.ensures.comes in
     writes_room lane c.in-Some.number c.in-Some.is c.self.inside.parts c.args.most (vec_capacity c.self.inside.overtaken) c.self.invariant.1 c.args.self.now c.self.view_is c.args.lane.now c.lane.view_is no_path c.walk_on.new.self w (write_there lane c.in-Some.number c.in-Some.is c.self.inside.parts c.args.most (vec_capacity c.self.inside.overtaken) c.self.invariant.1 c.args.self.now c.self.view_is c.args.lane.now c.lane.view_is c.walk_on.new.self c.in-Writes.ensures.comes)
 
-pub told-requires-in-Writes : goal.told-requires-in-Writes
-told-requires-in-Writes c =
+pub reported-requires-in-Writes : goal.reported-requires-in-Writes
+reported-requires-in-Writes c =
     let lane : LaneView = record { session = c.lane.inside.session; call = c.lane.inside.call; begun = c.lane.inside.begun } in
     let w = write_ready lane c.in-Some.number c.in-Some.is c.self.inside.parts c.args.most (vec_capacity c.self.inside.overtaken) c.self.invariant.1 c.args.self.now c.self.view_is c.args.lane.now c.lane.view_is c.walk_on.new.self c.in-Writes.ensures.comes in
     writes_given lane c.in-Some.number c.in-Some.is c.self.inside.parts c.args.most (vec_capacity c.self.inside.overtaken) c.self.invariant.1 c.args.self.now c.self.view_is c.args.lane.now c.lane.view_is no_path c.walk_on.new.self w (write_there lane c.in-Some.number c.in-Some.is c.self.inside.parts c.args.most (vec_capacity c.self.inside.overtaken) c.self.invariant.1 c.args.self.now c.self.view_is c.args.lane.now c.lane.view_is c.walk_on.new.self c.in-Writes.ensures.comes) c.write_on-reply.new.self c.write_on-reply.result c.write_on-reply.ensures
@@ -185,13 +185,13 @@ pub invariant_of-self-in-Writes : goal.invariant_of-self-in-Writes
 invariant_of-self-in-Writes c =
     let lane : LaneView = record { session = c.lane.inside.session; call = c.lane.inside.call; begun = c.lane.inside.begun } in
     let w = write_ready lane c.in-Some.number c.in-Some.is c.self.inside.parts c.args.most (vec_capacity c.self.inside.overtaken) c.self.invariant.1 c.args.self.now c.self.view_is c.args.lane.now c.lane.view_is c.walk_on.new.self c.in-Writes.ensures.comes in
-    let e = writes_end lane c.in-Some.number c.in-Some.is c.self.inside.parts c.args.most (vec_capacity c.self.inside.overtaken) c.self.invariant.1 c.args.self.now c.self.view_is c.args.lane.now c.lane.view_is no_path c.walk_on.new.self w (write_there lane c.in-Some.number c.in-Some.is c.self.inside.parts c.args.most (vec_capacity c.self.inside.overtaken) c.self.invariant.1 c.args.self.now c.self.view_is c.args.lane.now c.lane.view_is c.walk_on.new.self c.in-Writes.ensures.comes) c.write_on-reply.new.self c.write_on-reply.result c.write_on-reply.ensures c.told-in-Writes.result c.told-in-Writes.new.lane c.told-in-Writes.ensures in (e.0, e.1)
+    let e = writes_end lane c.in-Some.number c.in-Some.is c.self.inside.parts c.args.most (vec_capacity c.self.inside.overtaken) c.self.invariant.1 c.args.self.now c.self.view_is c.args.lane.now c.lane.view_is no_path c.walk_on.new.self w (write_there lane c.in-Some.number c.in-Some.is c.self.inside.parts c.args.most (vec_capacity c.self.inside.overtaken) c.self.invariant.1 c.args.self.now c.self.view_is c.args.lane.now c.lane.view_is c.walk_on.new.self c.in-Writes.ensures.comes) c.write_on-reply.new.self c.write_on-reply.result c.write_on-reply.ensures c.reported-in-Writes.result c.reported-in-Writes.new.lane c.reported-in-Writes.ensures in (e.0, e.1)
 
 pub returns-in-Writes : goal.returns-in-Writes
 returns-in-Writes c =
     let lane : LaneView = record { session = c.lane.inside.session; call = c.lane.inside.call; begun = c.lane.inside.begun } in
     let w = write_ready lane c.in-Some.number c.in-Some.is c.self.inside.parts c.args.most (vec_capacity c.self.inside.overtaken) c.self.invariant.1 c.args.self.now c.self.view_is c.args.lane.now c.lane.view_is c.walk_on.new.self c.in-Writes.ensures.comes in
-    (writes_end lane c.in-Some.number c.in-Some.is c.self.inside.parts c.args.most (vec_capacity c.self.inside.overtaken) c.self.invariant.1 c.args.self.now c.self.view_is c.args.lane.now c.lane.view_is no_path c.walk_on.new.self w (write_there lane c.in-Some.number c.in-Some.is c.self.inside.parts c.args.most (vec_capacity c.self.inside.overtaken) c.self.invariant.1 c.args.self.now c.self.view_is c.args.lane.now c.lane.view_is c.walk_on.new.self c.in-Writes.ensures.comes) c.write_on-reply.new.self c.write_on-reply.result c.write_on-reply.ensures c.told-in-Writes.result c.told-in-Writes.new.lane c.told-in-Writes.ensures).2
+    (writes_end lane c.in-Some.number c.in-Some.is c.self.inside.parts c.args.most (vec_capacity c.self.inside.overtaken) c.self.invariant.1 c.args.self.now c.self.view_is c.args.lane.now c.lane.view_is no_path c.walk_on.new.self w (write_there lane c.in-Some.number c.in-Some.is c.self.inside.parts c.args.most (vec_capacity c.self.inside.overtaken) c.self.invariant.1 c.args.self.now c.self.view_is c.args.lane.now c.lane.view_is c.walk_on.new.self c.in-Writes.ensures.comes) c.write_on-reply.new.self c.write_on-reply.result c.write_on-reply.ensures c.reported-in-Writes.result c.reported-in-Writes.new.lane c.reported-in-Writes.ensures).2
 
 pub finish-reply-requires-clause-not_write : goal.finish-reply-requires-clause-not_write
 finish-reply-requires-clause-not_write c =

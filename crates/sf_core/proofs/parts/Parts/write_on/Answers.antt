@@ -1,5 +1,5 @@
 use Rattle.sf_core.specs.Cores.{call_at}
-use Rattle.sf_core.specs.Writing.WritesOn.{AtOnce}
+use Rattle.sf_core.specs.Writing.WritesOn.{ByFirstStep}
 use Rattle.sf_core.proofs.CopySteps.{begun_copies, call_there, written_on}
 use Rattle.sf_core.proofs.parts.Parts.write_on.Goals as goal
 
@@ -9,7 +9,7 @@ copy_on-requires c =
     begun_copies c.args.self.now c.write.new.self w.0 c.args.number w.1 (c.in-None.ensures.begun w.0 w.1)
 
 pub returns-in-Some : goal.returns-in-Some
-returns-in-Some c = λ d at. let e = c.in-Some.ensures.decided d at in AtOnce c.in-Some.reply e.0 e.1
+returns-in-Some c = λ d at. let e = c.in-Some.ensures.decided d at in ByFirstStep c.in-Some.reply e.0 e.1
 
 pub returns-in-None : goal.returns-in-None
 returns-in-None c = λ d at.

@@ -24,8 +24,8 @@ pub returns-in_default-next : goal.returns-in_default-next
 returns-in_default-next c =
     let old = c.args in
     let new = c.read_other.new in
-    let told = c.read_other.ensures old.session.now c.next.new.self c.in-Ok.ensures.ok in
-    read_far (stand old.core.now old.session.now old.self.now) (finding old.closed old.moment) c.read_other.result (stand new.core c.next.new.self new.self) c.requires.resting c.requires.ready (told.0 old.moment) told.1
+    let known = c.read_other.ensures old.session.now c.next.new.self c.in-Ok.ensures.ok in
+    read_far (stand old.core.now old.session.now old.self.now) (finding old.closed old.moment) c.read_other.result (stand new.core c.next.new.self new.self) c.requires.resting c.requires.ready (known.0 old.moment) known.1
 
 pub returns-in-Err : goal.returns-in-Err
 returns-in-Err c =

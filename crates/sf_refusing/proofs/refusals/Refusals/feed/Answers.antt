@@ -10,7 +10,7 @@ use Rattle.sf_engine.specs.declared.event.Happened.{Happened}
 use Rattle.sf_engine.specs.declared.event.EngineFault.{EngineFault}
 use Rattle.sf_engine.specs.declared.event.Event.TheVariants as event
 use Rattle.sf_engine.specs.Promise.{LogEntry, log_entry}
-use Rattle.sf_refusing.specs.Journal.{Act, Did, Received, log_of}
+use Rattle.sf_refusing.specs.Journal.{Act, Made, Received, log_of}
 use Rattle.sf_refusing.specs.Refusing.{IsFed, HasJournal, Have, MayRefuseFeed}
 use Rattle.sf_refusing.proofs.Vecs.{vec_of}
 use Rattle.sf_refusing.proofs.Faults.{feed_refused}
@@ -52,11 +52,11 @@ returns-clause-ok g c = λ journal H.
     let on = c.in_ok-fed.ensures.on fed refl (log_of journal) H.1 in
     let e : LogEntry = log_entry (event.Feed s fed) (Ok c.in_ok-fed.fed) on.0 on.1 in
     let F : IsFed s [] e = record { fed = fed; items = refl; event = refl; happened = c.in_ok-fed.fed; result = refl } in
-    let asked : HasJournal c.passage_of.new.self (journal ++ Did e ∷ []) = plain_has c.passage_of.new.self journal e (plain_probe s e F) (c.in-Ok.ensures.has journal H.0) in
-    let both : HasJournal now ((journal ++ Did e ∷ []) ++ Received s bytes ∷ []) =
-    received_has c.passage_of.new.self now (journal ++ Did e ∷ []) s c.in-Ok.at p p' bytes asked here c.in-Ok.ensures.at.0 refl refl (c.extend_reserved.ensures.items ∙ ap (λ (b : List ℕ). b ++ bytes) c.reserve.ensures.items) refl refl in
+    let asked : HasJournal c.passage_of.new.self (journal ++ Made e ∷ []) = plain_has c.passage_of.new.self journal e (plain_probe s e F) (c.in-Ok.ensures.has journal H.0) in
+    let both : HasJournal now ((journal ++ Made e ∷ []) ++ Received s bytes ∷ []) =
+    received_has c.passage_of.new.self now (journal ++ Made e ∷ []) s c.in-Ok.at p p' bytes asked here c.in-Ok.ensures.at.0 refl refl (c.extend_reserved.ensures.items ∙ ap (λ (b : List ℕ). b ++ bytes) c.reserve.ensures.items) refl refl in
     let has = subst (λ (l : List LogEntry). g.E.Sftp.has_log c.feed.new.self l) (log_received journal e s bytes) on.2 in
-    (e, F, refl, subst (λ (j : List Act). Have g.E.Sftp.has_log c.feed.new.self now j) (append_assoc journal (Did e ∷ []) (Received s bytes ∷ [])) (both, has))
+    (e, F, refl, subst (λ (j : List Act). Have g.E.Sftp.has_log c.feed.new.self now j) (append_assoc journal (Made e ∷ []) (Received s bytes ∷ [])) (both, has))
 
 pub returns-in_err-fed-clause-fault : goal.returns-in_err-fed-clause-fault
 returns-in_err-fed-clause-fault g c =

@@ -1,6 +1,6 @@
 use Rattle.sf_reply.specs.declared.reply.Reply.TheVariants as reply
 use Rattle.sf_client.proofs.Reading.{no_size}
-use Rattle.sf_client.proofs.client.Client.told_size.Goals as goal
+use Rattle.sf_client.proofs.client.Client.stated_size.Goals as goal
 
 pub returns-in-Err-Status : goal.returns-in-Err-Status
 returns-in-Err-Status g c =
