@@ -7,7 +7,8 @@ use Rattle.sf_reply.specs.declared.reply.Reply.{Reply}
 use Rattle.sf_reply.specs.Reading.{IsReply}
 use Rattle.sf_reply.specs.Replies.{reply_body, ReplyFits}
 use Rattle.sf_trees.specs.declared.fault.TreeFault.TheVariants as fault
-use Rattle.sf_asking.specs.Asking.{id, MayMissReply}
+use Rattle.sf_trees.specs.Lengths.{id}
+use Rattle.sf_asking.specs.Asking.{MayMissReply}
 
 no_length : (l : List ℕ) → length l ≡ 0 → l ≡ []
 no_length [] e = refl

@@ -1,9 +1,8 @@
 -- What is done on an engine: by events alone, one after the other.
-use Rattle.std.specs.Prelude.{◌≡◌, ◌<◌, ◌+◌, ◌⊎◌, ◌^◌, ℕ, List, [], ◌∷◌, length, Option, Some, None, Result, Ok, Err, OnErr}
+use Rattle.std.specs.Prelude.{◌≡◌, ◌<◌, ◌⊎◌, ◌^◌, ℕ, List, [], ◌∷◌, length, Option, Some, None, Result, Ok, Err, OnErr}
 use Rattle.std.specs.Global.{Vec}
 use Rattle.sf_field.specs.Fields.{packet}
 use Rattle.sf_request.specs.declared.request.WireRequest.{WireRequest}
-use Rattle.sf_request.specs.declared.request.WireRequest.TheVariants as request
 use Rattle.sf_request.specs.Requests.{request_body, init_body}
 use Rattle.sf_reply.specs.declared.reply.Reply.{Reply}
 use Rattle.sf_reply.specs.Replies.{reply_body, ReplyFits}
@@ -17,38 +16,9 @@ use Rattle.sf_engine.specs.Views.{EngineView}
 use Rattle.sf_trees.specs.declared.fault.TreeFault.{TreeFault}
 use Rattle.sf_trees.specs.declared.fault.TreeFault.TheVariants as fault
 use Rattle.sf_trees.specs.Operations.{Operation, Begins, Asks, Ends}
+use Rattle.sf_trees.specs.Lengths.{id, strings_of, most_strings}
 use Rattle.sf_asking.specs.Askers.{AskerView}
 use Rattle.sf_asking.specs.Logs.{EventLeads, FeedsBy, TurnsLead, HasUnsent, HasNoSession}
-
--- the id of each request
-abbrev pub id : ℕ
-id = 1
-
--- how many bytes the strings of a request have
-abbrev pub strings_of : WireRequest → ℕ
-strings_of (request.Open filename flags attrs) = length filename
-strings_of (request.Close handle) = length handle
-strings_of (request.Read handle offset len) = length handle
-strings_of (request.Write handle offset bytes) = length handle + length bytes
-strings_of (request.LStat path) = length path
-strings_of (request.FStat handle) = length handle
-strings_of (request.SetStat path attrs) = length path
-strings_of (request.FSetStat handle attrs) = length handle
-strings_of (request.OpenDir path) = length path
-strings_of (request.ReadDir handle) = length handle
-strings_of (request.Remove path) = length path
-strings_of (request.Mkdir path attrs) = length path
-strings_of (request.Rmdir path) = length path
-strings_of (request.RealPath path) = length path
-strings_of (request.Stat path) = length path
-strings_of (request.Rename old new) = length old + length new
-strings_of (request.PosixRename old new) = length old + length new
-strings_of (request.Link old new) = length old + length new
-
--- the most bytes of a request's strings: a packet has up to 262144, and what else stands in one
--- takes less than 64
-abbrev pub most_strings : ℕ
-most_strings = 262080
 
 -- the fault that is told of an engine's refusal
 abbrev pub fault_for : EngineFault → TreeFault
@@ -123,8 +93,8 @@ Gets session old (Err why) new = (new ≡ old)
 
 -- A request's packet was fed, turns led to its reply, and that was taken, and was all that the
 -- session was sent.
-abbrev pub IsAnswered : ℕ → ℕ → WireRequest → EngineView → Reply → EngineView → Type 0
-IsAnswered session moment q old r new = (wrote : EngineView)
+abbrev pub IsAnsweredBy : ℕ → ℕ → WireRequest → EngineView → Reply → EngineView → Type 0
+IsAnsweredBy session moment q old r new = (wrote : EngineView)
     × Converses session moment (packet (request_body id q)) old (Ok tt) wrote
     × Gets session wrote (Ok r) new
 
@@ -184,17 +154,17 @@ Opens old result new = (r : Result Happened EngineFault)
     × EventLeads old event.Open r new × (result ≡ session_opened r)
 
 -- A session opened and was greeted; or it didn't open, or wasn't greeted.
-abbrev pub HasBegun : ℕ → EngineView → Result ℕ TreeFault → EngineView → Type 0
-HasBegun moment old (Ok session) new = (opened : EngineView) × Opens old (Ok session) opened
+abbrev pub OpensGreeted : ℕ → EngineView → Result ℕ TreeFault → EngineView → Type 0
+OpensGreeted moment old (Ok session) new = (opened : EngineView) × Opens old (Ok session) opened
     × Welcomes session moment opened (Ok tt) new
-HasBegun moment old (Err why) new = Opens old (Err why) new
+OpensGreeted moment old (Err why) new = Opens old (Err why) new
     ⊎ ((session : ℕ) × (opened : EngineView) × Opens old (Ok session) opened
     × Welcomes session moment opened (Err why) new)
 
 -- what each operation is on an engine
 abbrev pub IsDone : ℕ → Operation → EngineView → EngineView → Type 0
-IsDone moment (Begins outcome) old new = HasBegun moment old outcome new
-IsDone moment (Asks session q (Ok r)) old new = IsAnswered session moment q old r new
+IsDone moment (Begins outcome) old new = OpensGreeted moment old outcome new
+IsDone moment (Asks session q (Ok r)) old new = IsAnsweredBy session moment q old r new
 IsDone moment (Asks session q (Err why)) old new = IsUnanswered session moment q old why new
 IsDone moment (Ends session) old new = IsClosed session moment old new
 

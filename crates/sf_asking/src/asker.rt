@@ -1,21 +1,16 @@
 //! A server on an engine.
 
-ghost use Rattle.std.specs.Prelude.{◌≡◌, ◌<◌, ◌≤◌, ◌-◌, ◌^◌, min, length, true, false};
-ghost use Rattle.sf_request.specs.Requests.{request_body};
+ghost use Rattle.std.specs.Prelude.{◌≡◌};
 ghost use Rattle.sf_trees.specs.Operations.{Asks};
-ghost use Rattle.sf_asking.specs.Asking.{id, IsDone, HasBegun, strings_of, most_strings};
+ghost use Rattle.sf_asking.specs.Asking.{IsDone, OpensGreeted};
 
 use crate::conversing::{close, open, say, take, welcome};
 use sf_engine::Engine;
 use sf_reply::Reply;
 use sf_request::WireRequest;
-use sf_trees::{Server, TreeFault};
+use sf_trees::{Server, TreeFault, is_too_long};
 use std::alloc::Global;
 use std::marker::Model;
-
-/// How many bytes the strings of a request may have, so that its packet isn't too long for a
-/// session.
-const MOST_STRINGS: usize = 262080;
 
 /// An engine whose sessions ask, all at one moment.
 #[derive(Drop)]
@@ -35,45 +30,11 @@ impl Model for Asker {
 
 /// Opens a session, and greets it.
 fn begin(engine: &mut Engine, moment: u32) -> Result<u64, TreeFault>
-    ensures { HasBegun moment engine.old result engine.new }
+    ensures { OpensGreeted moment engine.old result engine.new }
 {
     let session = open(engine)?;
     welcome(engine, session, moment)?;
     Ok(session)
-}
-
-/// How many bytes the strings of a request have.
-fn strings_of(request: &WireRequest) -> usize
-    ensures { result ≡ min (strings_of request.now) (2 ^ 64 - 1) }
-{
-    match request {
-        WireRequest::Open { filename, .. } => filename.len(),
-        WireRequest::Write { handle, data, .. } => handle.len().saturating_add(data.len()),
-        WireRequest::Close { handle }
-        | WireRequest::Read { handle, .. }
-        | WireRequest::FStat { handle }
-        | WireRequest::FSetStat { handle, .. }
-        | WireRequest::ReadDir { handle } => handle.len(),
-        WireRequest::LStat { path }
-        | WireRequest::SetStat { path, .. }
-        | WireRequest::OpenDir { path }
-        | WireRequest::Remove { path }
-        | WireRequest::Mkdir { path, .. }
-        | WireRequest::Rmdir { path }
-        | WireRequest::RealPath { path }
-        | WireRequest::Stat { path } => path.len(),
-        WireRequest::Rename { old, new }
-        | WireRequest::PosixRename { old, new }
-        | WireRequest::Link { old, new } => old.len().saturating_add(new.len()),
-    }
-}
-
-/// Whether a request is too long to be asked.
-fn is_too_long(request: &WireRequest) -> bool
-    ensures yes { result ≡ true → most_strings < strings_of request.now }
-    ensures no { result ≡ false → length (request_body id request.now) ≤ 262144 }
-{
-    strings_of(request) > MOST_STRINGS
 }
 
 /// Asks a request, and takes its reply.

@@ -3,7 +3,8 @@
 ghost use Rattle.std.specs.Prelude.{◌≡◌, ◌<◌, ◌^◌, length, IfOk};
 ghost use Rattle.sf_field.specs.Fields.{packet};
 ghost use Rattle.sf_request.specs.Requests.{request_body, init_body};
-ghost use Rattle.sf_asking.specs.Asking.{id, fault_for, stuck_by, Converses, Gets, TakesAll, Greets, IsClosed, Welcomes, session_opened, Opens};
+ghost use Rattle.sf_trees.specs.Lengths.{id};
+ghost use Rattle.sf_asking.specs.Asking.{fault_for, stuck_by, Converses, Gets, TakesAll, Greets, IsClosed, Welcomes, session_opened, Opens};
 
 use crate::packet::{ID, read_packet};
 use bytes::BytesMut;

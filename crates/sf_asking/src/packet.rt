@@ -3,7 +3,8 @@
 ghost use Rattle.std.specs.Prelude.{◌≡◌, ◌<◌, ◌^◌, ℕ, List, length, IfOk, IfErr, IfSome, IfNone};
 ghost use Rattle.sf_field.specs.Fields.{packet};
 ghost use Rattle.sf_reply.specs.Replies.{reply_body};
-ghost use Rattle.sf_asking.specs.Asking.{id, MayMissReply};
+ghost use Rattle.sf_trees.specs.Lengths.{id};
+ghost use Rattle.sf_asking.specs.Asking.{MayMissReply};
 
 use sf_field::bytes_at;
 use sf_reply::{Reply, read_reply};

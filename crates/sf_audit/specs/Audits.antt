@@ -68,15 +68,15 @@ IsWithin (x ∷ xs) [] = ⊥
 IsWithin (x ∷ xs) (y ∷ ys) = ((x ≡ y) × IsWithin xs ys) ⊎ IsWithin (x ∷ xs) ys
 
 -- all calls after the front are in the records as they were told
-abbrev pub AreKept : List Record → Transcript → Type 0
-AreKept records t = AllByRecursion (IsIn (call_records t.session records)) (rest records t)
+abbrev pub AreInRecords : List Record → Transcript → Type 0
+AreInRecords records t = AllByRecursion (IsIn (call_records t.session records)) (rest records t)
 
 -- What is wrong with a transcript: a call after the front is not in the records as it was told; or
 -- all are, in another order; or the records have further calls of its session.
 abbrev pub IsFaultOf : List Record → Transcript → AuditFault → Type 0
-IsFaultOf records t NotInHistory = ¬ AreKept records t
+IsFaultOf records t NotInHistory = ¬ AreInRecords records t
 IsFaultOf records t OutOfOrder =
-    AreKept records t × ¬ IsWithin (rest records t) (call_records t.session records)
+    AreInRecords records t × ¬ IsWithin (rest records t) (call_records t.session records)
 IsFaultOf records t Missing =
     IsWithin (rest records t) (call_records t.session records)
     × (rest records t ≢ call_records t.session records)

@@ -20,7 +20,7 @@ use Rattle.sf_refusing.specs.Refusing.{HasJournal, Have, PassesOn, IsFed, MayRef
 use Rattle.sf_refusing.proofs.Laws.{have_turned}
 use Rattle.sf_c.specs.declared.turns.Settled.{Settled}
 use Rattle.sf_c.specs.Numbers.{leads_on, replies_of}
-use Rattle.sf_c.specs.Journals.{GoesOn, ComeBytes, GoBytes, IsOneTurn, AreTurnsOf, FollowsFirst, AreSettled}
+use Rattle.sf_c.specs.Journals.{JournalGoesOn, ComeBytes, GoBytes, IsOneTurn, AreTurnsOf, FollowsFirst, AreSettled}
 
 -- a turn that leads to another one and wrote nothing is one after which the call goes on
 lead_goes : (r : Result Happened EngineFault) → replies_of r ≡ 0 → leads_on r ≡ true → goes_on_at r ≡ true
@@ -114,7 +114,7 @@ pub fed_so : (s : ℕ) (bytes : List ℕ) (old new : EngineView) (r r' : Refusal
     → OnOk result ((journal : List Act) → Have ghosts.has_log old r journal → (asked : LogEntry) × IsFed s [] asked × (asked.result ≡ result) × Have ghosts.has_log new r' (journal ++ Made asked ∷ Received s bytes ∷ []))
     → OnErr result ((new ≡ old) × ((journal : List Act) → HasJournal r journal → HasJournal r' journal))
     → IfErr result (λ f. (journal : List Act) → Have ghosts.has_log old r journal → MayRefuseFeed (log_of journal) s f)
-    → OnErr result (new ≡ old) × GoesOn (ComeBytes s bytes result) old r new r'
+    → OnErr result (new ≡ old) × JournalGoesOn (ComeBytes s bytes result) old r new r'
 fed_so s bytes old new r r' (Ok h) ok err fault = (tt, λ journal H. let fed = ok journal H in (Made fed.0 ∷ Received s bytes ∷ [], (fed.0, fed.1, fed.2, refl), fed.3))
 fed_so s bytes old new r r' (Err f) ok err fault =
     (err.0, λ journal H. ([], (fault journal H, refl), still new r' journal (err.1 journal H.0, same_log old new (log_of journal) err.0 H.1)))
@@ -126,7 +126,7 @@ pub sent_so : (s n : ℕ) (old new : EngineView) (r r' : Refusals) (result : Res
     → OnOk result ((journal : List Act) → Have ghosts.has_log old r journal → (result ≡ Ok happened.Sent) × (entries : List LogEntry) × Have ghosts.has_log new r' (journal ++ map Made entries ++ Delivered s n ∷ []))
     → OnErr result ((new ≡ old) × ((journal : List Act) → HasJournal r journal → HasJournal r' journal))
     → IfErr result (λ f. (journal : List Act) → Have ghosts.has_log old r journal → MayRefuseSent journal s n f)
-    → OnErr result (new ≡ old) × GoesOn (GoBytes s n result) old r new r'
+    → OnErr result (new ≡ old) × JournalGoesOn (GoBytes s n result) old r new r'
 sent_so s n old new r r' (Ok h) ok err fault = (tt, λ journal H. let done = ok journal H in (map Made done.1 ++ Delivered s n ∷ [], (sent_is h done.0, (done.1, refl)), behind new r' journal (map Made done.1) (Delivered s n ∷ []) done.2))
 sent_so s n old new r r' (Err f) ok err fault =
     (err.0, λ journal H. ([], (fault journal H, refl), still new r' journal (err.1 journal H.0, same_log old new (log_of journal) err.0 H.1)))

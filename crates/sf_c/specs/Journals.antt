@@ -18,9 +18,9 @@ use Rattle.sf_c.specs.Numbers.{IsNumber, IsFresh, leads_on, replies_of}
 
 -- ---- an engine and its refusals go on
 
-abbrev pub GoesOn : (List Act → List Act → Type 0) → EngineView → Refusals → EngineView → Refusals
-    → Type 0
-GoesOn AreActs old r new r' = (journal : List Act) → Have ghosts.has_log old r journal
+abbrev pub JournalGoesOn : (List Act → List Act → Type 0) → EngineView → Refusals → EngineView
+    → Refusals → Type 0
+JournalGoesOn AreActs old r new r' = (journal : List Act) → Have ghosts.has_log old r journal
     → (acts : List Act) × AreActs journal acts × Have ghosts.has_log new r' (journal ++ acts)
 
 -- so of those that C has
@@ -51,7 +51,7 @@ GoBytes session count (Err f) journal acts =
 abbrev pub Moves : (Result Happened EngineFault → List Act → List Act → Type 0) → ℤ
     → EngineView → Refusals → EngineView → Refusals → Type 0
 Moves AreBytes n old r new r' = (result : Result Happened EngineFault) × IsNumber result n
-    × OnErr result (new ≡ old) × GoesOn (AreBytes result) old r new r'
+    × OnErr result (new ≡ old) × JournalGoesOn (AreBytes result) old r new r'
 
 abbrev pub FeedsBytes : ℕ → List ℕ → ℤ → EngineView → Refusals → EngineView → Refusals → Type 0
 FeedsBytes session bytes n = Moves (ComeBytes session bytes) n
@@ -69,7 +69,7 @@ IsOneTurn session moment result journal acts =
 
 abbrev pub TurnsOnce : ℕ → ℕ → ℤ → EngineView → Refusals → EngineView → Refusals → Type 0
 TurnsOnce session moment n old r new r' = (result : Result Happened EngineFault)
-    × IsNumber result n × GoesOn (IsOneTurn session moment result) old r new r'
+    × IsNumber result n × JournalGoesOn (IsOneTurn session moment result) old r new r'
 
 -- the same, but the engine's turns went on as long as its call was on its way to its reply; no call
 -- has steps for 2^64
@@ -120,13 +120,13 @@ IsLastNumber (Some result) n = IsNumber result n
 abbrev pub Settles : ℕ → ℕ → ℕ → ℤ → Bool → EngineView → Refusals → EngineView → Refusals → Type 0
 Settles most session moment n moved old r new r' = (settled : Settled)
     × IsLastNumber settled.last n × (moved ≡ settled.moved)
-    × GoesOn (AreSettled most session moment settled) old r new r'
+    × JournalGoesOn (AreSettled most session moment settled) old r new r'
 
 -- ---- what is told
 
 -- Whether a session waits for bytes, and less than a packet is held of what came for it.
-abbrev pub WantsBytes : EngineView → Refusals → ℕ → Bool → Type 0
-WantsBytes engine r session wants = (journal : List Act) → Have ghosts.has_log engine r journal
+abbrev pub SaysItWaits : EngineView → Refusals → ℕ → Bool → Type 0
+SaysItWaits engine r session wants = (journal : List Act) → Have ghosts.has_log engine r journal
     → IsOwn session journal → IsTrue wants ↔ (WaitsForBytes (log_of journal) session
     × ((held : List ℕ) → received_in session journal ≡ taken_in session journal ++ held
     → IsCut held cut.More))
@@ -136,8 +136,8 @@ abbrev pub HasNext : EngineView → Refusals → ℕ → List ℕ → Type 0
 HasNext engine r session output = (journal : List Act) → Have ghosts.has_log engine r journal
     → IsOwn session journal → IsKnown (log_of journal) session × IsNextOutput journal session output
 
-abbrev pub HasNoSession : EngineView → Refusals → ℕ → Type 0
-HasNoSession engine r session = (journal : List Act) → Have ghosts.has_log engine r journal
+abbrev pub KnowsNoSession : EngineView → Refusals → ℕ → Type 0
+KnowsNoSession engine r session = (journal : List Act) → Have ghosts.has_log engine r journal
     → IsKnown (log_of journal) session → ⊥
 
 -- the output as far as there is room, and how long it is
@@ -149,7 +149,7 @@ CopiesOutput engine r session old n new =
 -- a session's output was copied, or there is no such session
 abbrev pub Outputs : EngineView → Refusals → ℕ → List ℕ → ℤ → List ℕ → Type 0
 Outputs engine r session old n new = CopiesOutput engine r session old n new
-    ⊎ (HasNoSession engine r session × (n ≡ negsuc 1) × (new ≡ old))
+    ⊎ (KnowsNoSession engine r session × (n ≡ negsuc 1) × (new ≡ old))
 
 -- so of those that C has
 abbrev pub OfBoth : Option EngineView → Option Refusals → (EngineView → Refusals → Type 0) → Type 0

@@ -74,12 +74,12 @@ plainly kind = record {
   flags = 0;
 }
 
-abbrev pub by_handle : ℕ → ℕ → AskedParts
-by_handle kind handle = record (plainly kind) { handle = handle }
+abbrev pub handle_parts : ℕ → ℕ → AskedParts
+handle_parts kind handle = record (plainly kind) { handle = handle }
 
 abbrev pub at_place : ℕ → ℕ → ℕ → ℕ → AskedParts
 at_place kind handle offset length =
-    record (by_handle kind handle) { offset = offset; length = length }
+    record (handle_parts kind handle) { offset = offset; length = length }
 
 abbrev pub with_attributes : ℕ → Attrs → AskedParts
 with_attributes kind attrs = record (plainly kind) { attributes = attributes_parts attrs }
@@ -87,15 +87,15 @@ with_attributes kind attrs = record (plainly kind) { attributes = attributes_par
 abbrev pub asked_parts : Request → AskedParts
 asked_parts (request.Open path flags attrs) =
     record (with_attributes 3 attrs) { flags = bits_of flags }
-asked_parts (request.Close handle) = by_handle 4 handle
+asked_parts (request.Close handle) = handle_parts 4 handle
 asked_parts (request.Read handle offset len) = at_place 5 handle offset len
 asked_parts (request.Write handle offset written) = at_place 6 handle offset (length written)
-asked_parts (request.FStat handle) = by_handle 8 handle
+asked_parts (request.FStat handle) = handle_parts 8 handle
 asked_parts (request.SetStat path attrs) = with_attributes 9 attrs
 asked_parts (request.FSetStat handle attrs) =
     record (with_attributes 10 attrs) { handle = handle }
 asked_parts (request.OpenDir path) = plainly 11
-asked_parts (request.ReadDir handle) = by_handle 12 handle
+asked_parts (request.ReadDir handle) = handle_parts 12 handle
 asked_parts (request.Remove path) = plainly 13
 asked_parts (request.Mkdir path attrs) = with_attributes 14 attrs
 asked_parts (request.Rmdir path) = plainly 15

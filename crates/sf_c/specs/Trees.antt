@@ -40,12 +40,12 @@ abbrev pub bytes_of_object : Option (List ℕ) → List ℕ
 bytes_of_object (Some contents) = contents
 bytes_of_object None = []
 
-abbrev pub bytes_of : Option Leaf → List ℕ
-bytes_of (Some leaf) = bytes_of_object (contents_of leaf.1.1)
-bytes_of None = []
+abbrev pub leaf_bytes : Option Leaf → List ℕ
+leaf_bytes (Some leaf) = bytes_of_object (contents_of leaf.1.1)
+leaf_bytes None = []
 
 abbrev pub bytes_at : List Leaf → ℕ → List ℕ
-bytes_at leaves at = bytes_of (slice_get leaves at)
+bytes_at leaves at = leaf_bytes (slice_get leaves at)
 
 -- so many of these bytes stand in the room, and behind them it is as it was
 abbrev pub IsFilled : List ℕ → ℕ → List ℕ → List ℕ → Type 0

@@ -15,7 +15,7 @@ ghost use Rattle.std.specs.Prelude.{◌≡◌, ◌++◌, length, take, drop, Non
 ghost use Rattle.sf_engine.specs.declared.event.Event.TheVariants as event;
 ghost use Rattle.sf_trees.specs.Makings.{MakesDirectory, WritesFile, Links};
 ghost use Rattle.sf_c.specs.Records.{TellsRecord, KeepsLastRecords};
-ghost use Rattle.sf_c.specs.Journals.{InBoth, OfBoth, FeedsBytes, SendsBytes, TurnsOnce, Settles, WantsBytes, Outputs};
+ghost use Rattle.sf_c.specs.Journals.{InBoth, OfBoth, FeedsBytes, SendsBytes, TurnsOnce, Settles, SaysItWaits, Outputs};
 ghost use Rattle.sf_c.specs.Rules.{TakesRule, TellsRefused};
 ghost use Rattle.sf_c.specs.Making.{AnswersMade};
 ghost use Rattle.sf_c.specs.Trees.{TakesTree, TellsLeaf, ReadsLeaf, TellsGap};
@@ -237,7 +237,7 @@ pub extern "C" fn lucernetick_wants_bytes(
     ensures same { held.new.engine ≡ held.old.engine }
     ensures unchanged { refusing.new.refusals ≡ refusing.old.refusals }
     ensures wants { OfBoth held.old.engine refusing.old.refusals
-        (λ e r. WantsBytes e r session result) }
+        (λ e r. SaysItWaits e r session result) }
 {
     let engine = held.take(alloc);
     let refusals = refusing.take(alloc);
@@ -249,7 +249,7 @@ pub extern "C" fn lucernetick_wants_bytes(
 
 /// Whether a session waits for bytes, as the journal tells.
 fn wants_bytes(engine: &Engine, refusals: &Refusals, session: u64) -> bool
-    ensures { WantsBytes engine.now refusals.now session result }
+    ensures { SaysItWaits engine.now refusals.now session result }
 {
     refusals.wants_bytes(engine, session)
 }

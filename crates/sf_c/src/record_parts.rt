@@ -1,7 +1,7 @@
 //! The records that an engine keeps, as numbers and bytes.
 
 ghost use Rattle.std.specs.Prelude.{◌≡◌, ◌≤◌, IfOk};
-ghost use Rattle.sf_c.specs.Records.{size_parts, owner_parts, permissions_parts, times_parts, attributes_parts, plainly, by_handle, at_place, with_attributes, asked_parts, answer, answered_parts, first_text, second_text, data_parts, names_parts, answer_bytes, left_parts, IsRecounted, Recounts};
+ghost use Rattle.sf_c.specs.Records.{size_parts, owner_parts, permissions_parts, times_parts, attributes_parts, plainly, handle_parts, at_place, with_attributes, asked_parts, answer, answered_parts, first_text, second_text, data_parts, names_parts, answer_bytes, left_parts, IsRecounted, Recounts};
 
 use sf_call::{Record, Request};
 use sf_field::{Attrs, Owner, Times};
@@ -144,8 +144,8 @@ fn plainly(kind: u32) -> AskedParts
 }
 
 /// A packet of this type by a handle, of which nothing else is told in numbers.
-fn by_handle(kind: u32, handle: u64) -> AskedParts
-    ensures { result ≡ by_handle kind handle }
+fn handle_parts(kind: u32, handle: u64) -> AskedParts
+    ensures { result ≡ handle_parts kind handle }
 {
     AskedParts {
         handle,
@@ -160,7 +160,7 @@ fn at_place(kind: u32, handle: u64, offset: u64, length: u64) -> AskedParts
     AskedParts {
         offset,
         length,
-        ..by_handle(kind, handle)
+        ..handle_parts(kind, handle)
     }
 }
 
@@ -183,7 +183,7 @@ fn asked_parts(request: &Request) -> AskedParts
             flags: flags.bits(),
             ..with_attributes(3, attrs)
         },
-        Request::Close(handle) => by_handle(4, *handle),
+        Request::Close(handle) => handle_parts(4, *handle),
         Request::Read {
             handle,
             offset,
@@ -194,14 +194,14 @@ fn asked_parts(request: &Request) -> AskedParts
             offset,
             data,
         } => at_place(6, *handle, *offset, data.as_slice().len() as u64),
-        Request::FStat(handle) => by_handle(8, *handle),
+        Request::FStat(handle) => handle_parts(8, *handle),
         Request::SetStat(_, attrs) => with_attributes(9, attrs),
         Request::FSetStat(handle, attrs) => AskedParts {
             handle: *handle,
             ..with_attributes(10, attrs)
         },
         Request::OpenDir(_) => plainly(11),
-        Request::ReadDir(handle) => by_handle(12, *handle),
+        Request::ReadDir(handle) => handle_parts(12, *handle),
         Request::Remove(_) => plainly(13),
         Request::Mkdir(_, attrs) => with_attributes(14, attrs),
         Request::Rmdir(_) => plainly(15),

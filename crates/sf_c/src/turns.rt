@@ -3,7 +3,7 @@
 
 ghost use Rattle.std.specs.Prelude.{◌≡◌, ◌≤◌, ◌<◌, ◌^◌, ℕ, length};
 ghost use Rattle.sf_c.specs.Numbers.{leads_on, replies_of, LeadsToNumber};
-ghost use Rattle.sf_c.specs.Journals.{GoesOn, FeedsBytes, SendsBytes, TurnsOnce, AreTurnsOf, TurnsTo, AreSettled, Settles};
+ghost use Rattle.sf_c.specs.Journals.{JournalGoesOn, FeedsBytes, SendsBytes, TurnsOnce, AreTurnsOf, TurnsTo, AreSettled, Settles};
 
 use crate::number::number_of;
 use sf_engine::{Engine, EngineFault, Event, Happened};
@@ -44,7 +44,7 @@ fn turns(
     session: u64,
     moment: u32,
 ) -> Result<Happened, EngineFault>
-    ensures { GoesOn (AreTurnsOf session moment result) engine.old refusals.old engine.new
+    ensures { JournalGoesOn (AreTurnsOf session moment result) engine.old refusals.old engine.new
         refusals.new }
 {
     if refusals.move_on(engine, session)? {
@@ -83,7 +83,7 @@ fn follow(
     moment: u32,
     most: u64,
 ) -> Option<Result<Happened, EngineFault>>
-    ensures { GoesOn (TurnsTo most session moment result) engine.old refusals.old engine.new
+    ensures { JournalGoesOn (TurnsTo most session moment result) engine.old refusals.old engine.new
         refusals.new }
 {
     for _ in 0..most {
@@ -112,8 +112,8 @@ fn settle(
     moment: u32,
     most: u64,
 ) -> Settled
-    ensures { GoesOn (AreSettled most session moment result) engine.old refusals.old engine.new
-        refusals.new }
+    ensures { JournalGoesOn (AreSettled most session moment result) engine.old refusals.old
+        engine.new refusals.new }
 {
     if most == 0 {
         return Settled {

@@ -10,7 +10,7 @@ use Rattle.sf_request.specs.Requests.{request_body}
 use Rattle.sf_reply.specs.declared.reply.Reply.{Reply}
 use Rattle.sf_reply.specs.Replies.{reply_body}
 use Rattle.sf_client.specs.Dues.{due_of, is_due}
-use Rattle.sf_client.specs.Exchanges.{ClientView, Exchange, Exchanged, SentAhead, Unanswered, Sent, Took, IsDue, id_after, last_id, requests_of, requests_from, replies_from}
+use Rattle.sf_client.specs.Exchanges.{ClientView, Exchange, Exchanged, SentAhead, Unanswered, Sent, Took, IsDueReply, id_after, last_id, requests_of, requests_from, replies_from}
 use Rattle.sf_client.specs.Outcomes.{asked}
 
 -- ---- lists
@@ -72,7 +72,7 @@ ahead_then u v w xs ys later p q =
       next = q.next ∙ ap (λ (n : ℕ). last_id n ys) p.next ∙ sym (last_id-append u.next xs ys);
       wrote = subst (Appends u.outgoing w.outgoing) (sym (requests_in_parts u.next xs ys later)) (Appends-trans _ _ _ _ _ p.wrote wrote);
       read = subst (Consumes u.incoming w.incoming) (sym (replies-append u.next xs ys)) (Consumes-trans _ _ _ _ _ p.read read);
-      due = all-append IsDue xs ys p.due q.due;
+      due = all-append IsDueReply xs ys p.due q.due;
       failures = omega (arith, p.failures, q.failures);
     }
 
@@ -119,6 +119,6 @@ took_one {v} {u} {w} {xs} {q} {qs} {r} ahead due took =
       next = took.next ∙ ap id_after ahead.next ∙ sym (last_id-append v.next xs (asked q r ∷ []));
       wrote = subst (λ (t : List WireRequest). Appends v.outgoing w.outgoing (requests_from v.next t)) (sym (requests-shift xs q r qs)) wrote;
       read = subst (Consumes v.incoming w.incoming) all (Consumes-trans _ _ _ _ _ ahead.read took.read);
-      due = all-append IsDue xs (asked q r ∷ []) ahead.due (due, tt);
+      due = all-append IsDueReply xs (asked q r ∷ []) ahead.due (due, tt);
       failures = omega (arith, ahead.failures, took.failures);
     }

@@ -225,14 +225,14 @@ ClosesAfter n (Err (fault.TooLarge size)) v (Err f) w = EndsAfter n (fault.TooLa
 ClosesAfter n (Err fault.Failed) v (Err f) w = (f ≡ fault.Failed) × (w ≡ v)
 
 -- after a success, a refusal, a want of memory and a file that is too large the client goes on
-abbrev pub IsKept : {X : Type 0} → Result X ClientFault → ClientView → Type 0
-IsKept (Ok x) v = v.failed ≡ false
-IsKept (Err fault.Stream) v = Unit {0}
-IsKept (Err fault.Protocol) v = Unit {0}
-IsKept (Err (fault.Status code)) v = v.failed ≡ false
-IsKept (Err fault.OutOfMemory) v = v.failed ≡ false
-IsKept (Err (fault.TooLarge size)) v = v.failed ≡ false
-IsKept (Err fault.Failed) v = Unit {0}
+abbrev pub KeepsInStep : {X : Type 0} → Result X ClientFault → ClientView → Type 0
+KeepsInStep (Ok x) v = v.failed ≡ false
+KeepsInStep (Err fault.Stream) v = Unit {0}
+KeepsInStep (Err fault.Protocol) v = Unit {0}
+KeepsInStep (Err (fault.Status code)) v = v.failed ≡ false
+KeepsInStep (Err fault.OutOfMemory) v = v.failed ≡ false
+KeepsInStep (Err (fault.TooLarge size)) v = v.failed ≡ false
+KeepsInStep (Err fault.Failed) v = Unit {0}
 
 -- the fault that is told after a first one and a CLOSE
 abbrev pub first_fault : ClientFault → Result (Unit {0}) ClientFault → ClientFault

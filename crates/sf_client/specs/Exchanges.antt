@@ -45,8 +45,8 @@ replies_from id [] = []
 replies_from id (x ∷ xs) = packet (reply_body id x.reply) ++ replies_from (id_after id) xs
 
 -- the reply is one that its request may have
-abbrev pub IsDue : Exchange → Type 0
-IsDue x = is_due (due_of x.request) x.reply ≡ true
+abbrev pub IsDueReply : Exchange → Type 0
+IsDueReply x = is_due (due_of x.request) x.reply ≡ true
 
 -- The client sent these requests, in order, and took their replies. It has sent some later requests
 -- too, whose replies are due.
@@ -57,7 +57,7 @@ pub record SentAhead (v : ClientView) (xs : List Exchange) (later : List WireReq
   pub next : w.next ≡ last_id v.next xs
   pub wrote : Appends v.outgoing w.outgoing (requests_from v.next (requests_of xs ++ later))
   pub read : Consumes v.incoming w.incoming (replies_from v.next xs)
-  pub due : AllByRecursion IsDue xs
+  pub due : AllByRecursion IsDueReply xs
   pub failures : v.failures ≤ w.failures
 
 -- Nothing more was sent: the client is in step.

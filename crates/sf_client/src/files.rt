@@ -10,7 +10,7 @@ ghost use Rattle.sf_reply.specs.declared.reply.Reply.TheVariants as reply;
 ghost use Rattle.sf_client.specs.Dues.{due_of};
 ghost use Rattle.sf_client.specs.Outcomes.{Comes};
 ghost use Rattle.sf_client.specs.Ahead.{SendsOn, TakesOn, GathersPiece, GathersNames, most_ahead, sender};
-ghost use Rattle.sf_client.specs.Calls.{DoesCall, ByHandle, ClosesAfter, EndsAfter, IsKept, AsksSize, first_fault, reply_by, ended_by, read_from, to_read, to_write, Reads, ReadsAll, WritesAll, ListsAll, items_of};
+ghost use Rattle.sf_client.specs.Calls.{DoesCall, ByHandle, ClosesAfter, EndsAfter, KeepsInStep, AsksSize, first_fault, reply_by, ended_by, read_from, to_read, to_write, Reads, ReadsAll, WritesAll, ListsAll, items_of};
 
 use crate::ahead::Ahead;
 use crate::client::Client;
@@ -122,7 +122,7 @@ impl<L: Line + Drop> Client<L> {
         handle: u64,
         outcome: Result<T, ClientFault>,
     ) -> Result<T, ClientFault>
-        requires { IsKept outcome self.old }
+        requires { KeepsInStep outcome self.old }
         ensures { ClosesAfter handle outcome self.old result self.new }
     {
         match outcome {

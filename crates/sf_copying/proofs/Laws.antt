@@ -2,7 +2,7 @@
 use Rattle.std.specs.Prelude.{◌≡◌, ◌≢◌, ◌<◌, ℕ, Some, None}
 use Rattle.std.proofs.Common.{sym, ap, subst, ◌∙◌, inl, inr}
 use Rattle.std.proofs.lemmas.Bool.{cases_eq}
-use Rattle.sf_copying.specs.Copies.{Copying, copying, Copiers, AreCopies, Changes, StartsToCopy, CopiesOneBlock, CopiesRest, Spares}
+use Rattle.sf_copying.specs.Copies.{Copying, copying, Copiers, AreCopies, ChangesOneCall, StartsToCopy, CopiesOneBlock, CopiesRest, Spares}
 
 some_is : {A : Type 0} (x y : A) → Some x ≡ Some y → x ≡ y
 some_is x y e = cc
@@ -14,7 +14,7 @@ none_some x e = cc
 pub one_writer : (s : Copiers) → AreCopies s → (n m : ℕ) (c d : Copying) → s.copying_of n ≡ Some c → s.copying_of m ≡ Some d → c.file ≡ d.file → n ≡ m
 one_writer s copies n m c d at bt e = some_is n m (sym (copies.holds n c at) ∙ (ap s.writer e ∙ copies.holds m d bt))
 
-module _ (old new : Copiers) (n file : ℕ) (copies : AreCopies old) (changes : Changes old new n file) (own : (f : ℕ) → old.writer f ≡ Some n → f ≡ file) (mine : (m : ℕ) → old.writer file ≡ Some m → m ≡ n) where
+module _ (old new : Copiers) (n file : ℕ) (copies : AreCopies old) (changes : ChangesOneCall old new n file) (own : (f : ℕ) → old.writer f ≡ Some n → f ≡ file) (mine : (m : ℕ) → old.writer file ≡ Some m → m ≡ n) where
   -- another call's file is another one
   apart : (m : ℕ) (c : Copying) → m ≢ n → old.copying_of m ≡ Some c → c.file ≢ file
   apart m c ne at e = ne (mine m (sym (ap old.writer e) ∙ copies.holds m c at))
@@ -42,7 +42,7 @@ module _ (old new : Copiers) (n file : ℕ) (copies : AreCopies old) (changes : 
   other_settled f ne at = changes.lefts f ne ∙ copies.settled f (sym (changes.writers f ne) ∙ at)
 
 -- the call copies into the file now
-module _ (old new : Copiers) (n : ℕ) (c : Copying) (copies : AreCopies old) (changes : Changes old new n c.file) (own : (f : ℕ) → old.writer f ≡ Some n → f ≡ c.file) (mine : (m : ℕ) → old.writer c.file ≡ Some m → m ≡ n)
+module _ (old new : Copiers) (n : ℕ) (c : Copying) (copies : AreCopies old) (changes : ChangesOneCall old new n c.file) (own : (f : ℕ) → old.writer f ≡ Some n → f ≡ c.file) (mine : (m : ℕ) → old.writer c.file ≡ Some m → m ≡ n)
     (now : new.copying_of n ≡ Some c) (holds : new.writer c.file ≡ Some n) (left : new.left c.file ≡ c.left) (some : 0 < c.left) where
   is_own : (m : ℕ) (d : Copying) → m ≡ n → new.copying_of m ≡ Some d → c ≡ d
   is_own m d e at = some_is c d (sym now ∙ (sym (ap new.copying_of e) ∙ at))

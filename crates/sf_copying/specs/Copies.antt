@@ -27,14 +27,14 @@ pub record AreCopies (s : Copiers) : Type 0 where
   pub settled : (f : ℕ) → s.writer f ≡ None → s.left f ≡ 0
 
 -- Of one call something changed, which is about one file: the others copy and hold as before.
-pub record Changes (old new : Copiers) (n file : ℕ) : Type 0 where
+pub record ChangesOneCall (old new : Copiers) (n file : ℕ) : Type 0 where
   pub calls : (m : ℕ) → m ≢ n → new.copying_of m ≡ old.copying_of m
   pub writers : (f : ℕ) → f ≢ file → new.writer f ≡ old.writer f
   pub lefts : (f : ℕ) → f ≢ file → new.left f ≡ old.left f
 
 -- a call begins to copy into a file that no call held
 pub record StartsToCopy (old new : Copiers) (n : ℕ) (c : Copying) : Type 0 where
-  pub changes : Changes old new n c.file
+  pub changes : ChangesOneCall old new n c.file
   pub was : old.copying_of n ≡ None
   pub free : old.writer c.file ≡ None
   pub now : new.copying_of n ≡ Some c
@@ -44,7 +44,7 @@ pub record StartsToCopy (old new : Copiers) (n : ℕ) (c : Copying) : Type 0 whe
 
 -- it copies one block, and more are left
 pub record CopiesOneBlock (old new : Copiers) (n : ℕ) (c : Copying) (k : ℕ) : Type 0 where
-  pub changes : Changes old new n c.file
+  pub changes : ChangesOneCall old new n c.file
   pub was : old.copying_of n ≡ Some c
   pub more : c.left ≡ suc k
   pub some : 0 < k
@@ -54,7 +54,7 @@ pub record CopiesOneBlock (old new : Copiers) (n : ℕ) (c : Copying) (k : ℕ) 
 
 -- All that is left is copied: by the last step of the call, or by another one that finishes it.
 pub record CopiesRest (old new : Copiers) (n : ℕ) (c : Copying) : Type 0 where
-  pub changes : Changes old new n c.file
+  pub changes : ChangesOneCall old new n c.file
   pub was : old.copying_of n ≡ Some c
   pub now : new.copying_of n ≡ None
   pub free : new.writer c.file ≡ None

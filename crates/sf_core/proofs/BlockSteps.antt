@@ -18,7 +18,7 @@ use Rattle.sf_keeps.specs.Keeps.{Keeps}
 use Rattle.sf_keeps.proofs.Laws.{keeps_held, keeps_left, edited_apart, edited_itself, left_there, left_holders}
 use Rattle.sf_coupling.specs.Walks.{HeldPath, walkers_at, AreWalks}
 use Rattle.sf_coupling.proofs.Laws.{same_or_not}
-use Rattle.sf_copying.specs.Copies.{copying, AreCopies, Changes}
+use Rattle.sf_copying.specs.Copies.{copying, AreCopies, ChangesOneCall}
 use Rattle.sf_copying.proofs.Laws.{goes_keeps, ends_keeps}
 use Rattle.sf_call.specs.Routes.{route_of}
 use Rattle.sf_walk.specs.Routes.{namespace}
@@ -149,7 +149,7 @@ module _ (p : PartsView) (h : List Record) (sound : Sound p h) (c : Call) (at : 
 
 -- of other calls and files nothing changes
 pub changes_by : (p : PartsView) (c : Call) → call_at p.calls c.number ≡ Some c → (node : ℕ) (s : StoreState) (after : Stage) → ((i : ℕ) → i ≢ node → node_in s.nodes i ≡ node_in p.store.nodes i)
-    → Changes (copying_scene p.store p.calls) (copying_scene s (staged p.calls c.number after)) c.number node
+    → ChangesOneCall (copying_scene p.store p.calls) (copying_scene s (staged p.calls c.number after)) c.number node
 changes_by p c at node s after apart = record {
   calls = λ m ne. ap copied_by ((updates_staged p.calls c.number c after at).rest m ne);
   writers = λ f ne. writer_apart p.store s f (apart f ne);

@@ -37,7 +37,7 @@ use Rattle.sf_core.proofs.Walkers.{walker_is, walker_holds}
 use Rattle.sf_core.proofs.Writers.{SameFiles, files_itself}
 use Rattle.sf_core.proofs.SparedFiles.{all_copied}
 use Rattle.sf_core.proofs.Updates.{Updates, updates_removed, updates_nothing}
-use Rattle.sf_core.specs.Events.{Leaves}
+use Rattle.sf_core.specs.Events.{SessionLeaves}
 use Rattle.sf_core.proofs.LaneStates.{slot_idle, slot_kept}
 use Rattle.sf_core.proofs.Ledgers.{ledger_changed}
 use Rattle.sf_core.proofs.Starting.{no_call, has_call}
@@ -176,7 +176,7 @@ module _ (p q : PartsView) (h : List Record) (sound : Sound p h) (session : ℕ)
         (let a = sound.ledger.room in let b = sessions.size in let d = ap (λ (x : BookView). x.room) parted.book in omega (arith, a, b, d, as_many));
   }
 
-  pub left_told : Leaves (core_of p) (core_of q) session
+  pub left_told : SessionLeaves (core_of p) (core_of q) session
   left_told = record {
     idle = slot_idle (core_of p) session idle;
     own = ap (lane_state_by q.calls) sessions.now_is;

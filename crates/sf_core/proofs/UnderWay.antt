@@ -18,7 +18,7 @@ use Rattle.sf_core.specs.declared.parts.WalkOutcome.TheVariants as outcome
 use Rattle.sf_core.specs.Cores.{call_at}
 use Rattle.sf_core.specs.Parts.{PartsView}
 use Rattle.sf_core.specs.Sound.{IsCore}
-use Rattle.sf_core.specs.Stepping.{IsUnderWay, CallStep, come_to, stage_after, walked_calls}
+use Rattle.sf_core.specs.Stepping.{HasComeTo, CallStep, come_to, stage_after, walked_calls}
 use Rattle.sf_core.proofs.Maps.{set_same, set_twice}
 use Rattle.sf_core.proofs.Updates.{staged_is}
 
@@ -48,7 +48,7 @@ module _ (n : ℕ) (c : Call) where
   noted p g at (walk.Blocked holder) = staged_same p.calls n (at_stage g c) at
   noted p g at (walk.Ready ways) = staged_same p.calls n (at_stage g c) at
 
-  pub one_step : (p : PartsView) (s t : StoreState) (g : Stage) (w : Walk) → IsUnderWay p n s c g → s.look_ups < 2 ^ 64 → Advances s t (walker c.number (route_of c.request) g) w
+  pub one_step : (p : PartsView) (s t : StoreState) (g : Stage) (w : Walk) → HasComeTo p n s c g → s.look_ups < 2 ^ 64 → Advances s t (walker c.number (route_of c.request) g) w
       → CallStep p c.session n (outcome.Walked w) (come_to p n t (stage_after w g))
   one_step p s t g w on fits advances = record {
     core = on.core;
@@ -71,11 +71,11 @@ module _ (n : ℕ) (c : Call) where
   }
 
   -- it stands where it stood
-  pub come_same : (p : PartsView) (s : StoreState) (g : Stage) → IsUnderWay p n s c g → come_to p n s g ≡ p
+  pub come_same : (p : PartsView) (s : StoreState) (g : Stage) → HasComeTo p n s c g → come_to p n s g ≡ p
   come_same p s g on = λ i. record p { store = sym on.store i; calls = staged_same p.calls n (at_stage g c) on.call i }
 
   -- ---- a step more
-  pub under_way : (p : PartsView) (s t : StoreState) (g h : Stage) → IsUnderWay p n s c g → IsCore (come_to p n t h) → IsFileFree t c → IsUnderWay (come_to p n t h) n t c h
+  pub under_way : (p : PartsView) (s t : StoreState) (g h : Stage) → HasComeTo p n s c g → IsCore (come_to p n t h) → IsFileFree t c → HasComeTo (come_to p n t h) n t c h
   under_way p s t g h on core free = record {
     core = core;
     store = refl;
@@ -84,7 +84,7 @@ module _ (n : ℕ) (c : Call) where
     free = free;
   }
 
-  pub step_more : (p : PartsView) (s t u : StoreState) (g h : Stage) (w : Walk) → IsUnderWay p n s c g → IsCore (come_to p n t h) → IsFileFree t c → t.look_ups < 2 ^ 64 → Advances t u (walker c.number (route_of c.request) h) w
+  pub step_more : (p : PartsView) (s t u : StoreState) (g h : Stage) (w : Walk) → HasComeTo p n s c g → IsCore (come_to p n t h) → IsFileFree t c → t.look_ups < 2 ^ 64 → Advances t u (walker c.number (route_of c.request) h) w
       → CallStep (come_to p n t h) c.session n (outcome.Walked w) (come_to p n u (stage_after w h))
   step_more p s t u g h w on core free fits advances =
       subst (λ (q : PartsView). CallStep (come_to p n t h) c.session n (outcome.Walked w) q)

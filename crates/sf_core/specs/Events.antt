@@ -403,7 +403,7 @@ RefusesBegin v lane fault.NumbersSpent =
 RefusesBegin v lane fault.Stranger = lane_state v lane.session ≢ Idle
 
 -- the session leaves
-pub record Leaves (v w : CoreView) (session : ℕ) : Type 0 where
+pub record SessionLeaves (v w : CoreView) (session : ℕ) : Type 0 where
   pub idle : lane_state v session ≡ Idle
   pub own : lane_state w session ≡ NoLane
   pub others : (s : ℕ) → s ≢ session → lane_state w s ≡ lane_state v s

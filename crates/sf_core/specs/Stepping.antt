@@ -129,7 +129,7 @@ stage_after (walk.Blocked holder) at = at
 stage_after (walk.Ready found) at = at
 
 -- a sound core on this store, where the call of the number is under way and has come to this stage
-pub record IsUnderWay (p : PartsView) (number : ℕ) (s : StoreState) (c : Call)
+pub record HasComeTo (p : PartsView) (number : ℕ) (s : StoreState) (c : Call)
     (at : Stage) : Type 0 where
   pub core : IsCore p
   pub store : p.store ≡ s

@@ -14,7 +14,7 @@ ghost use Rattle.sf_core.specs.Stuck.{IsNeverStuck};
 ghost use Rattle.sf_core.specs.Owners.{OwnsCalls};
 ghost use Rattle.sf_core.specs.declared.step.Step.TheVariants.{Answered};
 ghost use Rattle.sf_core.specs.Writing.{ReportsStep};
-ghost use Rattle.sf_core.specs.Events.{StepsOn, Walks, Joins, CallBegins, begun, AnswersAtOnce, Leaves, RefusesJoin, RefusesBegin, walk_end};
+ghost use Rattle.sf_core.specs.Events.{StepsOn, Walks, Joins, CallBegins, begun, AnswersAtOnce, SessionLeaves, RefusesJoin, RefusesBegin, walk_end};
 
 use crate::lane::{Lane, Share};
 use crate::parts::{Parts, WalkOutcome};
@@ -270,7 +270,7 @@ impl Core {
     pub fn leave(&mut self, lane: Lane) -> Result<Share, Lane>
         requires { lane.call ≡ None }
         ensures share { IfOk result (λ share. share ≡ lane.begun) }
-        ensures ok { OnOk result (Leaves self.old self.new lane.session) }
+        ensures ok { OnOk result (SessionLeaves self.old self.new lane.session) }
         ensures back { IfErr result (λ back. back ≡ lane) }
         ensures history { OnOk result ((h : List Record) → IsHistory self.old h
             → IsHistory self.new (h ++ Left lane.session ∷ [])) }

@@ -16,7 +16,7 @@ ghost use Rattle.sf_core.specs.Progress.{is_at_once, is_write, copy_of, did};
 ghost use Rattle.sf_core.specs.declared.parts.WalkOutcome.TheVariants as outcome;
 ghost use Rattle.sf_core.specs.Parts.{PartsView};
 ghost use Rattle.sf_core.specs.Finishing.{IsSettledWhereFree};
-ghost use Rattle.sf_core.specs.Stepping.{IsNewParts, SameButRoom, JoinState, BeginState, FinishState, FetchState, LeaveState, AtOnceState, IsUnderWay, IsWalked, WalkState, come_to, stage_after, ending};
+ghost use Rattle.sf_core.specs.Stepping.{IsNewParts, SameButRoom, JoinState, BeginState, FinishState, FetchState, LeaveState, AtOnceState, HasComeTo, IsWalked, WalkState, come_to, stage_after, ending};
 
 mod helping;
 mod writing;
@@ -365,9 +365,9 @@ fn go_on(
 ) -> Walk
     requires route { route_in route ≡ route_of call.now.request }
     requires core { (p : PartsView) × (number : ℕ)
-        × IsUnderWay p number store.old call.now stage.old }
+        × HasComeTo p number store.old call.now stage.old }
     requires some { 0 < most }
-    ensures { (p : PartsView) (number : ℕ) → IsUnderWay p number store.old call.now stage.old
+    ensures { (p : PartsView) (number : ℕ) → HasComeTo p number store.old call.now stage.old
         → WalkState p call.now.session number most
         (ending (outcome.Walked result) (come_to p number store.new stage.new)) }
 {

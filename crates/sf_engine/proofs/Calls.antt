@@ -18,7 +18,7 @@ use Rattle.sf_engine.specs.declared.event.Happened.{Happened}
 use Rattle.sf_engine.specs.declared.event.Happened.TheVariants as happened
 use Rattle.sf_engine.specs.declared.event.EngineFault.{EngineFault}
 use Rattle.sf_engine.specs.Worlds.{TraceEntry, World, start, with_state}
-use Rattle.sf_session.specs.Responses.{Response, Version, Locally, ByCall, Refused, if_so, RepliedCall, recorded_by, recorded_in, answered_by, answered_in, Due, NothingDue, Unrecorded, Recorded, recorded_due}
+use Rattle.sf_session.specs.Responses.{Response, Version, Locally, ByCall, Refused, if_so, RepliedCall, recorded_by, recorded_in, calls_answered, answered_in, Due, NothingDue, Unrecorded, Recorded, recorded_due}
 use Rattle.sf_session.specs.SessionStates.{Phase, Resting, UnderWay, Decided, Gone, SessionState, new_state, left_if_closed, with_answer, closed_now, fed, sent_more}
 use Rattle.sf_engine.specs.Traces.{Turn, Walking, walking, IsSession, IsCallUnderWay, IsHelpedRecord, IsAtOnce, DecidesCall, CarriesOut, RestLeads, StepLeads, TurnLeads, Happens, LeadsBy, Leads, Runs, ReachesWorld, order, calls_begun, leaving, left_by_close}
 use Rattle.sf_engine.specs.Promised.{replied, IsAbove, HasCalls, HaveCalls, CallsIn}
@@ -36,8 +36,8 @@ recorded_push : (s : ℕ) (h : List Record) (r : Record) → recorded_in s (h ++
 recorded_push s h r = sym (flat_map_more (recorded_by s) [] h r)
 
 -- one answer more
-pub answered_push : (answers : List Response) (a : Response) → answered_in (answers ++ a ∷ []) ≡ answered_in answers ++ answered_by a
-answered_push answers a = sym (flat_map_more answered_by [] answers a)
+pub answered_push : (answers : List Response) (a : Response) → answered_in (answers ++ a ∷ []) ≡ answered_in answers ++ calls_answered a
+answered_push answers a = sym (flat_map_more calls_answered [] answers a)
 
 own_record : (c : CallTold) (given : Reply) → recorded_by c.session (record_of c given) ≡ replied c.number c.request given ∷ []
 own_record c given = ap (λ (b : Bool). if_so b (replied c.number c.request given ∷ [])) (eq-eqb c.session c.session refl)
@@ -316,7 +316,7 @@ decided_due begun s id n m moves q given h answers among x =
     }
 
 -- an answer without a call
-other_answer : (begun s : ℕ) (h : List Record) (answers : List Response) (a : Response) → answered_by a ≡ [] → HasCalls begun h s answers Resting → HasCalls begun h s (answers ++ a ∷ []) Resting
+other_answer : (begun s : ℕ) (h : List Record) (answers : List Response) (a : Response) → calls_answered a ≡ [] → HasCalls begun h s answers Resting → HasCalls begun h s (answers ++ a ∷ []) Resting
 other_answer begun s h answers a none x =
     let same : answered_in (answers ++ a ∷ []) ≡ answered_in answers = answered_push answers a ∙ ap (λ (cs : List RepliedCall). answered_in answers ++ cs) none ∙ append-nil (answered_in answers) in
     record {
@@ -328,7 +328,7 @@ other_answer begun s h answers a none x =
       below = subst (λ (cs : List RepliedCall). AllByRecursion (λ c. c.number < x.top) cs) (sym same) x.below;
     }
 
-pub at_once_other : (w : World) (a : Response) → IsAtOnce w a → answered_by a ≡ []
+pub at_once_other : (w : World) (a : Response) → IsAtOnce w a → calls_answered a ≡ []
 at_once_other w Version h = refl
 at_once_other w (Locally id given) h = refl
 at_once_other w (ByCall id n q given) h = absurd h

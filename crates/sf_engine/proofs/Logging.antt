@@ -28,12 +28,12 @@ use Rattle.sf_engine.specs.declared.event.Happened.{Happened}
 use Rattle.sf_engine.specs.declared.event.Happened.TheVariants as happened
 use Rattle.sf_engine.specs.declared.event.EngineFault.{EngineFault}
 use Rattle.sf_engine.specs.declared.event.EngineFault.TheVariants as fault
-use Rattle.sf_session.specs.Responses.{Response, Version, Locally, ByCall, Refused, transcript, has_begun, most_calls, if_so, RepliedCall, recorded_in, answered_by, answered_in, Due, recorded_due}
+use Rattle.sf_session.specs.Responses.{Response, Version, Locally, ByCall, Refused, transcript, has_begun, most_calls, if_so, RepliedCall, recorded_in, calls_answered, answered_in, Due, recorded_due}
 use Rattle.sf_session.specs.SessionStates.{Phase, Resting, UnderWay, Decided, Gone, SessionState, new_state, unsent, is_here_in, is_here, TakesNone, TakesBytes, left_if_closed, with_answer, closed_now, fed, sent_more}
 use Rattle.sf_engine.specs.Worlds.{World, with_state}
 use Rattle.sf_engine.specs.Traces.{Walking, walking, IsSession, IsNoSession, MayWantMemory, MayRefuse, IsCallUnderWay, IsOthersCall, other_call, IsHelpedRecord, IsAtOnce, DecidesCall, CarriesOut, RestLeads, StepLeads, TurnLeads, Happens, LeadsBy, Leads, ReachesWorld, calls_begun, leaving, left_by_close}
-use Rattle.sf_engine.specs.Laws.{IsPhaseRecorded, sent_in}
-use Rattle.sf_engine.specs.Promise.{LogEntry, log_entry, linearization, fed_by, fed_in, written_by, written_in, closed_by, closed_in, WasClosed, HasLeft, IsHere, HasBegun, opened_by, opened_in, Beginning, begun_by, begun_in, begun_for, sent_at, sent_of, IsKnown, MayBeRefused, IsInTheWay, MayComeTo, Leaves, MayAdd, MayWrite, Writes, IsLawful, EndsIn}
+use Rattle.sf_engine.specs.Laws.{IsPhaseRecorded, sent_count}
+use Rattle.sf_engine.specs.Promise.{LogEntry, log_entry, linearization, fed_by, fed_in, written_by, written_in, closings, closed_in, WasClosed, HasLeft, IsHere, HasBegun, openings, opened_in, Beginning, begun_by, begun_in, begun_for, sent_at, sent_of, IsKnown, MayBeRefused, IsInTheWay, MayComeTo, Leaves, MayAdd, MayWrite, Writes, IsLawful, EndsIn}
 use Rattle.sf_engine.specs.Promised.{replied, IsDue, IsAbove, HasCalls, IsNobody, traced_entry, traced, HasItsTurn, calls_due, calls_had, LeavesPhase, HasLeftFor, IsLogged, Stands}
 use Rattle.sf_engine.proofs.HostedChanges.{CallTold, record_of, under_way_as}
 use Rattle.sf_engine.proofs.Moving.{get_set_same, get_set_other}
@@ -101,7 +101,7 @@ record IsAside (e : LogEntry) (s : ℕ) : Type 0 where
   no_bytes : fed_by s e.event e.result ≡ []
   no_answer : written_by s e.event e.wrote ≡ []
   no_beginning : begun_for s (begun_by e.event e.result) ≡ []
-  no_closing : closed_by s e.event e.result ≡ []
+  no_closing : closings s e.event e.result ≡ []
   no_turn : (moment : ℕ) (r : Happened) → e.event ≡ event.Turn s moment → e.result ≡ Ok r → ⊥
   no_leaving : IsAmong (Left s) e.added → ⊥
 
@@ -116,7 +116,7 @@ module _ (log : List LogEntry) (e : LogEntry) where
   )
 
   closed_later : (s : ℕ) → WasClosed log s → WasClosed (log ++ e ∷ []) s
-  closed_later s h = subst (λ (xs : List ℕ). 0 < length xs) (sym (more_of (λ x. closed_by s x.event x.result) log e)) (long_front (closed_in s log) (closed_by s e.event e.result) h)
+  closed_later s h = subst (λ (xs : List ℕ). 0 < length xs) (sym (more_of (λ x. closings s x.event x.result) log e)) (long_front (closed_in s log) (closings s e.event e.result) h)
 
   left_later : (s : ℕ) (cause : Cause) → HasLeftFor log s cause → HasLeftFor (log ++ e ∷ []) s cause
   left_later s cause h = record {
@@ -132,8 +132,8 @@ module _ (log : List LogEntry) (e : LogEntry) where
   left_before : (s : ℕ) → HasLeft (log ++ e ∷ []) s → HasLeft log s ⊎ IsAmong (Left s) e.added
   left_before s h = among_either (Left s) (linearization log) e.added (subst (λ (xs : List Record). IsAmong (Left s) xs) (more_of (λ x. x.added) log e) h)
 
-  closed_before : (s : ℕ) → closed_by s e.event e.result ≡ [] → WasClosed (log ++ e ∷ []) s → WasClosed log s
-  closed_before s none h = subst (λ (xs : List ℕ). 0 < length xs) (more_of (λ x. closed_by s x.event x.result) log e ∙ ap (λ (xs : List ℕ). closed_in s log ++ xs) none ∙ append-nil (closed_in s log)) h
+  closed_before : (s : ℕ) → closings s e.event e.result ≡ [] → WasClosed (log ++ e ∷ []) s → WasClosed log s
+  closed_before s none h = subst (λ (xs : List ℕ). 0 < length xs) (more_of (λ x. closings s x.event x.result) log e ∙ ap (λ (xs : List ℕ). closed_in s log ++ xs) none ∙ append-nil (closed_in s log)) h
 
   -- nobody leaves by an entry that adds nothing
   none_left : (s : ℕ) → e.added ≡ [] → HasLeft (log ++ e ∷ []) s → HasLeft log s
@@ -240,7 +240,7 @@ own_begins s m (happened.Ended c) = refl
 own_begins s m happened.Closed = refl
 own_begins s m happened.Sent = refl
 
-other_close : (s : ℕ) (ev : Event) (r : Result Happened EngineFault) → IsOfOther s ev → closed_by s ev r ≡ []
+other_close : (s : ℕ) (ev : Event) (r : Result Happened EngineFault) → IsOfOther s ev → closings s ev r ≡ []
 other_close s event.Open (Ok r) o = refl
 other_close s event.Open (Err f) o = refl
 other_close s (event.Feed z bytes) (Ok r) o = refl
@@ -252,7 +252,7 @@ other_close s (event.Close z) (Err f) o = refl
 other_close s (event.Sent z n) (Ok r) o = refl
 other_close s (event.Sent z n) (Err f) o = refl
 
-refused_close : (s : ℕ) (ev : Event) (f : EngineFault) → closed_by s ev (Err f) ≡ []
+refused_close : (s : ℕ) (ev : Event) (f : EngineFault) → closings s ev (Err f) ≡ []
 refused_close s event.Open f = refl
 refused_close s (event.Feed z bytes) f = refl
 refused_close s (event.Turn z m) f = refl
@@ -344,7 +344,7 @@ module _ (log : List LogEntry) (w : World) (h : Stands log w) where
       → ((i : ℕ) → i ≢ s → IsOfOther i e.event)
       → ((with_state w s t' e.added more).records ≡ linearization (log ++ e ∷ []))
       → length (begun_by e.event e.result) ≡ more
-      → opened_by e.result ≡ []
+      → openings e.result ≡ []
       → AllByRecursion (MayAdd log e.event e.result) e.added
       → IsLegal (w.records ++ e.added)
       → Leads w (traced_entry e) (with_state w s t' e.added more)
@@ -353,7 +353,7 @@ module _ (log : List LogEntry) (w : World) (h : Stands log w) where
   told_on e s more t t' session others ordered begins opens adds legal leads now = record {
     ordered = ordered;
     begun = omega (arith, ap (λ (bs : List Beginning). length bs) (more_of (λ x. begun_by x.event x.result) log e), length-append (begun_in log) (begun_by e.event e.result), h.begun, begins);
-    opened = ap (λ (xs : List ℕ). length xs) (more_of (λ x. opened_by x.result) log e ∙ ap (λ (xs : List ℕ). opened_in log ++ xs) opens ∙ append-nil (opened_in log)) ∙ h.opened ∙ sym (length-set w.sessions (s - 1) t');
+    opened = ap (λ (xs : List ℕ). length xs) (more_of (λ x. openings x.result) log e ∙ ap (λ (xs : List ℕ). opened_in log ++ xs) opens ∙ append-nil (opened_in log)) ∙ h.opened ∙ sym (length-set w.sessions (s - 1) t');
     calls = leads_calls w (with_state w s t' e.added more) (traced_entry e) legal h.calls leads;
     each = λ i u at. elim (cases_eq i (s - 1)) [
       | inl same ↦
@@ -626,7 +626,7 @@ module _ (log : List LogEntry) (w : World) (h : Stands log w) where
   step_goes s m t t' k happened.Sent added here session turn g = absurd g
 
   -- the reply is written
-  reply_goes : (s m : ℕ) (t t' : SessionState) (f : Phase) (closed : Bool) (a : Response) (added : List Record) → IsHere log s → is_here_in f ≡ true → length (answered_by a) ≡ calls_due f → t.closed ≡ closed → (t.closed ≡ true → WasClosed log s) → MayWrite log s a
+  reply_goes : (s m : ℕ) (t t' : SessionState) (f : Phase) (closed : Bool) (a : Response) (added : List Record) → IsHere log s → is_here_in f ≡ true → length (calls_answered a) ≡ calls_due f → t.closed ≡ closed → (t.closed ≡ true → WasClosed log s) → MayWrite log s a
       → added ≡ leaving closed s → t' ≡ left_if_closed closed (with_answer t a) → TurnGoes log s m t f t' happened.Wrote added
   reply_goes s m t t' f true a added here is_here one is was may e now =
       let phase : t'.phase ≡ Gone Closed = ap (λ (z : SessionState). z.phase) now in record {
@@ -637,8 +637,8 @@ module _ (log : List LogEntry) (w : World) (h : Stands log w) where
         began = subst (λ (z : SessionState). HasItsTurn (begun_in log ++ []) s z.phase) (sym now) tt;
         counts =
             let had : calls_had t' ≡ length (answered_in (t.answers ++ a ∷ [])) + 0 = ap calls_had now in
-            let more : length (answered_in (t.answers ++ a ∷ [])) ≡ length (answered_in t.answers) + length (answered_by a) =
-            ap (λ (cs : List RepliedCall). length cs) (answered_push t.answers a) ∙ length-append (answered_in t.answers) (answered_by a) in
+            let more : length (answered_in (t.answers ++ a ∷ [])) ≡ length (answered_in t.answers) + length (calls_answered a) =
+            ap (λ (cs : List RepliedCall). length cs) (answered_push t.answers a) ∙ length-append (answered_in t.answers) (calls_answered a) in
             omega (arith, had, more, one);
         gone = λ cause k. (λ c. was is, inr e);
         away = λ k. ap is_here_in phase;
@@ -658,8 +658,8 @@ module _ (log : List LogEntry) (w : World) (h : Stands log w) where
         began = subst (λ (z : SessionState). HasItsTurn (begun_in log ++ []) s z.phase) (sym now) tt;
         counts =
             let had : calls_had t' ≡ length (answered_in (t.answers ++ a ∷ [])) + 0 = ap calls_had now in
-            let more : length (answered_in (t.answers ++ a ∷ [])) ≡ length (answered_in t.answers) + length (answered_by a) =
-            ap (λ (cs : List RepliedCall). length cs) (answered_push t.answers a) ∙ length-append (answered_in t.answers) (answered_by a) in
+            let more : length (answered_in (t.answers ++ a ∷ [])) ≡ length (answered_in t.answers) + length (calls_answered a) =
+            ap (λ (cs : List RepliedCall). length cs) (answered_push t.answers a) ∙ length-append (answered_in t.answers) (calls_answered a) in
             omega (arith, had, more, one);
         gone = λ cause k. let x : Resting ≡ Gone cause = sym phase ∙ k in absurd cc;
         away = λ k. elim k [ inl z ↦ absurd (let v : true ≡ false = sym is_here ∙ z in cc) | inr l ↦ absurd (no_leaving s added e l) ];
@@ -731,11 +731,11 @@ module _ (log : List LogEntry) (w : World) (h : Stands log w) where
   order_on w' e g = leads_records w w' (traced_entry e) g ∙ ap (λ (xs : List Record). xs ++ e.added) h.ordered ∙ sym (more_of (λ x. x.added) log e)
 
   -- an event that no session has
-  nothing_on : (e : LogEntry) → ((i : ℕ) → IsAside e i) → e.added ≡ [] → begun_by e.event e.result ≡ [] → opened_by e.result ≡ [] → Stands (log ++ e ∷ []) w
+  nothing_on : (e : LogEntry) → ((i : ℕ) → IsAside e i) → e.added ≡ [] → begun_by e.event e.result ≡ [] → openings e.result ≡ [] → Stands (log ++ e ∷ []) w
   nothing_on e aside added begins opens = record {
     ordered = h.ordered ∙ sym (more_of (λ x. x.added) log e ∙ ap (λ (xs : List Record). linearization log ++ xs) added ∙ append-nil (linearization log));
     begun = ap (λ (bs : List Beginning). length bs) (more_of (λ x. begun_by x.event x.result) log e ∙ ap (λ (bs : List Beginning). begun_in log ++ bs) begins ∙ append-nil (begun_in log)) ∙ h.begun;
-    opened = ap (λ (xs : List ℕ). length xs) (more_of (λ x. opened_by x.result) log e ∙ ap (λ (xs : List ℕ). opened_in log ++ xs) opens ∙ append-nil (opened_in log)) ∙ h.opened;
+    opened = ap (λ (xs : List ℕ). length xs) (more_of (λ x. openings x.result) log e ∙ ap (λ (xs : List ℕ). opened_in log ++ xs) opens ∙ append-nil (opened_in log)) ∙ h.opened;
     calls = h.calls;
     each = λ i t at. logged_aside log e (i + 1) t (aside (i + 1)) (h.each i t at);
     nobody = λ s out. none_aside log e s (aside s) (h.nobody s out);
@@ -753,7 +753,7 @@ module _ (log : List LogEntry) (w : World) (h : Stands log w) where
   gone_phase (Decided id n q given) e = absurd cc
   gone_phase (Gone cause) e = (cause, refl)
 
-  sent_same : (s : ℕ) (entries : List LogEntry) → sent_in s (traced entries) ≡ sent_of s entries
+  sent_same : (s : ℕ) (entries : List LogEntry) → sent_count s (traced entries) ≡ sent_of s entries
   sent_same s [] = refl
   sent_same s (e ∷ entries) = ap (λ (n : ℕ). sent_at s e.event e.result + n) (sent_same s entries)
 
@@ -880,7 +880,7 @@ module _ (log : List LogEntry) (w : World) (h : Stands log w) where
       let n = length w.sessions + 1 in
       let e : LogEntry = log_entry event.Open (Ok r) added [] in
       let leads : Leads w (traced_entry e) w' = g in
-      let opens : length (opened_by (Ok r)) ≡ 1 = ap (λ (z : Happened). length (opened_by (Ok z))) g.0 in
+      let opens : length (openings (Ok r)) ≡ 1 = ap (λ (z : Happened). length (openings (Ok z))) g.0 in
       let begins : begun_by event.Open (Ok r) ≡ [] = ap (λ (z : Happened). begun_by event.Open (Ok z)) g.0 in
       let opened : Result Happened EngineFault = Ok (happened.Opened n) in
       let adds : AllByRecursion (MayAdd log event.Open (Ok r)) added = none_may (MayAdd log event.Open (Ok r)) added g.2 in
@@ -895,7 +895,7 @@ module _ (log : List LogEntry) (w : World) (h : Stands log w) where
         stands = subst (λ (z : World). Stands (log ++ e ∷ []) z) (sym g.3) (record {
           ordered = h.ordered ∙ sym (more_of (λ x. x.added) log e ∙ ap (λ (xs : List Record). linearization log ++ xs) g.2 ∙ append-nil (linearization log));
           begun = ap (λ (bs : List Beginning). length bs) (more_of (λ x. begun_by x.event x.result) log e ∙ ap (λ (bs : List Beginning). begun_in log ++ bs) begins ∙ append-nil (begun_in log)) ∙ h.begun;
-          opened = omega (arith, ap (λ (xs : List ℕ). length xs) (more_of (λ x. opened_by x.result) log e), length-append (opened_in log) (opened_by (Ok r)), opens, h.opened, length-append w.sessions (new_state ∷ []));
+          opened = omega (arith, ap (λ (xs : List ℕ). length xs) (more_of (λ x. openings x.result) log e), length-append (opened_in log) (openings (Ok r)), opens, h.opened, length-append w.sessions (new_state ∷ []));
           calls = leads_calls w (record { sessions = w.sessions ++ new_state ∷ []; records = w.records; begun = w.begun }) (traced_entry e) legal h.calls (subst (λ (z : World). Leads w (traced_entry e) z) g.3 leads);
           each = λ i t at. elim (new_at w.sessions i new_state t at) [
             | inl old ↦ logged_aside log e (i + 1) t (aside_of log e (i + 1) tt adds) (h.each i t old)
@@ -924,7 +924,7 @@ module _ (log : List LogEntry) (w : World) (h : Stands log w) where
 
   -- an event of one session
   own_steps : (w' : World) (ev : Event) (r : Happened) (added : List Record) (wrote : List Response) (s more : ℕ) (t t' : SessionState) → IsSession w s t → ((i : ℕ) → i ≢ s → IsOfOther i ev) → w' ≡ with_state w s t' added more
-      → Leads w (traced_entry (log_entry ev (Ok r) added wrote)) w' → IsLegal (w.records ++ added) → length (begun_by ev (Ok r)) ≡ more → opened_by (Ok r) ≡ []
+      → Leads w (traced_entry (log_entry ev (Ok r) added wrote)) w' → IsLegal (w.records ++ added) → length (begun_by ev (Ok r)) ≡ more → openings (Ok r) ≡ []
       → IsLawful log (log_entry ev (Ok r) added wrote) → IsLogged (log ++ log_entry ev (Ok r) added wrote ∷ []) s t' → StepsTo log ev (Ok r) added w'
   own_steps w' ev r added wrote s more t t' session others is leads legal begins opens lawful now =
       let e : LogEntry = log_entry ev (Ok r) added wrote in
@@ -941,7 +941,7 @@ module _ (log : List LogEntry) (w : World) (h : Stands log w) where
       let e : LogEntry = log_entry (event.Feed s bytes) (Ok r) added [] in
       let x = of_session log w h s t g.2.1 in
       own_steps w' (event.Feed s bytes) r added [] s 0 t (fed t bytes.items) g.2.1 (λ i ne. all_same s i ne) (g.2.3 ∙ ap (λ (xs : List Record). with_state w s (fed t bytes.items) xs 0) (sym g.1)) g legal refl
-      (ap (λ (z : Happened). opened_by (Ok z)) g.0)
+      (ap (λ (z : Happened). openings (Ok z)) g.0)
       (record {
         comes = subst (λ (z : Happened). MayComeTo log (event.Feed s bytes) (Ok z)) (sym g.0) (takes_bytes s t g.2.1 g.2.2);
         adds = none_may (MayAdd log (event.Feed s bytes) (Ok r)) added g.1;
@@ -967,7 +967,7 @@ module _ (log : List LogEntry) (w : World) (h : Stands log w) where
       let e : LogEntry = log_entry (event.Sent s n) (Ok r) added [] in
       let x = of_session log w h s t g.2.1 in
       own_steps w' (event.Sent s n) r added [] s 0 t (sent_more t n) g.2.1 (λ i ne. all_same s i ne) (g.2.3 ∙ ap (λ (xs : List Record). with_state w s (sent_more t n) xs 0) (sym g.1)) g legal refl
-      (ap (λ (z : Happened). opened_by (Ok z)) g.0)
+      (ap (λ (z : Happened). openings (Ok z)) g.0)
       (record {
         comes = subst (λ (z : Happened). MayComeTo log (event.Sent s n) (Ok z)) (sym g.0) (known_session s t g.2.1, sent_fits s n t tells g.2.1 g.2.2);
         adds = none_may (MayAdd log (event.Sent s n) (Ok r)) added g.1;
@@ -991,7 +991,7 @@ module _ (log : List LogEntry) (w : World) (h : Stands log w) where
     close_was : WasClosed (log ++ log_entry (event.Close s) (Ok r) added [] ∷ []) s
     close_was =
         let e : LogEntry = log_entry (event.Close s) (Ok r) added [] in
-        subst (λ (xs : List ℕ). 0 < length xs) (sym (more_of (λ y. closed_by s y.event y.result) log e ∙ ap (λ (xs : List ℕ). closed_in s log ++ xs) (own_close s))) (omega (arith, length-append (closed_in s log) (s ∷ [])))
+        subst (λ (xs : List ℕ). 0 < length xs) (sym (more_of (λ y. closings s y.event y.result) log e ∙ ap (λ (xs : List ℕ). closed_in s log ++ xs) (own_close s))) (omega (arith, length-append (closed_in s log) (s ∷ [])))
 
     -- as far as it goes, it may be closed now
     close_on : (t t' : SessionState) → t'.stream ≡ t.stream → t'.answers ≡ t.answers → calls_had t' ≡ calls_had t → HasItsTurn (begun_in log) s t'.phase
@@ -1038,7 +1038,7 @@ module _ (log : List LogEntry) (w : World) (h : Stands log w) where
   close_steps w' s r added legal g =
       let t = g.1.0 in
       own_steps w' (event.Close s) r added [] s 0 t (closed_now t t.phase) g.1.1 (λ i ne. all_same s i ne) g.1.3 g legal refl
-      (ap (λ (z : Happened). opened_by (Ok z)) g.0)
+      (ap (λ (z : Happened). openings (Ok z)) g.0)
       (record {
         comes = subst (λ (z : Happened). MayComeTo log (event.Close s) (Ok z)) (sym g.0) (known_session s t g.1.1);
         adds = close_may s r added t.phase g.1.2;
@@ -1047,7 +1047,7 @@ module _ (log : List LogEntry) (w : World) (h : Stands log w) where
       (close_logged s r added t t.phase g.1.2 (of_session log w h s t g.1.1))
 
   -- a turn opens no session
-  not_opened : (s m : ℕ) (r : Happened) → MayComeTo log (event.Turn s m) (Ok r) → opened_by (Ok r) ≡ []
+  not_opened : (s m : ℕ) (r : Happened) → MayComeTo log (event.Turn s m) (Ok r) → openings (Ok r) ≡ []
   not_opened s m (happened.Opened n) comes = absurd comes
   not_opened s m happened.Fed comes = refl
   not_opened s m happened.Moved comes = refl

@@ -23,7 +23,7 @@ use Rattle.sf_engine.specs.Traces.{ReachesWorld, AnswersBodyAtOnce, BeginsCall, 
 use Rattle.sf_engine.specs.Examples.{mkdir_packet, mkdir, made}
 use Rattle.sf_engine.specs.Promise.{LogEntry, written_in, IsKept}
 use Rattle.sf_engine.specs.Promised.{traced}
-use Rattle.sf_engine.specs.Overtaking.{c, rename_packet, inner_packet, first_stream, second_stream, inner, rename, ok, made_inside, renamed, overtaking}
+use Rattle.sf_engine.specs.Overtaking.{c, rename_packet, inner_packet, first_stream, second_stream, inner, rename_request, succeeded, made_inside, renamed, overtaking}
 use Rattle.sf_engine.proofs.Examples.{fed_with, two, leads_on, no_more, none_rise, sure_made, moves_fit}
 use Rattle.sf_engine.proofs.KeptExample.{letter, path_a, made_follows}
 use Rattle.sf_engine.proofs.Promising.{logged}
@@ -47,13 +47,13 @@ abbrev t2 : SessionState
 t2 = record t1 { unread = rename_packet; bodies = init_body ∷ mkdir_body ∷ []; phase = UnderWay 7 1 100 mkdir 0 }
 
 abbrev t3 : SessionState
-t3 = record t2 { answers = Version ∷ ByCall 7 1 mkdir ok ∷ []; phase = Resting }
+t3 = record t2 { answers = Version ∷ ByCall 7 1 mkdir succeeded ∷ []; phase = Resting }
 
 abbrev t4 : SessionState
-t4 = record t3 { unread = []; bodies = init_body ∷ mkdir_body ∷ rename_body ∷ []; phase = UnderWay 9 3 102 rename 0 }
+t4 = record t3 { unread = []; bodies = init_body ∷ mkdir_body ∷ rename_body ∷ []; phase = UnderWay 9 3 102 rename_request 0 }
 
 abbrev t5 : SessionState
-t5 = record t4 { answers = Version ∷ ByCall 7 1 mkdir ok ∷ ByCall 9 3 rename ok ∷ []; phase = Resting }
+t5 = record t4 { answers = Version ∷ ByCall 7 1 mkdir succeeded ∷ ByCall 9 3 rename_request succeeded ∷ []; phase = Resting }
 
 -- session 2
 abbrev u1 : SessionState
@@ -63,7 +63,7 @@ abbrev u2 : SessionState
 u2 = record u1 { unread = []; bodies = init_body ∷ inner_body ∷ []; phase = UnderWay 8 2 101 inner 0 }
 
 abbrev u3 : SessionState
-u3 = record u2 { answers = Version ∷ ByCall 8 2 inner ok ∷ []; phase = Resting }
+u3 = record u2 { answers = Version ∷ ByCall 8 2 inner succeeded ∷ []; phase = Resting }
 
 abbrev all_records : List Record
 all_records = made ∷ made_inside ∷ renamed ∷ []
@@ -76,7 +76,7 @@ inner_fits_too : 2 < bound_of inner
 unfolding bound_of
 inner_fits_too = omega arith
 
-rename_fits : 1 < bound_of rename
+rename_fits : 1 < bound_of rename_request
 unfolding bound_of
 rename_fits = omega arith
 
@@ -102,7 +102,7 @@ module _ (first second : Vec ℕ Global) (one : first.items ≡ first_stream) (o
   inner_asks : AsksFor true inner_body (ask.Call 8 inner)
   inner_asks = (Request 8 (wire.Mkdir (47 ∷ 97 ∷ 47 ∷ 99 ∷ []) no_attrs), sent_asks 8 (wire.Mkdir (47 ∷ 97 ∷ 47 ∷ 99 ∷ []) no_attrs) (omega arith) (omega arith, record { size = tt; owner = tt; permissions = tt; times = tt }), refl)
 
-  rename_asks : AsksFor true rename_body (ask.Call 9 rename)
+  rename_asks : AsksFor true rename_body (ask.Call 9 rename_request)
   rename_asks = (Request 9 (wire.Rename (47 ∷ 97 ∷ []) (47 ∷ 98 ∷ [])), sent_asks 9 (wire.Rename (47 ∷ 97 ∷ []) (47 ∷ 98 ∷ [])) (omega arith) (omega arith, omega arith), refl)
 
   first_version : AnswersBodyAtOnce (two (fed_with first_stream) (fed_with second_stream) [] 0) (fed_with first_stream) t1
@@ -156,7 +156,7 @@ module _ (first second : Vec ℕ Global) (one : first.items ≡ first_stream) (o
     body = rename_body;
     rest = [];
     id = 9;
-    request = rename;
+    request = rename_request;
     begins = record { is_body = record { some = omega arith; short = omega arith }; whole = refl };
     asks = rename_asks;
     room = omega arith;
@@ -166,10 +166,10 @@ module _ (first second : Vec ℕ Global) (one : first.items ≡ first_stream) (o
   makes : CarriesOut (two (with_phase t2 (UnderWay 7 1 100 mkdir 1)) u1 [] 1) 1 1 made (made ∷ [])
   makes = record { stopped = inl refl; helped = []; of_others = tt; rising = none_rise; records = refl; sure = sure_made }
 
-  passed_by : IsOthersCall (two (with_phase t4 (UnderWay 9 3 102 rename 1)) (with_phase u2 (UnderWay 8 2 101 inner 2)) (made ∷ []) 3) 1 (other_call 2 2 101 inner)
+  passed_by : IsOthersCall (two (with_phase t4 (UnderWay 9 3 102 rename_request 1)) (with_phase u2 (UnderWay 8 2 101 inner 2)) (made ∷ []) 3) 1 (other_call 2 2 101 inner)
   passed_by = record { other = λ e. absurd (omega (arith, e)); known = with_phase u2 (UnderWay 8 2 101 inner 2); is_session = (omega arith, refl); under_way = (refl, refl, refl) }
 
-  renames : CarriesOut (two (with_phase t4 (UnderWay 9 3 102 rename 1)) (with_phase u2 (UnderWay 8 2 101 inner 2)) (made ∷ []) 3) 1 1 renamed (made_inside ∷ renamed ∷ [])
+  renames : CarriesOut (two (with_phase t4 (UnderWay 9 3 102 rename_request 1)) (with_phase u2 (UnderWay 8 2 101 inner 2)) (made ∷ []) 3) 1 1 renamed (made_inside ∷ renamed ∷ [])
   renames = record {
     stopped = inr (0, record { alike = refl; short = omega arith; short_new = omega arith; apart = λ e. let same : ◌≡◌ {A = ℕ} 97 98 = cc in omega (arith, same) }, (0, omega arith, refl, inl refl));
     helped = made_inside ∷ [];
@@ -185,12 +185,12 @@ module _ (first second : Vec ℕ Global) (one : first.items ≡ first_stream) (o
       let f2 = fed_with second_stream in
       let one_more : World = record { sessions = new_state ∷ []; records = []; begun = 0 } in
       let going = with_phase t2 (UnderWay 7 1 100 mkdir 1) in
-      let done = with_phase t2 (Decided 7 1 mkdir ok) in
+      let done = with_phase t2 (Decided 7 1 mkdir succeeded) in
       let at_root = with_phase u2 (UnderWay 8 2 101 inner 1) in
       let at_a = with_phase u2 (UnderWay 8 2 101 inner 2) in
-      let known = with_phase u2 (Decided 8 2 inner ok) in
-      let renaming = with_phase t4 (UnderWay 9 3 102 rename 1) in
-      let moved = with_phase t4 (Decided 9 3 rename ok) in
+      let known = with_phase u2 (Decided 8 2 inner succeeded) in
+      let renaming = with_phase t4 (UnderWay 9 3 102 rename_request 1) in
+      let moved = with_phase t4 (Decided 9 3 rename_request succeeded) in
       let h = made ∷ [] in
       let end = two t5 u3 all_records 3 in
       leads_on _ _ start one_more end (refl, (omega arith, omega arith), refl, refl)
@@ -201,16 +201,16 @@ module _ (first second : Vec ℕ Global) (one : first.items ≡ first_stream) (o
       (leads_on _ _ (two t1 f2 [] 0) (two t1 u1 [] 0) end (f2, u1, (omega arith, refl), (second_version, refl), refl)
       (leads_on _ _ (two t1 u1 [] 0) (two t2 u1 [] 1) end (t1, t2, (omega arith, refl), (mkdir_begins, refl), refl)
       (leads_on _ _ (two t2 u1 [] 1) (two going u1 [] 1) end (t2, going, (omega arith, refl), (moves_fit, inl (refl, λ e. absurd (let z : false ≡ true = e in cc)), refl), refl)
-      (leads_on _ _ (two going u1 [] 1) (two done u1 h 1) end (going, done, (omega arith, refl), (ok, inr makes, refl), refl)
+      (leads_on _ _ (two going u1 [] 1) (two done u1 h 1) end (going, done, (omega arith, refl), (succeeded, inr makes, refl), refl)
       (leads_on _ _ (two done u1 h 1) (two t3 u1 h 1) end (done, t3, (omega arith, refl), (refl, refl, refl), refl)
       (leads_on _ _ (two t3 u1 h 1) (two t3 u2 h 2) end (u1, u2, (omega arith, refl), (inner_begins, refl), refl)
       (leads_on _ _ (two t3 u2 h 2) (two t3 at_root h 2) end (u2, at_root, (omega arith, refl), (inner_fits, inl (refl, λ e. absurd (let z : false ≡ true = e in cc)), refl), refl)
       (leads_on _ _ (two t3 at_root h 2) (two t3 at_a h 2) end (at_root, at_a, (omega arith, refl), (inner_fits_too, inl (refl, λ e. absurd (let z : false ≡ true = e in cc)), refl), refl)
       (leads_on _ _ (two t3 at_a h 2) (two t4 at_a h 3) end (t3, t4, (omega arith, refl), (rename_begins, refl), refl)
       (leads_on _ _ (two t4 at_a h 3) (two renaming at_a h 3) end (t4, renaming, (omega arith, refl), (rename_fits, inl (refl, λ e. absurd (let z : false ≡ true = e in cc)), refl), refl)
-      (leads_on _ _ (two renaming at_a h 3) (two moved at_a all_records 3) end (renaming, moved, (omega arith, refl), (ok, inr renames, refl), refl)
+      (leads_on _ _ (two renaming at_a h 3) (two moved at_a all_records 3) end (renaming, moved, (omega arith, refl), (succeeded, inr renames, refl), refl)
       (leads_on _ _ (two moved at_a all_records 3) (two t5 at_a all_records 3) end (moved, t5, (omega arith, refl), (refl, refl, refl), refl)
-      (leads_on _ _ (two t5 at_a all_records 3) (two t5 known all_records 3) end (at_a, known, (omega arith, refl), (ok, inl (refl, is_recorded), refl), refl)
+      (leads_on _ _ (two t5 at_a all_records 3) (two t5 known all_records 3) end (at_a, known, (omega arith, refl), (succeeded, inl (refl, is_recorded), refl), refl)
       (leads_on _ _ (two t5 known all_records 3) end end (known, u3, (omega arith, refl), (refl, refl, refl), refl)
       (no_more end)))))))))))))))))))
 
@@ -284,8 +284,8 @@ replied_once first second = (
                 (
                   refl,
                   (
-                    (omega arith, ByCall 7 1 mkdir ok, refl),
-                    (refl, (refl, (refl, (refl, (refl, (refl, ((omega arith, ByCall 9 3 rename ok, refl), (refl, ((omega arith, ByCall 8 2 inner ok, refl), tt))))))))),
+                    (omega arith, ByCall 7 1 mkdir succeeded, refl),
+                    (refl, (refl, (refl, (refl, (refl, (refl, ((omega arith, ByCall 9 3 rename_request succeeded, refl), (refl, ((omega arith, ByCall 8 2 inner succeeded, refl), tt))))))))),
                   ),
                 ),
               ),

@@ -17,7 +17,7 @@ use Rattle.sf_engine.specs.Worlds.{TraceEntry, World, start}
 use Rattle.sf_session.specs.Responses.{Response, ask_behind, transcript, has_begun, AreAsked, recorded_in, answered_in, Due, NothingDue, Recorded, asked_due, recorded_due}
 use Rattle.sf_session.specs.SessionStates.{Phase, Resting, UnderWay, Decided, Gone, SessionState, new_state, is_here_in, IsRest, pending}
 use Rattle.sf_engine.specs.Traces.{IsSession, LeadsBy, Runs, ReachesWorld, order}
-use Rattle.sf_engine.specs.Laws.{sent_in}
+use Rattle.sf_engine.specs.Laws.{sent_count}
 use Rattle.sf_engine.specs.Views.{EngineView}
 use Rattle.sf_engine.specs.Fits.{Fits, trace_entry, GoesOnTrace, IsSentBy, IsUnknownSession}
 use Rattle.sf_engine.specs.Promise.{LogEntry, log_entry, linearization, sent_at, sent_of, IsKnown, WasClosed, HasLeft, IsLawful, LeavesDue, IsAnswered, IsUnsent, IsKept}
@@ -135,7 +135,7 @@ module _ (log : List LogEntry) (w : World) (h : Stands log w) (tells : ReachesWo
         packets = ap transcript x.wrote ∙ is;
       }
     where
-      sent_same : (entries : List LogEntry) → sent_in s (traced entries) ≡ sent_of s entries
+      sent_same : (entries : List LogEntry) → sent_count s (traced entries) ≡ sent_of s entries
       sent_same [] = refl
       sent_same (e ∷ entries) = ap (λ (n : ℕ). sent_at s e.event e.result + n) (sent_same entries)
 

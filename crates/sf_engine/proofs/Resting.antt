@@ -17,7 +17,7 @@ use Rattle.sf_core.specs.Cores.LaneState.{Idle}
 use Rattle.sf_core.specs.Lanes.{LaneView}
 use Rattle.sf_core.specs.Cores.{CoreView, lane_state, last_number}
 use Rattle.sf_core.specs.Progress.{new_call}
-use Rattle.sf_core.specs.Events.{begun, Leaves, RefusesBegin}
+use Rattle.sf_core.specs.Events.{begun, SessionLeaves, RefusesBegin}
 use Rattle.sf_engine.specs.declared.hosted.HostedSession.{HostedSession}
 use Rattle.sf_engine.specs.declared.hosted.HostedState.{HostedState}
 use Rattle.sf_engine.specs.declared.event.Happened.{Happened}
@@ -41,7 +41,7 @@ pub output_push : (answers : List Response) (sent output : List ℕ) (a : Respon
 output_push answers sent output a is = sym (transcript_push answers a) ∙ ap (λ (b : List ℕ). b ++ packet_for a) is ∙ append_assoc sent output (packet_for a)
 
 -- the session leaves the core
-pub moves_leaves : (v v' : CoreView) (s : ℕ) (t t' : SessionState) → Leaves v v' s → here_in t ≡ 1 → here_in t' ≡ 0 → Moves v v' s t t' 0
+pub moves_leaves : (v v' : CoreView) (s : ℕ) (t t' : SessionState) → SessionLeaves v v' s → here_in t ≡ 1 → here_in t' ≡ 0 → Moves v v' s t t' 0
 moves_leaves v v' s t t' l was now = record {
   joins = l.joins;
   drawn = l.drawn ∙ omega arith;
@@ -231,7 +231,7 @@ rest_turned e m (happened.Ended cause) is closed g =
     let at : HasNoCall e.change.old.core (number e.change) e.change.was.session e.change.was.place = h.at in
     let was = with_phase e.known Resting in
     let known = left_for was cause in
-    let left : Leaves e.change.old.core v' (number e.change) = subst (λ (n : ℕ). Leaves e.change.old.core v' n) at.session g.1 in
+    let left : SessionLeaves e.change.old.core v' (number e.change) = subst (λ (n : ℕ). SessionLeaves e.change.old.core v' n) at.session g.1 in
     elim g.0 [
       | inl k ↦ absurd (let none : None ≡ Some cause = sym at.ended ∙ k.0 in cc)
       | inr k ↦ record {

@@ -16,11 +16,11 @@ use Rattle.sf_session.specs.Responses.{Response, ByCall, packet_for, transcript}
 use Rattle.sf_session.specs.SessionStates.{unsent, Phase, Resting, UnderWay, Decided, Gone, SessionState, new_state, left_if_closed, with_answer, closed_now, fed, sent_more}
 use Rattle.sf_engine.specs.Traces.{TurnLeads, RestLeads, Happens, LeadsBy, Runs, ReachesWorld, IsSession, calls_begun}
 use Rattle.sf_engine.specs.Promise.{sent_at}
-use Rattle.sf_engine.specs.Laws.{sent_in, IsSentAs}
+use Rattle.sf_engine.specs.Laws.{sent_count, IsSentAs}
 use Rattle.sf_engine.proofs.Moving.{get_set_same, get_set_other}
 use Rattle.sf_engine.proofs.Resting.{transcript_push}
 
-sent_push : (s : ℕ) (front : List TraceEntry) (e : TraceEntry) → sent_in s (front ++ e ∷ []) ≡ sent_in s front + sent_at s e.event e.result
+sent_push : (s : ℕ) (front : List TraceEntry) (e : TraceEntry) → sent_count s (front ++ e ∷ []) ≡ sent_count s front + sent_at s e.event e.result
 sent_push s [] e = omega arith
 sent_push s (x ∷ front) e = omega (arith, sent_push s front e)
 
@@ -99,7 +99,7 @@ said_on front e s t t' h says none = record {
 -- what is so after each trace
 record HaveSent (front : List TraceEntry) (w : World) : Type 0 where
   each : (i : ℕ) (t : SessionState) → slice_get w.sessions i ≡ Some t → IsSentAs front (i + 1) t
-  nobody : (s : ℕ) → length w.sessions < s → sent_in s front ≡ 0
+  nobody : (s : ℕ) → length w.sessions < s → sent_count s front ≡ 0
 
 other_none : (s s' n : ℕ) (r : Happened) → s' ≢ s → sent_at s (event.Sent s' n) (Ok r) ≡ 0
 other_none s s' n r ne = ap (λ (b : Bool). if b then n else 0) (ne_eqb s' s ne)
@@ -129,7 +129,7 @@ new_at (x ∷ xs) zero v t h = inl h
 new_at (x ∷ xs) (suc i) v t h = elim (new_at xs i v t h) [ inl e ↦ inl e | inr e ↦ inr (ap (λ (n : ℕ). suc n) e.0, e.1) ]
 
 module _ (front : List TraceEntry) (w : World) (h : HaveSent front w) where
-  new_sent : (e : TraceEntry) (i : ℕ) → sent_at (i + 1) e.event e.result ≡ 0 → sent_in (i + 1) front ≡ 0 → IsSentAs (front ++ e ∷ []) (i + 1) new_state
+  new_sent : (e : TraceEntry) (i : ℕ) → sent_at (i + 1) e.event e.result ≡ 0 → sent_count (i + 1) front ≡ 0 → IsSentAs (front ++ e ∷ []) (i + 1) new_state
   new_sent e i none zero' = record { transcript = empty_front; count = omega (arith, sent_push (i + 1) front e, none, zero') }
 
   of_session : (s : ℕ) (t : SessionState) → IsSession w s t → IsSentAs front s t

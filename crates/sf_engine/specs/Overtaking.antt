@@ -44,19 +44,19 @@ second_stream = init_packet ++ inner_packet
 abbrev pub inner : Request
 inner = request.Mkdir (a ∷ c ∷ []) no_attrs
 
-abbrev pub rename : Request
-rename = request.Rename (a ∷ []) (b ∷ [])
+abbrev pub rename_request : Request
+rename_request = request.Rename (a ∷ []) (b ∷ [])
 
-abbrev pub ok : Reply
-ok = reply.Status Success
+abbrev pub succeeded : Reply
+succeeded = reply.Status Success
 
 -- the records of the second and the third call: each has its number, its session, and the moment at
 -- which it began; that of the first is `made`
 abbrev pub made_inside : Record
-made_inside = Did 2 2 101 inner ok
+made_inside = Did 2 2 101 inner succeeded
 
 abbrev pub renamed : Record
-renamed = Did 3 1 102 rename ok
+renamed = Did 3 1 102 rename_request succeeded
 
 -- an event that came to this, added these records, and wrote this
 abbrev pub done_entry : Event → Happened → List Record → List Response → LogEntry
@@ -74,7 +74,7 @@ overtaking first second =
     ∷ done_entry (event.Turn 1 100) happened.Begun [] []
     ∷ done_entry (event.Turn 1 100) happened.Moved [] []
     ∷ done_entry (event.Turn 1 100) happened.Decided (made ∷ []) []
-    ∷ done_entry (event.Turn 1 100) happened.Wrote [] (ByCall 7 1 mkdir ok ∷ [])
+    ∷ done_entry (event.Turn 1 100) happened.Wrote [] (ByCall 7 1 mkdir succeeded ∷ [])
     -- call 2 begins, takes the root, and walks to `/a`
     ∷ done_entry (event.Turn 2 101) happened.Begun [] []
     ∷ done_entry (event.Turn 2 101) happened.Moved [] []
@@ -83,8 +83,8 @@ overtaking first second =
     ∷ done_entry (event.Turn 1 102) happened.Begun [] []
     ∷ done_entry (event.Turn 1 102) happened.Moved [] []
     ∷ done_entry (event.Turn 1 102) happened.Decided (made_inside ∷ renamed ∷ []) []
-    ∷ done_entry (event.Turn 1 102) happened.Wrote [] (ByCall 9 3 rename ok ∷ [])
+    ∷ done_entry (event.Turn 1 102) happened.Wrote [] (ByCall 9 3 rename_request succeeded ∷ [])
     -- call 2 is told that it was decided, and its reply is written
     ∷ done_entry (event.Turn 2 103) happened.Decided [] []
-    ∷ done_entry (event.Turn 2 103) happened.Wrote [] (ByCall 8 2 inner ok ∷ [])
+    ∷ done_entry (event.Turn 2 103) happened.Wrote [] (ByCall 8 2 inner succeeded ∷ [])
     ∷ []

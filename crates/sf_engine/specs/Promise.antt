@@ -67,20 +67,20 @@ sent_of session [] = 0
 sent_of session (e ∷ log) = sent_at session e.event e.result + sent_of session log
 
 -- the numbers of the sessions that opened
-abbrev pub opened_by : Result Happened EngineFault → List ℕ
-opened_by (Ok (happened.Opened session)) = session ∷ []
-opened_by _ = []
+abbrev pub openings : Result Happened EngineFault → List ℕ
+openings (Ok (happened.Opened session)) = session ∷ []
+openings _ = []
 
 abbrev pub opened_in : List LogEntry → List ℕ
-opened_in log = flat_map (λ e. opened_by e.result) log
+opened_in log = flat_map (λ e. openings e.result) log
 
 -- a session was closed, as often as it was
-abbrev pub closed_by : ℕ → Event → Result Happened EngineFault → List ℕ
-closed_by session (event.Close s) (Ok r) = if_so (nat_eq s session) (session ∷ [])
-closed_by session _ _ = []
+abbrev pub closings : ℕ → Event → Result Happened EngineFault → List ℕ
+closings session (event.Close s) (Ok r) = if_so (nat_eq s session) (session ∷ [])
+closings session _ _ = []
 
 abbrev pub closed_in : ℕ → List LogEntry → List ℕ
-closed_in session log = flat_map (λ e. closed_by session e.event e.result) log
+closed_in session log = flat_map (λ e. closings session e.event e.result) log
 
 -- the turns at which calls began, in order: the n-th began the call with the number n
 pub record Beginning : Type 0 where

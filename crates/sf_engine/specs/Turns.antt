@@ -16,7 +16,7 @@ use Rattle.sf_core.specs.Lanes.{LaneView}
 use Rattle.sf_session.specs.Sessions.{new_session}
 use Rattle.sf_core.specs.Cores.LaneState.{Idle}
 use Rattle.sf_core.specs.Cores.{CoreView, lane_state, joined, most_sessions, last_number}
-use Rattle.sf_core.specs.Events.{Before, After, Joins, OwnCall, MovesOn, IsBlocked, Fetches, Decides, AddsNothing, Answers, CallBegins, begun, RefusesBegin, Leaves}
+use Rattle.sf_core.specs.Events.{Before, After, Joins, OwnCall, MovesOn, IsBlocked, Fetches, Decides, AddsNothing, Answers, CallBegins, begun, RefusesBegin, SessionLeaves}
 use Rattle.sf_core.specs.Histories.{IsHistory}
 use Rattle.sf_engine.specs.declared.hosted.HostedSession.{HostedSession}
 use Rattle.sf_engine.specs.declared.hosted.HostedState.{HostedState}
@@ -86,7 +86,7 @@ ReadGives a lane m happened.Begun added b =
     × CallBegins a.core b.core lane request m
     × (added ≡ []) × (b.place ≡ state.UnderWay (begun lane b.core.drawn))
 ReadGives a lane m (happened.Ended cause) added b =
-    NextGives a.session (next.Ended cause) b.session × Leaves a.core b.core lane.session
+    NextGives a.session (next.Ended cause) b.session × SessionLeaves a.core b.core lane.session
     × (added ≡ Left lane.session ∷ []) × (b.place ≡ state.Gone cause)
 ReadGives a lane m _ added b = ⊥
 
@@ -95,7 +95,7 @@ abbrev pub RestsOrLeaves : Stand → LaneView → Bool → List Record → Stand
 RestsOrLeaves a lane false added b = (b.core ≡ a.core) × (added ≡ [])
     × (b.session ≡ a.session) × (b.place ≡ state.Resting lane)
 RestsOrLeaves a lane true added b =
-    Leaves a.core b.core lane.session × (added ≡ Left lane.session ∷ [])
+    SessionLeaves a.core b.core lane.session × (added ≡ Left lane.session ∷ [])
     × (b.session ≡ record a.session { unread = []; ended = Some Closed })
     × (b.place ≡ state.Gone Closed)
 

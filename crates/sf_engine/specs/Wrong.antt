@@ -11,7 +11,7 @@ use Rattle.sf_engine.specs.declared.event.Happened.TheVariants as happened
 use Rattle.sf_session.specs.Responses.{Response, Version, ByCall}
 use Rattle.sf_engine.specs.Promise.{LogEntry}
 use Rattle.sf_engine.specs.Examples.{mkdir, made}
-use Rattle.sf_engine.specs.Overtaking.{ok, done_entry}
+use Rattle.sf_engine.specs.Overtaking.{succeeded, done_entry}
 
 -- a turn of session 1 at the moment 100
 abbrev pub turned : Happened → List Record → List Response → LogEntry
@@ -32,9 +32,9 @@ first_call answer =
 
 -- one record for two requests: the second one is answered by the record of the first
 abbrev pub shared_record : Vec ℕ Global → List LogEntry
-shared_record bytes = begun_with bytes ++ (first_call (ByCall 7 1 mkdir ok)
+shared_record bytes = begun_with bytes ++ (first_call (ByCall 7 1 mkdir succeeded)
     ++ (turned happened.Begun [] [] ∷ turned happened.Decided [] []
-    ∷ turned happened.Wrote [] (ByCall 9 1 mkdir ok ∷ []) ∷ []))
+    ∷ turned happened.Wrote [] (ByCall 9 1 mkdir succeeded ∷ []) ∷ []))
 
 -- a record of a request that nobody sent: no call has begun
 abbrev pub unsent_request : Vec ℕ Global → List LogEntry

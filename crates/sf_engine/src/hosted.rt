@@ -9,7 +9,7 @@ ghost use Rattle.sf_session.specs.declared.session.Next.TheVariants as TheNext;
 ghost use Rattle.sf_session.specs.Sessions.{SessionView, NextGives};
 ghost use Rattle.sf_core.specs.Cores.LaneState.{Idle};
 ghost use Rattle.sf_core.specs.Cores.{lane_state};
-ghost use Rattle.sf_core.specs.Events.{Leaves};
+ghost use Rattle.sf_core.specs.Events.{SessionLeaves};
 ghost use Rattle.sf_core.specs.Histories.{IsHistory};
 ghost use Rattle.sf_core.specs.Lanes.{LaneView};
 ghost use Rattle.sf_engine.specs.Traces.{goes_on_at};
@@ -60,7 +60,7 @@ pub(crate) struct HostedSession {
 fn leave(core: &mut Core, lane: Lane)
     requires idle { lane.call ≡ None }
     requires slot { lane_state core.old lane.session ≡ Idle }
-    ensures left { Leaves core.old core.new lane.session }
+    ensures left { SessionLeaves core.old core.new lane.session }
     ensures history { (h : List Record) → IsHistory core.old h
         → IsHistory core.new (h ++ Left lane.session ∷ []) }
 {

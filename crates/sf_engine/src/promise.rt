@@ -5,7 +5,7 @@ ghost use Rattle.std.specs.Global.{Vec};
 ghost use Rattle.std.specs.List.{AllByRecursion, sum_by};
 ghost use Rattle.sf_call.specs.declared.record.Record.{Record};
 ghost use Rattle.sf_session.specs.Responses.{Response};
-ghost use Rattle.sf_engine.specs.Promise.{LogEntry, log_entry, opened_by, IsKnown, IsUnsent, IsKept, IsOfBytes, refusals, AreTurns, IsStepAtZero, AreDecided, WaitsForBytes, IsOutcome};
+ghost use Rattle.sf_engine.specs.Promise.{LogEntry, log_entry, openings, IsKnown, IsUnsent, IsKept, IsOfBytes, refusals, AreTurns, IsStepAtZero, AreDecided, WaitsForBytes, IsOutcome};
 
 use crate::engine::Engine;
 use crate::event::{EngineFault, Event, Happened};
@@ -145,7 +145,7 @@ pub struct Outcome {
 
 /// How many sessions opened, none or one.
 fn opened(outcome: &Result<Happened, EngineFault>) -> u64
-    ensures is { result ≡ length (opened_by outcome.now) }
+    ensures is { result ≡ length (openings outcome.now) }
     ensures few { result ≤ 1 }
 {
     match outcome {

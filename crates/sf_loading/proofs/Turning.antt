@@ -6,14 +6,14 @@ use Rattle.sf_trees.specs.declared.fault.TreeFault.{TreeFault}
 use Rattle.sf_trees.specs.Operations.{Operation, Begins, Asks, Ends, Does}
 use Rattle.sf_loading.specs.declared.folder.Item.{Item}
 use Rattle.sf_loading.specs.declared.making.LoadFault.{LoadFault}
-use Rattle.sf_loading.specs.Items.{Gives}
-use Rattle.sf_loading.specs.Loading.{request_of, settled_by, Makes, Turns, EndsBy, MakesItems, Loads}
+use Rattle.sf_loading.specs.Items.{GivesItems}
+use Rattle.sf_loading.specs.Loading.{request_of, settled_by, Makes, MakesOneItem, IsLastTurn, MakesItems, Loads}
 
-pub gives_none : (old : Option (List Item)) → Gives old [] old
+pub gives_none : (old : Option (List Item)) → GivesItems old [] old
 gives_none None = tt
 gives_none (Some xs) = refl
 
-pub gives_more : (old now new : Option (List Item)) (xs : List Item) (x : Item) → Gives old xs now → Gives now (x ∷ []) new → Gives old (xs ++ x ∷ []) new
+pub gives_more : (old now new : Option (List Item)) (xs : List Item) (x : Item) → GivesItems old xs now → GivesItems now (x ∷ []) new → GivesItems old (xs ++ x ∷ []) new
 gives_more None now new xs x p q = tt
 gives_more (Some ys) None new xs x p q = absurd p
 gives_more (Some ys) (Some zs) None xs x p q = absurd q
@@ -39,7 +39,7 @@ makes_more session handle (y ∷ xs) operations last x outcome after made is =
 pub record SoFar {V : Type 0} (reaches : V → List Operation → V → Type 0) (session : ℕ) (a b : V) (old now : Option (List Item)) (last : ℕ) : Type 0 where
   pub items : List Item
   pub made : List Operation
-  pub gives : Gives old items now
+  pub gives : GivesItems old items now
   pub makes : Makes session 0 items made last
   pub leads : reaches a made b
 
@@ -50,7 +50,7 @@ pub none_so_far : {V : Type 0} (reaches : V → List Operation → V → Type 0)
 none_so_far reaches session a old none = record { items = []; made = []; gives = gives_none old; makes = makes_none session 0; leads = none }
 
 pub one_more : {V : Type 0} {reaches : V → List Operation → V → Type 0} {session : ℕ} {a b : V} {old now : Option (List Item)} {last : ℕ} (c : V) (new : Option (List Item)) (after : ℕ) → On reaches
-    → SoFar reaches session a b old now last → Does reaches b c (Turns session last now new) (Ok (Some after)) → SoFar reaches session a c old new after
+    → SoFar reaches session a b old now last → Does reaches b c (MakesOneItem session last now new) (Ok (Some after)) → SoFar reaches session a c old new after
 one_more {reaches = reaches} {session = session} {a = a} {b = b} {old = old} {now = now} {last = last} c new after on far does =
     let t = does.2 in
     record {
@@ -63,7 +63,7 @@ one_more {reaches = reaches} {session = session} {a = a} {b = b} {old = old} {no
 
 -- the last turn was this
 pub all_made : {V : Type 0} {reaches : V → List Operation → V → Type 0} {session : ℕ} {a b : V} {old now : Option (List Item)} {last : ℕ} (c : V) (new : Option (List Item)) (r : Result (Unit {0}) LoadFault) → On reaches
-    → SoFar reaches session a b old now last → Does reaches b c (λ operations r. EndsBy session last now new operations r) r → Does reaches a c (MakesItems session old new) r
+    → SoFar reaches session a b old now last → Does reaches b c (λ operations r. IsLastTurn session last now new operations r) r → Does reaches a c (MakesItems session old new) r
 all_made {a = a} {b = b} {now = now} {last = last} c new r on far does = (
   far.made ++ does.0,
   on a b c far.made does.0 far.leads does.1,

@@ -14,7 +14,7 @@ use Rattle.sf_loading.specs.declared.folder.Item.{Item}
 use Rattle.sf_loading.specs.declared.folder.Item.TheVariants as item
 use Rattle.sf_loading.specs.declared.making.LoadFault.{LoadFault}
 use Rattle.sf_loading.specs.declared.making.LoadFault.TheVariants as fault
-use Rattle.sf_loading.specs.Items.{Gives, HasNone}
+use Rattle.sf_loading.specs.Items.{GivesItems, HasNone}
 
 -- WRITE, CREAT and EXCL: a file that is there is none of the folder's
 abbrev pub to_make : OpenFlags
@@ -37,10 +37,10 @@ request_of handle (item.FileAttributes attrs) = request.FSetStat handle attrs
 request_of handle item.FileEnd = request.Close handle
 
 -- the handle of a file that was opened
-abbrev pub opened_by : Result Reply TreeFault → Result ℕ TreeFault
-opened_by (Ok (reply.Handle number)) = Ok number
-opened_by (Ok other) = Err (fault_in_reply other)
-opened_by (Err why) = Err why
+abbrev pub handle_in_reply : Result Reply TreeFault → Result ℕ TreeFault
+handle_in_reply (Ok (reply.Handle number)) = Ok number
+handle_in_reply (Ok other) = Err (fault_in_reply other)
+handle_in_reply (Err why) = Err why
 
 -- the handle that there was, if the request was done
 abbrev pub done_with : ℕ → Result Reply TreeFault → Result ℕ TreeFault
@@ -52,7 +52,7 @@ done_with handle (Err why) = Err why
 abbrev pub settled_by : ℕ → Item → Result Reply TreeFault → Result ℕ TreeFault
 settled_by handle (item.Directory path) outcome = done_with handle outcome
 settled_by handle (item.DirectoryAttributes path attrs) outcome = done_with handle outcome
-settled_by handle (item.File path) outcome = opened_by outcome
+settled_by handle (item.File path) outcome = handle_in_reply outcome
 settled_by handle (item.Bytes offset bytes) outcome = done_with handle outcome
 settled_by handle (item.FileAttributes attrs) outcome = done_with handle outcome
 settled_by handle item.FileEnd outcome = done_with handle outcome
@@ -66,26 +66,27 @@ Makes session handle (x ∷ xs) operations last = (outcome : Result Reply TreeFa
     × (settled_by handle x outcome ≡ Ok after) × Makes session after xs rest last
 
 -- One item was taken, and made, or refused; or there was none, or the folder failed.
-abbrev pub Turns : (session handle : ℕ) → (old new : Option (List Item)) → List Operation
+abbrev pub MakesOneItem : (session handle : ℕ) → (old new : Option (List Item)) → List Operation
     → Result (Option ℕ) LoadFault → Type 0
-Turns session handle old new operations (Ok (Some after)) = (x : Item)
+MakesOneItem session handle old new operations (Ok (Some after)) = (x : Item)
     × (outcome : Result Reply TreeFault)
-    × Gives old (x ∷ []) new × (operations ≡ Asks session (request_of (be64 handle) x) outcome ∷ [])
+    × GivesItems old (x ∷ []) new
+    × (operations ≡ Asks session (request_of (be64 handle) x) outcome ∷ [])
     × (settled_by handle x outcome ≡ Ok after)
-Turns session handle old new operations (Ok None) = HasNone old new × (operations ≡ [])
-Turns session handle old new operations (Err (fault.Folder why)) = operations ≡ []
-Turns session handle old new operations (Err (fault.Server why)) = (x : Item)
-    × (outcome : Result Reply TreeFault) × Gives old (x ∷ []) new
+MakesOneItem session handle old new operations (Ok None) = HasNone old new × (operations ≡ [])
+MakesOneItem session handle old new operations (Err (fault.Folder why)) = operations ≡ []
+MakesOneItem session handle old new operations (Err (fault.Server why)) = (x : Item)
+    × (outcome : Result Reply TreeFault) × GivesItems old (x ∷ []) new
     × (operations ≡ Asks session (request_of (be64 handle) x) outcome ∷ [])
     × (settled_by handle x outcome ≡ Err why)
 
 -- the last turn
-abbrev pub EndsBy : (session handle : ℕ) → (old new : Option (List Item)) → List Operation
+abbrev pub IsLastTurn : (session handle : ℕ) → (old new : Option (List Item)) → List Operation
     → Result (Unit {0}) LoadFault → Type 0
-EndsBy session handle old new operations (Ok done) =
-    Turns session handle old new operations (Ok None)
-EndsBy session handle old new operations (Err why) =
-    Turns session handle old new operations (Err why)
+IsLastTurn session handle old new operations (Ok done) =
+    MakesOneItem session handle old new operations (Ok None)
+IsLastTurn session handle old new operations (Err why) =
+    MakesOneItem session handle old new operations (Err why)
 
 -- Items that the folder gave were made, in order, by a session that had no file open; and then it
 -- had no more, or failed, or one more was refused.
@@ -96,10 +97,10 @@ pub record MakesItems (session : ℕ) (old new : Option (List Item)) (operations
   pub last : ℕ
   pub made : List Operation
   pub end : List Operation
-  pub gives : Gives old items now
+  pub gives : GivesItems old items now
   pub makes : Makes session 0 items made last
   pub parts : operations ≡ made ++ end
-  pub ends : EndsBy session last now new end result
+  pub ends : IsLastTurn session last now new end result
 
 -- A session began, made the items, and ended.
 pub record HasLoaded (old new : Option (List Item)) (operations : List Operation)

@@ -1,7 +1,7 @@
 //! A folder, and what it gives.
 
 ghost use Rattle.std.specs.Prelude.{List, [], ◌∷◌, Option, IfOk, IfSome, IfNone};
-ghost use Rattle.sf_loading.specs.Items.{Gives, HasNone};
+ghost use Rattle.sf_loading.specs.Items.{GivesItems, HasNone};
 
 use sf_field::Attrs;
 use std::alloc::AllocError;
@@ -53,7 +53,7 @@ pub trait Folder {
     /// The next item, or none at the end.
     fn next(&mut self) -> Result<Option<Item>, FolderFault>
         ensures some { IfOk result (λ found. IfSome found
-            (λ item. Gives (items self.old) (item ∷ []) (items self.new))) }
+            (λ item. GivesItems (items self.old) (item ∷ []) (items self.new))) }
         ensures none { IfOk result (λ found. IfNone found
             (HasNone (items self.old) (items self.new))) };
 }

@@ -1,26 +1,23 @@
 //! A server over a line.
 
-ghost use Rattle.std.specs.Prelude.{◌≡◌, ◌<◌, ◌≤◌, ◌-◌, ◌^◌, min, true, false, length, IfOk, OnOk, IfSome, vec_len};
+ghost use Rattle.std.specs.Prelude.{◌≡◌, ◌≤◌, true, IfOk, OnOk, IfSome, vec_len};
 ghost use Rattle.std.specs.Io.KnownBytes.{Appends, Consumes};
 ghost use Rattle.sf_field.specs.Fields.{be32, packet};
 ghost use Rattle.sf_request.specs.Requests.{request_body, init_body};
 ghost use Rattle.sf_reply.specs.Replies.{reply_body, version_body};
-ghost use Rattle.sf_loading.specs.Lines.{id, strings_of, most_strings};
+ghost use Rattle.sf_trees.specs.Lengths.{id};
 
 use bytes::BytesMut;
 use sf_field::MAX_BODY;
 use sf_line::{Line, LineFault, write_all};
 use sf_reply::{Reply, is_version, read_reply};
 use sf_request::{WireRequest, init_packet, write_request};
-use sf_trees::{Server, TreeFault};
+use sf_trees::{Server, TreeFault, is_too_long};
 use std::alloc::{AllocError, Global};
 use std::marker::Model;
 
 /// The id of each request: none is asked before the one before is answered.
 const ID: u32 = 1;
-
-/// How many bytes a request's strings have at most.
-const MOST_STRINGS: usize = 262080;
 
 /// The server at the other end of a line, which serves the one session of it. The session ends with
 /// the line.
@@ -31,9 +28,9 @@ pub struct LineServer<L: Line + Drop> {
 }
 
 impl<L: Line + Drop> Model for LineServer<L> {
-    ghost use Rattle.sf_loading.specs.Lines.{LineView};
+    ghost use Rattle.sf_loading.specs.Lines.{ServerLineView};
 
-    ghost Value = { LineView };
+    ghost Value = { ServerLineView };
 
     ghost view = { λ s. record { incoming = L.incoming s.line; outgoing = L.outgoing s.line } };
 }
@@ -111,40 +108,6 @@ fn read_body<L: Line>(alloc: Global, line: &mut L) -> Result<Vec<u8>, TreeFault>
     Ok(body)
 }
 
-/// How many bytes the strings of a request have.
-fn strings_of(request: &WireRequest) -> usize
-    ensures { result ≡ min (strings_of request.now) (2 ^ 64 - 1) }
-{
-    match request {
-        WireRequest::Open { filename, .. } => filename.len(),
-        WireRequest::Write { handle, data, .. } => handle.len().saturating_add(data.len()),
-        WireRequest::Close { handle }
-        | WireRequest::Read { handle, .. }
-        | WireRequest::FStat { handle }
-        | WireRequest::FSetStat { handle, .. }
-        | WireRequest::ReadDir { handle } => handle.len(),
-        WireRequest::LStat { path }
-        | WireRequest::SetStat { path, .. }
-        | WireRequest::OpenDir { path }
-        | WireRequest::Remove { path }
-        | WireRequest::Mkdir { path, .. }
-        | WireRequest::Rmdir { path }
-        | WireRequest::RealPath { path }
-        | WireRequest::Stat { path } => path.len(),
-        WireRequest::Rename { old, new }
-        | WireRequest::PosixRename { old, new }
-        | WireRequest::Link { old, new } => old.len().saturating_add(new.len()),
-    }
-}
-
-/// Whether a request is too long to be asked.
-fn is_too_long(request: &WireRequest) -> bool
-    ensures yes { result ≡ true → most_strings < strings_of request.now }
-    ensures no { result ≡ false → length (request_body id request.now) ≤ 262144 }
-{
-    strings_of(request) > MOST_STRINGS
-}
-
 /// The packet of a request.
 fn packet_of(alloc: Global, request: &WireRequest) -> Result<BytesMut, TreeFault>
     ensures { IfOk result (λ bytes. bytes.items ≡ packet (request_body id request.now)) }
@@ -210,10 +173,10 @@ fn greet<L: Line>(alloc: Global, line: &mut L) -> Result<(), TreeFault>
 }
 
 impl<L: Line + Drop> Server for LineServer<L> {
-    ghost use Rattle.sf_loading.specs.Lines.{Reaches};
+    ghost use Rattle.sf_loading.specs.Lines.{LeadsLine};
     ghost use Rattle.sf_loading.specs.Talking.{none_sent, sent_on};
 
-    ghost reaches = { Reaches };
+    ghost reaches = { LeadsLine };
 
     ghost none = { none_sent };
 

@@ -3,7 +3,7 @@
 ghost use Rattle.std.specs.Prelude.{◌≡◌, ◌∷◌, ℕ, List, [], Ok, Err};
 ghost use Rattle.sf_field.specs.Fields.{be64};
 ghost use Rattle.sf_trees.specs.Operations.{Does, IsAsked, fault_in_reply};
-ghost use Rattle.sf_loading.specs.Loading.{request_of, settled_by, opened_by, done_with, Turns, MakesItems, Loads};
+ghost use Rattle.sf_loading.specs.Loading.{request_of, settled_by, handle_in_reply, done_with, MakesOneItem, MakesItems, Loads};
 
 use crate::folder::{Folder, FolderFault, Item};
 use sf_field::{NO_ATTRS, OpenFlags};
@@ -77,8 +77,8 @@ fn refusal_of(reply: &Reply) -> TreeFault
 }
 
 /// The handle of a file that was opened.
-fn opened_by(outcome: &Result<Reply, TreeFault>) -> Result<u64, TreeFault>
-    ensures { result ≡ opened_by outcome.now }
+fn handle_in_reply(outcome: &Result<Reply, TreeFault>) -> Result<u64, TreeFault>
+    ensures { result ≡ handle_in_reply outcome.now }
 {
     match outcome {
         Ok(Reply::Handle(number)) => Ok(*number),
@@ -107,7 +107,7 @@ fn settled_by(
     ensures { result ≡ settled_by handle item.now outcome.now }
 {
     match item {
-        Item::File(_) => opened_by(outcome),
+        Item::File(_) => handle_in_reply(outcome),
         _ => done_with(handle, outcome),
     }
 }
@@ -130,7 +130,7 @@ fn turn<F: Folder, S: Server>(
     handle: u64,
 ) -> Result<Option<u64>, LoadFault>
     ensures { Does S.reaches server.old server.new
-        (Turns session handle (F.items folder.old) (F.items folder.new)) result }
+        (MakesOneItem session handle (F.items folder.old) (F.items folder.new)) result }
 {
     match folder.next() {
         Ok(Some(item)) => match make(server, session, handle, &item) {

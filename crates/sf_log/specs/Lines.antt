@@ -50,27 +50,27 @@ quoted path = 34 ∷ flat_map escaped (text_of path) ++ 34 ∷ []
 
 -- ---- attributes: the parts that are given, each behind a space
 
-abbrev pub size_text : Option ℕ → List ℕ
-size_text None = []
-size_text (Some size) = codes " size " ++ decimal size
+abbrev pub logged_size : Option ℕ → List ℕ
+logged_size None = []
+logged_size (Some size) = codes " size " ++ decimal size
 
-abbrev pub owner_text : Option Owner → List ℕ
-owner_text None = []
-owner_text (Some owner) = codes " uid " ++ decimal owner.uid ++ codes " gid " ++ decimal owner.gid
+abbrev pub logged_owner : Option Owner → List ℕ
+logged_owner None = []
+logged_owner (Some owner) = codes " uid " ++ decimal owner.uid ++ codes " gid " ++ decimal owner.gid
 
 -- in octal
-abbrev pub mode_text : Option ℕ → List ℕ
-mode_text None = []
-mode_text (Some permissions) = codes " mode 0" ++ digits 8 false permissions
+abbrev pub logged_mode : Option ℕ → List ℕ
+logged_mode None = []
+logged_mode (Some permissions) = codes " mode 0" ++ digits 8 false permissions
 
-abbrev pub times_text : Option Times → List ℕ
-times_text None = []
-times_text (Some times) =
+abbrev pub logged_times : Option Times → List ℕ
+logged_times None = []
+logged_times (Some times) =
     codes " atime " ++ decimal times.atime ++ codes " mtime " ++ decimal times.mtime
 
-abbrev pub attrs_text : Attrs → List ℕ
-attrs_text attrs = size_text attrs.size ++ owner_text attrs.owner
-    ++ mode_text attrs.permissions ++ times_text attrs.times
+abbrev pub logged_attrs : Attrs → List ℕ
+logged_attrs attrs = logged_size attrs.size ++ logged_owner attrs.owner
+    ++ logged_mode attrs.permissions ++ logged_times attrs.times
 
 -- ---- how a file is opened: the flags that are set, with commas between them
 
@@ -112,17 +112,17 @@ range_text offset len = codes " offset " ++ decimal offset ++ codes " length " +
 
 abbrev pub request_text : Request → List ℕ
 request_text (request.Stat path) = by_path (codes "stat") path
-request_text (request.SetStat path attrs) = by_path (codes "setstat") path ++ attrs_text attrs
-request_text (request.Mkdir path attrs) = by_path (codes "mkdir") path ++ attrs_text attrs
+request_text (request.SetStat path attrs) = by_path (codes "setstat") path ++ logged_attrs attrs
+request_text (request.Mkdir path attrs) = by_path (codes "mkdir") path ++ logged_attrs attrs
 request_text (request.Rmdir path) = by_path (codes "rmdir") path
 request_text (request.Remove path) = by_path (codes "remove") path
 request_text (request.OpenDir path) = by_path (codes "opendir") path
 request_text (request.Open path flags attrs) =
-    by_path (codes "open") path ++ flags_text flags ++ attrs_text attrs
+    by_path (codes "open") path ++ flags_text flags ++ logged_attrs attrs
 request_text (request.Close handle) = by_handle (codes "close") handle
 request_text (request.FStat handle) = by_handle (codes "fstat") handle
 request_text (request.FSetStat handle attrs) = by_handle (codes "fsetstat") handle
-    ++ attrs_text attrs
+    ++ logged_attrs attrs
 request_text (request.Read handle offset len) =
     by_handle (codes "read") handle ++ range_text offset len
 request_text (request.Write handle offset bytes) =
@@ -139,7 +139,7 @@ reply_text reply.NoMemory = codes " Out of memory"
 reply_text (reply.Handle number) = codes " handle " ++ decimal number
 reply_text (reply.Data bytes) = codes " data of length " ++ decimal (length bytes)
 reply_text (reply.Names entries) = codes " names " ++ decimal (length entries)
-reply_text (reply.Attrs attrs) = attrs_text attrs
+reply_text (reply.Attrs attrs) = logged_attrs attrs
 
 -- ---- lines
 

@@ -2,7 +2,7 @@
 
 ghost use Rattle.std.specs.Prelude.{◌≡◌};
 ghost use Rattle.std.specs.Fmt.{WritesOnOk};
-ghost use Rattle.sf_log.specs.Lines.{size_text, owner_text, mode_text, times_text, flag_text, access_text, making_text, has_access};
+ghost use Rattle.sf_log.specs.Lines.{logged_size, logged_owner, logged_mode, logged_times, flag_text, access_text, making_text, has_access};
 
 use crate::path::QuotedPath;
 use sf_call::Request;
@@ -22,7 +22,7 @@ struct FlagsText(OpenFlags);
 pub(crate) struct RequestText<'a>(pub(crate) &'a Request);
 
 fn write_size<W: fmt::Write>(f: &mut fmt::Formatter<W>, size: Option<u64>) -> fmt::Result
-    ensures { WritesOnOk W.write_str_gives f.old result (size_text size) f.new }
+    ensures { WritesOnOk W.write_str_gives f.old result (logged_size size) f.new }
 {
     match size {
         Some(size) => write!(f, " size {size}"),
@@ -31,7 +31,7 @@ fn write_size<W: fmt::Write>(f: &mut fmt::Formatter<W>, size: Option<u64>) -> fm
 }
 
 fn write_owner<W: fmt::Write>(f: &mut fmt::Formatter<W>, owner: Option<Owner>) -> fmt::Result
-    ensures { WritesOnOk W.write_str_gives f.old result (owner_text owner) f.new }
+    ensures { WritesOnOk W.write_str_gives f.old result (logged_owner owner) f.new }
 {
     match owner {
         Some(Owner { uid, gid }) => write!(f, " uid {uid} gid {gid}"),
@@ -40,7 +40,7 @@ fn write_owner<W: fmt::Write>(f: &mut fmt::Formatter<W>, owner: Option<Owner>) -
 }
 
 fn write_mode<W: fmt::Write>(f: &mut fmt::Formatter<W>, permissions: Option<u32>) -> fmt::Result
-    ensures { WritesOnOk W.write_str_gives f.old result (mode_text permissions) f.new }
+    ensures { WritesOnOk W.write_str_gives f.old result (logged_mode permissions) f.new }
 {
     match permissions {
         Some(permissions) => write!(f, " mode 0{permissions:o}"),
@@ -49,7 +49,7 @@ fn write_mode<W: fmt::Write>(f: &mut fmt::Formatter<W>, permissions: Option<u32>
 }
 
 fn write_times<W: fmt::Write>(f: &mut fmt::Formatter<W>, times: Option<Times>) -> fmt::Result
-    ensures { WritesOnOk W.write_str_gives f.old result (times_text times) f.new }
+    ensures { WritesOnOk W.write_str_gives f.old result (logged_times times) f.new }
 {
     match times {
         Some(Times { atime, mtime }) => write!(f, " atime {atime} mtime {mtime}"),
@@ -59,9 +59,9 @@ fn write_times<W: fmt::Write>(f: &mut fmt::Formatter<W>, times: Option<Times>) -
 
 impl fmt::Display for AttrsText<'_> {
     ghost use Rattle.std.specs.Prelude.{Some};
-    ghost use Rattle.sf_log.specs.Lines.{attrs_text};
+    ghost use Rattle.sf_log.specs.Lines.{logged_attrs};
 
-    ghost output = { λ attrs. Some (attrs_text attrs.0.now) };
+    ghost output = { λ attrs. Some (logged_attrs attrs.0.now) };
 
     fn fmt<W: fmt::Write>(&self, f: &mut fmt::Formatter<W>) -> fmt::Result {
         let attrs = *self.0;

@@ -14,7 +14,7 @@ use Rattle.sf_core.specs.Cores.LaneState.{NoLane, Idle, Busy}
 use Rattle.sf_core.specs.Progress.{new_call}
 use Rattle.sf_core.specs.Histories.{IsHistory}
 use Rattle.sf_core.specs.Owners.{OwnsCalls}
-use Rattle.sf_core.specs.Events.{Before, After, Fetches, Decides, Joins, CallBegins, Leaves, TakesStep}
+use Rattle.sf_core.specs.Events.{Before, After, Fetches, Decides, Joins, CallBegins, SessionLeaves, TakesStep}
 use Rattle.sf_audit.specs.Audits.{call_records}
 use Rattle.sf_roll.proofs.Laws.{get_set, get_set_else}
 use Rattle.sf_noted.specs.Pages.{begun_call, Page}
@@ -132,7 +132,7 @@ step_goes b made a pages takes before after hist agrees own =
     }
 
 -- ---- a session leaves
-pub leaves : (v w : CoreView) (session : ℕ) (pages : List Page) (h : List Record) → PagesAgree v pages h → IsHistory w (h ++ Left session ∷ []) → Leaves v w session → (place : ℕ) (p : Page) → slice_get pages place ≡ Some p → session ≡ place + 1 → p.state ≡ Idle
+pub leaves : (v w : CoreView) (session : ℕ) (pages : List Page) (h : List Record) → PagesAgree v pages h → IsHistory w (h ++ Left session ∷ []) → SessionLeaves v w session → (place : ℕ) (p : Page) → slice_get pages place ≡ Some p → session ≡ place + 1 → p.state ≡ Idle
     → PagesAgree w (slice_set pages place (page NoLane p.told)) (h ++ Left session ∷ [])
 leaves v w session pages h a hist l place p at is rests =
     let idle = idle_there v pages h a place p at rests in

@@ -9,7 +9,7 @@ use Rattle.sf_core.specs.declared.step.Step.TheVariants.{Moved}
 use Rattle.sf_core.specs.Events.{Before, After, TakesStep, StepsOn}
 use Rattle.sf_noted.specs.Pages.{BegunCall, Page}
 use Rattle.sf_noted.specs.PageChanges.{page, as_told, IsUnderWay}
-use Rattle.sf_noted.specs.Noted.{number_in, begun_by, lane_of}
+use Rattle.sf_noted.specs.Noted.{number_in, begun_beside, lane_of}
 
 pub own_place : (lane : LaneView) (place : ℕ) (p : Page) → lane ≡ lane_of (place + 1, p) → lane.session ≡ place + 1
 own_place lane place p is = ap (λ (l : LaneView). l.session) is
@@ -20,7 +20,7 @@ lane_seen lane place p is = ap (λ s. lane_of (s, p)) (own_place lane place p is
 
 -- so many calls were told, and the session stands so
 abbrev lane_at : ℕ → ℕ → LaneState BegunCall → LaneView
-lane_at s told state = record { session = s; call = number_in state; begun = begun_by state told }
+lane_at s told state = record { session = s; call = number_in state; begun = begun_beside state told }
 
 pub answers_lane : (s : ℕ) (p : Page) (given : Reply) → IsUnderWay p.state → at_rest (lane_of (s, p)) ≡ lane_of (s, page Idle (p.told ++ as_told p.state given))
 answers_lane s p given under_way = by_state p.state refl under_way

@@ -57,20 +57,20 @@ number_in (Busy call) = Some call.number
 number_in _ = None
 
 -- how many calls a session began that was told so many, as its lane counts them
-abbrev pub begun_by : LaneState BegunCall → ℕ → ℕ
-begun_by (Busy call) told = min (told + 1) (2 ^ 64 - 1)
-begun_by _ told = min told (2 ^ 64 - 1)
+abbrev pub begun_beside : LaneState BegunCall → ℕ → ℕ
+begun_beside (Busy call) told = min (told + 1) (2 ^ 64 - 1)
+begun_beside _ told = min told (2 ^ 64 - 1)
 
 abbrev pub begun_on : Page → ℕ
-begun_on p = begun_by p.state (length p.told)
+begun_on p = begun_beside p.state (length p.told)
 
 -- the place in the core of the session of this number, whose page this is
 abbrev pub lane_of : ℕ × Page → LaneView
 lane_of x = record { session = x.0; call = number_in x.1.state; begun = begun_on x.1 }
 
 -- a session's number, and what is noted of it once its call is answered so
-abbrev pub answered : ℕ × Page → Reply → ℕ × Page
-answered x reply = (x.0, page Idle (x.1.told ++ as_told x.1.state reply))
+abbrev pub page_answered : ℕ × Page → Reply → ℕ × Page
+page_answered x reply = (x.0, page Idle (x.1.told ++ as_told x.1.state reply))
 
 -- What a step tells: the call goes on, or was answered, and that is noted. A session is never a
 -- stranger to the core that it joined.
@@ -78,5 +78,5 @@ abbrev pub StepTells : ℕ × Page → Step → ℕ × Page → Type 0
 StepTells old Moved new = new ≡ old
 StepTells old (Blocked holder) new = new ≡ old
 StepTells old (Answered given) new = (given.session ≡ old.0)
-    × (number_in old.1.state ≡ Some given.number) × (new ≡ answered old given.reply)
+    × (number_in old.1.state ≡ Some given.number) × (new ≡ page_answered old given.reply)
 StepTells old Stranger new = ⊥

@@ -5,7 +5,7 @@ ghost use Rattle.sf_call.specs.declared.record.Record.{Record};
 ghost use Rattle.sf_call.specs.declared.record.Record.TheVariants.{Left};
 ghost use Rattle.sf_core.specs.Cores.LaneState.{NoLane, Idle, Busy};
 ghost use Rattle.sf_core.specs.Histories.{IsHistory};
-ghost use Rattle.sf_core.specs.Events.{Joins, CallBegins, StepsOn, Leaves, RefusesJoin, RefusesBegin};
+ghost use Rattle.sf_core.specs.Events.{Joins, CallBegins, StepsOn, SessionLeaves, RefusesJoin, RefusesBegin};
 ghost use Rattle.sf_noted.specs.Pages.{begun_call};
 ghost use Rattle.sf_noted.specs.PageChanges.{page, fresh_page, IsUnderWay};
 ghost use Rattle.sf_noted.specs.Noted.{HasPages, PagesAgree, StepTells, lane_of, begun_on};
@@ -215,7 +215,7 @@ impl<B: RollName + Ledger> NotedCore<B> {
         requires { lane.1.state ≡ Idle }
         ensures visit { result.1 ≡ (lane.0, page NoLane lane.1.told) }
         ensures share { result.0 ≡ begun_on lane.1 }
-        ensures leaves { Leaves self.old.0 self.new.0 lane.0 }
+        ensures leaves { SessionLeaves self.old.0 self.new.0 lane.0 }
         ensures history { (h : List Record) → IsHistory self.old.0 h
             → IsHistory self.new.0 (h ++ Left lane.0 ∷ []) }
     {

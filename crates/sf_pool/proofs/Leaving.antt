@@ -16,7 +16,7 @@ use Rattle.sf_noted.specs.Pages.{BegunCall, begun_call}
 use Rattle.sf_pool.specs.declared.lane_host.Standing.{Standing}
 use Rattle.sf_pool.specs.declared.lane_host.Standing.TheVariants as standing
 use Rattle.sf_pool.specs.SessionLanes.{SessionLaneState, New, JoinRefused, Joined, share_of, SessionLaneView}
-use Rattle.sf_pool.specs.Scenes.{LaneScene, state_calls, NotesCalls, IsShared, join_refusal, IsInCall, ServesLane, HasLeft, LeavesFor, StopsLane, IsLaneFault}
+use Rattle.sf_pool.specs.Scenes.{LaneScene, state_calls, NotesCalls, IsShared, join_refusal, IsInCall, ServesLane, HasLeftLane, LeavesFor, StopsLane, IsLaneFault}
 use Rattle.sf_pool.specs.LaneHosts.{IsToldAt, IsOver, IsCounted, IsAdded}
 
 shared_by : (share n old new : ℕ) → share ≡ share_of n → IsShared share old new → IsShared n old new
@@ -39,7 +39,7 @@ leaves_served {now = now} {at = at} {cause = cause} old new over added serves =
     (serves.0, serves.1.notes, serves.2, ((cause, serves.3), left.0, left.1))
 
 -- after a fault it has left, too, or its call is under way
-has_left : (at : Standing) (d : SessionLaneView) (t : SessionState) (old new : ℕ) → IsOver at d None → IsCounted at d t → IsAdded at old new → HasLeft d t old new
+has_left : (at : Standing) (d : SessionLaneView) (t : SessionState) (old new : ℕ) → IsOver at d None → IsCounted at d t → IsAdded at old new → HasLeftLane d t old new
 has_left standing.Joined d t old new over counts added = absurd over
 has_left standing.Unanswered d t old new over counts added = absurd over
 has_left standing.UnderWay d t old new over counts added = inr (counts, over.2, added)
@@ -87,7 +87,7 @@ joined_not_new place state e new = let no : New ≡ Joined state = sym new ∙ e
 pub refused_not_new : (place : SessionLaneState) (refusal : CoreFault) → place ≡ JoinRefused refusal → place ≢ New
 refused_not_new place refusal e new = let no : New ≡ JoinRefused refusal = sym new ∙ e in cc
 
-left_not_new : (d : SessionLaneView) (t : SessionState) (old new : ℕ) → HasLeft d t old new → d.place ≢ New
+left_not_new : (d : SessionLaneView) (t : SessionState) (old new : ℕ) → HasLeftLane d t old new → d.place ≢ New
 left_not_new d t old new (inl left) = joined_not_new d.place NoLane left.0
 left_not_new d t old new (inr call) = joined_not_new d.place (Busy (begun_call call.0.number call.0.moment call.0.request)) call.0.placed
 

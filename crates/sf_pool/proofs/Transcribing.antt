@@ -13,12 +13,12 @@ use Rattle.sf_audit.specs.declared.transcript.Transcript.{Transcript}
 use Rattle.sf_audit.specs.Audits.{CallRecord, call_record}
 use Rattle.sf_noted.specs.Pages.{BegunCall, Page}
 use Rattle.sf_noted.specs.PageChanges.{as_told}
-use Rattle.sf_noted.specs.Noted.{number_in, answered}
+use Rattle.sf_noted.specs.Noted.{number_in, page_answered}
 use Rattle.sf_pool.specs.declared.session_lane.StepResult.{StepResult}
 use Rattle.sf_pool.specs.declared.session_lane.StepResult.TheVariants.{Answered}
 use Rattle.sf_pool.specs.declared.transcript_lane.Place.{Place}
 use Rattle.sf_pool.specs.declared.transcript_lane.Place.TheVariants as place
-use Rattle.sf_pool.specs.SessionLanes.{New, IsLast, IsLastAnswer, SessionLaneView, counted, Steps}
+use Rattle.sf_pool.specs.SessionLanes.{New, IsLast, IsLastAnswer, SessionLaneView, next_count, Steps}
 use Rattle.sf_pool.specs.OnCores.{IsPageOf, IsVisitOf, calls_begun_by}
 use Rattle.sf_pool.specs.TranscriptLanes.{session_lane_at, calls_in, WasAsked, EndsAs, IsTranscriptLane}
 
@@ -44,17 +44,17 @@ own_page p lane keeps steps d view at =
     subst (λ (x : SessionLaneView). IsPageOf x lane) view (subst (λ q. IsPageOf (session_lane_at q keeps steps) lane) (sym at) (record { session = refl; place = refl; told = refl }))
 
 -- what a step shows that answers the lane's call
-pub answers : {B : Type 0} (p : Place B) (lane lane' : ℕ × Page) (keeps : Bool) (steps steps' : ℕ) (d : SessionLaneView) (told : StepResult) (reply : Reply) → session_lane_at p keeps steps ≡ d → p ≡ place.Joined lane → told ≡ Answered → lane' ≡ answered lane reply → steps' ≡ counted steps
+pub answers : {B : Type 0} (p : Place B) (lane lane' : ℕ × Page) (keeps : Bool) (steps steps' : ℕ) (d : SessionLaneView) (told : StepResult) (reply : Reply) → session_lane_at p keeps steps ≡ d → p ≡ place.Joined lane → told ≡ Answered → lane' ≡ page_answered lane reply → steps' ≡ next_count steps
     → Steps d told (session_lane_at {B = B} (place.Joined lane') keeps steps')
 answers {B = B} p lane lane' keeps steps steps' d told reply view at is noted more =
     let after : ℕ × Page → ℕ → SessionLaneView = λ l n. session_lane_at {B = B} (place.Joined l) keeps n in
     subst (λ (x : SessionLaneView). Steps x told (after lane' steps')) view (subst (λ q. Steps (session_lane_at q keeps steps) told (after lane' steps')) (sym at)
     (subst (λ (k : StepResult). Steps (session_lane_at {B = B} (place.Joined lane) keeps steps) k (after lane' steps')) (sym is)
     (subst (λ (l : ℕ × Page). Steps (session_lane_at {B = B} (place.Joined lane) keeps steps) Answered (after l steps')) (sym noted)
-    (subst (λ (n : ℕ). Steps (session_lane_at {B = B} (place.Joined lane) keeps steps) Answered (after (answered lane reply) n)) (sym more) (reply, refl)))))
+    (subst (λ (n : ℕ). Steps (session_lane_at {B = B} (place.Joined lane) keeps steps) Answered (after (page_answered lane reply) n)) (sym more) (reply, refl)))))
 
 -- and the answer is the last that was told
-pub last_answered : (lane lane' : ℕ × Page) (number : ℕ) (reply : Reply) → number_in lane.1.state ≡ Some number → lane' ≡ answered lane reply → IsLastAnswer lane'.1.told number reply
+pub last_answered : (lane lane' : ℕ × Page) (number : ℕ) (reply : Reply) → number_in lane.1.state ≡ Some number → lane' ≡ page_answered lane reply → IsLastAnswer lane'.1.told number reply
 last_answered lane lane' number reply own noted = subst (λ (l : ℕ × Page). IsLastAnswer l.1.told number reply) (sym noted) (by_state lane.1.state own)
   where
     by_state : (state : LaneState BegunCall) → number_in state ≡ Some number → IsLastAnswer (lane.1.told ++ as_told state reply) number reply

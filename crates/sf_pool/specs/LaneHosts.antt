@@ -19,7 +19,7 @@ use Rattle.sf_pool.specs.declared.calling.Stop.{Stop}
 use Rattle.sf_pool.specs.declared.calling.Stop.TheVariants as stop
 use Rattle.sf_pool.specs.declared.lane_host.Standing.{Standing}
 use Rattle.sf_pool.specs.declared.lane_host.Standing.TheVariants as standing
-use Rattle.sf_pool.specs.SessionLanes.{Joined, IsResting, HasCallUnderWay, share_of, SessionLaneView, answered}
+use Rattle.sf_pool.specs.SessionLanes.{Joined, IsResting, HasCallUnderWay, share_of, SessionLaneView, session_answered}
 use Rattle.sf_pool.specs.Scenes.{LaneScene, NotesCalls, IsShared, IsInCall, state_calls, response_calls, Attempt, attempt, answer_attempts}
 
 -- A lane, and the session that asks it.
@@ -40,7 +40,7 @@ after_calls d calls steps = record d { calls = d.calls ++ calls; steps = steps }
 
 -- the call under way was answered
 abbrev pub IsAnsweredAt : SessionLaneView → SessionLaneView → Type 0
-IsAnsweredAt d d' = (reply : Reply) × (d' ≡ after_steps (answered d reply) d'.steps)
+IsAnsweredAt d d' = (reply : Reply) × (d' ≡ after_steps (session_answered d reply) d'.steps)
 
 -- The session's call was made, or refused by the lane: its reply, which is no longer than any, is
 -- appended to the output. The lane was asked for it alone.

@@ -26,15 +26,15 @@ IsVisitOf d (Ok x) = IsPageOf d x
 IsVisitOf d (Err refusal) = d.place ≡ JoinRefused refusal
 
 -- how many calls the session began: those that it was told, and the one under way
-abbrev pub under_way : LaneState BegunCall → ℕ
-under_way (Busy call) = 1
-under_way _ = 0
+abbrev pub calls_under_way : LaneState BegunCall → ℕ
+calls_under_way (Busy call) = 1
+calls_under_way _ = 0
 
-abbrev pub calls_begun : Page → ℕ
-calls_begun p = length p.told + under_way p.state
+abbrev pub page_calls : Page → ℕ
+page_calls p = length p.told + calls_under_way p.state
 
 abbrev pub calls_begun_by : Result (ℕ × Page) CoreFault → ℕ
-calls_begun_by (Ok x) = calls_begun x.1
+calls_begun_by (Ok x) = page_calls x.1
 calls_begun_by (Err refusal) = 0
 
 -- the session's call begins on the core

@@ -134,18 +134,18 @@ pub record IsInCall (place : SessionLaneState) (phase : Phase) : Type 0 where
 
 -- How a lane ends that has joined: it has left, and the calls that it was answered were
 -- added to a share; or its call has no answer after 2^64 - 1 steps.
-abbrev pub HasLeft : SessionLaneView → SessionState → (old new : ℕ) → Type 0
-HasLeft lane t old new =
+abbrev pub HasLeftLane : SessionLaneView → SessionState → (old new : ℕ) → Type 0
+HasLeftLane lane t old new =
     ((lane.place ≡ Joined NoLane) × IsShared (length (state_calls t)) old new)
     ⊎ (IsInCall lane.place t.phase × (most_counted ≤ lane.steps) × (new ≡ old))
 
 -- no session that joined is a stranger; numbers are spent only by so many bytes or steps
 abbrev pub LeavesFor : ServeFault → SessionLaneView → Progress → (old new : ℕ) → Type 0
-LeavesFor fault.Line lane p old new = HasLeft lane p.state old new
-LeavesFor fault.OutOfMemory lane p old new = HasLeft lane p.state old new
+LeavesFor fault.Line lane p old new = HasLeftLane lane p.state old new
+LeavesFor fault.OutOfMemory lane p old new = HasLeftLane lane p.state old new
 LeavesFor fault.Sessions lane p old new = ⊥
 LeavesFor fault.Stranger lane p old new = ⊥
-LeavesFor fault.NumbersSpent lane p old new = HasLeft lane p.state old new
+LeavesFor fault.NumbersSpent lane p old new = HasLeftLane lane p.state old new
     × ((most_counted ≤ length p.state.stream) ⊎ (most_counted ≤ lane.steps))
 
 -- What serving did when it stopped so: nothing, since the session never joined; or the session was

@@ -43,8 +43,8 @@ Notes (Some old) (Some new) more = new ≡ old ++ more
 abbrev pub share_of : ℕ → ℕ
 share_of n = min n (2 ^ 64 - 1)
 
-abbrev pub counted : ℕ → ℕ
-counted n = share_of (n + 1)
+abbrev pub next_count : ℕ → ℕ
+next_count n = share_of (n + 1)
 
 -- The number of a lane's session, 0 until it joins; how far it is; the calls that it was
 -- answered, in order; whether the lane keeps them all for whoever asks for them when it is done;
@@ -62,19 +62,19 @@ new_session_lane keeps = record { session = 0; place = New; calls = []; keeps = 
 
 -- a step more was made
 abbrev pub stepped : SessionLaneView → SessionLaneView
-stepped d = record d { steps = counted d.steps }
+stepped d = record d { steps = next_count d.steps }
 
 -- the call under way was answered so
 abbrev pub told_at : SessionLaneState → Reply → List CallRecord
 told_at (Joined state) reply = as_told state reply
 told_at _ reply = []
 
-abbrev pub answered : SessionLaneView → Reply → SessionLaneView
-answered d reply =
+abbrev pub session_answered : SessionLaneView → Reply → SessionLaneView
+session_answered d reply =
     record d { place = Joined Idle; calls = d.calls ++ told_at d.place reply }
 
 -- What a step of the call under way comes to: the call goes on; or it is answered, and that is
 -- noted.
 abbrev pub Steps : SessionLaneView → StepResult → SessionLaneView → Type 0
 Steps before Going after = after ≡ stepped before
-Steps before Answered after = (reply : Reply) × (after ≡ stepped (answered before reply))
+Steps before Answered after = (reply : Reply) × (after ≡ stepped (session_answered before reply))

@@ -11,7 +11,7 @@ use Rattle.sf_noted.specs.Pages.{Page}
 use Rattle.sf_pool.specs.declared.transcript_lane.Place.{Place}
 use Rattle.sf_pool.specs.declared.transcript_lane.Place.TheVariants as place
 use Rattle.sf_pool.specs.SessionLanes.{SessionLaneState, New, JoinRefused, Joined, SessionLaneView}
-use Rattle.sf_pool.specs.OnCores.{calls_begun}
+use Rattle.sf_pool.specs.OnCores.{page_calls}
 
 -- the session's number and page, where it has a lane
 abbrev pub lane_in : {B : Type 0} → Place B → Option (ℕ × Page)
@@ -34,8 +34,8 @@ EndsAs (place.Left visit) ended = ended ≡ Ok visit
 abbrev pub calls_in : {B : Type 0} → Place B → ℕ
 calls_in place.New = 0
 calls_in (place.Refused fault) = 0
-calls_in (place.Joined lane) = calls_begun lane.1
-calls_in (place.Left visit) = calls_begun visit.1
+calls_in (place.Joined lane) = page_calls lane.1
+calls_in (place.Left visit) = page_calls visit.1
 
 -- what such a lane shows of a session that is there
 abbrev pub session_lane_at : {B : Type 0} → Place B → Bool → ℕ → SessionLaneView

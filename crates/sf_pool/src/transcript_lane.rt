@@ -7,7 +7,7 @@ ghost use Rattle.sf_call.specs.declared.record.Record.TheVariants.{Left};
 ghost use Rattle.sf_call.specs.declared.fault.CoreFault.TheVariants.{Stranger};
 ghost use Rattle.sf_core.specs.Cores.LaneState.{NoLane, Idle, Busy};
 ghost use Rattle.sf_core.specs.Histories.{IsHistory};
-ghost use Rattle.sf_core.specs.Events.{Joins, RefusesJoin, Leaves};
+ghost use Rattle.sf_core.specs.Events.{Joins, RefusesJoin, SessionLeaves};
 ghost use Rattle.sf_audit.specs.Audits.{call_record};
 ghost use Rattle.sf_noted.specs.Pages.{begun_call};
 ghost use Rattle.sf_pool.specs.OnCores.{BeginsAt, RefusesAt, StepsAt, stepped_to, IsVisitOf, calls_begun_by};
@@ -288,7 +288,7 @@ impl<B: RollName + Ledger> TranscriptLane<B> {
         requires { IsResting self.old.place }
         ensures at { self.new ≡ record self.old { place = Joined NoLane } }
         ensures share { result ≡ share_of (length self.old.calls) }
-        ensures leaves { Leaves core.old.0 core.new.0 self.old.session }
+        ensures leaves { SessionLeaves core.old.0 core.new.0 self.old.session }
         ensures history { (h : List Record) → IsHistory core.old.0 h
             → IsHistory core.new.0 (h ++ Left self.old.session ∷ []) }
     {

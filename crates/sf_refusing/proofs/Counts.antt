@@ -9,8 +9,8 @@ use Rattle.sf_engine.specs.Promise.{LogEntry}
 use Rattle.sf_refusing.specs.declared.rule.Rule.{Rule}
 use Rattle.sf_refusing.specs.declared.given.GivenRule.{GivenRule}
 use Rattle.sf_refusing.specs.Counting.{is_ready, counted_once, counted_if}
-use Rattle.sf_refusing.specs.Journal.{Act, Ruled, PassedOn, RefusedBy, Packet, ruled, rules_in, since_given, fits_packet, counts, counted, refused_by, refused_in, is_refusing, refuses_since, refuses}
-use Rattle.sf_refusing.specs.Refusing.{IsGiven, AreGiven}
+use Rattle.sf_refusing.specs.Journal.{Act, Ruled, PassedOn, RefusedBy, Packet, ruled, rules_in, since_given, fits_packet, counts, count_since, refused_by, refused_in, is_refusing, refuses_since, rule_refuses}
+use Rattle.sf_refusing.specs.Refusing.{IsGivenRule, AreGiven}
 use Rattle.sf_refusing.proofs.Growing.{more, since_more, since_new, since_none, get_set_same, get_set_other, some_same}
 
 pub got_at : {A : Type 0} (xs : List A) (i : ℕ) → i < length xs → (x : A) × (slice_get xs i ≡ Some x)
@@ -20,26 +20,26 @@ got_at (x ∷ xs) (suc i) h = got_at xs i (omega (arith, h))
 
 -- ---- one rule
 
-given_on : (journal : List Act) (number : ℕ) (given given' : GivenRule) (act : Act) (G : IsGiven journal number given) → given'.rule ≡ given.rule → given'.passed ≡ min given.rule.pass (counted number given.rule G.since + counts number given.rule act) → given'.refused ≡ min given.rule.refuse (counted number given.rule G.since + counts number given.rule act - given.rule.pass) → given'.refused ≡ given.refused + refused_by number act
-    → IsGiven (journal ++ act ∷ []) number given'
+given_on : (journal : List Act) (number : ℕ) (given given' : GivenRule) (act : Act) (G : IsGivenRule journal number given) → given'.rule ≡ given.rule → given'.passed ≡ min given.rule.pass (count_since number given.rule G.since + counts number given.rule act) → given'.refused ≡ min given.rule.refuse (count_since number given.rule G.since + counts number given.rule act - given.rule.pass) → given'.refused ≡ given.refused + refused_by number act
+    → IsGivenRule (journal ++ act ∷ []) number given'
 given_on journal number given given' act G rule passed refused told =
     let since : List Act = G.since ++ act ∷ [] in
-    let count : counted number given.rule since ≡ counted number given.rule G.since + counts number given.rule act =
+    let count : count_since number given.rule since ≡ count_since number given.rule G.since + counts number given.rule act =
     sum_by_push (counts number given.rule) G.since act in
     record {
       since = since;
       is = since_more journal number given.rule G.since act G.is ∙ ap (λ (r : Rule). Some (r, since)) (sym rule);
-      passed = subst (λ (r : Rule). given'.passed ≡ min r.pass (counted number r since)) (sym rule)
+      passed = subst (λ (r : Rule). given'.passed ≡ min r.pass (count_since number r since)) (sym rule)
           (passed ∙ ap (λ (k : ℕ). min given.rule.pass k) (sym count));
-      refused = subst (λ (r : Rule). given'.refused ≡ min r.refuse (counted number r since - r.pass)) (sym rule)
+      refused = subst (λ (r : Rule). given'.refused ≡ min r.refuse (count_since number r since - r.pass)) (sym rule)
           (refused ∙ ap (λ (k : ℕ). min given.rule.refuse (k - given.rule.pass)) (sym count));
       told = told ∙ ap (λ (k : ℕ). k + refused_by number act) G.told ∙ sym (sum_by_push (refused_by number) G.since act);
     }
 
-pub same_given : (journal : List Act) (number : ℕ) (given : GivenRule) (act : Act) → IsGiven journal number given → counts number given.rule act ≡ 0 → refused_by number act ≡ 0
-    → IsGiven (journal ++ act ∷ []) number given
+pub same_given : (journal : List Act) (number : ℕ) (given : GivenRule) (act : Act) → IsGivenRule journal number given → counts number given.rule act ≡ 0 → refused_by number act ≡ 0
+    → IsGivenRule (journal ++ act ∷ []) number given
 same_given journal number given act G count told =
-    let k : ℕ = counted number given.rule G.since in
+    let k : ℕ = count_since number given.rule G.since in
     let same : k ≡ k + counts number given.rule act = omega (arith, count) in
     given_on journal number given given act G refl
     (G.passed ∙ ap (λ (n : ℕ). min given.rule.pass n) same)
@@ -47,9 +47,9 @@ same_given journal number given act G count told =
     (omega (arith, told))
 
 -- what it has counted tells whether it refuses
-pub ready_is : (journal : List Act) (number : ℕ) (given : GivenRule) (G : IsGiven journal number given) → is_ready given ≡ is_refusing given.rule (counted number given.rule G.since)
+pub ready_is : (journal : List Act) (number : ℕ) (given : GivenRule) (G : IsGivenRule journal number given) → is_ready given ≡ is_refusing given.rule (count_since number given.rule G.since)
 ready_is journal number given G =
-    let k : ℕ = counted number given.rule G.since in
+    let k : ℕ = count_since number given.rule G.since in
     let pass : ℕ = given.rule.pass in
     let refuse : ℕ = given.rule.refuse in
     elim (cases_lt k pass) [
@@ -68,24 +68,24 @@ ready_is journal number given G =
       | inr ge ↦ le-ltb refused refuse (omega (arith, is, ge, le)) ∙ sym (le-ltb k (pass + refuse) ge)
     ]
 
-pub refuses_is : (journal : List Act) (number : ℕ) (given : GivenRule) (p : Packet) → IsGiven journal number given → refuses journal number p ≡ (fits_packet given.rule p && is_ready given)
+pub refuses_is : (journal : List Act) (number : ℕ) (given : GivenRule) (p : Packet) → IsGivenRule journal number given → rule_refuses journal number p ≡ (fits_packet given.rule p && is_ready given)
 refuses_is journal number given p G =
     ap (λ (g : Option (Rule × List Act)). refuses_since number p g) G.is
     ∙ ap (λ (b : Bool). fits_packet given.rule p && b) (sym (ready_is journal number given G))
 
 -- it counts one that it lets pass
-pass_given : (journal : List Act) (number : ℕ) (given : GivenRule) (act : Act) (fit : Bool) → IsGiven journal number given → (fit && is_ready given) ≡ false → counts number given.rule act ≡ (if fit then 1 else 0) → refused_by number act ≡ 0
-    → IsGiven (journal ++ act ∷ []) number (counted_if fit given)
+pass_given : (journal : List Act) (number : ℕ) (given : GivenRule) (act : Act) (fit : Bool) → IsGivenRule journal number given → (fit && is_ready given) ≡ false → counts number given.rule act ≡ (if fit then 1 else 0) → refused_by number act ≡ 0
+    → IsGivenRule (journal ++ act ∷ []) number (counted_if fit given)
 pass_given journal number given act false G ready count told = same_given journal number given act G count told
 pass_given journal number given act true G ready count told =
     let pass : ℕ = given.rule.pass in
     let refuse : ℕ = given.rule.refuse in
-    let k : ℕ = counted number given.rule G.since in
+    let k : ℕ = count_since number given.rule G.since in
     elim (cases_lt given.passed pass) [
       | inl lt ↦
           let next : GivenRule = record given { passed = given.passed + 1 } in
           let is : counted_once given ≡ next = ap (λ (b : Bool). if b then record given { passed = given.passed + 1 } else (if nat_lt given.refused refuse then record given { refused = given.refused + 1 } else given)) (lt-ltb given.passed pass lt) in
-          subst (λ (g : GivenRule). IsGiven (journal ++ act ∷ []) number g) (sym is)
+          subst (λ (g : GivenRule). IsGivenRule (journal ++ act ∷ []) number g) (sym is)
           (given_on journal number given next act G refl (omega (arith, G.passed, lt, count)) (omega (arith, G.passed, G.refused, lt, count)) (omega (arith, told)))
       | inr le ↦
           elim (cases_lt given.refused refuse) [
@@ -94,14 +94,14 @@ pass_given journal number given act true G ready count told =
                 (ap (λ (b : Bool). not b && nat_lt given.refused refuse) (le-ltb given.passed pass le) ∙ lt-ltb given.refused refuse lt))
             | inr ge ↦
                 let is : counted_once given ≡ given = ap (λ (b : Bool). if b then record given { passed = given.passed + 1 } else (if nat_lt given.refused refuse then record given { refused = given.refused + 1 } else given)) (le-ltb given.passed pass le) ∙ ap (λ (b : Bool). if b then record given { refused = given.refused + 1 } else given) (le-ltb given.refused refuse ge) in
-                subst (λ (g : GivenRule). IsGiven (journal ++ act ∷ []) number g) (sym is)
+                subst (λ (g : GivenRule). IsGivenRule (journal ++ act ∷ []) number g) (sym is)
                 (given_on journal number given given act G refl (omega (arith, G.passed, le, count)) (omega (arith, G.passed, G.refused, le, ge, count)) (omega (arith, told)))
           ]
     ]
 
 -- and one that it refuses
-refuse_given : (journal : List Act) (number : ℕ) (given : GivenRule) (act : Act) → IsGiven journal number given → is_ready given ≡ true → counts number given.rule act ≡ 1 → refused_by number act ≡ 1
-    → IsGiven (journal ++ act ∷ []) number (counted_if true given)
+refuse_given : (journal : List Act) (number : ℕ) (given : GivenRule) (act : Act) → IsGivenRule journal number given → is_ready given ≡ true → counts number given.rule act ≡ 1 → refused_by number act ≡ 1
+    → IsGivenRule (journal ++ act ∷ []) number (counted_if true given)
 refuse_given journal number given act G ready count told =
     let pass : ℕ = given.rule.pass in
     let refuse : ℕ = given.rule.refuse in
@@ -110,7 +110,7 @@ refuse_given journal number given act G ready count told =
     let lt : given.refused < refuse = ltb-true given.refused refuse parts.1 in
     let next : GivenRule = record given { refused = given.refused + 1 } in
     let is : counted_once given ≡ next = ap (λ (b : Bool). if b then record given { passed = given.passed + 1 } else (if nat_lt given.refused refuse then record given { refused = given.refused + 1 } else given)) (le-ltb given.passed pass le) ∙ ap (λ (b : Bool). if b then record given { refused = given.refused + 1 } else given) (lt-ltb given.refused refuse lt) in
-    subst (λ (g : GivenRule). IsGiven (journal ++ act ∷ []) number g) (sym is)
+    subst (λ (g : GivenRule). IsGivenRule (journal ++ act ∷ []) number g) (sym is)
     (given_on journal number given next act G refl (omega (arith, G.passed, le, count)) (omega (arith, G.passed, G.refused, le, lt, count)) (omega (arith, told)))
 
 -- ---- all rules
@@ -126,7 +126,7 @@ rules_stay journal rules act A none count told = record {
   each = λ number given at. same_given journal number given act (A.each number given at) (count number given.rule) (told number);
 }
 
-pub none_refuses : (journal : List Act) (rules : List GivenRule) (p : Packet) → AreGiven journal rules → ((number : ℕ) (given : GivenRule) → slice_get rules number ≡ Some given → (fits_packet given.rule p && is_ready given) ≡ false) → (number : ℕ) → refuses journal number p ≡ false
+pub none_refuses : (journal : List Act) (rules : List GivenRule) (p : Packet) → AreGiven journal rules → ((number : ℕ) (given : GivenRule) → slice_get rules number ≡ Some given → (fits_packet given.rule p && is_ready given) ≡ false) → (number : ℕ) → rule_refuses journal number p ≡ false
 none_refuses journal rules p A none number = elim (cases_lt number (length rules)) [
   | inl lt ↦
       let got = got_at rules number lt in
@@ -171,7 +171,7 @@ pass_rules journal rules rules' p e A C none = record {
       let was = was_counted rules rules' (length rules) (λ given. fits_packet given.rule p) C number now at in
       let in_all : nat_lt number (length rules) ≡ true = lt-ltb number (length rules) (slice_get_within rules number was.0 was.1) in
       let fit : (nat_lt number (length rules) && fits_packet was.0.rule p) ≡ fits_packet was.0.rule p = ap (λ (b : Bool). b && fits_packet was.0.rule p) in_all in
-      subst (λ (g : GivenRule). IsGiven (journal ++ PassedOn p e ∷ []) number g)
+      subst (λ (g : GivenRule). IsGivenRule (journal ++ PassedOn p e ∷ []) number g)
       (ap (λ (b : Bool). counted_if b was.0) (sym fit) ∙ was.2)
       (pass_given journal number was.0 (PassedOn p e) (fits_packet was.0.rule p) (A.each number was.0 was.1) (none number was.0 was.1) refl refl);
 }
@@ -182,16 +182,16 @@ refuse_rules journal rules rules' p id by code e given A C here ready first = re
   count = C.0 ∙ A.count ∙ ap (λ (rs : List Rule). length rs) (same_rules journal (RefusedBy p id by code e) refl);
   each = λ number now at.
       let was = was_counted rules rules' (by + 1) (λ given. fits_packet given.rule p) C number now at in
-      subst (λ (g : GivenRule). IsGiven (journal ++ RefusedBy p id by code e ∷ []) number g) was.2 (one number was.0 was.1);
+      subst (λ (g : GivenRule). IsGivenRule (journal ++ RefusedBy p id by code e ∷ []) number g) was.2 (one number was.0 was.1);
 }
   where
-    one : (number : ℕ) (given : GivenRule) → slice_get rules number ≡ Some given → IsGiven (journal ++ RefusedBy p id by code e ∷ []) number (counted_if (nat_lt number (by + 1) && fits_packet given.rule p) given)
+    one : (number : ℕ) (given : GivenRule) → slice_get rules number ≡ Some given → IsGivenRule (journal ++ RefusedBy p id by code e ∷ []) number (counted_if (nat_lt number (by + 1) && fits_packet given.rule p) given)
     one number found at =
         let fit : Bool = fits_packet found.rule p in
-        let G : IsGiven journal number found = A.each number found at in
+        let G : IsGivenRule journal number found = A.each number found at in
         elim (cases_lt number by) [
           | inl lt ↦
-              subst (λ (b : Bool). IsGiven (journal ++ RefusedBy p id by code e ∷ []) number (counted_if (b && fit) found)) (sym (lt-ltb number (by + 1) (omega (arith, lt))))
+              subst (λ (b : Bool). IsGivenRule (journal ++ RefusedBy p id by code e ∷ []) number (counted_if (b && fit) found)) (sym (lt-ltb number (by + 1) (omega (arith, lt))))
               (pass_given journal number found (RefusedBy p id by code e) fit G (first number found lt at)
               (ap (λ (b : Bool). if not b && fit then 1 else 0) (le-ltb by number (omega (arith, lt))))
               (ap (λ (b : Bool). if b then 1 else 0) (ne_eqb by number (λ same. omega (arith, same, lt)))))
@@ -202,12 +202,12 @@ refuse_rules journal rules rules' p id by code e given A C here ready first = re
                     let both = and_parts (fits_packet found.rule p) (is_ready found) (subst (λ (g : GivenRule). (fits_packet g.rule p && is_ready g) ≡ true) (sym same_rule) ready) in
                     let counts_one : counts number found.rule (RefusedBy p id by code e) ≡ 1 =
                     ap (λ (b : Bool). if not b && fit then 1 else 0) (le-ltb by number (omega (arith, same))) ∙ ap (λ (b : Bool). if b then 1 else 0) both.0 in
-                    subst (λ (b : Bool). IsGiven (journal ++ RefusedBy p id by code e ∷ []) number (counted_if b found))
+                    subst (λ (b : Bool). IsGivenRule (journal ++ RefusedBy p id by code e ∷ []) number (counted_if b found))
                     (sym (ap (λ (b : Bool). b && fit) (lt-ltb number (by + 1) (omega (arith, same))) ∙ both.0))
                     (refuse_given journal number found (RefusedBy p id by code e) G both.1 counts_one (ap (λ (b : Bool). if b then 1 else 0) (eq-eqb by number (sym same))))
                 | inr ne ↦
                     let lt : by < number = omega (arith, le, ne) in
-                    subst (λ (b : Bool). IsGiven (journal ++ RefusedBy p id by code e ∷ []) number (counted_if (b && fit) found)) (sym (le-ltb number (by + 1) (omega (arith, lt))))
+                    subst (λ (b : Bool). IsGivenRule (journal ++ RefusedBy p id by code e ∷ []) number (counted_if (b && fit) found)) (sym (le-ltb number (by + 1) (omega (arith, lt))))
                     (same_given journal number found (RefusedBy p id by code e) G
                     (ap (λ (b : Bool). if not b && fit then 1 else 0) (lt-ltb by number lt))
                     (ap (λ (b : Bool). if b then 1 else 0) (ne_eqb by number (λ same. omega (arith, same, lt)))))
@@ -223,8 +223,8 @@ new_rules journal rules rule given is A = record {
     | inl old ↦ same_given journal number found (Ruled rule) (A.each number found old) refl refl
     | inr new ↦
         let number_is : length (rules_in journal) ≡ number = sym A.count ∙ sym new.0 in
-        subst (λ (n : ℕ). IsGiven (journal ++ Ruled rule ∷ []) n found) number_is
-        (subst (λ (g : GivenRule). IsGiven (journal ++ Ruled rule ∷ []) (length (rules_in journal)) g) (sym is ∙ new.1)
+        subst (λ (n : ℕ). IsGivenRule (journal ++ Ruled rule ∷ []) n found) number_is
+        (subst (λ (g : GivenRule). IsGivenRule (journal ++ Ruled rule ∷ []) (length (rules_in journal)) g) (sym is ∙ new.1)
         (record { since = []; is = since_new journal rule; passed = omega arith; refused = omega arith; told = refl }))
   ];
 }

@@ -24,11 +24,11 @@ use Rattle.sf_refusing.specs.declared.rule.Rule.{Rule}
 use Rattle.sf_refusing.specs.declared.rule.RequestKind.{RequestKind}
 use Rattle.sf_refusing.specs.declared.given.GivenRule.{GivenRule}
 use Rattle.sf_refusing.specs.declared.passage.Passage.{Passage}
-use Rattle.sf_refusing.specs.Rules.{kind_of, paths_of, fits}
+use Rattle.sf_refusing.specs.Rules.{kind_asked, paths_of, fits}
 use Rattle.sf_refusing.specs.Counting.{is_ready, counted_if}
-use Rattle.sf_refusing.specs.Journal.{Act, Ruled, Made, PassedOn, RefusedBy, Packet, log_of, received_in, taken_in, taken_by, rules_in, since_given, fits_asked, fits_packet, counts, refuses}
-use Rattle.sf_refusing.specs.Refusing.{IsFed, IsUnruled, MayPass, MayRefuse, IsOwn, Serves, AreGiven, MovesOn}
-use Rattle.sf_refusing.specs.Fronts.{IsAt, Stands, Leaves}
+use Rattle.sf_refusing.specs.Journal.{Act, Ruled, Made, PassedOn, RefusedBy, Packet, log_of, received_in, taken_in, taken_by, rules_in, since_given, fits_asked, fits_packet, counts, rule_refuses}
+use Rattle.sf_refusing.specs.Refusing.{IsFed, IsUnruled, MayPass, MayRefusePacket, IsOwn, ServesHere, AreGiven, MovesFront}
+use Rattle.sf_refusing.specs.Fronts.{IsPassageAt, StandsBefore, EngineHoldsAfter}
 use Rattle.std.proofs.lemmas.Option.{slice_get_within}
 use Rattle.sf_refusing.proofs.Counts.{got_at, AreCounted, ready_is, refuses_is, none_refuses, pass_rules, refuse_rules, rules_stay}
 use Rattle.sf_refusing.proofs.Steps.{IsSentAll, nothing_leaves, did_leaves, passed_leaves, refused_leaves, fed_is}
@@ -36,7 +36,7 @@ use Rattle.sf_refusing.proofs.Growing.{own_so}
 
 -- what was done with the front
 abbrev pub IsDone : {E : Type 0} → (E → List LogEntry → Type 0) → E → List Act → ℕ → Passage → List GivenRule → Result Bool EngineFault → Type 0
-IsDone has_log engine journal s p rules r = (acts : List Act) × MovesOn journal s r acts × Leaves has_log engine journal s p rules (journal ++ acts)
+IsDone has_log engine journal s p rules r = (acts : List Act) × MovesFront journal s r acts × EngineHoldsAfter has_log engine journal s p rules (journal ++ acts)
 
 -- the body that stands at the front
 abbrev pub body_at : List ℕ → ℕ → List ℕ
@@ -59,17 +59,17 @@ no_fit rule s (Unknown id) none = refl
 no_fit rule s NoVersion none = refl
 no_fit rule s NoId none = refl
 
-pub done_nothing : {E : Type 0} (has_log : E → List LogEntry → Type 0) (engine : E) (journal : List Act) (s : ℕ) (p : Passage) (rules : List GivenRule) (r : Result Bool EngineFault) → MovesOn journal s r [] → Stands has_log engine journal s p rules → IsDone has_log engine journal s p rules r
+pub done_nothing : {E : Type 0} (has_log : E → List LogEntry → Type 0) (engine : E) (journal : List Act) (s : ℕ) (p : Passage) (rules : List GivenRule) (r : Result Bool EngineFault) → MovesFront journal s r [] → StandsBefore has_log engine journal s p rules → IsDone has_log engine journal s p rules r
 done_nothing {E} has_log engine journal s p rules r moves S = ([], moves, nothing_leaves has_log engine journal s p rules S)
 
 -- less than a packet is held
-pub none_held : {E : Type 0} (has_log : E → List LogEntry → Type 0) (engine : E) (journal : List Act) (s : ℕ) (p : Passage) (rules : List GivenRule) → Stands has_log engine journal s p rules → IsCut p.held.items cut.More → MovesOn journal s (Ok false) []
+pub none_held : {E : Type 0} (has_log : E → List LogEntry → Type 0) (engine : E) (journal : List Act) (s : ℕ) (p : Passage) (rules : List GivenRule) → StandsBefore has_log engine journal s p rules → IsCut p.held.items cut.More → MovesFront journal s (Ok false) []
 none_held {E} has_log engine journal s p rules S more = λ waits own held received.
     let is : p.held.items ≡ held = append_cancel_left (taken_in s journal) p.held.items held (sym (S.at.served own).received ∙ received) in
     subst (λ (b : List ℕ). IsCut b cut.More) is more
 
 -- what no rule is asked about was passed on
-pub done_did : {E : Type 0} (has_log : E → List LogEntry → Type 0) (engine engine' : E) (journal : List Act) (s : ℕ) (p p' : Passage) (rules : List GivenRule) (e : LogEntry) (len : ℕ) → Stands has_log engine journal s p rules → IsFed s (take len p.held.items) e → has_log engine' (log_of journal ++ e ∷ []) → p'.held.items ≡ drop len p.held.items → p'.output.items ≡ p.output.items → p'.begun ≡ true → 0 < length (take len p.held.items) → IsUnruled journal s (take len p.held.items) → IsDone has_log engine' journal s p' rules (Ok false)
+pub done_did : {E : Type 0} (has_log : E → List LogEntry → Type 0) (engine engine' : E) (journal : List Act) (s : ℕ) (p p' : Passage) (rules : List GivenRule) (e : LogEntry) (len : ℕ) → StandsBefore has_log engine journal s p rules → IsFed s (take len p.held.items) e → has_log engine' (log_of journal ++ e ∷ []) → p'.held.items ≡ drop len p.held.items → p'.output.items ≡ p.output.items → p'.begun ≡ true → 0 < length (take len p.held.items) → IsUnruled journal s (take len p.held.items) → IsDone has_log engine' journal s p' rules (Ok false)
 done_did {E} has_log engine engine' journal s p p' rules e len S F has held output begun some unruled =
     let front : List ℕ = take len p.held.items in (
       Made e ∷ [],
@@ -83,7 +83,7 @@ held_is : (p p' : Passage) (len : ℕ) → HasBody p.held.items len → p'.held.
 held_is p p' len B held = B.parts ∙ ap (λ (b : List ℕ). packet (body_at p.held.items len) ++ b) (sym held)
 
 -- a packet that is no request was passed on
-pub done_other : {E : Type 0} (has_log : E → List LogEntry → Type 0) (engine engine' : E) (journal : List Act) (s : ℕ) (p p' : Passage) (rules : List GivenRule) (e : LogEntry) (len : ℕ) (asked : Asked) → Stands has_log engine journal s p rules → HasBody p.held.items len → Asks (body_at p.held.items len) asked → ((id : ℕ) (request : WireRequest) → asked ≡ Request id request → ⊥) → IsFed s (take len p.held.items) e → has_log engine' (log_of journal ++ e ∷ []) → p'.held.items ≡ drop len p.held.items → p'.output.items ≡ p.output.items → p'.begun ≡ true → IsDone has_log engine' journal s p' rules (Ok false)
+pub done_other : {E : Type 0} (has_log : E → List LogEntry → Type 0) (engine engine' : E) (journal : List Act) (s : ℕ) (p p' : Passage) (rules : List GivenRule) (e : LogEntry) (len : ℕ) (asked : Asked) → StandsBefore has_log engine journal s p rules → HasBody p.held.items len → Asks (body_at p.held.items len) asked → ((id : ℕ) (request : WireRequest) → asked ≡ Request id request → ⊥) → IsFed s (take len p.held.items) e → has_log engine' (log_of journal ++ e ∷ []) → p'.held.items ≡ drop len p.held.items → p'.output.items ≡ p.output.items → p'.begun ≡ true → IsDone has_log engine' journal s p' rules (Ok false)
 done_other {E} has_log engine engine' journal s p p' rules e len asked S B asks none F has held output begun =
     let one : Packet = record { session = s; body = body_at p.held.items len; asked = asked } in
     let no : (rule : Rule) → fits_packet rule one ≡ false = λ rule. no_fit rule s asked none in
@@ -110,16 +110,16 @@ same_fit rules rules' count fit fit' same C = (
 -- what rules see of a request is what it is
 pub record IsSeen (s : ℕ) (request : WireRequest) (session : ℕ) (kind : RequestKind) (paths : List Path) : Type 0 where
   pub session_is : session ≡ s
-  pub kind_is : kind ≡ kind_of request
+  pub kind_is : kind ≡ kind_asked request
   pub paths_are : paths ≡ paths_of request
 
-fit_is : (s : ℕ) (request : WireRequest) (session : ℕ) (kind : RequestKind) (paths : List Path) → IsSeen s request session kind paths → (rule : Rule) → fits rule session kind paths ≡ fits rule s (kind_of request) (paths_of request)
+fit_is : (s : ℕ) (request : WireRequest) (session : ℕ) (kind : RequestKind) (paths : List Path) → IsSeen s request session kind paths → (rule : Rule) → fits rule session kind paths ≡ fits rule s (kind_asked request) (paths_of request)
 fit_is s request session kind paths I rule =
     ap (λ (n : ℕ). fits rule n kind paths) I.session_is ∙ ap (λ (k : RequestKind). fits rule s k paths) I.kind_is
-    ∙ ap (λ (ps : List Path). fits rule s (kind_of request) ps) I.paths_are
+    ∙ ap (λ (ps : List Path). fits rule s (kind_asked request) ps) I.paths_are
 
 -- a request that no rule refuses was passed on
-pub done_pass : {E : Type 0} (has_log : E → List LogEntry → Type 0) (engine engine' : E) (journal : List Act) (s : ℕ) (p p' : Passage) (rules rules' : List GivenRule) (e : LogEntry) (len id : ℕ) (request : WireRequest) (session : ℕ) (kind : RequestKind) (paths : List Path) → Stands has_log engine journal s p rules → HasBody p.held.items len → Asks (body_at p.held.items len) (Request id request) → IsSeen s request session kind paths → ((number : ℕ) (given : GivenRule) → slice_get rules number ≡ Some given → (fits given.rule session kind paths && is_ready given) ≡ false) → IsFed s (take len p.held.items) e → has_log engine' (log_of journal ++ e ∷ []) → p'.held.items ≡ drop len p.held.items → p'.output.items ≡ p.output.items → p'.begun ≡ true → AreCounted rules rules' (length rules) (λ given. fits given.rule session kind paths) → IsDone has_log engine' journal s p' rules' (Ok false)
+pub done_pass : {E : Type 0} (has_log : E → List LogEntry → Type 0) (engine engine' : E) (journal : List Act) (s : ℕ) (p p' : Passage) (rules rules' : List GivenRule) (e : LogEntry) (len id : ℕ) (request : WireRequest) (session : ℕ) (kind : RequestKind) (paths : List Path) → StandsBefore has_log engine journal s p rules → HasBody p.held.items len → Asks (body_at p.held.items len) (Request id request) → IsSeen s request session kind paths → ((number : ℕ) (given : GivenRule) → slice_get rules number ≡ Some given → (fits given.rule session kind paths && is_ready given) ≡ false) → IsFed s (take len p.held.items) e → has_log engine' (log_of journal ++ e ∷ []) → p'.held.items ≡ drop len p.held.items → p'.output.items ≡ p.output.items → p'.begun ≡ true → AreCounted rules rules' (length rules) (λ given. fits given.rule session kind paths) → IsDone has_log engine' journal s p' rules' (Ok false)
 done_pass {E} has_log engine engine' journal s p p' rules rules' e len id request session kind paths S B asks I none F has held output begun C =
     let one : Packet = record { session = s; body = body_at p.held.items len; asked = Request id request } in
     let same : (rule : Rule) → fits rule session kind paths ≡ fits_packet rule one = fit_is s request session kind paths I in
@@ -138,7 +138,7 @@ done_pass {E} has_log engine engine' journal s p p' rules rules' e len id reques
     )
 
 -- a request was refused
-pub done_refuse : {E : Type 0} (has_log : E → List LogEntry → Type 0) (engine engine' : E) (journal : List Act) (s : ℕ) (p p' : Passage) (rules rules' : List GivenRule) (e : LogEntry) (u : List ℕ) (len id : ℕ) (request : WireRequest) (session : ℕ) (kind : RequestKind) (paths : List Path) (number : ℕ) (given : GivenRule) (code : StatusCode) → Stands has_log engine journal s p rules → HasBody p.held.items len → p.begun ≡ true → Asks (body_at p.held.items len) (Request id request) → IsSeen s request session kind paths → slice_get rules number ≡ Some given → code ≡ given.rule.code → (fits given.rule session kind paths && is_ready given) ≡ true → ((other : ℕ) (found : GivenRule) → other < number → slice_get rules other ≡ Some found → (fits found.rule session kind paths && is_ready found) ≡ false) → IsSentAll s u e → IsUnsent (log_of journal) s u → has_log engine' (log_of journal ++ e ∷ []) → p'.held.items ≡ drop len p.held.items → p'.output.items ≡ p.output.items ++ u ++ packet (reply_body id (Status code)) → p'.begun ≡ p.begun → AreCounted rules rules' (number + 1) (λ given. fits given.rule session kind paths) → IsDone has_log engine' journal s p' rules' (Ok true)
+pub done_refuse : {E : Type 0} (has_log : E → List LogEntry → Type 0) (engine engine' : E) (journal : List Act) (s : ℕ) (p p' : Passage) (rules rules' : List GivenRule) (e : LogEntry) (u : List ℕ) (len id : ℕ) (request : WireRequest) (session : ℕ) (kind : RequestKind) (paths : List Path) (number : ℕ) (given : GivenRule) (code : StatusCode) → StandsBefore has_log engine journal s p rules → HasBody p.held.items len → p.begun ≡ true → Asks (body_at p.held.items len) (Request id request) → IsSeen s request session kind paths → slice_get rules number ≡ Some given → code ≡ given.rule.code → (fits given.rule session kind paths && is_ready given) ≡ true → ((other : ℕ) (found : GivenRule) → other < number → slice_get rules other ≡ Some found → (fits found.rule session kind paths && is_ready found) ≡ false) → IsSentAll s u e → IsUnsent (log_of journal) s u → has_log engine' (log_of journal ++ e ∷ []) → p'.held.items ≡ drop len p.held.items → p'.output.items ≡ p.output.items ++ u ++ packet (reply_body id (Status code)) → p'.begun ≡ p.begun → AreCounted rules rules' (number + 1) (λ given. fits given.rule session kind paths) → IsDone has_log engine' journal s p' rules' (Ok true)
 done_refuse {E} has_log engine engine' journal s p p' rules rules' e u len id request session kind paths number given code S B was_begun asks I here code_is ready first sent unsent has held output begun C =
     let one : Packet = record { session = s; body = body_at p.held.items len; asked = Request id request } in
     let same : (rule : Rule) → fits rule session kind paths ≡ fits_packet rule one = fit_is s request session kind paths I in
@@ -146,7 +146,7 @@ done_refuse {E} has_log engine engine' journal s p p' rules rules' e u len id re
     let first' : (other : ℕ) (found : GivenRule) → other < number → slice_get rules other ≡ Some found → (fits_packet found.rule one && is_ready found) ≡ false =
     λ other found lt at. ap (λ (b : Bool). b && is_ready found) (sym (same found.rule)) ∙ first other found lt at in
     let G = S.rules.each number given here in
-    let may : MayRefuse journal one id number code e = record {
+    let may : MayRefusePacket journal one id number code e = record {
       request = request;
       asked = refl;
       is_body = B.is_body;
@@ -171,16 +171,16 @@ done_refuse {E} has_log engine engine' journal s p p' rules rules' e u len id re
     )
 
 -- nothing was done, for want of memory
-pub done_err : {E : Type 0} (has_log : E → List LogEntry → Type 0) (engine engine' : E) (journal : List Act) (s : ℕ) (p p' : Passage) (rules : List GivenRule) (r : Result Bool EngineFault) (f : EngineFault) → r ≡ Err f → f ≡ fault.OutOfMemory → engine' ≡ engine → p'.held.items ≡ p.held.items → p'.output.items ≡ p.output.items → p'.begun ≡ p.begun → Stands has_log engine journal s p rules → IsDone has_log engine' journal s p' rules r
+pub done_err : {E : Type 0} (has_log : E → List LogEntry → Type 0) (engine engine' : E) (journal : List Act) (s : ℕ) (p p' : Passage) (rules : List GivenRule) (r : Result Bool EngineFault) (f : EngineFault) → r ≡ Err f → f ≡ fault.OutOfMemory → engine' ≡ engine → p'.held.items ≡ p.held.items → p'.output.items ≡ p.output.items → p'.begun ≡ p.begun → StandsBefore has_log engine journal s p rules → IsDone has_log engine' journal s p' rules r
 done_err {E} has_log engine engine' journal s p p' rules r f is oom same held output begun S =
-    let at : Serves journal s p'.held.items p'.output.items p'.begun =
-    subst (λ (b : Bool). Serves journal s p'.held.items p'.output.items b) (sym begun)
-    (subst (λ (o : List ℕ). Serves journal s p'.held.items o p.begun) (sym output)
-    (subst (λ (h : List ℕ). Serves journal s h p.output.items p.begun) (sym held) S.at)) in
+    let at : ServesHere journal s p'.held.items p'.output.items p'.begun =
+    subst (λ (b : Bool). ServesHere journal s p'.held.items p'.output.items b) (sym begun)
+    (subst (λ (o : List ℕ). ServesHere journal s p'.held.items o p.begun) (sym output)
+    (subst (λ (h : List ℕ). ServesHere journal s h p.output.items p.begun) (sym held) S.at)) in
     subst (λ (x : Result Bool EngineFault). IsDone has_log engine' journal s p' rules x) (sym is) (
       [],
       (oom, refl, S.waits),
-      subst (λ (after : List Act). Leaves has_log engine' journal s p' rules after) (sym (append-nil journal))
+      subst (λ (after : List Act). EngineHoldsAfter has_log engine' journal s p' rules after) (sym (append-nil journal))
           (subst (λ (e : E). has_log e (log_of journal)) (sym same) S.has, record { happened = S.happened; at = at; rules = S.rules; others = λ other held output begun ne serves. serves }),
     )
 
@@ -197,7 +197,7 @@ bad_goes journal s held len cause all bad =
     )
 
 -- the first packet of a session was passed on, or one for which there is no rule
-pub unruled_goes : (journal : List Act) (s : ℕ) (p : Passage) (rules : List GivenRule) (len : ℕ) → IsAt journal s p → AreGiven journal rules → (p.begun ≡ false) ⊎ (rules ≡ []) → HasBody p.held.items len → (0 < length (take len p.held.items)) × IsUnruled journal s (take len p.held.items)
+pub unruled_goes : (journal : List Act) (s : ℕ) (p : Passage) (rules : List GivenRule) (len : ℕ) → IsPassageAt journal s p → AreGiven journal rules → (p.begun ≡ false) ⊎ (rules ≡ []) → HasBody p.held.items len → (0 < length (take len p.held.items)) × IsUnruled journal s (take len p.held.items)
 unruled_goes journal s p rules len S A free B =
     let none : (taken_in s journal ≡ []) ⊎ (rules_in journal ≡ []) = elim free [
       | inl fresh ↦ inl (nil_from_length (taken_in s journal) (omega (arith, ltb-false 0 (length (taken_in s journal)) (sym S.begun_is ∙ fresh))))

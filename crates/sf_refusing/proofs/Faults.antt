@@ -3,7 +3,7 @@ use Rattle.std.proofs.Common.{◌≡◌, ℕ, ◌+◌, ◌<◌, ◌≤◌, ◌++
 use Rattle.std.specs.Global.{Vec}
 use Rattle.std.specs.Prelude.{IfErr}
 use Rattle.sf_refusing.specs.Journal.{Act, log_of, sent_in, delivered_in}
-use Rattle.sf_refusing.specs.Refusing.{IsServed, Serves, MayRefuseFeed, MayRefuseSent}
+use Rattle.sf_refusing.specs.Refusing.{IsServedHere, ServesHere, MayRefuseFeed, MayRefuseSent}
 use Rattle.sf_engine.specs.declared.event.Event.TheVariants as event
 use Rattle.sf_engine.specs.declared.event.EngineFault.{EngineFault}
 use Rattle.sf_engine.specs.declared.event.EngineFault.TheVariants as fault
@@ -37,10 +37,10 @@ feed_refused log s fed fault.NumbersSpent known may = absurd may
 feed_refused log s fed fault.NotSent known may = absurd may
 
 -- more than waits, of which some waits here
-pub sent_refused : (journal : List Act) (s n k : ℕ) (held output : List ℕ) (begun : Bool) (f : EngineFault) → n ≡ length output + k → Serves journal s held output begun → MayBeRefused (log_of journal) (event.Sent s k) f → MayRefuseSent journal s n f
+pub sent_refused : (journal : List Act) (s n k : ℕ) (held output : List ℕ) (begun : Bool) (f : EngineFault) → n ≡ length output + k → ServesHere journal s held output begun → MayBeRefused (log_of journal) (event.Sent s k) f → MayRefuseSent journal s n f
 sent_refused journal s n k held output begun fault.NoSuchSession all S may = may
 sent_refused journal s n k held output begun fault.NotSent all S may = λ own.
-    let T : IsServed journal s held output = S.served own in
+    let T : IsServedHere journal s held output = S.served own in
     let waits : length (sent_in s journal) ≡ delivered_in s journal + (length output + length T.unsent) =
     ap (λ (b : List ℕ). length b) T.waits ∙ omega (arith, length-append (T.gone ++ output) T.unsent, length-append T.gone output, T.count) in
     omega (arith, waits, all, may, ap (λ (b : List ℕ). length b) T.in_engine.packets, length-append T.in_engine.sent T.unsent, T.in_engine.count)

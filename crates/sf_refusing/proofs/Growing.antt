@@ -13,8 +13,8 @@ use Rattle.sf_engine.specs.declared.event.EngineFault.{EngineFault}
 use Rattle.sf_session.specs.Responses.{Response, packet_for, transcript, if_so}
 use Rattle.sf_engine.specs.Promise.{LogEntry, fed_by, written_by, written_in, sent_at, sent_of, IsUnsent}
 use Rattle.sf_refusing.specs.declared.rule.Rule.{Rule}
-use Rattle.sf_refusing.specs.Journal.{Act, Ruled, Received, Delivered, Made, Apart, PassedOn, RefusedBy, Packet, logged, log_of, received_by, received_in, taken_by, taken_in, sent_by, sent_in, delivered_by, delivered_in, rules_in, since_given, counts, counted, refused_by, refused_in}
-use Rattle.sf_refusing.specs.Refusing.{MayHappen, AllMayHappen, IsOwn, IsNotApart, IsServed, Serves}
+use Rattle.sf_refusing.specs.Journal.{Act, Ruled, Received, Delivered, Made, Apart, PassedOn, RefusedBy, Packet, logged, log_of, received_by, received_in, taken_by, taken_in, sent_by, sent_in, delivered_by, delivered_in, rules_in, since_given, counts, count_since, refused_by, refused_in}
+use Rattle.sf_refusing.specs.Refusing.{MayHappen, AllMayHappen, IsOwn, IsNotApart, IsServedHere, ServesHere}
 
 -- ---- lists
 
@@ -100,8 +100,8 @@ happened_more front (x ∷ acts) act h may = (
 
 -- ---- a session
 
-pub grown : (journal : List Act) (s : ℕ) (act : Act) (held held' output output' unsent' extra : List ℕ) (S : IsServed journal s held output) → held ++ received_by s act ≡ taken_by s act ++ held' → IsUnsent (log_of journal ++ logged act) s unsent' → length extra ≡ delivered_by s act → (output ++ S.unsent) ++ sent_by s act ≡ extra ++ (output' ++ unsent')
-    → IsServed (journal ++ act ∷ []) s held' output'
+pub grown : (journal : List Act) (s : ℕ) (act : Act) (held held' output output' unsent' extra : List ℕ) (S : IsServedHere journal s held output) → held ++ received_by s act ≡ taken_by s act ++ held' → IsUnsent (log_of journal ++ logged act) s unsent' → length extra ≡ delivered_by s act → (output ++ S.unsent) ++ sent_by s act ≡ extra ++ (output' ++ unsent')
+    → IsServedHere (journal ++ act ∷ []) s held' output'
 grown journal s act held held' output output' unsent' extra S c U n w = record {
   received =
       more (received_by s) journal act ∙ ap (λ (b : List ℕ). b ++ received_by s act) S.received
@@ -131,8 +131,8 @@ begun_now journal s act some =
     ∙ ap (λ (b : List ℕ). nat_lt 0 (length b)) (sym (more (taken_by s) journal act))
 
 -- an entry by which nothing of the session goes in or is gone
-pub entry_served : (journal : List Act) (s : ℕ) (act : Act) (e : LogEntry) (held output : List ℕ) → logged act ≡ e ∷ [] → received_by s act ≡ [] → taken_by s act ≡ [] → delivered_by s act ≡ 0 → sent_by s act ≡ transcript (written_by s e.event e.wrote) → sent_at s e.event e.result ≡ 0 → IsServed journal s held output
-    → IsServed (journal ++ act ∷ []) s held output
+pub entry_served : (journal : List Act) (s : ℕ) (act : Act) (e : LogEntry) (held output : List ℕ) → logged act ≡ e ∷ [] → received_by s act ≡ [] → taken_by s act ≡ [] → delivered_by s act ≡ 0 → sent_by s act ≡ transcript (written_by s e.event e.wrote) → sent_at s e.event e.result ≡ 0 → IsServedHere journal s held output
+    → IsServedHere (journal ++ act ∷ []) s held output
 entry_served journal s act e held output is received taken delivered wrote zero_sent S =
     let t : List ℕ = transcript (written_by s e.event e.wrote) in
     let le : sent_at s e.event e.result ≤ length S.unsent = omega (arith, zero_sent) in
@@ -146,8 +146,8 @@ entry_served journal s act e held output is received taken delivered wrote zero_
     (ap (λ (b : List ℕ). (output ++ S.unsent) ++ b) wrote ∙ append_assoc output S.unsent t)
 
 -- an act that doesn't concern the session
-pub other_served : (journal : List Act) (s : ℕ) (act : Act) (held output : List ℕ) → logged act ≡ [] → received_by s act ≡ [] → taken_by s act ≡ [] → delivered_by s act ≡ 0 → sent_by s act ≡ [] → IsServed journal s held output
-    → IsServed (journal ++ act ∷ []) s held output
+pub other_served : (journal : List Act) (s : ℕ) (act : Act) (held output : List ℕ) → logged act ≡ [] → received_by s act ≡ [] → taken_by s act ≡ [] → delivered_by s act ≡ 0 → sent_by s act ≡ [] → IsServedHere journal s held output
+    → IsServedHere (journal ++ act ∷ []) s held output
 other_served journal s act held output is received taken delivered wrote S =
     grown journal s act held held output output S.unsent [] S
     (ap (λ (b : List ℕ). held ++ b) received ∙ append-nil held ∙ ap (λ (b : List ℕ). b ++ held) (sym taken))
@@ -156,8 +156,8 @@ other_served journal s act held output is received taken delivered wrote S =
     (ap (λ (b : List ℕ). (output ++ S.unsent) ++ b) wrote ∙ append-nil (output ++ S.unsent))
 
 -- bytes come
-pub received_served : (journal : List Act) (s : ℕ) (bytes held output : List ℕ) → IsServed journal s held output
-    → IsServed (journal ++ Received s bytes ∷ []) s (held ++ bytes) output
+pub received_served : (journal : List Act) (s : ℕ) (bytes held output : List ℕ) → IsServedHere journal s held output
+    → IsServedHere (journal ++ Received s bytes ∷ []) s (held ++ bytes) output
 received_served journal s bytes held output S =
     grown journal s (Received s bytes) held (held ++ bytes) output output S.unsent [] S
     (ap (λ (b : List ℕ). held ++ b) (own_so s bytes))
@@ -166,8 +166,8 @@ received_served journal s bytes held output S =
     (append-nil (output ++ S.unsent))
 
 -- bytes go in
-pub fed_served : (journal : List Act) (s : ℕ) (act : Act) (e : LogEntry) (front held output : List ℕ) → logged act ≡ e ∷ [] → received_by s act ≡ [] → taken_by s act ≡ front → delivered_by s act ≡ 0 → sent_by s act ≡ transcript (written_by s e.event e.wrote) → sent_at s e.event e.result ≡ 0 → IsServed journal s (front ++ held) output
-    → IsServed (journal ++ act ∷ []) s held output
+pub fed_served : (journal : List Act) (s : ℕ) (act : Act) (e : LogEntry) (front held output : List ℕ) → logged act ≡ e ∷ [] → received_by s act ≡ [] → taken_by s act ≡ front → delivered_by s act ≡ 0 → sent_by s act ≡ transcript (written_by s e.event e.wrote) → sent_at s e.event e.result ≡ 0 → IsServedHere journal s (front ++ held) output
+    → IsServedHere (journal ++ act ∷ []) s held output
 fed_served journal s act e front held output is received taken delivered wrote zero_sent S =
     let t : List ℕ = transcript (written_by s e.event e.wrote) in
     let le : sent_at s e.event e.result ≤ length S.unsent = omega (arith, zero_sent) in
@@ -182,10 +182,10 @@ fed_served journal s act e front held output is received taken delivered wrote z
 
 -- The first bytes of what the engine has to send wait here, and the rest there.
 pub record IsMoved (journal : List Act) (s : ℕ) (held output rest : List ℕ) : Type 0 where
-  pub served : IsServed journal s held output
+  pub served : IsServedHere journal s held output
   pub unsent_is : served.unsent ≡ rest
 
-pub moved_served : (journal : List Act) (s : ℕ) (e : LogEntry) (held output u : List ℕ) (n : ℕ) → fed_by s e.event e.result ≡ [] → written_by s e.event e.wrote ≡ [] → sent_at s e.event e.result ≡ n → n ≤ length u → IsUnsent (log_of journal) s u → IsServed journal s held output
+pub moved_served : (journal : List Act) (s : ℕ) (e : LogEntry) (held output u : List ℕ) (n : ℕ) → fed_by s e.event e.result ≡ [] → written_by s e.event e.wrote ≡ [] → sent_at s e.event e.result ≡ n → n ≤ length u → IsUnsent (log_of journal) s u → IsServedHere journal s held output
     → IsMoved (journal ++ Made e ∷ []) s held (output ++ take n u) (drop n u)
 unfolding transcript grown
 moved_served journal s e held output u n fed wrote sent le U S =
@@ -206,8 +206,8 @@ moved_served journal s e held output u n fed wrote sent le U S =
     }
 
 -- bytes are gone
-pub delivered_served : (journal : List Act) (s n : ℕ) (front held output : List ℕ) → length front ≡ n → IsServed journal s held (front ++ output)
-    → IsServed (journal ++ Delivered s n ∷ []) s held output
+pub delivered_served : (journal : List Act) (s n : ℕ) (front held output : List ℕ) → length front ≡ n → IsServedHere journal s held (front ++ output)
+    → IsServedHere (journal ++ Delivered s n ∷ []) s held output
 delivered_served journal s n front held output count S =
     grown journal s (Delivered s n) held held (front ++ output) output S.unsent front S
     (append-nil held)

@@ -12,7 +12,7 @@ use Rattle.sf_engine.specs.Promise.{LogEntry, fed_by, fed_in, written_by, writte
 use Rattle.sf_refusing.specs.declared.rule.Rule.{Rule}
 use Rattle.sf_refusing.specs.declared.refusals.Refusals.{Refusals}
 use Rattle.sf_refusing.specs.Journal.{Act, Ruled, Received, Delivered, Made, Apart, PassedOn, RefusedBy, ruled, rules_in, log_of, sent_in, taken_in, since_given}
-use Rattle.sf_refusing.specs.Refusing.{AllMayHappen, moves_bytes, IsOwn, Serves, HasJournal}
+use Rattle.sf_refusing.specs.Refusing.{AllMayHappen, moves_bytes, IsOwn, ServesHere, HasJournal}
 use Rattle.sf_refusing.proofs.Growing.{transcript_on, own_front, happened_more, begun_stays, entry_served, since_none}
 use Rattle.sf_refusing.proofs.Counts.{rules_stay}
 
@@ -85,7 +85,7 @@ apart_one r journal e H = record {
   rules = rules_stay journal r.rules.items (Apart e) H.rules refl (λ number rule. refl) (λ number. refl);
 }
   where
-    apart_serves : (s : ℕ) (held output : List ℕ) (begun : Bool) → Serves journal s held output begun → Serves (journal ++ Apart e ∷ []) s held output begun
+    apart_serves : (s : ℕ) (held output : List ℕ) (begun : Bool) → ServesHere journal s held output begun → ServesHere (journal ++ Apart e ∷ []) s held output begun
     apart_serves s held output begun S = record {
       begun_is = begun_stays journal s (Apart e) begun refl S.begun_is;
       served = λ own. entry_served journal s (Apart e) e held output refl refl refl refl refl (apart_sent s e.event e.result (own_last s journal e own)) (S.served (own_front s journal (Apart e) own));

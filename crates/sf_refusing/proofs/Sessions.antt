@@ -19,8 +19,8 @@ use Rattle.sf_refusing.specs.declared.given.GivenRule.{GivenRule}
 use Rattle.sf_refusing.specs.declared.passage.Passage.{Passage}
 use Rattle.sf_refusing.specs.declared.refusals.Refusals.{Refusals}
 use Rattle.sf_refusing.specs.Journal.{Act, Received, Delivered, Made, logged, log_of, received_in, taken_in, sent_in, delivered_in}
-use Rattle.sf_refusing.specs.Refusing.{IsFed, IsOwn, IsServed, Serves, AreGiven, AllMayHappen, HasJournal, Have, NoneIsHeld, PassesOn, MovesOn, IsRefusal, IsTurn, IsNextOutput}
-use Rattle.sf_refusing.specs.Fronts.{IsAt, Stands, Changes, Leaves}
+use Rattle.sf_refusing.specs.Refusing.{IsFed, IsOwn, IsServedHere, ServesHere, AreGiven, AllMayHappen, HasJournal, Have, NoneIsHeld, PassesOn, MovesFront, IsRefusal, IsTurn, IsNextOutput}
+use Rattle.sf_refusing.specs.Fronts.{IsPassageAt, StandsBefore, HoldsAfter, EngineHoldsAfter}
 use Rattle.sf_refusing.proofs.Growing.{more, own_so, other_so, own_front, happened_more, begun_stays, received_served, other_served, IsMoved, moved_served, delivered_served, same_unsent, entry_served}
 use Rattle.sf_refusing.proofs.Counts.{rules_stay}
 use Rattle.sf_refusing.proofs.Steps.{IsPlain, plain_turn, plain_probe, plain_turns, plain_has, plain_all, log_done, other_serves, changed_has}
@@ -50,17 +50,17 @@ set_same (y ∷ xs) (suc i) x h = ap (λ ys. y ∷ ys) (set_same xs i x h)
 -- a passage more, of a session without one
 pub pushed_has : (r r' : Refusals) (journal : List Act) (p : Passage) → r'.passages.items ≡ r.passages.items ++ p ∷ [] → r'.rules.items ≡ r.rules.items → p.held.items ≡ [] → p.output.items ≡ [] → p.begun ≡ false → HasJournal r journal → HasJournal r' journal
 pushed_has r r' journal p passages rules held output begun H =
-    let new : IsAt journal (length r.passages.items + 1) p =
-    subst (λ (b : Bool). Serves journal (length r.passages.items + 1) p.held.items p.output.items b) (sym begun)
-    (subst (λ (o : List ℕ). Serves journal (length r.passages.items + 1) p.held.items o false) (sym output)
-    (subst (λ (h : List ℕ). Serves journal (length r.passages.items + 1) h [] false) (sym held)
+    let new : IsPassageAt journal (length r.passages.items + 1) p =
+    subst (λ (b : Bool). ServesHere journal (length r.passages.items + 1) p.held.items p.output.items b) (sym begun)
+    (subst (λ (o : List ℕ). ServesHere journal (length r.passages.items + 1) p.held.items o false) (sym output)
+    (subst (λ (h : List ℕ). ServesHere journal (length r.passages.items + 1) h [] false) (sym held)
     (H.others (length r.passages.items + 1) (inr (omega arith))))) in
     let long : length r'.passages.items ≡ length r.passages.items + 1 = ap (λ (ps : List Passage). length ps) passages ∙ length-append r.passages.items (p ∷ []) in
     record {
       happened = H.happened;
       each = λ i q at. elim (last_got r.passages.items i p q (ap (λ (ps : List Passage). slice_get ps i) (sym passages) ∙ at)) [
         | inl old ↦ H.each i q old
-        | inr last ↦ subst (λ (n : ℕ). IsAt journal (n + 1) q) (sym last.0) (subst (λ (x : Passage). IsAt journal (length r.passages.items + 1) x) last.1 new)
+        | inr last ↦ subst (λ (n : ℕ). IsPassageAt journal (n + 1) q) (sym last.0) (subst (λ (x : Passage). IsPassageAt journal (length r.passages.items + 1) x) last.1 new)
       ];
       others = λ s none. H.others s (elim none [ inl z ↦ inl z | inr lt ↦ inr (omega (arith, lt, long)) ]);
       rules = subst (λ (rs : List GivenRule). AreGiven journal rs) (sym rules) H.rules;
@@ -77,16 +77,16 @@ pushed_has r r' journal p passages rules held output begun H =
 pub received_has : (r r' : Refusals) (journal : List Act) (s at : ℕ) (p p' : Passage) (bytes : List ℕ) → HasJournal r journal → slice_get r.passages.items at ≡ Some p → at + 1 ≡ s → r'.passages.items ≡ slice_set r.passages.items at p' → r'.rules.items ≡ r.rules.items → p'.held.items ≡ p.held.items ++ bytes → p'.output.items ≡ p.output.items → p'.begun ≡ p.begun → HasJournal r' (journal ++ Received s bytes ∷ [])
 received_has r r' journal s at p p' bytes H here number set rules held output begun =
     let act : Act = Received s bytes in
-    let S : IsAt journal s p = subst (λ (n : ℕ). IsAt journal n p) number (H.each at p here) in
-    let now : Serves (journal ++ act ∷ []) s (p.held.items ++ bytes) p.output.items p.begun = record {
+    let S : IsPassageAt journal s p = subst (λ (n : ℕ). IsPassageAt journal n p) number (H.each at p here) in
+    let now : ServesHere (journal ++ act ∷ []) s (p.held.items ++ bytes) p.output.items p.begun = record {
       begun_is = begun_stays journal s act p.begun refl S.begun_is;
       served = λ own. received_served journal s bytes p.held.items p.output.items (S.served (own_front s journal act own));
     } in
     changed_has r r' journal (journal ++ act ∷ []) s at p p' H here number set (record {
       happened = happened_more [] journal act H.happened tt;
-      at = subst (λ (b : Bool). Serves (journal ++ act ∷ []) s p'.held.items p'.output.items b) (sym begun)
-          (subst (λ (o : List ℕ). Serves (journal ++ act ∷ []) s p'.held.items o p.begun) (sym output)
-          (subst (λ (h : List ℕ). Serves (journal ++ act ∷ []) s h p.output.items p.begun) (sym held) now));
+      at = subst (λ (b : Bool). ServesHere (journal ++ act ∷ []) s p'.held.items p'.output.items b) (sym begun)
+          (subst (λ (o : List ℕ). ServesHere (journal ++ act ∷ []) s p'.held.items o p.begun) (sym output)
+          (subst (λ (h : List ℕ). ServesHere (journal ++ act ∷ []) s h p.output.items p.begun) (sym held) now));
       rules = subst (λ (rs : List GivenRule). AreGiven (journal ++ act ∷ []) rs) (sym rules)
           (rules_stay journal r.rules.items act H.rules refl (λ number rule. refl) (λ number. refl));
       others = λ other held output begun ne serves.
@@ -110,7 +110,7 @@ turned {E} has_log engine r journal passed s m result AreMade entries on H made 
 
 -- ---- what is sent
 
-pub next_all : (journal : List Act) (s : ℕ) (held output out : List ℕ) → output ≡ [] → IsServed journal s held output → IsUnsent (log_of journal) s out → IsNextOutput journal s out
+pub next_all : (journal : List Act) (s : ℕ) (held output out : List ℕ) → output ≡ [] → IsServedHere journal s held output → IsUnsent (log_of journal) s out → IsNextOutput journal s out
 next_all journal s held output out none S U =
     let same : S.unsent ≡ out = same_unsent (log_of journal) s S.unsent out S.in_engine U in
     record {
@@ -121,7 +121,7 @@ next_all journal s held output out none S U =
       last = λ empty. refl;
     }
 
-pub next_first : (journal : List Act) (s : ℕ) (held output : List ℕ) → (output ≡ [] → ⊥) → IsServed journal s held output → IsNextOutput journal s output
+pub next_first : (journal : List Act) (s : ℕ) (held output : List ℕ) → (output ≡ [] → ⊥) → IsServedHere journal s held output → IsNextOutput journal s output
 next_first journal s held output some S = record {
   gone = S.gone;
   later = S.unsent;
@@ -134,16 +134,16 @@ next_first journal s held output some S = record {
 pub delivered_has : (r r' : Refusals) (journal : List Act) (s at n : ℕ) (p p' : Passage) (front : List ℕ) → HasJournal r journal → slice_get r.passages.items at ≡ Some p → at + 1 ≡ s → r'.passages.items ≡ slice_set r.passages.items at p' → r'.rules.items ≡ r.rules.items → length front ≡ n → p.output.items ≡ front ++ p'.output.items → p'.held.items ≡ p.held.items → p'.begun ≡ p.begun → HasJournal r' (journal ++ Delivered s n ∷ [])
 delivered_has r r' journal s at n p p' front H here number set rules count output held begun =
     let act : Act = Delivered s n in
-    let S : IsAt journal s p = subst (λ (n : ℕ). IsAt journal n p) number (H.each at p here) in
-    let now : Serves (journal ++ act ∷ []) s p.held.items p'.output.items p.begun = record {
+    let S : IsPassageAt journal s p = subst (λ (n : ℕ). IsPassageAt journal n p) number (H.each at p here) in
+    let now : ServesHere (journal ++ act ∷ []) s p.held.items p'.output.items p.begun = record {
       begun_is = begun_stays journal s act p.begun refl S.begun_is;
       served = λ own. delivered_served journal s n front p.held.items p'.output.items count
-          (subst (λ (o : List ℕ). IsServed journal s p.held.items o) output (S.served (own_front s journal act own)));
+          (subst (λ (o : List ℕ). IsServedHere journal s p.held.items o) output (S.served (own_front s journal act own)));
     } in
     changed_has r r' journal (journal ++ act ∷ []) s at p p' H here number set (record {
       happened = happened_more [] journal act H.happened tt;
-      at = subst (λ (b : Bool). Serves (journal ++ act ∷ []) s p'.held.items p'.output.items b) (sym begun)
-          (subst (λ (h : List ℕ). Serves (journal ++ act ∷ []) s h p'.output.items p.begun) (sym held) now);
+      at = subst (λ (b : Bool). ServesHere (journal ++ act ∷ []) s p'.held.items p'.output.items b) (sym begun)
+          (subst (λ (h : List ℕ). ServesHere (journal ++ act ∷ []) s h p'.output.items p.begun) (sym held) now);
       rules = subst (λ (rs : List GivenRule). AreGiven (journal ++ act ∷ []) rs) (sym rules)
           (rules_stay journal r.rules.items act H.rules refl (λ number rule. refl) (λ number. refl));
       others = λ other held output begun ne serves.
@@ -199,7 +199,7 @@ sent_is : (s k : ℕ) (e : LogEntry) → IsGone s k e → (other : ℕ) → sent
 sent_is s k e G other =
     ap (λ (ev : Event). sent_at other ev e.result) G.event ∙ ap (λ (r : Result Happened EngineFault). sent_at other (event.Sent s k) r) G.result
 
-sent_serves : (journal : List Act) (s n k : ℕ) (e : LogEntry) (held output : List ℕ) (begun : Bool) → IsGone s k e → n ≡ length output + k → ((u : List ℕ) → IsUnsent (log_of journal) s u → k ≤ length u) → Serves journal s held output begun → Serves ((journal ++ Made e ∷ []) ++ Delivered s n ∷ []) s held [] begun
+sent_serves : (journal : List Act) (s n k : ℕ) (e : LogEntry) (held output : List ℕ) (begun : Bool) → IsGone s k e → n ≡ length output + k → ((u : List ℕ) → IsUnsent (log_of journal) s u → k ≤ length u) → ServesHere journal s held output begun → ServesHere ((journal ++ Made e ∷ []) ++ Delivered s n ∷ []) s held [] begun
 sent_serves journal s n k e held output begun G count there S =
     let fed : fed_by s e.event e.result ≡ [] = ap (λ (ev : Event). fed_by s ev e.result) G.event in
     let written : written_by s e.event e.wrote ≡ [] = ap (λ (ev : Event). written_by s ev e.wrote) G.event in
@@ -209,15 +209,15 @@ sent_serves journal s n k e held output begun G count there S =
       begun_is = begun_stays mid s (Delivered s n) begun refl (begun_stays journal s (Made e) begun fed S.begun_is);
       served = λ own.
           let own_mid : IsOwn s mid = own_front s mid (Delivered s n) own in
-          let T : IsServed journal s held output = S.served (own_front s journal (Made e) own_mid) in
+          let T : IsServedHere journal s held output = S.served (own_front s journal (Made e) own_mid) in
           let u : List ℕ = T.unsent in
           let le : k ≤ length u = there u T.in_engine in
           let M : IsMoved mid s held (output ++ take k u) (drop k u) = moved_served journal s e held output u k fed written sent le T.in_engine T in
           let gone : length (output ++ take k u) ≡ n = omega (arith, length-append output (take k u), length-take-le k u le, count) in
-          delivered_served mid s n (output ++ take k u) held [] gone (subst (λ (o : List ℕ). IsServed mid s held o) (sym (append-nil (output ++ take k u))) M.served);
+          delivered_served mid s n (output ++ take k u) held [] gone (subst (λ (o : List ℕ). IsServedHere mid s held o) (sym (append-nil (output ++ take k u))) M.served);
     }
 
-others_sent : (journal : List Act) (s n k : ℕ) (e : LogEntry) → IsGone s k e → (other : ℕ) (held output : List ℕ) (begun : Bool) → other ≢ s → Serves journal other held output begun → Serves ((journal ++ Made e ∷ []) ++ Delivered s n ∷ []) other held output begun
+others_sent : (journal : List Act) (s n k : ℕ) (e : LogEntry) → IsGone s k e → (other : ℕ) (held output : List ℕ) (begun : Bool) → other ≢ s → ServesHere journal other held output begun → ServesHere ((journal ++ Made e ∷ []) ++ Delivered s n ∷ []) other held output begun
 others_sent journal s n k e G other held output begun ne serves =
     let apart : s ≡ other → ⊥ = λ same. ne (sym same) in
     let fed : fed_by other e.event e.result ≡ [] = ap (λ (ev : Event). fed_by other ev e.result) G.event in
@@ -241,13 +241,13 @@ sent_rules journal s n e rules A =
 pub sent_has : (r r' : Refusals) (journal : List Act) (s at n k : ℕ) (e : LogEntry) (p p' : Passage) → HasJournal r journal → slice_get r.passages.items at ≡ Some p → at + 1 ≡ s → r'.passages.items ≡ slice_set r.passages.items at p' → r'.rules.items ≡ r.rules.items → IsGone s k e → n ≡ length p.output.items + k → ((u : List ℕ) → IsUnsent (log_of journal) s u → k ≤ length u) → p'.output.items ≡ [] → p'.held.items ≡ p.held.items → p'.begun ≡ p.begun → HasJournal r' ((journal ++ Made e ∷ []) ++ Delivered s n ∷ [])
 sent_has r r' journal s at n k e p p' H here number set rules G count there output held begun =
     let after : List Act = (journal ++ Made e ∷ []) ++ Delivered s n ∷ [] in
-    let S : IsAt journal s p = subst (λ (n : ℕ). IsAt journal n p) number (H.each at p here) in
-    let now : Serves after s p.held.items [] p.begun = sent_serves journal s n k e p.held.items p.output.items p.begun G count there S in
+    let S : IsPassageAt journal s p = subst (λ (n : ℕ). IsPassageAt journal n p) number (H.each at p here) in
+    let now : ServesHere after s p.held.items [] p.begun = sent_serves journal s n k e p.held.items p.output.items p.begun G count there S in
     changed_has r r' journal after s at p p' H here number set (record {
       happened = sent_happened journal s n k e G H.happened;
-      at = subst (λ (b : Bool). Serves after s p'.held.items p'.output.items b) (sym begun)
-          (subst (λ (h : List ℕ). Serves after s h p'.output.items p.begun) (sym held)
-          (subst (λ (o : List ℕ). Serves after s p.held.items o p.begun) (sym output) now));
+      at = subst (λ (b : Bool). ServesHere after s p'.held.items p'.output.items b) (sym begun)
+          (subst (λ (h : List ℕ). ServesHere after s h p'.output.items p.begun) (sym held)
+          (subst (λ (o : List ℕ). ServesHere after s p.held.items o p.begun) (sym output) now));
       rules = subst (λ (rs : List GivenRule). AreGiven after rs) (sym rules) (sent_rules journal s n e r.rules.items H.rules);
       others = others_sent journal s n k e G;
     })
@@ -258,7 +258,7 @@ sent_none r journal s n e H none G there = record {
   each = λ i p at. others_sent journal s n n e G (i + 1) p.held.items p.output.items p.begun
       (λ same. elim none [ inl z ↦ omega (arith, z, same) | inr lt ↦ omega (arith, lt, same, slice_get_within r.passages.items i p at) ]) (H.each i p at);
   others = λ t apart. elim (cases_eq t s) [
-    | inl same ↦ subst (λ (x : ℕ). Serves ((journal ++ Made e ∷ []) ++ Delivered s n ∷ []) x [] [] false) (sym same) (sent_serves journal s n n e [] [] false G (omega arith) there (H.others s none))
+    | inl same ↦ subst (λ (x : ℕ). ServesHere ((journal ++ Made e ∷ []) ++ Delivered s n ∷ []) x [] [] false) (sym same) (sent_serves journal s n n e [] [] false G (omega arith) there (H.others s none))
     | inr ne ↦ others_sent journal s n n e G t [] [] false ne (H.others t apart)
   ];
   rules = sent_rules journal s n e r.rules.items H.rules;
@@ -267,7 +267,7 @@ sent_none r journal s n e H none G there = record {
 -- ---- what is next goes on
 
 -- a session without a passage holds nothing
-pub nothing_held : (journal : List Act) (s : ℕ) → Serves journal s [] [] false → NoneIsHeld journal s
+pub nothing_held : (journal : List Act) (s : ℕ) → ServesHere journal s [] [] false → NoneIsHeld journal s
 nothing_held journal s S = λ waits own held received.
     let is : [] ≡ held = append_cancel_left (taken_in s journal) [] held (sym (S.served own).received ∙ received) in
     subst (λ (b : List ℕ). IsCut b cut.More) is (inl (omega arith))
@@ -275,16 +275,16 @@ nothing_held journal s S = λ waits own held received.
 pub have_still : {E : Type 0} (has_log : E → List LogEntry → Type 0) (engine : E) (r : Refusals) (journal : List Act) → Have has_log engine r journal → Have has_log engine r (journal ++ [])
 have_still {E} has_log engine r journal H = subst (λ (j : List Act). Have has_log engine r j) (sym (append-nil journal)) H
 
-pub stands : {E : Type 0} (has_log : E → List LogEntry → Type 0) (engine : E) (r : Refusals) (journal : List Act) (s at : ℕ) (p : Passage) → Have has_log engine r journal → WaitsForBytes (log_of journal) s → slice_get r.passages.items at ≡ Some p → at + 1 ≡ s → Stands has_log engine journal s p r.rules.items
+pub stands : {E : Type 0} (has_log : E → List LogEntry → Type 0) (engine : E) (r : Refusals) (journal : List Act) (s at : ℕ) (p : Passage) → Have has_log engine r journal → WaitsForBytes (log_of journal) s → slice_get r.passages.items at ≡ Some p → at + 1 ≡ s → StandsBefore has_log engine journal s p r.rules.items
 stands {E} has_log engine r journal s at p H waits here number = record {
   has = H.1;
   happened = H.0.happened;
-  at = subst (λ (n : ℕ). IsAt journal n p) number (H.0.each at p here);
+  at = subst (λ (n : ℕ). IsPassageAt journal n p) number (H.0.each at p here);
   rules = H.0.rules;
   waits = waits;
 }
 
-pub moved_on : {E : Type 0} (has_log : E → List LogEntry → Type 0) (engine engine' : E) (r r' : Refusals) (journal : List Act) (s at : ℕ) (p p' : Passage) (result : Result Bool EngineFault) → Have has_log engine r journal → slice_get r.passages.items at ≡ Some p → at + 1 ≡ s → r'.passages.items ≡ slice_set r.passages.items at p' → (acts : List Act) × MovesOn journal s result acts × Leaves has_log engine' journal s p' r'.rules.items (journal ++ acts) → (acts : List Act) × MovesOn journal s result acts × Have has_log engine' r' (journal ++ acts)
+pub moved_on : {E : Type 0} (has_log : E → List LogEntry → Type 0) (engine engine' : E) (r r' : Refusals) (journal : List Act) (s at : ℕ) (p p' : Passage) (result : Result Bool EngineFault) → Have has_log engine r journal → slice_get r.passages.items at ≡ Some p → at + 1 ≡ s → r'.passages.items ≡ slice_set r.passages.items at p' → (acts : List Act) × MovesFront journal s result acts × EngineHoldsAfter has_log engine' journal s p' r'.rules.items (journal ++ acts) → (acts : List Act) × MovesFront journal s result acts × Have has_log engine' r' (journal ++ acts)
 moved_on {E} has_log engine engine' r r' journal s at p p' result H here number set D =
     (D.0, D.1, (changed_has r r' journal (journal ++ D.0) s at p p' H.0 here number set D.2.1, D.2.0))
 
@@ -312,14 +312,14 @@ pub kept_has : (r r' : Refusals) (journal : List Act) (s at : ℕ) (p p' : Passa
 kept_has r r' journal s at p p' H here number set rules held output begun =
     changed_has r r' journal journal s at p p' H here number set (record {
       happened = H.happened;
-      at = subst (λ (b : Bool). Serves journal s p'.held.items p'.output.items b) (sym begun)
-          (subst (λ (o : List ℕ). Serves journal s p'.held.items o p.begun) (sym output)
-          (subst (λ (h : List ℕ). Serves journal s h p.output.items p.begun) (sym held) (subst (λ (n : ℕ). IsAt journal n p) number (H.each at p here))));
+      at = subst (λ (b : Bool). ServesHere journal s p'.held.items p'.output.items b) (sym begun)
+          (subst (λ (o : List ℕ). ServesHere journal s p'.held.items o p.begun) (sym output)
+          (subst (λ (h : List ℕ). ServesHere journal s h p.output.items p.begun) (sym held) (subst (λ (n : ℕ). IsPassageAt journal n p) number (H.each at p here))));
       rules = subst (λ (rs : List GivenRule). AreGiven journal rs) (sym rules) H.rules;
       others = λ other held output begun ne serves. serves;
     })
 
 -- what is held is told by what came
-pub held_more : (journal : List Act) (s : ℕ) (held output : List ℕ) → IsServed journal s held output → IsCut held cut.More → (other : List ℕ) → received_in s journal ≡ taken_in s journal ++ other → IsCut other cut.More
+pub held_more : (journal : List Act) (s : ℕ) (held output : List ℕ) → IsServedHere journal s held output → IsCut held cut.More → (other : List ℕ) → received_in s journal ≡ taken_in s journal ++ other → IsCut other cut.More
 held_more journal s held output S more other received =
     subst (λ (b : List ℕ). IsCut b cut.More) (append_cancel_left (taken_in s journal) held other (sym S.received ∙ received)) more

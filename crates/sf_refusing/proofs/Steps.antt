@@ -24,8 +24,8 @@ use Rattle.sf_refusing.specs.declared.given.GivenRule.{GivenRule}
 use Rattle.sf_refusing.specs.declared.passage.Passage.{Passage}
 use Rattle.sf_refusing.specs.declared.refusals.Refusals.{Refusals}
 use Rattle.sf_refusing.specs.Journal.{Act, Ruled, Received, Delivered, Made, Apart, PassedOn, RefusedBy, Packet, logged, log_of, received_by, taken_by, taken_in, sent_by, delivered_by, ruled, counts, refused_by, fits_packet}
-use Rattle.sf_refusing.specs.Refusing.{IsFed, IsUnruled, MayPass, MayRefuse, MayHappen, AllMayHappen, IsOwn, IsServed, Serves, AreGiven, HasJournal}
-use Rattle.sf_refusing.specs.Fronts.{IsAt, Stands, Changes, Leaves}
+use Rattle.sf_refusing.specs.Refusing.{IsFed, IsUnruled, MayPass, MayRefusePacket, MayHappen, AllMayHappen, IsOwn, IsServedHere, ServesHere, AreGiven, HasJournal}
+use Rattle.sf_refusing.specs.Fronts.{IsPassageAt, StandsBefore, HoldsAfter, EngineHoldsAfter}
 use Rattle.sf_refusing.proofs.Growing.{more, own_so, other_so, none_so, own_front, happened_more, begun_stays, begun_now, entry_served, other_served, received_served, fed_served, IsMoved, moved_served, delivered_served, same_unsent, unsent_more, grown, get_set_same, get_set_other, some_same}
 use Rattle.sf_refusing.proofs.Counts.{rules_stay}
 
@@ -56,7 +56,7 @@ plain_turns s m r [] h = absurd h
 plain_turns s m r (e ∷ []) h = (plain_turn s m e h.0, tt)
 plain_turns s m r (e ∷ x ∷ entries) h = (plain_turn s m e h.0, plain_turns s m r (x ∷ entries) h.2)
 
-plain_serves : (journal : List Act) (s : ℕ) (e : LogEntry) (held output : List ℕ) (begun : Bool) → IsPlain e → Serves journal s held output begun → Serves (journal ++ Made e ∷ []) s held output begun
+plain_serves : (journal : List Act) (s : ℕ) (e : LogEntry) (held output : List ℕ) (begun : Bool) → IsPlain e → ServesHere journal s held output begun → ServesHere (journal ++ Made e ∷ []) s held output begun
 plain_serves journal s e held output begun P S = record {
   begun_is = begun_stays journal s (Made e) begun (P.fed s) S.begun_is;
   served = λ own. entry_served journal s (Made e) e held output refl refl (P.fed s) refl refl (P.sent s) (S.served (own_front s journal (Made e) own));
@@ -98,41 +98,41 @@ none_sent : (s : ℕ) (bytes : List ℕ) (e : LogEntry) → IsFed s bytes e → 
 none_sent s bytes e F other = ap (λ (ev : Event). sent_at other ev e.result) F.event
 
 -- an act that feeds the engine the front of what is held, for the session, and for others
-fed_serves : (journal : List Act) (s : ℕ) (act : Act) (e : LogEntry) (front held output : List ℕ) (begun : Bool) → logged act ≡ e ∷ [] → received_by s act ≡ [] → taken_by s act ≡ front → delivered_by s act ≡ 0 → sent_by s act ≡ transcript (written_by s e.event e.wrote) → sent_at s e.event e.result ≡ 0 → 0 < length front → Serves journal s (front ++ held) output begun
-    → Serves (journal ++ act ∷ []) s held output true
+fed_serves : (journal : List Act) (s : ℕ) (act : Act) (e : LogEntry) (front held output : List ℕ) (begun : Bool) → logged act ≡ e ∷ [] → received_by s act ≡ [] → taken_by s act ≡ front → delivered_by s act ≡ 0 → sent_by s act ≡ transcript (written_by s e.event e.wrote) → sent_at s e.event e.result ≡ 0 → 0 < length front → ServesHere journal s (front ++ held) output begun
+    → ServesHere (journal ++ act ∷ []) s held output true
 fed_serves journal s act e front held output begun is received taken delivered wrote sent some S = record {
   begun_is = begun_now journal s act (omega (arith, some, ap (λ (b : List ℕ). length b) taken));
   served = λ own. fed_served journal s act e front held output is received taken delivered wrote sent (S.served (own_front s journal act own));
 }
 
-entry_serves : (journal : List Act) (s : ℕ) (act : Act) (e : LogEntry) (held output : List ℕ) (begun : Bool) → logged act ≡ e ∷ [] → received_by s act ≡ [] → taken_by s act ≡ [] → delivered_by s act ≡ 0 → sent_by s act ≡ transcript (written_by s e.event e.wrote) → sent_at s e.event e.result ≡ 0 → Serves journal s held output begun
-    → Serves (journal ++ act ∷ []) s held output begun
+entry_serves : (journal : List Act) (s : ℕ) (act : Act) (e : LogEntry) (held output : List ℕ) (begun : Bool) → logged act ≡ e ∷ [] → received_by s act ≡ [] → taken_by s act ≡ [] → delivered_by s act ≡ 0 → sent_by s act ≡ transcript (written_by s e.event e.wrote) → sent_at s e.event e.result ≡ 0 → ServesHere journal s held output begun
+    → ServesHere (journal ++ act ∷ []) s held output begun
 entry_serves journal s act e held output begun is received taken delivered wrote sent S = record {
   begun_is = begun_stays journal s act begun taken S.begun_is;
   served = λ own. entry_served journal s act e held output is received taken delivered wrote sent (S.served (own_front s journal act own));
 }
 
-pub other_serves : (journal : List Act) (s : ℕ) (act : Act) (held output : List ℕ) (begun : Bool) → logged act ≡ [] → received_by s act ≡ [] → taken_by s act ≡ [] → delivered_by s act ≡ 0 → sent_by s act ≡ [] → Serves journal s held output begun
-    → Serves (journal ++ act ∷ []) s held output begun
+pub other_serves : (journal : List Act) (s : ℕ) (act : Act) (held output : List ℕ) (begun : Bool) → logged act ≡ [] → received_by s act ≡ [] → taken_by s act ≡ [] → delivered_by s act ≡ 0 → sent_by s act ≡ [] → ServesHere journal s held output begun
+    → ServesHere (journal ++ act ∷ []) s held output begun
 other_serves journal s act held output begun is received taken delivered wrote S = record {
   begun_is = begun_stays journal s act begun taken S.begun_is;
   served = λ own. other_served journal s act held output is received taken delivered wrote (S.served (own_front s journal act own));
 }
 
 -- nothing happens
-pub nothing_leaves : {E : Type 0} (has_log : E → List LogEntry → Type 0) (engine : E) (journal : List Act) (s : ℕ) (p : Passage) (rules : List GivenRule) → Stands has_log engine journal s p rules → Leaves has_log engine journal s p rules (journal ++ [])
+pub nothing_leaves : {E : Type 0} (has_log : E → List LogEntry → Type 0) (engine : E) (journal : List Act) (s : ℕ) (p : Passage) (rules : List GivenRule) → StandsBefore has_log engine journal s p rules → EngineHoldsAfter has_log engine journal s p rules (journal ++ [])
 nothing_leaves {E} has_log engine journal s p rules S =
-    subst (λ (after : List Act). Leaves has_log engine journal s p rules after) (sym (append-nil journal))
+    subst (λ (after : List Act). EngineHoldsAfter has_log engine journal s p rules after) (sym (append-nil journal))
     (S.has, record { happened = S.happened; at = S.at; rules = S.rules; others = λ other held output begun ne serves. serves })
 
 -- what no rule is asked about goes in
-pub did_leaves : {E : Type 0} (has_log : E → List LogEntry → Type 0) (engine engine' : E) (journal : List Act) (s : ℕ) (p p' : Passage) (rules : List GivenRule) (e : LogEntry) (front : List ℕ) → Stands has_log engine journal s p rules → IsFed s front e → has_log engine' (log_of journal ++ e ∷ []) → p.held.items ≡ front ++ p'.held.items → p'.output.items ≡ p.output.items → p'.begun ≡ true → 0 < length front → IsUnruled journal s front
-    → Leaves has_log engine' journal s p' rules (journal ++ Made e ∷ [])
+pub did_leaves : {E : Type 0} (has_log : E → List LogEntry → Type 0) (engine engine' : E) (journal : List Act) (s : ℕ) (p p' : Passage) (rules : List GivenRule) (e : LogEntry) (front : List ℕ) → StandsBefore has_log engine journal s p rules → IsFed s front e → has_log engine' (log_of journal ++ e ∷ []) → p.held.items ≡ front ++ p'.held.items → p'.output.items ≡ p.output.items → p'.begun ≡ true → 0 < length front → IsUnruled journal s front
+    → EngineHoldsAfter has_log engine' journal s p' rules (journal ++ Made e ∷ [])
 did_leaves {E} has_log engine engine' journal s p p' rules e front S F has held output begun some unruled =
     let fed : (other : ℕ) → fed_by other e.event e.result ≡ if_so (nat_eq s other) front = fed_is s front e F in
-    let at : Serves journal s (front ++ p'.held.items) p'.output.items p.begun =
-    subst (λ (b : List ℕ). Serves journal s (front ++ p'.held.items) b p.begun) (sym output)
-    (subst (λ (b : List ℕ). Serves journal s b p.output.items p.begun) held S.at) in (
+    let at : ServesHere journal s (front ++ p'.held.items) p'.output.items p.begun =
+    subst (λ (b : List ℕ). ServesHere journal s (front ++ p'.held.items) b p.begun) (sym output)
+    (subst (λ (b : List ℕ). ServesHere journal s b p.output.items p.begun) held S.at) in (
       subst (λ (l : List LogEntry). has_log engine' l) (sym (more logged journal (Made e))) has,
       record {
         happened = happened_more [] journal (Made e) S.happened
@@ -140,7 +140,7 @@ did_leaves {E} has_log engine engine' journal s p p' rules e front S F has held 
               | inl same ↦ subst (λ (n : ℕ). IsUnruled journal n (fed_by n e.event e.result)) same (subst (λ (b : List ℕ). IsUnruled journal s b) (sym (fed s ∙ own_so s front)) unruled)
               | inr ne ↦ inl (fed other ∙ other_so s other front ne)
             ]);
-        at = subst (λ (b : Bool). Serves (journal ++ Made e ∷ []) s p'.held.items p'.output.items b) (sym begun)
+        at = subst (λ (b : Bool). ServesHere (journal ++ Made e ∷ []) s p'.held.items p'.output.items b) (sym begun)
             (fed_serves journal s (Made e) e front p'.held.items p'.output.items p.begun refl refl (fed s ∙ own_so s front) refl refl (none_sent s front e F s) some at);
         rules = rules_stay journal rules (Made e) S.rules refl (λ number rule. refl) (λ number. refl);
         others = λ other held output begun ne serves.
@@ -152,26 +152,26 @@ some_packet : (body : List ℕ) → 0 < length (packet body)
 some_packet body = grind (arith, common_steps)
 
 -- another session's request is refused
-refused_serves : (journal : List Act) (s : ℕ) (act : Act) (e : LogEntry) (held output : List ℕ) (begun : Bool) → logged act ≡ e ∷ [] → received_by s act ≡ [] → taken_by s act ≡ [] → delivered_by s act ≡ 0 → sent_by s act ≡ [] → written_by s e.event e.wrote ≡ [] → sent_at s e.event e.result ≡ 0 → Serves journal s held output begun
-    → Serves (journal ++ act ∷ []) s held output begun
+refused_serves : (journal : List Act) (s : ℕ) (act : Act) (e : LogEntry) (held output : List ℕ) (begun : Bool) → logged act ≡ e ∷ [] → received_by s act ≡ [] → taken_by s act ≡ [] → delivered_by s act ≡ 0 → sent_by s act ≡ [] → written_by s e.event e.wrote ≡ [] → sent_at s e.event e.result ≡ 0 → ServesHere journal s held output begun
+    → ServesHere (journal ++ act ∷ []) s held output begun
 unfolding transcript
 refused_serves journal s act e held output begun is received taken delivered wrote none sent S =
     entry_serves journal s act e held output begun is received taken delivered (wrote ∙ ap (λ (ws : List Response). transcript ws) (sym none)) sent S
 
 -- a packet is passed on
-pub passed_leaves : {E : Type 0} (has_log : E → List LogEntry → Type 0) (engine engine' : E) (journal : List Act) (p p' : Passage) (rules rules' : List GivenRule) (e : LogEntry) (one : Packet) → Stands has_log engine journal one.session p rules → MayPass journal one e → has_log engine' (log_of journal ++ e ∷ []) → p.held.items ≡ packet one.body ++ p'.held.items → p'.output.items ≡ p.output.items → p'.begun ≡ true → AreGiven (journal ++ PassedOn one e ∷ []) rules'
-    → Leaves has_log engine' journal one.session p' rules' (journal ++ PassedOn one e ∷ [])
+pub passed_leaves : {E : Type 0} (has_log : E → List LogEntry → Type 0) (engine engine' : E) (journal : List Act) (p p' : Passage) (rules rules' : List GivenRule) (e : LogEntry) (one : Packet) → StandsBefore has_log engine journal one.session p rules → MayPass journal one e → has_log engine' (log_of journal ++ e ∷ []) → p.held.items ≡ packet one.body ++ p'.held.items → p'.output.items ≡ p.output.items → p'.begun ≡ true → AreGiven (journal ++ PassedOn one e ∷ []) rules'
+    → EngineHoldsAfter has_log engine' journal one.session p' rules' (journal ++ PassedOn one e ∷ [])
 passed_leaves {E} has_log engine engine' journal p p' rules rules' e one S M has held output begun given =
     let s : ℕ = one.session in
     let front : List ℕ = packet one.body in
     let fed : (other : ℕ) → fed_by other e.event e.result ≡ if_so (nat_eq s other) front = fed_is s front e M.fed in
-    let at : Serves journal s (front ++ p'.held.items) p'.output.items p.begun =
-    subst (λ (b : List ℕ). Serves journal s (front ++ p'.held.items) b p.begun) (sym output)
-    (subst (λ (b : List ℕ). Serves journal s b p.output.items p.begun) held S.at) in (
+    let at : ServesHere journal s (front ++ p'.held.items) p'.output.items p.begun =
+    subst (λ (b : List ℕ). ServesHere journal s (front ++ p'.held.items) b p.begun) (sym output)
+    (subst (λ (b : List ℕ). ServesHere journal s b p.output.items p.begun) held S.at) in (
       subst (λ (l : List LogEntry). has_log engine' l) (sym (more logged journal (PassedOn one e))) has,
       record {
         happened = happened_more [] journal (PassedOn one e) S.happened M;
-        at = subst (λ (b : Bool). Serves (journal ++ PassedOn one e ∷ []) s p'.held.items p'.output.items b) (sym begun)
+        at = subst (λ (b : Bool). ServesHere (journal ++ PassedOn one e ∷ []) s p'.held.items p'.output.items b) (sym begun)
             (fed_serves journal s (PassedOn one e) e front p'.held.items p'.output.items p.begun refl refl (fed s ∙ own_so s front) refl refl (none_sent s front e M.fed s) (some_packet one.body) at);
         rules = given;
         others = λ other held output begun ne serves.
@@ -185,8 +185,8 @@ pub record IsSentAll (s : ℕ) (u : List ℕ) (e : LogEntry) : Type 0 where
   pub happened : Happened
   pub result : e.result ≡ Ok happened
 
-refused_served : (journal : List Act) (held held' output output' u : List ℕ) (one : Packet) (id number : ℕ) (code : StatusCode) (e : LogEntry) → held ≡ packet one.body ++ held' → output' ≡ output ++ u ++ packet (reply_body id (Status code)) → written_by one.session e.event e.wrote ≡ [] → sent_at one.session e.event e.result ≡ length u → IsUnsent (log_of journal) one.session u → IsServed journal one.session held output
-    → IsServed (journal ++ RefusedBy one id number code e ∷ []) one.session held' output'
+refused_served : (journal : List Act) (held held' output output' u : List ℕ) (one : Packet) (id number : ℕ) (code : StatusCode) (e : LogEntry) → held ≡ packet one.body ++ held' → output' ≡ output ++ u ++ packet (reply_body id (Status code)) → written_by one.session e.event e.wrote ≡ [] → sent_at one.session e.event e.result ≡ length u → IsUnsent (log_of journal) one.session u → IsServedHere journal one.session held output
+    → IsServedHere (journal ++ RefusedBy one id number code e ∷ []) one.session held' output'
 unfolding transcript
 refused_served journal held held' output output' u one id number code e took wrote none sent U S =
     let s : ℕ = one.session in
@@ -204,8 +204,8 @@ refused_served journal held held' output output' u one id number code e took wro
     (ap (λ (b : List ℕ). (output ++ b) ++ if_so (nat_eq s s) status) same
     ∙ ap (λ (b : List ℕ). (output ++ u) ++ b) (own_so s status) ∙ sym wrote ∙ sym (append-nil output'))
 
-pub refused_leaves : {E : Type 0} (has_log : E → List LogEntry → Type 0) (engine engine' : E) (journal : List Act) (p p' : Passage) (rules rules' : List GivenRule) (u : List ℕ) (one : Packet) (id number : ℕ) (code : StatusCode) (e : LogEntry) → Stands has_log engine journal one.session p rules → MayRefuse journal one id number code e → IsSentAll one.session u e → IsUnsent (log_of journal) one.session u → has_log engine' (log_of journal ++ e ∷ []) → p.held.items ≡ packet one.body ++ p'.held.items → p'.output.items ≡ p.output.items ++ u ++ packet (reply_body id (Status code)) → p'.begun ≡ p.begun → AreGiven (journal ++ RefusedBy one id number code e ∷ []) rules'
-    → Leaves has_log engine' journal one.session p' rules' (journal ++ RefusedBy one id number code e ∷ [])
+pub refused_leaves : {E : Type 0} (has_log : E → List LogEntry → Type 0) (engine engine' : E) (journal : List Act) (p p' : Passage) (rules rules' : List GivenRule) (u : List ℕ) (one : Packet) (id number : ℕ) (code : StatusCode) (e : LogEntry) → StandsBefore has_log engine journal one.session p rules → MayRefusePacket journal one id number code e → IsSentAll one.session u e → IsUnsent (log_of journal) one.session u → has_log engine' (log_of journal ++ e ∷ []) → p.held.items ≡ packet one.body ++ p'.held.items → p'.output.items ≡ p.output.items ++ u ++ packet (reply_body id (Status code)) → p'.begun ≡ p.begun → AreGiven (journal ++ RefusedBy one id number code e ∷ []) rules'
+    → EngineHoldsAfter has_log engine' journal one.session p' rules' (journal ++ RefusedBy one id number code e ∷ [])
 refused_leaves {E} has_log engine engine' journal p p' rules rules' u one id number code e S M sent unsent has held output begun given =
     let s : ℕ = one.session in
     let status : List ℕ = packet (reply_body id (Status code)) in
@@ -234,7 +234,7 @@ refused_leaves {E} has_log engine engine' journal p p' rules rules' u one id num
 
 -- ---- one passage changes
 
-pub changed_has : (r r' : Refusals) (journal after : List Act) (s at : ℕ) (p p' : Passage) → HasJournal r journal → slice_get r.passages.items at ≡ Some p → at + 1 ≡ s → r'.passages.items ≡ slice_set r.passages.items at p' → Changes journal s p' r'.rules.items after → HasJournal r' after
+pub changed_has : (r r' : Refusals) (journal after : List Act) (s at : ℕ) (p p' : Passage) → HasJournal r journal → slice_get r.passages.items at ≡ Some p → at + 1 ≡ s → r'.passages.items ≡ slice_set r.passages.items at p' → HoldsAfter journal s p' r'.rules.items after → HasJournal r' after
 changed_has r r' journal after s at p p' H here number set C =
     let within : at < length r.passages.items = slice_get_within r.passages.items at p here in
     let long : length r'.passages.items ≡ length r.passages.items = ap (λ (ps : List Passage). length ps) set ∙ length-set r.passages.items at p' in
@@ -245,7 +245,7 @@ changed_has r r' journal after s at p p' H here number set C =
           elim (cases_eq i at) [
             | inl same ↦
                 let is : q ≡ p' = some_same q p' (sym in_set ∙ ap (λ (n : ℕ). slice_get (slice_set r.passages.items at p') n) same ∙ get_set_same r.passages.items at p p' here) in
-                subst (λ (n : ℕ). IsAt after n q) (sym number ∙ ap (λ (n : ℕ). n + 1) (sym same)) (subst (λ (x : Passage). IsAt after s x) (sym is) C.at)
+                subst (λ (n : ℕ). IsPassageAt after n q) (sym number ∙ ap (λ (n : ℕ). n + 1) (sym same)) (subst (λ (x : Passage). IsPassageAt after s x) (sym is) C.at)
             | inr ne ↦
                 C.others (i + 1) q.held.items q.output.items q.begun (λ same. omega (arith, same, number, ne))
                 (H.each i q (sym (get_set_other r.passages.items at i p' ne) ∙ in_set))

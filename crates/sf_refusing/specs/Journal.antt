@@ -117,8 +117,8 @@ counts number rule (RefusedBy p id by code e) =
     if not (nat_lt by number) && fits_packet rule p then 1 else 0
 counts number rule act = 0
 
-abbrev pub counted : ℕ → Rule → List Act → ℕ
-counted number rule since = sum_by (counts number rule) since
+abbrev pub count_since : ℕ → Rule → List Act → ℕ
+count_since number rule since = sum_by (counts number rule) since
 
 -- how many it refused
 abbrev pub refused_by : ℕ → Act → ℕ
@@ -135,8 +135,8 @@ is_refusing rule count = not (nat_lt count rule.pass) && nat_lt count (rule.pass
 abbrev pub refuses_since : ℕ → Packet → Option (Rule × List Act) → Bool
 refuses_since number p None = false
 refuses_since number p (Some given) =
-    fits_packet given.0 p && is_refusing given.0 (counted number given.0 given.1)
+    fits_packet given.0 p && is_refusing given.0 (count_since number given.0 given.1)
 
 -- whether the rule with this number refuses a packet next
-abbrev pub refuses : List Act → ℕ → Packet → Bool
-refuses journal number p = refuses_since number p (since_given journal number)
+abbrev pub rule_refuses : List Act → ℕ → Packet → Bool
+rule_refuses journal number p = refuses_since number p (since_given journal number)

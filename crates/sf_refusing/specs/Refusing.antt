@@ -21,7 +21,7 @@ use Rattle.sf_refusing.specs.declared.rule.Rule.{Rule}
 use Rattle.sf_refusing.specs.declared.given.GivenRule.{GivenRule}
 use Rattle.sf_refusing.specs.declared.passage.Passage.{Passage}
 use Rattle.sf_refusing.specs.declared.refusals.Refusals.{Refusals}
-use Rattle.sf_refusing.specs.Journal.{Packet, Act, Ruled, Received, Delivered, Made, Apart, PassedOn, RefusedBy, log_of, received_in, taken_in, sent_in, delivered_in, rules_in, since_given, counted, refused_in, refuses}
+use Rattle.sf_refusing.specs.Journal.{Packet, Act, Ruled, Received, Delivered, Made, Apart, PassedOn, RefusedBy, log_of, received_in, taken_in, sent_in, delivered_in, rules_in, since_given, count_since, refused_in, rule_refuses}
 
 -- ---- what may happen
 
@@ -45,11 +45,11 @@ pub record MayPass (front : List Act) (p : Packet) (e : LogEntry) : Type 0 where
   pub is_body : IsBody p.body
   pub asks : Asks p.body p.asked
   pub fed : IsFed p.session (packet p.body) e
-  pub passes : (number : ℕ) → refuses front number p ≡ false
+  pub passes : (number : ℕ) → rule_refuses front number p ≡ false
 
 -- A request is refused: it isn't what its session begins with, all that came before it was
 -- answered, and this rule is the first one that refuses it.
-pub record MayRefuse (front : List Act) (p : Packet) (id number : ℕ) (code : StatusCode)
+pub record MayRefusePacket (front : List Act) (p : Packet) (id number : ℕ) (code : StatusCode)
     (e : LogEntry) : Type 0 where
   pub request : WireRequest
   pub asked : p.asked ≡ Request id request
@@ -61,15 +61,15 @@ pub record MayRefuse (front : List Act) (p : Packet) (id number : ℕ) (code : S
   pub since : List Act
   pub given : since_given front number ≡ Some (rule, since)
   pub code_is : code ≡ rule.code
-  pub refused : refuses front number p ≡ true
-  pub first : (other : ℕ) → other < number → refuses front other p ≡ false
+  pub refused : rule_refuses front number p ≡ true
+  pub first : (other : ℕ) → other < number → rule_refuses front other p ≡ false
   pub sent : ℕ
   pub event : e.event ≡ event.Sent p.session sent
 
 abbrev pub MayHappen : List Act → Act → Type 0
 MayHappen front (Made e) = (session : ℕ) → IsUnruled front session (fed_by session e.event e.result)
 MayHappen front (PassedOn p e) = MayPass front p e
-MayHappen front (RefusedBy p id number code e) = MayRefuse front p id number code e
+MayHappen front (RefusedBy p id number code e) = MayRefusePacket front p id number code e
 MayHappen front act = Unit {0}
 
 -- each of these might happen, after those before it
@@ -95,7 +95,7 @@ IsOwn session journal = AllByRecursion (IsNotApart session) journal
 
 -- What came for it was fed to the engine, or refused, in order, but for what is held. What it is
 -- sent has gone, or waits here, or in the engine.
-pub record IsServed (journal : List Act) (session : ℕ) (held output : List ℕ) : Type 0 where
+pub record IsServedHere (journal : List Act) (session : ℕ) (held output : List ℕ) : Type 0 where
   pub received : received_in session journal ≡ taken_in session journal ++ held
   pub unsent : List ℕ
   pub in_engine : IsUnsent (log_of journal) session unsent
@@ -104,28 +104,28 @@ pub record IsServed (journal : List Act) (session : ℕ) (held output : List ℕ
   pub waits : sent_in session journal ≡ gone ++ output ++ unsent
 
 -- So it is, if its bytes come and go here alone.
-pub record Serves (journal : List Act) (session : ℕ) (held output : List ℕ)
+pub record ServesHere (journal : List Act) (session : ℕ) (held output : List ℕ)
     (begun : Bool) : Type 0 where
   pub begun_is : begun ≡ nat_lt 0 (length (taken_in session journal))
-  pub served : IsOwn session journal → IsServed journal session held output
+  pub served : IsOwn session journal → IsServedHere journal session held output
 
 -- ---- one rule
 
 -- A rule that was given has this number. It passed as many as it may, and refused as many, of those
 -- that it counted since.
-pub record IsGiven (journal : List Act) (number : ℕ) (given : GivenRule) : Type 0 where
+pub record IsGivenRule (journal : List Act) (number : ℕ) (given : GivenRule) : Type 0 where
   pub since : List Act
   pub is : since_given journal number ≡ Some (given.rule, since)
-  pub passed : given.passed ≡ min given.rule.pass (counted number given.rule since)
+  pub passed : given.passed ≡ min given.rule.pass (count_since number given.rule since)
   pub refused : given.refused
-      ≡ min given.rule.refuse (counted number given.rule since - given.rule.pass)
+      ≡ min given.rule.refuse (count_since number given.rule since - given.rule.pass)
   pub told : given.refused ≡ refused_in number since
 
 -- so it is with each rule
 pub record AreGiven (journal : List Act) (rules : List GivenRule) : Type 0 where
   pub count : length rules ≡ length (rules_in journal)
   pub each : (number : ℕ) (given : GivenRule) → slice_get rules number ≡ Some given
-      → IsGiven journal number given
+      → IsGivenRule journal number given
 
 -- ---- all
 
@@ -133,9 +133,9 @@ pub record AreGiven (journal : List Act) (rules : List GivenRule) : Type 0 where
 pub record HasJournal (refusals : Refusals) (journal : List Act) : Type 0 where
   pub happened : AllMayHappen [] journal
   pub each : (i : ℕ) (p : Passage) → slice_get refusals.passages.items i ≡ Some p
-      → Serves journal (i + 1) p.held.items p.output.items p.begun
+      → ServesHere journal (i + 1) p.held.items p.output.items p.begun
   pub others : (session : ℕ) → (session ≡ 0) ⊎ (length refusals.passages.items < session)
-      → Serves journal session [] [] false
+      → ServesHere journal session [] [] false
   pub rules : AreGiven journal refusals.rules.items
 
 -- the refusals have this journal, and the engine its log
@@ -169,10 +169,10 @@ IsRefusal session acts = (p : Packet) × (id number : ℕ) × (code : StatusCode
     × (p.session ≡ session) × (acts ≡ RefusedBy p id number code e ∷ [])
 
 -- Whether what a session has next was refused, or passed on; or there was no memory to take it.
-abbrev pub MovesOn : List Act → ℕ → Result Bool EngineFault → List Act → Type 0
-MovesOn journal session (Ok true) acts = IsRefusal session acts
-MovesOn journal session (Ok false) acts = PassesOn journal session acts
-MovesOn journal session (Err f) acts =
+abbrev pub MovesFront : List Act → ℕ → Result Bool EngineFault → List Act → Type 0
+MovesFront journal session (Ok true) acts = IsRefusal session acts
+MovesFront journal session (Ok false) acts = PassesOn journal session acts
+MovesFront journal session (Err f) acts =
     (f ≡ fault.OutOfMemory) × (acts ≡ []) × WaitsForBytes (log_of journal) session
 
 -- What a turn of a session was: a refusal; or the engine's turns, after a packet was passed on; or

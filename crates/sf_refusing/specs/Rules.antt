@@ -11,33 +11,33 @@ use Rattle.sf_refusing.specs.declared.rule.RequestKind.TheVariants as kind
 use Rattle.sf_refusing.specs.declared.rule.Rule.{Rule}
 use Rattle.sf_refusing.specs.contracts.rule.RequestKindPartialEq.TheImpl.{ghosts}
 
-abbrev pub kind_of : WireRequest → RequestKind
-kind_of (request.Open filename flags attrs) = kind.Open
-kind_of (request.Close handle) = kind.Close
-kind_of (request.Read handle offset len) = kind.Read
-kind_of (request.Write handle offset bytes) = kind.Write
-kind_of (request.LStat path) = kind.LStat
-kind_of (request.FStat handle) = kind.FStat
-kind_of (request.SetStat path attrs) = kind.SetStat
-kind_of (request.FSetStat handle attrs) = kind.FSetStat
-kind_of (request.OpenDir path) = kind.OpenDir
-kind_of (request.ReadDir handle) = kind.ReadDir
-kind_of (request.Remove path) = kind.Remove
-kind_of (request.Mkdir path attrs) = kind.Mkdir
-kind_of (request.Rmdir path) = kind.Rmdir
-kind_of (request.RealPath path) = kind.RealPath
-kind_of (request.Stat path) = kind.Stat
-kind_of (request.Rename old new) = kind.Rename
-kind_of (request.PosixRename old new) = kind.PosixRename
-kind_of (request.Link old new) = kind.Link
+abbrev pub kind_asked : WireRequest → RequestKind
+kind_asked (request.Open filename flags attrs) = kind.Open
+kind_asked (request.Close handle) = kind.Close
+kind_asked (request.Read handle offset len) = kind.Read
+kind_asked (request.Write handle offset bytes) = kind.Write
+kind_asked (request.LStat path) = kind.LStat
+kind_asked (request.FStat handle) = kind.FStat
+kind_asked (request.SetStat path attrs) = kind.SetStat
+kind_asked (request.FSetStat handle attrs) = kind.FSetStat
+kind_asked (request.OpenDir path) = kind.OpenDir
+kind_asked (request.ReadDir handle) = kind.ReadDir
+kind_asked (request.Remove path) = kind.Remove
+kind_asked (request.Mkdir path attrs) = kind.Mkdir
+kind_asked (request.Rmdir path) = kind.Rmdir
+kind_asked (request.RealPath path) = kind.RealPath
+kind_asked (request.Stat path) = kind.Stat
+kind_asked (request.Rename old new) = kind.Rename
+kind_asked (request.PosixRename old new) = kind.PosixRename
+kind_asked (request.Link old new) = kind.Link
 
 -- the path that a text stands for, if it has no fault
-abbrev pub listed : Option Path → List Path
-listed None = []
-listed (Some path) = path ∷ []
+abbrev pub as_list : Option Path → List Path
+as_list None = []
+as_list (Some path) = path ∷ []
 
 abbrev pub path_in : List ℕ → List Path
-path_in text = listed (path_at text)
+path_in text = as_list (path_at text)
 
 -- the paths that a request names
 abbrev pub paths_of : WireRequest → List Path
@@ -71,4 +71,4 @@ fits rule session asked paths = is_any_or rule.session (λ wanted. nat_eq wanted
 
 -- whether it is for a session's request
 abbrev pub is_for : Rule → (session : ℕ) → WireRequest → Bool
-is_for rule session request = fits rule session (kind_of request) (paths_of request)
+is_for rule session request = fits rule session (kind_asked request) (paths_of request)

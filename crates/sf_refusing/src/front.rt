@@ -6,10 +6,10 @@ ghost use Rattle.sf_request.specs.declared.request.Asked.TheVariants.{Request};
 ghost use Rattle.sf_request.specs.declared.request.WireRequest.{WireRequest};
 ghost use Rattle.sf_request.specs.Requests.{Asks};
 ghost use Rattle.sf_wire.specs.Streams.{HasBody};
-ghost use Rattle.sf_refusing.specs.Rules.{kind_of, paths_of};
+ghost use Rattle.sf_refusing.specs.Rules.{kind_asked, paths_of};
 ghost use Rattle.sf_refusing.specs.Journal.{Act};
-ghost use Rattle.sf_refusing.specs.Refusing.{MovesOn};
-ghost use Rattle.sf_refusing.specs.Fronts.{Stands, Leaves};
+ghost use Rattle.sf_refusing.specs.Refusing.{MovesFront};
+ghost use Rattle.sf_refusing.specs.Fronts.{StandsBefore, EngineHoldsAfter};
 
 use crate::given::{GivenRule, count_with, first_refusing};
 use crate::passage::Passage;
@@ -27,7 +27,7 @@ fn subject_of(
 ) -> Result<Option<(u32, Subject)>, AllocError>
     ensures some { IfOk result (λ found. IfSome found (λ x. (request : WireRequest)
         × Asks body.now (Request x.0 request) × (x.1.session ≡ session)
-        × (x.1.kind ≡ kind_of request) × (x.1.paths.items ≡ paths_of request))) }
+        × (x.1.kind ≡ kind_asked request) × (x.1.paths.items ≡ paths_of request))) }
     ensures none { IfOk result (λ found. IfNone found ((asked : Asked) × Asks body.now asked
         × ((id : ℕ) (request : WireRequest) → asked ≡ Request id request → ⊥))) }
 {
@@ -49,9 +49,9 @@ fn decide<E: Sftp>(
     requires whole { HasBody passage.old.held.items len }
     requires begun { passage.old.begun ≡ true }
     ensures { (journal : List Act)
-        → Stands E.has_log engine.old journal session passage.old rules.old.items
-        → (acts : List Act) × MovesOn journal session result acts
-        × Leaves E.has_log engine.new journal session passage.new rules.new.items
+        → StandsBefore E.has_log engine.old journal session passage.old rules.old.items
+        → (acts : List Act) × MovesFront journal session result acts
+        × EngineHoldsAfter E.has_log engine.new journal session passage.new rules.new.items
         (journal ++ acts) }
 {
     let Ok(found) = subject_of(alloc, session, &passage.held.as_slice()[4..len]) else {
@@ -91,9 +91,9 @@ pub(crate) fn take_front<E: Sftp>(
     session: u64,
 ) -> Result<bool, EngineFault>
     ensures { (journal : List Act)
-        → Stands E.has_log engine.old journal session passage.old rules.old.items
-        → (acts : List Act) × MovesOn journal session result acts
-        × Leaves E.has_log engine.new journal session passage.new rules.new.items
+        → StandsBefore E.has_log engine.old journal session passage.old rules.old.items
+        → (acts : List Act) × MovesFront journal session result acts
+        × EngineHoldsAfter E.has_log engine.new journal session passage.new rules.new.items
         (journal ++ acts) }
 {
     let len = match cut(passage.held.as_slice()) {

@@ -10,7 +10,7 @@ ghost use Rattle.sf_engine.specs.Promise.{LogEntry, IsKnown, AreTurns, WaitsForB
 ghost use Rattle.sf_refusing.specs.declared.given.GivenRule.{GivenRule};
 ghost use Rattle.sf_refusing.specs.declared.passage.Passage.{Passage};
 ghost use Rattle.sf_refusing.specs.Journal.{Act, Ruled, Received, Delivered, Made, Apart, log_of, received_in, taken_in, since_given, refused_in};
-ghost use Rattle.sf_refusing.specs.Refusing.{HasJournal, Have, IsOwn, IsFed, IsTurn, MovesOn, IsNextOutput, MayRefuseFeed, MayRefuseSent};
+ghost use Rattle.sf_refusing.specs.Refusing.{HasJournal, Have, IsOwn, IsFed, IsTurn, MovesFront, IsNextOutput, MayRefuseFeed, MayRefuseSent};
 
 use crate::front::take_front;
 use crate::given::GivenRule;
@@ -136,7 +136,7 @@ impl Refusals {
     /// is told. For who knows more of an engine's turns than `turn` and `turns` tell.
     pub fn move_on<E: Sftp>(&mut self, engine: &mut E, session: u64) -> Result<bool, EngineFault>
         ensures { (journal : List Act) → Have E.has_log engine.old self.old journal
-            → (acts : List Act) × MovesOn journal session result acts
+            → (acts : List Act) × MovesFront journal session result acts
             × Have E.has_log engine.new self.new (journal ++ acts) }
     {
         let Some(at) = index_of(session, self.passages.len()) else {

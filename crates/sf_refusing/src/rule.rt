@@ -1,7 +1,7 @@
 //! Which requests are refused.
 
 ghost use Rattle.std.specs.Prelude.{◌≡◌, ◌++◌, IfOk, OnOk};
-ghost use Rattle.sf_refusing.specs.Rules.{kind_of, paths_of, path_in, names_path, fits};
+ghost use Rattle.sf_refusing.specs.Rules.{kind_asked, paths_of, path_in, names_path, fits};
 
 use sf_path::{Path, PathFault};
 use sf_reply::StatusCode;
@@ -56,8 +56,8 @@ pub(crate) struct Subject {
 }
 
 /// The kind of a request.
-fn kind_of(request: &WireRequest) -> RequestKind
-    ensures { result ≡ kind_of request.now }
+fn kind_asked(request: &WireRequest) -> RequestKind
+    ensures { result ≡ kind_asked request.now }
 {
     match request {
         WireRequest::Open { .. } => RequestKind::Open,
@@ -131,13 +131,13 @@ impl Subject {
         request: &WireRequest,
     ) -> Result<Subject, AllocError>
         ensures session { IfOk result (λ subject. subject.session ≡ session) }
-        ensures kind { IfOk result (λ subject. subject.kind ≡ kind_of request.now) }
+        ensures kind { IfOk result (λ subject. subject.kind ≡ kind_asked request.now) }
         ensures paths { IfOk result (λ subject. subject.paths.items ≡ paths_of request.now) }
     {
         let paths = paths_of(alloc, request)?;
         Ok(Subject {
             session,
-            kind: kind_of(request),
+            kind: kind_asked(request),
             paths,
         })
     }

@@ -5,7 +5,7 @@ use mathlib.Core.Option.{some, some-ne-none, some-injective}
 use lib.ListN.{get_elem?}
 use Rattle.atomic_table.proofs.Lists.{at_set, set_again}
 use Rattle.sf_roll.specs.declared.rule.Knowledge.{Knowledge}
-use Rattle.sf_roll.specs.Kept.{keeper, nobody, with_entry, new_ticket, taken_in, without_ticket, its_ticket, changed_to, Fits, AreKept}
+use Rattle.sf_roll.specs.Kept.{keeper, nobody, with_entry, new_ticket, with_ticket, without_ticket, its_ticket, changed_to, FitsSeat, AreKept}
 
 off : false ≡ true → ⊥
 off e = true≢false (sym e)
@@ -53,11 +53,11 @@ module _ {A : Type 0} where
   get_set_else (x ∷ xs) (suc k) (suc j) b n = get_set_else xs k j b (λ e. n (ap suc e))
 
 module _ {E : Type 0} where
-  nobody_fits : (fresh : E) (seat : ℕ) (all : List E) (owner : ℕ → ℕ) (by : ℕ) → Fits seat all owner by (nobody fresh)
+  nobody_fits : (fresh : E) (seat : ℕ) (all : List E) (owner : ℕ → ℕ) (by : ℕ) → FitsSeat seat all owner by (nobody fresh)
   nobody_fits fresh seat all owner by = ((λ k. absurd (off k)), (λ h. absurd (off h)))
 
   -- the place of a ticket that another has is another
-  apart_from : (seat : ℕ) (all : List E) (owner : ℕ → ℕ) (i j : ℕ) (v w : Knowledge E) → Fits seat all owner i v → v.holds ≡ true → Fits seat all owner j w → w.holds ≡ true → j ≢ i → w.place ≢ v.place
+  apart_from : (seat : ℕ) (all : List E) (owner : ℕ → ℕ) (i j : ℕ) (v w : Knowledge E) → FitsSeat seat all owner i v → v.holds ≡ true → FitsSeat seat all owner j w → w.holds ≡ true → j ≢ i → w.place ≢ v.place
   apart_from seat all owner i j v w fi hi fj hj apart same = apart ((fj.1 hj).0 ∙ ap owner same ∙ sym (fi.1 hi).0)
 
   pub opens : (fresh : E) (id : ℕ) (v : Knowledge E) → v.keeps ≡ true → (views : List (Knowledge E)) → AreKept views → get_elem? views id ≡ some v → AreKept (set views id (with_entry fresh v) ++ new_ticket fresh v ∷ [])
@@ -71,7 +71,7 @@ module _ {E : Type 0} where
         owner',
         λ j u e. ⊎_elim
             (λ was. ⊎_elim
-            (λ (x : (j ≡ id) × (with_entry fresh v ≡ u)). subst (λ (y : ℕ × Knowledge E). Fits id all' owner' y.0 y.1) (λ i. (sym x.0 i, x.1 i)) ((λ _. (refl, refl)), (λ c. absurd (off c))))
+            (λ (x : (j ≡ id) × (with_entry fresh v ≡ u)). subst (λ (y : ℕ × Knowledge E). FitsSeat id all' owner' y.0 y.1) (λ i. (sym x.0 i, x.1 i)) ((λ _. (refl, refl)), (λ c. absurd (off c))))
             (λ (x : (j ≢ id) × (get_elem? views j ≡ some u)).
             let f = h.3 j u x.1 in (
               (λ k. absurd (x.0 ((f.0 k).0 ∙ sym mine.0))),
@@ -81,7 +81,7 @@ module _ {E : Type 0} where
                   ((f.1 k).0 ∙ sym (put_other h.2 (length v.all) n u.place there), get_front v.all (fresh ∷ []) u.place u.own known)),
             ))
             (at_set views id j (with_entry fresh v) u was))
-            (λ new. subst (λ (y : ℕ × Knowledge E). Fits id all' owner' y.0 y.1) (λ i. (sym new.0 i, new.1 i)) ((λ k. absurd (off k)), (λ _. (sym (put_same h.2 (length v.all) n), get_last v.all fresh))))
+            (λ new. subst (λ (y : ℕ × Knowledge E). FitsSeat id all' owner' y.0 y.1) (λ i. (sym new.0 i, new.1 i)) ((λ k. absurd (off k)), (λ _. (sym (put_same h.2 (length v.all) n), get_last v.all fresh))))
             (at_end (set views id (with_entry fresh v)) (new_ticket fresh v) u j e),
       )
 
@@ -92,14 +92,14 @@ module _ {E : Type 0} where
     h.2,
     λ j u e. ⊎_elim
         (λ was. h.3 j u (subst (λ l. get_elem? l j ≡ some u) (set_again views id v at) was))
-        (λ (new : (j ≡ length (set views id v)) × (nobody fresh ≡ u)). subst (Fits h.0 h.1 h.2 j) new.1 (nobody_fits fresh h.0 h.1 h.2 j))
+        (λ (new : (j ≡ length (set views id v)) × (nobody fresh ≡ u)). subst (FitsSeat h.0 h.1 h.2 j) new.1 (nobody_fits fresh h.0 h.1 h.2 j))
         (at_end (set views id v) (nobody fresh) u j e),
   )
 
-  pub takes : (fresh : E) (id : ℕ) (v : Knowledge E) (other : ℕ) (w : Knowledge E) → v.keeps ≡ true → w.holds ≡ true → (views : List (Knowledge E)) → AreKept views → get_elem? views id ≡ some v → ¬ (other ≡ id) → get_elem? (set views id (taken_in v w)) other ≡ some w
-      → AreKept (set (set views id (taken_in v w)) other (nobody fresh))
+  pub takes : (fresh : E) (id : ℕ) (v : Knowledge E) (other : ℕ) (w : Knowledge E) → v.keeps ≡ true → w.holds ≡ true → (views : List (Knowledge E)) → AreKept views → get_elem? views id ≡ some v → ¬ (other ≡ id) → get_elem? (set views id (with_ticket v w)) other ≡ some w
+      → AreKept (set (set views id (with_ticket v w)) other (nobody fresh))
   takes fresh id v other w keeps holds views h at apart there =
-      let t = taken_in v w in
+      let t = with_ticket v w in
       let mine = (h.3 id v at).0 keeps in
       let theirs = ⊎_elim (λ (x : (other ≡ id) × (t ≡ w)). absurd (apart x.0)) (λ (x : (other ≢ id) × (get_elem? views other ≡ some w)). h.3 other w x.1) (at_set views id other t w there) in
       let owner' = put h.2 w.place id in (
@@ -107,9 +107,9 @@ module _ {E : Type 0} where
         h.1,
         owner',
         λ j u e. ⊎_elim
-            (λ (x : (j ≡ other) × (nobody fresh ≡ u)). subst (Fits id h.1 owner' j) x.1 (nobody_fits fresh id h.1 owner' j))
+            (λ (x : (j ≡ other) × (nobody fresh ≡ u)). subst (FitsSeat id h.1 owner' j) x.1 (nobody_fits fresh id h.1 owner' j))
             (λ (x : (j ≢ other) × (get_elem? (set views id t) j ≡ some u)). ⊎_elim
-            (λ (y : (j ≡ id) × (t ≡ u)). subst (λ (z : ℕ × Knowledge E). Fits id h.1 owner' z.0 z.1) (λ i. (sym y.0 i, y.1 i)) ((λ _. (refl, mine.1)), (λ _. (sym (put_same h.2 w.place id), (theirs.1 holds).1))))
+            (λ (y : (j ≡ id) × (t ≡ u)). subst (λ (z : ℕ × Knowledge E). FitsSeat id h.1 owner' z.0 z.1) (λ i. (sym y.0 i, y.1 i)) ((λ _. (refl, mine.1)), (λ _. (sym (put_same h.2 w.place id), (theirs.1 holds).1))))
             (λ (y : (j ≢ id) × (get_elem? views j ≡ some u)).
             let f = h.3 j u y.1 in (
               (λ k. absurd (y.0 ((f.0 k).0 ∙ sym mine.0))),
@@ -135,7 +135,7 @@ module _ {E : Type 0} where
         all',
         h.2,
         λ j u there. ⊎_elim
-            (λ (x : (j ≡ id) × (changed_to v e ≡ u)). subst (λ (z : ℕ × Knowledge E). Fits id all' h.2 z.0 z.1) (λ i. (sym x.0 i, x.1 i)) ((λ _. (refl, refl)), (λ _. ((f.1 holds).0, get_set v.all v.place v.own e known))))
+            (λ (x : (j ≡ id) × (changed_to v e ≡ u)). subst (λ (z : ℕ × Knowledge E). FitsSeat id all' h.2 z.0 z.1) (λ i. (sym x.0 i, x.1 i)) ((λ _. (refl, refl)), (λ _. ((f.1 holds).0, get_set v.all v.place v.own e known))))
             (λ (x : (j ≢ id) × (get_elem? views j ≡ some u)).
             let g = h.3 j u x.1 in (
               (λ k. absurd (x.0 ((g.0 k).0 ∙ sym mine.0))),
@@ -155,14 +155,14 @@ module _ {E : Type 0} where
         owner',
         λ j u e. ⊎_elim
             (λ was. ⊎_elim
-            (λ (x : (j ≡ id) × (without_ticket fresh v ≡ u)). subst (λ (y : ℕ × Knowledge E). Fits id h.1 owner' y.0 y.1) (λ i. (sym x.0 i, x.1 i)) ((λ _. (refl, mine.1)), (λ c. absurd (off c))))
+            (λ (x : (j ≡ id) × (without_ticket fresh v ≡ u)). subst (λ (y : ℕ × Knowledge E). FitsSeat id h.1 owner' y.0 y.1) (λ i. (sym x.0 i, x.1 i)) ((λ _. (refl, mine.1)), (λ c. absurd (off c))))
             (λ (x : (j ≢ id) × (get_elem? views j ≡ some u)).
             let g = h.3 j u x.1 in (
               (λ k. absurd (x.0 ((g.0 k).0 ∙ sym mine.0))),
               (λ k. ((g.1 k).0 ∙ sym (put_other h.2 v.place n u.place (apart_from h.0 h.1 h.2 id j v u f holds g k x.0)), (g.1 k).1)),
             ))
             (at_set views id j (without_ticket fresh v) u was))
-            (λ new. subst (λ (y : ℕ × Knowledge E). Fits id h.1 owner' y.0 y.1) (λ i. (sym new.0 i, new.1 i)) ((λ k. absurd (off k)), (λ _. (sym (put_same h.2 v.place n), (f.1 holds).1))))
+            (λ new. subst (λ (y : ℕ × Knowledge E). FitsSeat id h.1 owner' y.0 y.1) (λ i. (sym new.0 i, new.1 i)) ((λ k. absurd (off k)), (λ _. (sym (put_same h.2 v.place n), (f.1 holds).1))))
             (at_end (set views id (without_ticket fresh v)) (its_ticket v) u j e),
       )
 
@@ -176,6 +176,6 @@ module _ {E : Type 0} where
   pub begins : (fresh : E) → AreKept (keeper fresh [] ∷ [])
   begins fresh = (0, [], (λ n. n), one)
     where
-      one : (by : ℕ) (v : Knowledge E) → get_elem? (keeper fresh [] ∷ []) by ≡ some v → Fits 0 [] (λ n. n) by v
-      one zero v e = subst (Fits 0 [] (λ n. n) 0) (some-injective _ _ e) ((λ _. (refl, refl)), (λ c. absurd (off c)))
+      one : (by : ℕ) (v : Knowledge E) → get_elem? (keeper fresh [] ∷ []) by ≡ some v → FitsSeat 0 [] (λ n. n) by v
+      one zero v e = subst (FitsSeat 0 [] (λ n. n) 0) (some-injective _ _ e) ((λ _. (refl, refl)), (λ c. absurd (off c)))
       one (suc by) v e = absurd (some-ne-none v (sym e))

@@ -37,8 +37,8 @@ abbrev pub new_ticket : {E : Type 0} → E → Knowledge E → Knowledge E
 new_ticket fresh v = ticket (length v.all) fresh
 
 -- the keeper with a ticket
-abbrev pub taken_in : {E : Type 0} → Knowledge E → Knowledge E → Knowledge E
-taken_in v w =
+abbrev pub with_ticket : {E : Type 0} → Knowledge E → Knowledge E → Knowledge E
+with_ticket v w =
     record { keeps = v.keeps; all = v.all; holds = w.holds; place = w.place; own = w.own }
 
 abbrev pub without_ticket : {E : Type 0} → E → Knowledge E → Knowledge E
@@ -66,12 +66,12 @@ changes becomes m n = n ≡ (changed_to m.0 (becomes m.0.own), m.1)
 
 -- What is true of the seat of this number: it knows all only if it is the keeper, and one entry
 -- only if it is the owner of that.
-abbrev pub Fits : {E : Type 0} → ℕ → List E → (ℕ → ℕ) → ℕ → Knowledge E → Type 0
-Fits seat all owner by v =
+abbrev pub FitsSeat : {E : Type 0} → ℕ → List E → (ℕ → ℕ) → ℕ → Knowledge E → Type 0
+FitsSeat seat all owner by v =
     (v.keeps ≡ true → (by ≡ seat) × (v.all ≡ all))
     × (v.holds ≡ true → (by ≡ owner v.place) × (slice_get all v.place ≡ Some v.own))
 
 -- there are one keeper, one list of entries and one owner of each, and so each seat fits
 abbrev pub AreKept : {E : Type 0} → List (Knowledge E) → Type 0
 AreKept {E = E} views = (seat : ℕ) × (all : List E) × (owner : ℕ → ℕ)
-    × ((by : ℕ) (v : Knowledge E) → get_elem? views by ≡ some v → Fits seat all owner by v)
+    × ((by : ℕ) (v : Knowledge E) → get_elem? views by ≡ some v → FitsSeat seat all owner by v)

@@ -86,9 +86,9 @@ impl<E: RollEntry> Split<Knowledge<E>> for Spares {
 pub(crate) struct Takes;
 
 impl<E: RollEntry> Join<Knowledge<E>> for Takes {
-    ghost use Rattle.sf_roll.specs.Kept.{taken_in, nobody};
+    ghost use Rattle.sf_roll.specs.Kept.{with_ticket, nobody};
 
-    ghost both = { taken_in };
+    ghost both = { with_ticket };
 
     ghost spent = { nobody E.fresh };
 }

@@ -76,15 +76,15 @@ abbrev pub recorded_in : ℕ → List Record → List RepliedCall
 recorded_in session history = flat_map (recorded_by session) history
 
 -- the calls among what a session was answered, one after the other
-abbrev pub answered_by : Response → List RepliedCall
-answered_by Version = []
-answered_by (Locally id reply) = []
-answered_by (ByCall id number request reply) =
+abbrev pub calls_answered : Response → List RepliedCall
+calls_answered Version = []
+calls_answered (Locally id reply) = []
+calls_answered (ByCall id number request reply) =
     record { number = number; request = request; reply = reply } ∷ []
-answered_by (Refused id request fault) = []
+calls_answered (Refused id request fault) = []
 
 abbrev pub answered_in : List Response → List RepliedCall
-answered_in answers = flat_map answered_by answers
+answered_in answers = flat_map calls_answered answers
 
 -- What is due to a session: nothing; or the reply to a call of this request's id, which has no
 -- record yet, or has it.

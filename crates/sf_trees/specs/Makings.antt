@@ -123,8 +123,8 @@ WritesContents session len contents handle operations result =
     operations result
 
 -- WRITE, CREAT and TRUNC
-abbrev pub to_write : OpenFlags
-to_write = record {
+abbrev pub to_create : OpenFlags
+to_create = record {
   read = false;
   write = true;
   append = false;
@@ -141,7 +141,7 @@ OpensFile session path flags len operations result =
 -- A file is opened to be written anew, written and closed.
 abbrev pub Fills : ℕ → List ℕ → List ℕ → List Operation → Result (Unit {0}) Refused → Type 0
 Fills session path contents operations result =
-    Then (OpensFile session path to_write (length path))
+    Then (OpensFile session path to_create (length path))
     (WritesContents session (length path) contents) operations result
 
 -- the directory of a path, and those on its way

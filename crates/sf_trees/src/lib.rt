@@ -5,9 +5,11 @@
 #![tactic(auto)]
 
 mod fault;
+mod length;
 mod making;
 mod server;
 
 pub use fault::{Place, Refused, TreeFault};
+pub use length::is_too_long;
 pub use making::{link, make_directory, write_file};
 pub use server::Server;

@@ -9,7 +9,7 @@ use Rattle.sf_noted.specs.Pages.{BegunCall, begun_call, Page}
 use Rattle.sf_session.specs.SessionStates.{SessionState}
 use Rattle.sf_serving.specs.Serving.{LineView, Progress}
 use Rattle.sf_pool.specs.SessionLanes.{SessionLaneState, JoinRefused, Joined, SessionLaneView}
-use Rattle.sf_pool.specs.Scenes.{LaneScene, IsInCall, ServesLane, NeverJoins, HasLeft, LeavesFor, StopsLane, IsLaneFault}
+use Rattle.sf_pool.specs.Scenes.{LaneScene, IsInCall, ServesLane, NeverJoins, HasLeftLane, LeavesFor, StopsLane, IsLaneFault}
 use Rattle.sf_pool.specs.OnCores.{IsPageOf, IsVisitOf}
 use Rattle.sf_workers.specs.Told.{IsSpentBy, EndsServing, IsOutcomeOf}
 
@@ -20,11 +20,11 @@ same_state a b e = cc
 abbrev HasJoined : SessionLaneState → Type 0
 HasJoined place = (state : LaneState BegunCall) × (place ≡ Joined state)
 
-left_joined : (lane : SessionLaneView) (t : SessionState) (old new : ℕ) → HasLeft lane t old new → HasJoined lane.place
+left_joined : (lane : SessionLaneView) (t : SessionState) (old new : ℕ) → HasLeftLane lane t old new → HasJoined lane.place
 left_joined lane t old new (inl left) = (NoLane, left.0)
 left_joined lane t old new (inr call) = (Busy (begun_call call.0.number call.0.moment call.0.request), call.0.placed)
 
-left_for : (f : ServeFault) (lane : SessionLaneView) (p : Progress) (old new : ℕ) → LeavesFor f lane p old new → HasLeft lane p.state old new
+left_for : (f : ServeFault) (lane : SessionLaneView) (p : Progress) (old new : ℕ) → LeavesFor f lane p old new → HasLeftLane lane p.state old new
 left_for fault.Line lane p old new h = h
 left_for fault.OutOfMemory lane p old new h = h
 left_for fault.Sessions lane p old new h = absurd h
@@ -38,7 +38,7 @@ spent_by fault.Sessions lane p old new h = absurd h
 spent_by fault.Stranger lane p old new h = absurd h
 spent_by fault.NumbersSpent lane p old new h = h.1
 
-stands : (x : ℕ × Page) (lane : SessionLaneView) (t : SessionState) (old new : ℕ) → IsPageOf lane x → HasLeft lane t old new
+stands : (x : ℕ × Page) (lane : SessionLaneView) (t : SessionState) (old new : ℕ) → IsPageOf lane x → HasLeftLane lane t old new
     → (x.1.state ≡ NoLane) ⊎ IsInCall (Joined x.1.state) t.phase
 stands x lane t old new page (inl left) = inl (same_state x.1.state NoLane (page.place ∙ left.0))
 stands x lane t old new page (inr call) = inr (subst (λ (place : SessionLaneState). IsInCall place t.phase) (sym page.place) call.0)

@@ -17,7 +17,7 @@ use Rattle.sf_serving.specs.Hosts.{most_counted}
 use Rattle.sf_serving.specs.Serving.{LineView, Progress, ServedSoFar, IsServed, HasWrittenFor}
 use Rattle.sf_pool.specs.SessionLanes.{Joined}
 use Rattle.sf_pool.specs.Scenes.{state_calls, lane_held, IsInCall, IsLaneFault}
-use Rattle.sf_pool.specs.OnCores.{calls_begun}
+use Rattle.sf_pool.specs.OnCores.{page_calls}
 use Rattle.sf_workers.specs.declared.workers.Attended.{Attended}
 use Rattle.sf_workers.specs.declared.workers.Attended.TheVariants.{Served, NotJoined, NoRoom}
 
@@ -29,8 +29,8 @@ abbrev pub told_in : Transcript → ℕ × List CallRecord
 told_in t = (t.session, map call_record t.calls.items)
 
 -- what transcripts have of these sessions: all, where they are kept
-abbrev pub kept_of : Bool → List (ℕ × Page) → List (ℕ × List CallRecord)
-kept_of keeps visits = if keeps then map told_on visits else []
+abbrev pub kept_transcripts : Bool → List (ℕ × Page) → List (ℕ × List CallRecord)
+kept_transcripts keeps visits = if keeps then map told_on visits else []
 
 -- numbers are spent only by so many bytes that were read, or so many steps of a session's calls
 abbrev pub IsSpentBy : ServeFault → (steps : ℕ) → Progress → Type 0
@@ -66,20 +66,20 @@ IsOutcomeOf (Err refusal) from line Ends = line ≡ from
 -- What came of a line: a session was served over it to its end, or to this fault, and its visit is
 -- noted; or nothing was read or written, since its session was refused, or there was no room to
 -- note one more.
-abbrev pub ServesLine : Attended → (visits visits' : List (ℕ × Page)) → (lacks_room : Type 0)
+abbrev pub AttendsLine : Attended → (visits visits' : List (ℕ × Page)) → (lacks_room : Type 0)
     → (from line : LineView) → (failed failed' : ℕ) → Type 0
-ServesLine (Served outcome) visits visits' lacks_room from line failed failed' =
+AttendsLine (Served outcome) visits visits' lacks_room from line failed failed' =
     (x : ℕ × Page) × (steps : ℕ)
     × WasServed x from line (EndsServing outcome line.incoming failed failed' steps)
     × (visits' ≡ visits ++ x ∷ [])
-ServesLine (NotJoined refusal) visits visits' lacks_room from line failed failed' =
+AttendsLine (NotJoined refusal) visits visits' lacks_room from line failed failed' =
     (visits' ≡ visits) × (line ≡ from)
-ServesLine (NoRoom error) visits visits' lacks_room from line failed failed' =
+AttendsLine (NoRoom error) visits visits' lacks_room from line failed failed' =
     lacks_room × (visits' ≡ visits) × (line ≡ from)
 
 -- how many calls they began
-abbrev pub calls_of : List (ℕ × Page) → ℕ
-calls_of visits = sum_by (λ x. calls_begun x.1) visits
+abbrev pub visit_calls : List (ℕ × Page) → ℕ
+visit_calls visits = sum_by (λ x. page_calls x.1) visits
 
 -- The core has one history, in which each session's calls are those that it was told, in order, and
 -- one more at most, whose reply waits. The core has no other calls than these sessions'.
@@ -87,10 +87,10 @@ pub record AreAllTold (core : CoreView) (visits : List (ℕ × Page)) : Type 0 w
   pub history : List Record
   pub whole : IsHistory core history
   pub told : All (IsVisitIn history) visits
-  pub all : calls_of visits ≡ core.drawn
+  pub all : visit_calls visits ≡ core.drawn
 
 -- Such sessions are there, and transcripts have what they were told, where they are kept.
 pub record HasTold (keeps : Bool) (core : CoreView) (transcripts : List Transcript) : Type 0 where
   pub visits : List (ℕ × Page)
   pub told : AreAllTold core visits
-  pub kept : map told_in transcripts ≡ kept_of keeps visits
+  pub kept : map told_in transcripts ≡ kept_transcripts keeps visits

@@ -5,7 +5,7 @@ ghost use Rattle.sf_call.specs.declared.record.Record.{Record};
 ghost use Rattle.sf_core.specs.Histories.{IsHistory};
 ghost use Rattle.sf_noted.specs.Noted.{PagesAgree};
 ghost use Rattle.sf_noted.specs.Visits.{IsVisitIn};
-ghost use Rattle.sf_workers.specs.Told.{told_in, kept_of, calls_of, AreAllTold, HasTold};
+ghost use Rattle.sf_workers.specs.Told.{told_in, kept_transcripts, visit_calls, AreAllTold, HasTold};
 
 use crate::told::Told;
 use crate::workers::{Place, Served, jobs, work_all};
@@ -41,7 +41,7 @@ pub struct Outcome<B: RollName + Ledger> {
 struct AllServed<B: RollName + Ledger> {
     told: Told<B>,
     share: Share<B>,
-    ghost counted: { share.amount ≡ calls_of told.visits.items },
+    ghost counted: { share.amount ≡ visit_calls told.visits.items },
 }
 
 /// What workers came to, as what one came to. The rest of the share that they didn't have is
@@ -99,7 +99,7 @@ fn conclude<B: RollName + Ledger>(
     requires parts { all.share.parts ≡ B.parts }
     ensures told { IfOk result (λ o. AreAllTold o.core o.visits.items) }
     ensures kept { IfOk result (λ o. map told_in o.transcripts.items
-        ≡ kept_of all.told.keeps o.visits.items) }
+        ≡ kept_transcripts all.told.keeps o.visits.items) }
     ensures calls { IfOk result (λ o. o.share.amount ≡ o.core.drawn) }
     ensures parts { IfOk result (λ o. o.share.parts ≡ all.share.parts) }
 {
@@ -149,7 +149,7 @@ pub fn serve_lines<
     requires none { all.amount ≡ 0 }
     ensures told { IfOk result (λ o. AreAllTold o.core o.visits.items) }
     ensures kept { IfOk result (λ o. map told_in o.transcripts.items
-        ≡ kept_of keep o.visits.items) }
+        ≡ kept_transcripts keep o.visits.items) }
     ensures calls { IfOk result (λ o. o.share.amount ≡ o.core.drawn) }
     ensures parts { IfOk result (λ o. o.share.parts ≡ all.parts) }
 {

@@ -2,8 +2,8 @@
 
 ghost use Rattle.std.specs.Prelude.{◌≡◌, ◌<◌, ◌≤◌, ◌⊎◌, ◌+◌, ◌++◌, ◌∷◌, [], true, map, vec_len, IfOk, OnOk, OnErr};
 ghost use Rattle.std.specs.Vec.{vec_capacity};
-ghost use Rattle.sf_pool.specs.OnCores.{calls_begun};
-ghost use Rattle.sf_workers.specs.Told.{told_on, told_in, kept_of, calls_of};
+ghost use Rattle.sf_pool.specs.OnCores.{page_calls};
+ghost use Rattle.sf_workers.specs.Told.{told_on, told_in, kept_transcripts, visit_calls};
 
 use sf_audit::Transcript;
 use sf_noted::Visit;
@@ -17,7 +17,7 @@ pub(crate) struct Told<B: RollName> {
     pub(crate) visits: Vec<Visit<B>>,
     pub(crate) transcripts: Vec<Transcript>,
     pub(crate) keeps: bool,
-    ghost kept: { map told_in transcripts.items ≡ kept_of keeps visits.items },
+    ghost kept: { map told_in transcripts.items ≡ kept_transcripts keeps visits.items },
 }
 
 impl<B: RollName> Told<B> {
@@ -57,8 +57,8 @@ impl<B: RollName> Told<B> {
         requires transcripts { vec_len self.old.transcripts < vec_capacity self.old.transcripts }
         requires told { self.old.keeps ≡ true → told_in transcript ≡ told_on visit }
         ensures visits { self.new.visits.items ≡ self.old.visits.items ++ visit ∷ [] }
-        ensures calls { calls_of self.new.visits.items
-            ≡ calls_of self.old.visits.items + calls_begun visit.1 }
+        ensures calls { visit_calls self.new.visits.items
+            ≡ visit_calls self.old.visits.items + page_calls visit.1 }
         ensures keeps { self.new.keeps ≡ self.old.keeps }
     {
         let Told {

@@ -7,7 +7,7 @@ ghost use Rattle.sf_noted.specs.Visits.{IsVisitIn};
 ghost use Rattle.sf_serving.specs.Serving.{line_view};
 ghost use Rattle.sf_pool.specs.OnCores.{calls_begun_by};
 ghost use Rattle.sf_workers.specs.Conversations.{ConversesIn};
-ghost use Rattle.sf_workers.specs.Told.{told_on, told_in, calls_of, EndsServing, IsOutcomeOf, ServesLine};
+ghost use Rattle.sf_workers.specs.Told.{told_on, told_in, visit_calls, EndsServing, IsOutcomeOf, AttendsLine};
 
 use crate::told::Told;
 use crossbeam_channel::Receiver;
@@ -75,7 +75,7 @@ pub(crate) struct Served<B: RollName + Ledger> {
     pub(crate) told: Told<B>,
     pub(crate) share: ledger::Share<B>,
     ghost two_parts: { share.parts ≡ 2 },
-    ghost counted: { share.amount ≡ calls_of told.visits.items },
+    ghost counted: { share.amount ≡ visit_calls told.visits.items },
 }
 
 /// Where sessions are served: a core that threads share, and the queue of those that wait for it.
@@ -175,7 +175,7 @@ impl<B: RollName + Ledger> Served<B> {
     ) -> (Served<B>, Attended)
         requires room { vec_len piece.old ≡ 65536 }
         ensures keeps { result.0.told.keeps ≡ self.told.keeps }
-        ensures line { ServesLine result.1 self.told.visits.items result.0.told.visits.items
+        ensures line { AttendsLine result.1 self.told.visits.items result.0.told.visits.items
             ((vec_capacity self.told.visits ≤ vec_len self.told.visits)
             ⊎ (vec_capacity self.told.transcripts ≤ vec_len self.told.transcripts))
             (line_view (L.incoming line.old) (L.outgoing line.old) (L.calls line.old))

@@ -1,7 +1,7 @@
 use Rattle.std.proofs.Common.{subst}
 use Rattle.sf_engine.specs.Views.{EngineView}
 use Rattle.sf_refusing.specs.declared.refusals.Refusals.{Refusals}
-use Rattle.sf_c.specs.Journals.{WantsBytes}
+use Rattle.sf_c.specs.Journals.{SaysItWaits}
 use Rattle.sf_c.proofs.lucernetick_wants_bytes.Goals as goal
 
 pub returns-clause-wants : goal.returns-clause-wants
@@ -11,6 +11,6 @@ returns-clause-wants c =
       c.take-refusals.result.value,
       c.take-engine.ensures.engine,
       c.take-refusals.ensures.refusals,
-      subst (λ (e : EngineView). WantsBytes e c.take-refusals.result.value c.args.session wants) c.deref.ensures
-          (subst (λ (r : Refusals). WantsBytes c.deref.result.now r c.args.session wants) c.deref-2.ensures c.wants_bytes-wants.ensures),
+      subst (λ (e : EngineView). SaysItWaits e c.take-refusals.result.value c.args.session wants) c.deref.ensures
+          (subst (λ (r : Refusals). SaysItWaits c.deref.result.now r c.args.session wants) c.deref-2.ensures c.wants_bytes-wants.ensures),
     )

@@ -3,7 +3,7 @@ use Rattle.sf_core.specs.Cores.{CoreView}
 use Rattle.sf_core.specs.Histories.{IsHistory}
 use Rattle.sf_noted.specs.Pages.{Page}
 use Rattle.sf_noted.specs.Noted.{HasPages}
-use Rattle.sf_workers.specs.Told.{calls_of}
+use Rattle.sf_workers.specs.Told.{visit_calls}
 use Rattle.sf_workers.proofs.lines.conclude.Goals as goal
 
 pub returns-clause-told : goal.returns-clause-told
@@ -15,5 +15,5 @@ returns-clause-told g c =
       history = n.0;
       whole = subst (λ (v : CoreView). IsHistory v n.0) (sym same) n.1.history;
       told = e.told n.0 n.1;
-      all = ap calls_of e.visits ∙ sym c.args.all.counted ∙ c.gather.ensures.all ∙ ap (λ (v : CoreView × List Page). v.0.drawn) e.core ∙ sym (ap (λ (v : CoreView). v.drawn) same);
+      all = ap visit_calls e.visits ∙ sym c.args.all.counted ∙ c.gather.ensures.all ∙ ap (λ (v : CoreView × List Page). v.0.drawn) e.core ∙ sym (ap (λ (v : CoreView). v.drawn) same);
     }

@@ -2,8 +2,8 @@ use Rattle.std.proofs.Common.{◌≡◌, ℕ, ap, subst, ◌∙◌, length, arit
 use Rattle.std.proofs.lemmas.List.Sums.{sum_by-append}
 use Rattle.std.proofs.lemmas.List.Elements.{All-tail}
 use Rattle.sf_noted.specs.Pages.{Page}
-use Rattle.sf_pool.specs.OnCores.{calls_begun}
-use Rattle.sf_workers.specs.Told.{calls_of}
+use Rattle.sf_pool.specs.OnCores.{page_calls}
+use Rattle.sf_workers.specs.Told.{visit_calls}
 use Rattle.sf_workers.specs.declared.workers.Served.{Served}
 use Rattle.sf_workers.proofs.lines.together.Goals as goal
 
@@ -14,7 +14,7 @@ loop-served-preserved g c =
     let next = c.in-Some.ensures.steps.0 in
     let old = c.loop-served.told.visits.items in
     let more = s.told.visits.items in
-    let all = ap calls_of c.in_ok-told.ensures.visits ∙ sum_by-append (λ (x : ℕ × Page). calls_begun x.1) old more in
+    let all = ap visit_calls c.in_ok-told.ensures.visits ∙ sum_by-append (λ (x : ℕ × Page). page_calls x.1) old more in
     let one = ap length next in
     let Keeps : Served g.row.B.Denot g.B.RollName → Type 0 = λ it. it.told.keeps ≡ c.args.keeps in
     record {

@@ -6,7 +6,7 @@ use Rattle.sf_core.specs.Progress.{undecided_in}
 use Rattle.sf_core.specs.Cores.{CoreView}
 use Rattle.sf_core.specs.Lanes.{LaneView}
 use Rattle.sf_core.specs.Parts.{core_of}
-use Rattle.sf_core.specs.Events.{Leaves}
+use Rattle.sf_core.specs.Events.{SessionLeaves}
 use Rattle.sf_core.specs.Histories.{IsHistory}
 use Rattle.sf_core.proofs.Leaving.{left_sound, left_told}
 use Rattle.sf_core.proofs.Turns.{sound_of}
@@ -25,8 +25,8 @@ invariant_of-self c =
 pub returns-clause-ok : goal.returns-clause-ok
 returns-clause-ok c =
     let core = c.self.invariant.0 in
-    subst (λ (v : CoreView). Leaves v (core_of c.leave.new.self) c.args.lane.session) c.self.view_is
-    (subst (λ (s : ℕ). Leaves (core_of c.self.inside.parts) (core_of c.leave.new.self) s) (ap (λ (l : LaneView). l.session) c.lane.view_is)
+    subst (λ (v : CoreView). SessionLeaves v (core_of c.leave.new.self) c.args.lane.session) c.self.view_is
+    (subst (λ (s : ℕ). SessionLeaves (core_of c.self.inside.parts) (core_of c.leave.new.self) s) (ap (λ (l : LaneView). l.session) c.lane.view_is)
     (left_told c.self.inside.parts c.leave.new.self core.history core.sound c.lane.inside.session c.leave.ensures (c.if-not-is_idle.ensures.0 refl)))
 
 pub returns-clause-history : goal.returns-clause-history

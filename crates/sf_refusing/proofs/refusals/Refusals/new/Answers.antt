@@ -2,13 +2,13 @@ use Rattle.std.proofs.Common.{false, ◌≡◌, ℕ, List, [], Some, refl, sym, 
 use Rattle.sf_session.specs.Responses.{transcript}
 use Rattle.sf_refusing.specs.declared.given.GivenRule.{GivenRule}
 use Rattle.sf_refusing.specs.declared.passage.Passage.{Passage}
-use Rattle.sf_refusing.specs.Refusing.{AllMayHappen, Serves, AreGiven}
+use Rattle.sf_refusing.specs.Refusing.{AllMayHappen, ServesHere, AreGiven}
 use Rattle.sf_refusing.proofs.refusals.Refusals.new.Goals as goal
 
 nothing_got : {A : Type 0} (i : ℕ) (x : A) → slice_get {X = A} [] i ≡ Some x → ⊥
 nothing_got i x e = cc
 
-none_serves : (s : ℕ) → Serves [] s [] [] false
+none_serves : (s : ℕ) → ServesHere [] s [] [] false
 unfolding transcript
 none_serves s = record {
   begun_is = refl;

@@ -12,7 +12,7 @@ use Rattle.sf_engine.specs.declared.event.Event.TheVariants as event
 use Rattle.sf_engine.specs.Promise.{LogEntry, log_entry, MayComeTo}
 use Rattle.sf_refusing.specs.Journal.{Act, Delivered, log_of}
 use Rattle.sf_refusing.specs.Refusing.{Have, MayRefuseSent}
-use Rattle.sf_refusing.specs.Fronts.{IsAt}
+use Rattle.sf_refusing.specs.Fronts.{IsPassageAt}
 use Rattle.sf_refusing.proofs.Faults.{on_err_from, sent_refused}
 use Rattle.sf_refusing.proofs.Sessions.{on_err, on_ok_from, kept_has, have_still, delivered_has, IsGone, were_there, sent_has, sent_none, were_sent, log_delivered, log_delivered_alone}
 use Rattle.sf_refusing.proofs.refusals.Refusals.sent.Goals as goal
@@ -103,7 +103,7 @@ returns-in_err-sent-clause-fault g c =
     let s : ℕ = c.args.session in
     let p : Passage = c.index_mut.result.now in
     let here : slice_get c.args.self.now.passages.items c.in-Some.at ≡ Some p = slice_get_read c.args.self.now.passages.items (length c.args.self.now.passages.items) c.in-Some.at p refl (omega (arith, c.in-Some.ensures.some.1, c.len.ensures, c.args.self.now.passages.ok.0)) c.index_mut.ensures.value in
-    let at : IsAt journal s p = subst (λ (n : ℕ). IsAt journal n p) c.in-Some.ensures.some.0 (H.0.each c.in-Some.at p here) in
+    let at : IsPassageAt journal s p = subst (λ (n : ℕ). IsPassageAt journal n p) c.in-Some.ensures.some.0 (H.0.each c.in-Some.at p here) in
     let k : ℕ = c.args.count - c.len-waiting.result in
     let on = c.in_err-sent.ensures.on (log_of journal) H.1 in
     let e : LogEntry = log_entry (event.Sent s k) (Err c.in_err-sent.field-0.0) on.0 on.1 in

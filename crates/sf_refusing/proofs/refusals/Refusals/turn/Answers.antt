@@ -5,14 +5,14 @@ use Rattle.sf_engine.specs.declared.event.EngineFault.{EngineFault}
 use Rattle.sf_engine.specs.declared.event.Event.TheVariants as event
 use Rattle.sf_engine.specs.Promise.{LogEntry, log_entry, AreTurns}
 use Rattle.sf_refusing.specs.Journal.{log_of}
-use Rattle.sf_refusing.specs.Refusing.{MovesOn}
+use Rattle.sf_refusing.specs.Refusing.{MovesFront}
 use Rattle.sf_refusing.proofs.Sessions.{turned, one_turn}
 use Rattle.sf_refusing.proofs.refusals.Refusals.turn.Goals as goal
 
 pub returns : goal.returns
 returns g c = λ journal H.
     let on = c.in_ok-move_on.ensures journal H in
-    let passes : MovesOn journal c.args.session (Ok false) on.0 = subst (λ (b : Bool). MovesOn journal c.args.session (Ok b) on.0) c.if-branch.false on.1 in
+    let passes : MovesFront journal c.args.session (Ok false) on.0 = subst (λ (b : Bool). MovesFront journal c.args.session (Ok b) on.0) c.if-branch.false on.1 in
     let did = c.apply.ensures.on (log_of (journal ++ on.0)) on.2.1 in
     let e : LogEntry = log_entry (event.Turn c.args.session c.args.moment) c.apply.result did.0 did.1 in
     let one = one_turn c.args.session c.args.moment c.apply.result e refl refl in

@@ -5,14 +5,14 @@ use Rattle.sf_engine.specs.declared.event.EngineFault.{EngineFault}
 use Rattle.sf_engine.specs.declared.event.Event.TheVariants as event
 use Rattle.sf_engine.specs.Promise.{LogEntry, log_entry, AreTurns}
 use Rattle.sf_refusing.specs.Journal.{log_of}
-use Rattle.sf_refusing.specs.Refusing.{MovesOn}
+use Rattle.sf_refusing.specs.Refusing.{MovesFront}
 use Rattle.sf_refusing.proofs.Sessions.{turned}
 use Rattle.sf_refusing.proofs.refusals.Refusals.turns.Goals as goal
 
 pub returns : goal.returns
 returns g c = λ journal H.
     let on = c.in_ok-move_on.ensures journal H in
-    let passes : MovesOn journal c.args.session (Ok false) on.0 = subst (λ (b : Bool). MovesOn journal c.args.session (Ok b) on.0) c.if-branch.false on.1 in
+    let passes : MovesFront journal c.args.session (Ok false) on.0 = subst (λ (b : Bool). MovesFront journal c.args.session (Ok b) on.0) c.if-branch.false on.1 in
     let did = c.turns.ensures (log_of (journal ++ on.0)) on.2.1 in
     turned g.E.Sftp.has_log c.turns.new.self c.move_on.new.self journal on.0 c.args.session c.args.moment c.turns.result
     (AreTurns (event.Turn c.args.session c.args.moment) c.turns.result) did.0 passes on.2.0 did.1 did.1 did.2

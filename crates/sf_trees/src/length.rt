@@ -1,0 +1,46 @@
+//! How long a request is.
+
+ghost use Rattle.std.specs.Prelude.{◌≡◌, ◌<◌, ◌≤◌, ◌-◌, ◌^◌, min, length, true, false};
+ghost use Rattle.sf_request.specs.Requests.{request_body};
+ghost use Rattle.sf_trees.specs.Lengths.{id, strings_of, most_strings};
+
+use sf_request::WireRequest;
+
+/// How many bytes the strings of a request may have, so that its packet isn't too long for a
+/// session.
+const MOST_STRINGS: usize = 262080;
+
+/// How many bytes the strings of a request have.
+fn strings_of(request: &WireRequest) -> usize
+    ensures { result ≡ min (strings_of request.now) (2 ^ 64 - 1) }
+{
+    match request {
+        WireRequest::Open { filename, .. } => filename.len(),
+        WireRequest::Write { handle, data, .. } => handle.len().saturating_add(data.len()),
+        WireRequest::Close { handle }
+        | WireRequest::Read { handle, .. }
+        | WireRequest::FStat { handle }
+        | WireRequest::FSetStat { handle, .. }
+        | WireRequest::ReadDir { handle } => handle.len(),
+        WireRequest::LStat { path }
+        | WireRequest::SetStat { path, .. }
+        | WireRequest::OpenDir { path }
+        | WireRequest::Remove { path }
+        | WireRequest::Mkdir { path, .. }
+        | WireRequest::Rmdir { path }
+        | WireRequest::RealPath { path }
+        | WireRequest::Stat { path } => path.len(),
+        WireRequest::Rename { old, new }
+        | WireRequest::PosixRename { old, new }
+        | WireRequest::Link { old, new } => old.len().saturating_add(new.len()),
+    }
+}
+
+/// Whether a request's packet would be longer than a session takes (262144 bytes): then it isn't
+/// asked.
+pub fn is_too_long(request: &WireRequest) -> bool
+    ensures yes { result ≡ true → most_strings < strings_of request.now }
+    ensures no { result ≡ false → length (request_body id request.now) ≤ 262144 }
+{
+    strings_of(request) > MOST_STRINGS
+}
