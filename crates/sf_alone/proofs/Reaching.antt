@@ -11,7 +11,7 @@ use Rattle.sf_engine.specs.declared.event.EngineFault.{EngineFault}
 use Rattle.sf_engine.specs.Worlds.{TraceEntry, World, start}
 use Rattle.sf_session.specs.Responses.{ask_behind}
 use Rattle.sf_session.specs.SessionStates.{Resting, SessionState, new_state}
-use Rattle.sf_engine.specs.Traces.{IsSession, Happens, LeadsBy, Runs, ReachesWorld, order}
+use Rattle.sf_engine.specs.Traces.{IsSession, Happens, LeadsBy, RunsTo, ReachesWorld, order}
 use Rattle.sf_alone.specs.OnEngine.{IsOf, IsEntryOf}
 use Rattle.sf_alone.specs.Alone.{answers_alone, moment_begun, moments_begun, HadMemoryFor, HadMemoryAt, HadMemoryThroughout, TellsAlone}
 use Rattle.sf_alone.proofs.Standing.{Follows, LoneSession, onward, lone, Stands, stands_alone, leads_on}
@@ -22,7 +22,7 @@ all_front P (x ∷ xs) ys h = let rest = all_front P xs ys h.1 in ((h.0, rest.0)
 
 -- from there session 1 alone goes on by these entries, lawfully, and with memory for all of them
 record GoesAlone (s : LoneSession) (t : SessionState) (entries : List TraceEntry) (w' : World) : Type 0 where
-  pub runs : Runs (lone s.records s.begun t) entries w'
+  pub runs : RunsTo (lone s.records s.begun t) entries w'
   pub own : AllByRecursion (IsEntryOf 1) entries
   pub legal : IsLegal (s.records ++ order entries)
   pub heard : AllByRecursion HadMemoryFor (order entries)
@@ -30,7 +30,7 @@ record GoesAlone (s : LoneSession) (t : SessionState) (entries : List TraceEntry
 -- where the session is there, one tree answers it to the end
 reaches : (entries : List TraceEntry) {s : LoneSession} {t : SessionState} {w' : World} {t' : SessionState} → Stands t.phase s t.answers → GoesAlone s t entries w' → IsSession w' 1 t' → AllByRecursion HadMemoryAt t'.answers
     → t'.answers ≡ answers_alone (s.moments ++ moments_begun entries) (map ask_behind t'.answers)
-unfolding Runs
+unfolding RunsTo
 reaches [] {s = s} {t = t} {t' = t'} stands goes is had =
     let same : Some t ≡ Some t' = (subst (λ (z : World). IsSession z 1 t') goes.runs is).1 in
     let last : t ≡ t' = cc in
@@ -42,7 +42,7 @@ reaches (e ∷ entries) {s = s} {t = t} {w' = w'} {t' = t'} stands goes is had =
     let now = moment_begun e.event e.result in
     let on = leads_on s (record { now = e.added; later = order entries; legal = goes.legal; heard = parts.0 }) t runs.0 e.event e.result stands goes.own.0 runs.1 in
     let later : GoesAlone (onward s e.added on.more now) on.known entries w' = record {
-      runs = subst (λ (z : World). Runs z entries w') on.world runs.2;
+      runs = subst (λ (z : World). RunsTo z entries w') on.world runs.2;
       own = goes.own.1;
       legal = subst IsLegal (sym (append_assoc s.records e.added (order entries))) goes.legal;
       heard = parts.1;
@@ -86,10 +86,10 @@ Comes s moments t = (s ≡ 1) × (t.answers ≡ answers_alone moments (map ask_b
 
 module _ (s : ℕ) (w' : World) (t' : SessionState) (is : IsSession w' s t') (had : AllByRecursion HadMemoryAt t'.answers) where
   opened : (w : World) (added : List Record) (entries : List TraceEntry) (now : List ℕ) → (s ≡ 1) × (w ≡ lone [] 0 new_state) × (added ≡ []) × (now ≡ [])
-      → Runs w entries w' → AllByRecursion (IsEntryOf s) entries → IsLegal (added ++ order entries) → AllByRecursion HadMemoryFor (added ++ order entries) → Comes s (now ++ moments_begun entries) t'
+      → RunsTo w entries w' → AllByRecursion (IsEntryOf s) entries → IsLegal (added ++ order entries) → AllByRecursion HadMemoryFor (added ++ order entries) → Comes s (now ++ moments_begun entries) t'
   opened w added entries now new runs own legal heard =
       let goes : GoesAlone beginning new_state entries w' = record {
-        runs = subst (λ (z : World). Runs z entries w') new.1 runs;
+        runs = subst (λ (z : World). RunsTo z entries w') new.1 runs;
         own = subst (λ (n : ℕ). AllByRecursion (IsEntryOf n) entries) new.0 own;
         legal = subst (λ (xs : List Record). IsLegal (xs ++ order entries)) new.2 legal;
         heard = subst (λ (xs : List Record). AllByRecursion HadMemoryFor (xs ++ order entries)) new.2 heard;
@@ -97,15 +97,15 @@ module _ (s : ℕ) (w' : World) (t' : SessionState) (is : IsSession w' s t') (ha
       let answers = reaches entries stands_new goes (subst (λ (n : ℕ). IsSession w' n t') new.0 is) had in
       (new.0, subst (λ (m : List ℕ). t'.answers ≡ answers_alone (m ++ moments_begun entries) (map ask_behind t'.answers)) (sym new.3) answers)
 
-  comes : (entries : List TraceEntry) → Runs start entries w' → AllByRecursion (IsEntryOf s) entries → IsLegal (order entries) → AllByRecursion HadMemoryFor (order entries) → Comes s (moments_begun entries) t'
-  unfolding Runs
+  comes : (entries : List TraceEntry) → RunsTo start entries w' → AllByRecursion (IsEntryOf s) entries → IsLegal (order entries) → AllByRecursion HadMemoryFor (order entries) → Comes s (moments_begun entries) t'
+  unfolding RunsTo
   comes [] runs own legal heard = absurd (no_session s t' (subst (λ (z : World). IsSession z s t') runs is))
   comes (e ∷ entries) runs own legal heard = elim (first s runs.0 e.added e.event e.result own.0 runs.1) [
     | inl f ↦
         let legal' = subst (λ (xs : List Record). IsLegal (xs ++ order entries)) f.1 legal in
         let heard' = subst (λ (xs : List Record). AllByRecursion HadMemoryFor (xs ++ order entries)) f.1 heard in
         subst (λ (m : List ℕ). Comes s (m ++ moments_begun entries) t') (sym f.2)
-        (comes entries (subst (λ (z : World). Runs z entries w') f.0 runs.2) own.1 legal' heard')
+        (comes entries (subst (λ (z : World). RunsTo z entries w') f.0 runs.2) own.1 legal' heard')
     | inr f ↦ opened runs.0 e.added entries (moment_begun e.event e.result) f runs.2 own.1 legal heard
   ]
 

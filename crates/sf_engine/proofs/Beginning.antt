@@ -16,7 +16,7 @@ use Rattle.sf_engine.specs.declared.event.EngineFault.{EngineFault}
 use Rattle.sf_session.specs.SessionStates.{with_phase, Phase, Resting, UnderWay, Decided, Gone, SessionState, new_state, with_answer, left_if_closed, closed_now, fed, sent_more}
 use Rattle.sf_engine.specs.Worlds.{TraceEntry, World, start, with_state}
 use Rattle.sf_session.specs.Responses.{ByCall}
-use Rattle.sf_engine.specs.Traces.{Turn, Walking, walking, StepLeads, TurnLeads, RestLeads, IsCallUnderWay, IsHelpedRecord, DecidesCall, Happens, LeadsBy, Leads, Runs, ReachesWorld, order, IsSession, calls_begun, leaving, left_by_close}
+use Rattle.sf_engine.specs.Traces.{Turn, Walking, walking, StepLeads, TurnLeads, RestLeads, IsCallUnderWay, IsHelpedRecord, DecidesCall, Happens, LeadsBy, Leads, RunsTo, ReachesWorld, order, IsSession, calls_begun, leaving, left_by_close}
 use Rattle.sf_engine.specs.Fits.{trace_entry}
 use Rattle.sf_engine.specs.Laws.{Began, begins_at, FollowsBeginning}
 use Rattle.sf_engine.proofs.HostedChanges.{CallTold, record_of, turn_in, under_way_as}
@@ -329,8 +329,8 @@ module _ (front : List TraceEntry) (w : World) (h : HaveBegun front w) where
     ];
   }
 
-runs_begun : (front entries : List TraceEntry) (w w' : World) → ReachesWorld front w → HaveBegun front w → Runs w entries w' → HaveBegun (front ++ entries) w'
-unfolding Runs
+runs_begun : (front entries : List TraceEntry) (w w' : World) → ReachesWorld front w → HaveBegun front w → RunsTo w entries w' → HaveBegun (front ++ entries) w'
+unfolding RunsTo
 runs_begun front [] w w' tells h g = subst (λ (z : World). HaveBegun (front ++ []) z) (sym g) (subst (λ (xs : List TraceEntry). HaveBegun xs w) (sym (append-nil front)) h)
 runs_begun front (e ∷ entries) w w' tells h g =
     subst (λ (xs : List TraceEntry). HaveBegun xs w') (append_assoc front (e ∷ []) entries)

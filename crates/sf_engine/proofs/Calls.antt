@@ -20,7 +20,7 @@ use Rattle.sf_engine.specs.declared.event.EngineFault.{EngineFault}
 use Rattle.sf_engine.specs.Worlds.{TraceEntry, World, start, with_state}
 use Rattle.sf_session.specs.Responses.{Response, Version, Locally, ByCall, Refused, if_so, RepliedCall, recorded_by, recorded_in, calls_answered, answered_in, Due, NothingDue, Unrecorded, Recorded, recorded_due}
 use Rattle.sf_session.specs.SessionStates.{Phase, Resting, UnderWay, Decided, Gone, SessionState, new_state, left_if_closed, with_answer, closed_now, fed, sent_more}
-use Rattle.sf_engine.specs.Traces.{Turn, Walking, walking, IsSession, IsCallUnderWay, IsHelpedRecord, IsAtOnce, DecidesCall, CarriesOut, RestLeads, StepLeads, TurnLeads, Happens, LeadsBy, Leads, Runs, ReachesWorld, order, calls_begun, leaving, left_by_close}
+use Rattle.sf_engine.specs.Traces.{Turn, Walking, walking, IsSession, IsCallUnderWay, IsHelpedRecord, IsAtOnce, DecidesCall, CarriesOut, RestLeads, StepLeads, TurnLeads, Happens, LeadsBy, Leads, RunsTo, ReachesWorld, order, calls_begun, leaving, left_by_close}
 use Rattle.sf_engine.specs.Promised.{replied, IsAbove, HasCalls, HaveCalls, CallsIn}
 use Rattle.sf_engine.proofs.HostedChanges.{CallTold, record_of, under_way_as}
 use Rattle.sf_engine.proofs.Moving.{get_set_same, get_set_other}
@@ -481,8 +481,8 @@ leads_by_calls w w' ev (Err f) added legal x g = subst CallsIn (sym g.2) x
 pub leads_calls : (w w' : World) (e : TraceEntry) → IsLegal (w.records ++ e.added) → CallsIn w → Leads w e w' → CallsIn w'
 leads_calls w w' e legal x g = leads_by_calls w w' e.event e.result e.added legal x g
 
-runs_calls : (w w' : World) (entries : List TraceEntry) → IsLegal (w.records ++ order entries) → CallsIn w → Runs w entries w' → CallsIn w'
-unfolding Runs
+runs_calls : (w w' : World) (entries : List TraceEntry) → IsLegal (w.records ++ order entries) → CallsIn w → RunsTo w entries w' → CallsIn w'
+unfolding RunsTo
 runs_calls w w' [] legal x g = subst CallsIn (sym g) x
 runs_calls w w' (e ∷ entries) legal x g =
     let legal' : IsLegal ((w.records ++ e.added) ++ order entries) = subst IsLegal (sym (append_assoc w.records e.added (order entries))) legal in

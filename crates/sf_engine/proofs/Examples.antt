@@ -18,7 +18,7 @@ use Rattle.sf_engine.specs.Deciding.{AreSure}
 use Rattle.sf_session.specs.Responses.{Version, ByCall, transcript}
 use Rattle.sf_session.specs.SessionStates.{Resting, UnderWay, Decided, SessionState, new_state, with_phase}
 use Rattle.sf_engine.specs.Worlds.{TraceEntry, World, start}
-use Rattle.sf_engine.specs.Traces.{Leads, Runs, ReachesWorld, IsSession, AnswersBodyAtOnce, BeginsCall, CarriesOut, IsOthersCall, other_call}
+use Rattle.sf_engine.specs.Traces.{Leads, RunsTo, ReachesWorld, IsSession, AnswersBodyAtOnce, BeginsCall, CarriesOut, IsOthersCall, other_call}
 use Rattle.sf_engine.specs.Examples.{init_packet, mkdir_packet, stat_packet, mkdir, stat_a, made, found, example, version_packet, ok_packet, attrs_packet}
 
 abbrev mkdir_body : List ℕ
@@ -58,12 +58,12 @@ u2 = record u1 { unread = []; bodies = init_body ∷ stat_body ∷ []; phase = U
 abbrev pub u3 : SessionState
 u3 = record u2 { answers = Version ∷ ByCall 8 2 stat_a shown ∷ []; phase = Resting }
 
-pub leads_on : (e : TraceEntry) (entries : List TraceEntry) (w mid w' : World) → Leads w e mid → Runs mid entries w' → Runs w (e ∷ entries) w'
-unfolding Runs
+pub leads_on : (e : TraceEntry) (entries : List TraceEntry) (w mid w' : World) → Leads w e mid → RunsTo mid entries w' → RunsTo w (e ∷ entries) w'
+unfolding RunsTo
 leads_on e entries w mid w' leads runs = (mid, leads, runs)
 
-pub no_more : (w : World) → Runs w [] w
-unfolding Runs
+pub no_more : (w : World) → RunsTo w [] w
+unfolding RunsTo
 no_more w = refl
 
 pub moves_fit : 1 < bound_of mkdir

@@ -26,7 +26,7 @@ use Rattle.sf_engine.specs.declared.event.EngineFault.{EngineFault}
 use Rattle.sf_engine.specs.Worlds.{TraceEntry, World, start, with_state}
 use Rattle.sf_session.specs.Responses.{Response, Version, Locally, ByCall, Refused, ask_behind, transcript, has_begun}
 use Rattle.sf_session.specs.SessionStates.{Phase, Resting, UnderWay, Decided, Gone, SessionState, new_state, with_phase, left_if_closed, with_answer, closed_now, fed, sent_more}
-use Rattle.sf_engine.specs.Traces.{IsSession, IsAtOnce, DecidesCall, TurnLeads, RestLeads, Happens, LeadsBy, Runs, ReachesWorld, order, calls_begun}
+use Rattle.sf_engine.specs.Traces.{IsSession, IsAtOnce, DecidesCall, TurnLeads, RestLeads, Happens, LeadsBy, RunsTo, ReachesWorld, order, calls_begun}
 use Rattle.sf_engine.specs.Laws.{IsOfBytes, AreOfBytes}
 use Rattle.sf_engine.specs.Views.{EngineView}
 use Rattle.sf_engine.specs.Fits.{Fits, IsSentBy}
@@ -294,15 +294,15 @@ legal_now : (xs ys : List Record) → IsLegal (xs ++ ys) → IsLegal xs
 unfolding IsLegal
 legal_now xs ys h = legal_front [] xs ys h
 
-one_run : (entries : List TraceEntry) (w v v' : World) → AreRead w → AreOfBytes entries → IsLegal (w.records ++ order entries) → Runs w entries v → Runs w entries v' → v ≡ v'
-unfolding Runs
+one_run : (entries : List TraceEntry) (w v v' : World) → AreRead w → AreOfBytes entries → IsLegal (w.records ++ order entries) → RunsTo w entries v → RunsTo w entries v' → v ≡ v'
+unfolding RunsTo
 one_run [] w v v' h of legal g k = g ∙ sym k
 one_run (e ∷ entries) w v v' h of legal g k =
     let now : IsLegal w.records = legal_now w.records (e.added ++ order entries) legal in
     let same : g.0 ≡ k.0 = one_leads w now g.0 k.0 e.event e.result e.added h.each g.1 k.1 in
     let all : w.records ++ (e.added ++ order entries) ≡ k.0.records ++ order entries =
     sym (append_assoc w.records e.added (order entries)) ∙ ap (λ (xs : List Record). xs ++ order entries) (sym (leads_records w k.0 e k.1)) in
-    one_run entries k.0 v v' (leads_read w k.0 e.event e.result e.added h of.0 k.1) of.1 (subst IsLegal all legal) (subst (λ (z : World). Runs z entries v) same g.2) k.2
+    one_run entries k.0 v v' (leads_read w k.0 e.event e.result e.added h of.0 k.1) of.1 (subst IsLegal all legal) (subst (λ (z : World). RunsTo z entries v) same g.2) k.2
 
 pub one_world : (trace : List TraceEntry) (w w' : World) → AreOfBytes trace → IsLegal (order trace) → ReachesWorld trace w → ReachesWorld trace w' → w ≡ w'
 one_world trace w w' of legal g k = one_run trace start w w' (record { each = λ i t at. absurd cc }) of legal g k

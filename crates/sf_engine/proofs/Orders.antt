@@ -11,7 +11,7 @@ use Rattle.sf_engine.specs.declared.event.EngineFault.{EngineFault}
 use Rattle.sf_engine.specs.Deciding.{IsSure, AreSure}
 use Rattle.sf_engine.specs.Worlds.{TraceEntry, World, start}
 use Rattle.sf_session.specs.SessionStates.{Phase, Resting, UnderWay, Decided, Gone, SessionState}
-use Rattle.sf_engine.specs.Traces.{TurnLeads, RestLeads, DecidesCall, Happens, LeadsBy, Leads, Runs, ReachesWorld, order, left_by_close, leaving}
+use Rattle.sf_engine.specs.Traces.{TurnLeads, RestLeads, DecidesCall, Happens, LeadsBy, Leads, RunsTo, ReachesWorld, order, left_by_close, leaving}
 
 happens_records : (w w' : World) (e : Event) (r : Happened) (added : List Record) → Happens w e r added w' → w'.records ≡ w.records ++ added
 happens_records w w' event.Open r added g = ap (λ (z : World). z.records) g.3 ∙ sym (append-nil w.records) ∙ ap (λ (xs : List Record). w.records ++ xs) (sym g.2)
@@ -27,8 +27,8 @@ leads_by_records w w' e (Err f) added g = ap (λ (z : World). z.records) g.2 ∙
 pub leads_records : (w w' : World) (e : TraceEntry) → Leads w e w' → w'.records ≡ w.records ++ e.added
 leads_records w w' e g = leads_by_records w w' e.event e.result e.added g
 
-pub runs_records : (w w' : World) (entries : List TraceEntry) → Runs w entries w' → w'.records ≡ w.records ++ order entries
-unfolding Runs
+pub runs_records : (w w' : World) (entries : List TraceEntry) → RunsTo w entries w' → w'.records ≡ w.records ++ order entries
+unfolding RunsTo
 runs_records w w' [] g = ap (λ (z : World). z.records) g ∙ sym (append-nil w.records)
 runs_records w w' (e ∷ entries) g =
     runs_records g.0 w' entries g.2 ∙ ap (λ (xs : List Record). xs ++ order entries) (leads_records w g.0 e g.1) ∙ append_assoc w.records e.added (order entries)
@@ -103,8 +103,8 @@ sure_append before [] ys h k = subst (λ (b : List Record). AreSure b ys) (appen
 sure_append before (x ∷ xs) ys h k =
     (h.0, sure_append (before ++ x ∷ []) xs ys h.1 (subst (λ (b : List Record). AreSure b ys) (sym (append_assoc before (x ∷ []) xs)) k))
 
-runs_sure : (w w' : World) (entries : List TraceEntry) → Runs w entries w' → AreSure w.records (order entries)
-unfolding Runs AreSure
+runs_sure : (w w' : World) (entries : List TraceEntry) → RunsTo w entries w' → AreSure w.records (order entries)
+unfolding RunsTo AreSure
 runs_sure w w' [] g = tt
 runs_sure w w' (e ∷ entries) g =
     sure_append w.records e.added (order entries) (leads_sure w g.0 e.event e.result e.added g.1)

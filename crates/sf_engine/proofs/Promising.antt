@@ -16,7 +16,7 @@ use Rattle.sf_engine.specs.declared.event.EngineFault.{EngineFault}
 use Rattle.sf_engine.specs.Worlds.{TraceEntry, World, start}
 use Rattle.sf_session.specs.Responses.{Response, ask_behind, transcript, has_begun, AreAsked, recorded_in, answered_in, Due, NothingDue, Recorded, asked_due, recorded_due}
 use Rattle.sf_session.specs.SessionStates.{Phase, Resting, UnderWay, Decided, Gone, SessionState, new_state, is_here_in, IsRest, pending}
-use Rattle.sf_engine.specs.Traces.{IsSession, LeadsBy, Runs, ReachesWorld, order}
+use Rattle.sf_engine.specs.Traces.{IsSession, LeadsBy, RunsTo, ReachesWorld, order}
 use Rattle.sf_engine.specs.Laws.{sent_count}
 use Rattle.sf_engine.specs.Views.{EngineView}
 use Rattle.sf_engine.specs.Fits.{Fits, trace_entry, GoesOnTrace, IsSentBy, IsUnknownSession}
@@ -226,7 +226,7 @@ start_stands = record {
 }
 
 pub world_is : (w : World) → ReachesWorld [] w → w ≡ start
-unfolding Runs
+unfolding RunsTo
 world_is w g = g
 
 -- what an event leads to
@@ -260,8 +260,8 @@ pub record Logged (trace : List TraceEntry) (w : World) : Type 0 where
   pub stands : Stands log w
   pub kept : IsKept log
 
-logged_from : (log : List LogEntry) (w w' : World) (trace : List TraceEntry) → Stands log w → ReachesWorld (traced log) w → IsKept log → IsLegal (w.records ++ order trace) → Runs w trace w' → Logged (traced log ++ trace) w'
-unfolding Runs
+logged_from : (log : List LogEntry) (w w' : World) (trace : List TraceEntry) → Stands log w → ReachesWorld (traced log) w → IsKept log → IsLegal (w.records ++ order trace) → RunsTo w trace w' → Logged (traced log ++ trace) w'
+unfolding RunsTo
 logged_from log w w' [] h tells kept legal g = subst (λ (z : World). Logged (traced log ++ []) z) (sym g) (record { log = log; same = sym (append-nil (traced log)); stands = h; kept = kept })
 logged_from log w w' (e ∷ trace) h tells kept legal g =
     let legal' : IsLegal ((w.records ++ e.added) ++ order trace) = subst IsLegal (sym (append_assoc w.records e.added (order trace))) legal in

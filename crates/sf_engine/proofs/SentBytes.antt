@@ -14,7 +14,7 @@ use Rattle.sf_engine.specs.declared.event.EngineFault.{EngineFault}
 use Rattle.sf_engine.specs.Worlds.{TraceEntry, World, start, with_state}
 use Rattle.sf_session.specs.Responses.{Response, ByCall, packet_for, transcript}
 use Rattle.sf_session.specs.SessionStates.{unsent, Phase, Resting, UnderWay, Decided, Gone, SessionState, new_state, left_if_closed, with_answer, closed_now, fed, sent_more}
-use Rattle.sf_engine.specs.Traces.{TurnLeads, RestLeads, Happens, LeadsBy, Runs, ReachesWorld, IsSession, calls_begun}
+use Rattle.sf_engine.specs.Traces.{TurnLeads, RestLeads, Happens, LeadsBy, RunsTo, ReachesWorld, IsSession, calls_begun}
 use Rattle.sf_engine.specs.Promise.{sent_at}
 use Rattle.sf_engine.specs.Laws.{sent_count, IsSentAs}
 use Rattle.sf_engine.proofs.Moving.{get_set_same, get_set_other}
@@ -195,8 +195,8 @@ module _ (front : List TraceEntry) (w : World) (h : HaveSent front w) where
         nobody = λ j out. omega (arith, sent_push j front e, h.nobody j out, refused_none j ev f);
       })
 
-runs_sent : (front entries : List TraceEntry) (w w' : World) → HaveSent front w → Runs w entries w' → HaveSent (front ++ entries) w'
-unfolding Runs
+runs_sent : (front entries : List TraceEntry) (w w' : World) → HaveSent front w → RunsTo w entries w' → HaveSent (front ++ entries) w'
+unfolding RunsTo
 runs_sent front [] w w' h g = subst (λ (z : World). HaveSent (front ++ []) z) (sym g) (subst (λ (xs : List TraceEntry). HaveSent xs w) (sym (append-nil front)) h)
 runs_sent front (e ∷ entries) w w' h g =
     subst (λ (xs : List TraceEntry). HaveSent xs w') (append_assoc front (e ∷ []) entries)

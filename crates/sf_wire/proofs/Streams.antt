@@ -8,7 +8,7 @@ use Rattle.sf_wire.specs.declared.cutting.Cut.TheVariants as cut
 use Rattle.sf_wire.specs.declared.cutting.BadCut.{BadCut}
 use Rattle.sf_wire.specs.declared.cutting.BadCut.TheVariants.{ZeroLength, TooLong}
 use Rattle.sf_field.specs.Fields.{AreBytes, be32, packet}
-use Rattle.sf_wire.specs.Packets.{IsBody, IsCut, End, More, Bad, Ends, Cuts}
+use Rattle.sf_wire.specs.Packets.{IsBody, IsCut, End, More, Bad, EndsStream, Cuts}
 use Rattle.sf_wire.specs.Streams.{IfWhole, HasBody, CutsAfter, IsSpelled, Stays, GrowsTo}
 use Rattle.sf_wire.specs.Cutting.{cut_of}
 use Rattle.sf_field.proofs.Laws.{IsBytes, IsBytes-of}
@@ -127,8 +127,8 @@ spelled bytes (body ∷ bodies) end h =
       ends = s.ends;
     }
 
-cut_spelling : (bytes rest : List ℕ) (bodies : List (List ℕ)) (end : End) → bytes ≡ flat_map packet bodies ++ rest → AllByRecursion IsBody bodies → Ends rest end → Cuts bytes bodies end
-cut_spelling bytes rest [] end e all ends = subst (λ (t : List ℕ). Ends t end) (sym e) ends
+cut_spelling : (bytes rest : List ℕ) (bodies : List (List ℕ)) (end : End) → bytes ≡ flat_map packet bodies ++ rest → AllByRecursion IsBody bodies → EndsStream rest end → Cuts bytes bodies end
+cut_spelling bytes rest [] end e all ends = subst (λ (t : List ℕ). EndsStream t end) (sym e) ends
 cut_spelling bytes rest (body ∷ bodies) end e all ends =
     let after : List ℕ = flat_map packet bodies ++ rest in
     (after, all.0, e ∙ append_assoc (packet body) (flat_map packet bodies) rest, cut_spelling after rest bodies end refl all.1 ends)

@@ -4,7 +4,7 @@ use Rattle.std.specs.List.{AllByRecursion, flat_map}
 use Rattle.sf_wire.specs.declared.cutting.Cut.{Cut}
 use Rattle.sf_wire.specs.declared.cutting.Cut.TheVariants as cut
 use Rattle.sf_field.specs.Fields.{packet}
-use Rattle.sf_wire.specs.Packets.{IsBody, IsCut, End, More, Bad, Ends, Cuts}
+use Rattle.sf_wire.specs.Packets.{IsBody, IsCut, End, More, Bad, EndsStream, Cuts}
 
 abbrev pub IfWhole : Cut → (ℕ → Type 0) → Type 0
 IfWhole (cut.Whole len) P = P len
@@ -32,7 +32,7 @@ pub record IsSpelled (bytes : List ℕ) (bodies : List (List ℕ)) (end : End) :
   pub rest : List ℕ
   pub parts : bytes ≡ flat_map packet bodies ++ rest
   pub are_bodies : AllByRecursion IsBody bodies
-  pub ends : Ends rest end
+  pub ends : EndsStream rest end
 
 -- The cut stays when bytes are added: a packet is whole, and four bytes tell a wrong length.
 abbrev pub Stays : List ℕ → Cut → Type 0
