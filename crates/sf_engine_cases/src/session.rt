@@ -4,8 +4,8 @@ ghost use Rattle.std.specs.Prelude.{◌≡◌, None, IsSome};
 
 use sf_call::{Answer, CoreFault, Request};
 use sf_path::Path;
+use sf_reply::{Reply, StatusCode};
 use sf_session::{Cause, Next, ServeFault, Session, SessionFault};
-use sf_wire::{Reply, StatusCode};
 use std::alloc::{AllocError, Global};
 use std::process::Abort;
 use std::test::*;

@@ -15,7 +15,8 @@ use crate::given::{GivenRule, count_with, first_refusing};
 use crate::passage::Passage;
 use crate::rule::Subject;
 use sf_engine::{EngineFault, Sftp};
-use sf_wire::{Asked, Cut, cut, read_request};
+use sf_request::{Asked, read_request};
+use sf_wire::{Cut, cut};
 use std::alloc::{AllocError, Global};
 
 /// What a packet's body asks, as rules see it, under its id. Of other packets than requests

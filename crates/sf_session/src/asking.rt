@@ -6,10 +6,10 @@ ghost use Rattle.sf_session.specs.Asking.{AsksFor, first_ask, later_ask, request
 use crate::calling::{call_of, path_of};
 use crate::cause::Cause;
 use sf_call::Request;
+use sf_field::{Attrs, ByteString};
 use sf_path::Path;
-use sf_wire::{
-    Asked, Attrs, ByteString, Entry, Listing, Reply, StatusCode, WireRequest, read_request,
-};
+use sf_reply::{Entry, Listing, Reply, StatusCode};
+use sf_request::{Asked, WireRequest, read_request};
 use std::alloc::{AllocError, Global};
 
 /// What a packet asks for.

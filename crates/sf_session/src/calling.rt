@@ -5,8 +5,9 @@ ghost use Rattle.sf_request.specs.declared.request.WireRequest.TheVariants.{Writ
 ghost use Rattle.sf_session.specs.Asking.{path_at, handle_number, paths_at, call_of, handle_call};
 
 use sf_call::Request;
+use sf_field::ByteString;
 use sf_path::{Path, PathFault};
-use sf_wire::{ByteString, WireRequest};
+use sf_request::WireRequest;
 use std::alloc::{AllocError, Global};
 
 /// The path that a text stands for, if it has no fault.
