@@ -23,7 +23,7 @@ use std::alloc::Global;
 use std::mem;
 
 /// More steps than any call takes.
-const MANY: u64 = u64::MAX;
+const MOST_STEPS: u64 = u64::MAX;
 
 /// How far a session is.
 #[derive(Debug)]
@@ -288,7 +288,7 @@ impl HostedState {
         let HostedState::UnderWay(lane) = self else {
             unreachable!();
         };
-        match core.walk(lane, MANY) {
+        match core.walk(lane, MOST_STEPS) {
             Step::Answered(answer) => self.write_on(core, session, closed, answer),
             Step::Blocked(holder) => Ok(Happened::Blocked(holder)),
             Step::Moved => Ok(Happened::Moved),

@@ -7,7 +7,7 @@ use crate::line::{Failures, Line, LineFault};
 use std::io::{ErrorKind, Read, Write};
 
 /// How often a call is made again that a signal interrupted.
-const TRIES: u32 = 1024;
+const TRIES_INTERRUPTED: u32 = 1024;
 
 /// One read, made again where a signal interrupted it.
 fn read_some<R: Read>(reader: &mut R, buffer: &mut [u8]) -> Option<usize>
@@ -18,7 +18,7 @@ fn read_some<R: Read>(reader: &mut R, buffer: &mut [u8]) -> Option<usize>
         → IsAtEnd (R.remaining reader.new)) }
     ensures none { IfNone result (Keeps (R.remaining reader.old) (R.remaining reader.new)) }
 {
-    for _ in 0..TRIES {
+    for _ in 0..TRIES_INTERRUPTED {
         match reader.read(buffer) {
             Ok(n) => return Some(n),
             Err(error) if error.kind() == ErrorKind::Interrupted => {}
@@ -35,7 +35,7 @@ fn write_some<W: Write>(writer: &mut W, bytes: &[u8]) -> Option<usize>
         (take n bytes.now)) }
     ensures none { IfNone result (Keeps (W.contents writer.old) (W.contents writer.new)) }
 {
-    for _ in 0..TRIES {
+    for _ in 0..TRIES_INTERRUPTED {
         match writer.write(bytes) {
             Ok(n) => return Some(n),
             Err(error) if error.kind() == ErrorKind::Interrupted => {}

@@ -24,13 +24,13 @@ use std::thread;
 const YIELDS: u32 = 20;
 
 /// How often a blocked step is tried again before its thread sleeps until something happens.
-const TRIES: u32 = 64;
+const TRIES_AWAKE: u32 = 64;
 
 /// How many calls a session makes from one rest to the next before it takes the permit.
-const FEW: u64 = 4;
+const CALLS_BEFORE_PERMIT: u64 = 4;
 
 /// How many calls it makes before it leaves the permit to others.
-const MANY: u64 = 256;
+const CALLS_BY_PERMIT: u64 = 256;
 
 /// Whether a call moves much data: its packet and its reply are best made while others have the
 /// core.
@@ -269,8 +269,9 @@ impl<'a, R: Wait, B: RollName + Ledger> SharedLane<'a, R, B> {
         let made = self.made;
         self.made = made.saturating_add(1);
         self.blocked = 0;
-        let is_many = self.permit.is_none() && (made >= FEW || self.before > FEW);
-        if is_many || made % MANY == MANY - 1 {
+        let is_many = self.permit.is_none()
+            && (made >= CALLS_BEFORE_PERMIT || self.before > CALLS_BEFORE_PERMIT);
+        if is_many || made % CALLS_BY_PERMIT == CALLS_BY_PERMIT - 1 {
             self.give_up();
             return self.lock_for_many();
         }
@@ -297,7 +298,7 @@ impl<'a, R: Wait, B: RollName + Ledger> SharedLane<'a, R, B> {
     fn wait(&mut self, core: MutexGuard<'a, NotedCore<B>>)
         ensures { self.new.transcript_lane ≡ self.old.transcript_lane }
     {
-        if self.blocked < TRIES {
+        if self.blocked < TRIES_AWAKE {
             self.blocked += 1;
             self.release(core);
             thread::yield_now();

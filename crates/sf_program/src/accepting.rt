@@ -42,13 +42,13 @@ pub enum Stopped {
 
 /// How often a connection is asked for before the server gives up. A system that is short of
 /// descriptors has some again once sessions have ended.
-const TRIES: u64 = 1000;
+const TRIES_TO_ACCEPT: u64 = 1000;
 
 /// The next connection. Where none can be had it is asked for again.
 fn next_line<L, A: Acceptor<L>>(acceptor: &mut A) -> Option<L>
     ensures { GivesNext (A.given acceptor.old) (A.given acceptor.new) result }
 {
-    for _ in 0..TRIES {
+    for _ in 0..TRIES_TO_ACCEPT {
         if let Some(line) = acceptor.accept() {
             return Some(line);
         }

@@ -12,7 +12,7 @@ use std::os::fd::{AsRawFd, RawFd};
 use std::os::unix::net::UnixStream;
 
 /// How often a call is made again that a signal interrupted.
-const TRIES: u32 = 1024;
+const TRIES_INTERRUPTED: u32 = 1024;
 
 /// How long a client may take to read before more is read from it. Most read at once, and reading
 /// on costs more than to wait.
@@ -133,7 +133,7 @@ impl<I: Inlet, O: Outlet> Duplex for Descriptors<I, O> {
     ghost outgoing = { λ d. O.outgoing (output_of d) };
 
     fn read(&mut self, buffer: &mut [u8]) -> Result<usize, LineFault> {
-        for _ in 0..TRIES {
+        for _ in 0..TRIES_INTERRUPTED {
             match self.input.read_once(buffer) {
                 Ok(n) => return Ok(n),
                 Err(error) if error.kind() == ErrorKind::Interrupted => {}
@@ -147,7 +147,7 @@ impl<I: Inlet, O: Outlet> Duplex for Descriptors<I, O> {
         if self.is_full {
             return Ok(None);
         }
-        for _ in 0..TRIES {
+        for _ in 0..TRIES_INTERRUPTED {
             match self.output.write_once(bytes) {
                 Ok(n) if n > 0 || bytes.is_empty() => {
                     self.is_full = n < bytes.len();
@@ -176,7 +176,7 @@ impl<I: Inlet, O: Outlet> Duplex for Descriptors<I, O> {
         }
         let input = if reads { self.input.fd() } else { -1 };
         let mut both = [asked(output, POLLOUT), asked(input, POLLIN)];
-        for _ in 0..TRIES {
+        for _ in 0..TRIES_INTERRUPTED {
             if poll(&mut both, -1) >= 0 {
                 self.is_full = reads && both[0].revents == 0;
                 return Ok(if self.is_full {

@@ -112,7 +112,7 @@ const WORKERS: u32 = 64;
 
 const MOST_WORKERS: u64 = 64;
 
-const MOST_SESSIONS: u64 = 1_000_000;
+const MOST_SERVED: u64 = 1_000_000;
 
 fn socket_word<'a>(alloc: Global) -> Arg<'a> {
     Arg::new(alloc, "socket")
@@ -132,7 +132,7 @@ fn serve_words<'a>(alloc: Global) -> Result<Command<'a>, AllocError> {
     let sessions = Arg::new(alloc, "sessions")
         .long("sessions")
         .value_name("K")
-        .value_parser(ValueParser::unsigned(1, MOST_SESSIONS))
+        .value_parser(ValueParser::unsigned(1, MOST_SERVED))
         .help("Ends after so many sessions, and compares what they were told: 1 to 1000000");
     Command::new(alloc, "serve")
         .about("Serves sessions at a Unix socket, many at once, on one tree")
