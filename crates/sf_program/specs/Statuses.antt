@@ -37,13 +37,13 @@ line_of_cause TooLong = ending_line TooLong
 line_of_cause NoId = ending_line NoId
 
 -- the line that the end of a session is told by: none at the end of the input
-abbrev pub line_of : Result Cause ServeFault → List ℕ
-line_of (Ok cause) = line_of_cause cause
-line_of (Err fault.OutOfMemory) = codes "sftpd: out of memory" ++ 10 ∷ []
-line_of (Err fault.Line) = codes "sftpd: stream" ++ 10 ∷ []
-line_of (Err fault.Sessions) = codes "sftpd: stream" ++ 10 ∷ []
-line_of (Err fault.Stranger) = codes "sftpd: stream" ++ 10 ∷ []
-line_of (Err fault.NumbersSpent) = codes "sftpd: stream" ++ 10 ∷ []
+abbrev pub status_line : Result Cause ServeFault → List ℕ
+status_line (Ok cause) = line_of_cause cause
+status_line (Err fault.OutOfMemory) = codes "sftpd: out of memory" ++ 10 ∷ []
+status_line (Err fault.Line) = codes "sftpd: stream" ++ 10 ∷ []
+status_line (Err fault.Sessions) = codes "sftpd: stream" ++ 10 ∷ []
+status_line (Err fault.Stranger) = codes "sftpd: stream" ++ 10 ∷ []
+status_line (Err fault.NumbersSpent) = codes "sftpd: stream" ++ 10 ∷ []
 
 -- serving a line on an engine came to this
 abbrev pub ServingComesTo : (start now : IoState) → (failed failed' : ℕ) → Result Cause ServeFault

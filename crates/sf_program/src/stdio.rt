@@ -9,7 +9,7 @@ ghost use Rattle.sf_engine.specs.Views.{EngineView};
 ghost use Rattle.sf_serving.specs.Serving.{line_view};
 ghost use Rattle.sf_alone.specs.OnEngine.{io_state};
 ghost use Rattle.sf_alone.specs.Talks.{talk_view, ConversesTo};
-ghost use Rattle.sf_program.specs.Statuses.{exit_status, line_of_cause, line_of, ServingComesTo, SessionEnds};
+ghost use Rattle.sf_program.specs.Statuses.{exit_status, line_of_cause, status_line, ServingComesTo, SessionEnds};
 
 use sf_alone::serve_one;
 use sf_engine::Engine;
@@ -41,7 +41,7 @@ pub fn run_stdio<L: Line, C: Clock, G: CallObserver, E: Line>(
         (talk_view (L.incoming line.old) (C.moments clock.old) (L.outgoing line.old))
         (talk_view (L.incoming line.new) (C.moments clock.new) (L.outgoing line.new)) outcome
         × (result ≡ exit_status outcome)
-        × (Appends (E.outgoing errors.old) (E.outgoing errors.new) (line_of outcome)
+        × (Appends (E.outgoing errors.old) (E.outgoing errors.new) (status_line outcome)
         ⊎ Rose (E.failed errors.old) (E.failed errors.new)) }
 {
     let outcome = serve(alloc, keep, line, clock, observer);
@@ -68,7 +68,7 @@ pub fn run_stdio_on<L: Line, C: Clock, G: CallObserver, E: Line>(
         (C.moments clock.new) engine.new)
         (L.failed line.old) (L.failed line.new) outcome
         × (result ≡ exit_status outcome)
-        × (Appends (E.outgoing errors.old) (E.outgoing errors.new) (line_of outcome)
+        × (Appends (E.outgoing errors.old) (E.outgoing errors.new) (status_line outcome)
         ⊎ Rose (E.failed errors.old) (E.failed errors.new)) }
 {
     let ended = serve_on(alloc, engine, line, clock, observer);
@@ -138,7 +138,7 @@ fn status(outcome: Result<Cause, ServeFault>) -> u8
 /// Writes the line of a session that ended early.
 fn report<E: Line>(errors: &mut E, outcome: Result<Cause, ServeFault>) -> Result<(), LineFault>
     ensures told { OnOk result (Appends (E.outgoing errors.old) (E.outgoing errors.new)
-        (line_of outcome)) }
+        (status_line outcome)) }
     ensures fault { OnErr result (Rose (E.failed errors.old) (E.failed errors.new)) }
 {
     write_all(errors, line_bytes(outcome))
@@ -146,7 +146,7 @@ fn report<E: Line>(errors: &mut E, outcome: Result<Cause, ServeFault>) -> Result
 
 /// The line that the end of a session is told by.
 fn line_bytes(outcome: Result<Cause, ServeFault>) -> &'static [u8]
-    ensures { result.now ≡ line_of outcome }
+    ensures { result.now ≡ status_line outcome }
 {
     match outcome {
         Ok(cause) => ending_bytes(cause),
