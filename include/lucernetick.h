@@ -88,7 +88,7 @@ enum {
     LT_TURN_MOVED = 3,   /* the call made one step */
     LT_TURN_BLOCKED = 4, /* a call of another session holds what this call needs, and has to advance
                             first */
-    LT_TURN_DECIDED = 5, /* the call took effect; the next turn writes its reply */
+    LT_TURN_DECIDED = 5, /* the call is decided; the next turn writes its reply */
     LT_TURN_SPENT = 6,   /* only by lt_settle: the maximum number of replies was written, and the
                             session continues */
     LT_TURN_ENDED = 16   /* the session has ended: the result is LT_TURN_ENDED + one of the causes
