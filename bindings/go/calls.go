@@ -91,8 +91,8 @@ func (answer Answer) IsOK() bool {
 	return answer.Kind > AnswerStatus || answer.Kind == AnswerStatus && answer.Status == 0
 }
 
-// Calls returns the retained records, in the order in which the calls took effect, the oldest first.
-// They include the calls of WriteFiles, in sessions of their own. Snapshots make no calls.
+// Calls returns the retained records, in the order in which the calls took effect, the oldest
+// first. They include the calls of WriteFiles, in sessions of their own. Snapshots make no calls.
 func (engine *Engine) Calls() ([]Call, error) {
 	engine.lock.Lock()
 	defer engine.lock.Unlock()

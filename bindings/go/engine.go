@@ -47,7 +47,7 @@ type Turn int64
 const (
 	Idle       Turn = C.LT_TURN_IDLE    // nothing: no complete packet is buffered
 	Wrote      Turn = C.LT_TURN_WROTE   // it wrote a reply, now in the output
-	Begun      Turn = C.LT_TURN_BEGUN   // it read a request; its call begins with this turn's timestamp
+	Begun      Turn = C.LT_TURN_BEGUN   // it read a request; its call begins at this timestamp
 	Moved      Turn = C.LT_TURN_MOVED   // the call made one step
 	Blocked    Turn = C.LT_TURN_BLOCKED // the call of another session has to advance first
 	Decided    Turn = C.LT_TURN_DECIDED // the call is decided; the next turn writes its reply
@@ -79,8 +79,8 @@ type Engine struct {
 // it.
 func New() (*Engine, error) { return over(C.lt_new()) }
 
-// NewKeeping is like New, but retains the records of the last keep calls, or of all calls if keep is
-// 0. Records take memory, including the bytes written and read. They change no reply.
+// NewKeeping is like New, but retains the records of the last keep calls, or of all calls if keep
+// is 0. Records take memory, including the bytes written and read. They change no reply.
 func NewKeeping(keep uint64) (*Engine, error) { return over(C.lt_new_keeping(C.uint64_t(keep))) }
 
 func over(pointer *C.lt_engine) (*Engine, error) {
@@ -94,8 +94,8 @@ func over(pointer *C.lt_engine) (*Engine, error) {
 
 var _ io.Closer = (*Engine)(nil)
 
-// Close frees the engine. Further calls on it and its sessions return ErrBadPointer; a further Close
-// does nothing. The error is always nil.
+// Close frees the engine. Further calls on it and its sessions return ErrBadPointer; a further
+// Close does nothing. The error is always nil.
 func (engine *Engine) Close() error {
 	engine.lock.Lock()
 	defer engine.lock.Unlock()
@@ -142,8 +142,8 @@ func (session *Session) Feed(data []byte) error {
 	return session.feed(data)
 }
 
-// Turn does one thing: it writes a reply, makes one step of the session's call, or reads a packet. A
-// call that begins has the timestamp moment, in seconds since 1970.
+// Turn does one thing: it writes a reply, makes one step of the session's call, or reads a packet.
+// A call that begins has the timestamp moment, in seconds since 1970.
 func (session *Session) Turn(moment uint32) (Turn, error) {
 	session.engine.lock.Lock()
 	defer session.engine.lock.Unlock()
@@ -164,8 +164,8 @@ func (session *Session) Settle(moment uint32, most uint64) (Turn, error) {
 	return session.settle(moment, most)
 }
 
-// WantsBytes reports whether the session waits for bytes from its client: no call is in progress, no
-// complete packet is buffered, and it has not ended.
+// WantsBytes reports whether the session waits for bytes from its client: no call is in progress,
+// no complete packet is buffered, and it has not ended.
 func (session *Session) WantsBytes() (bool, error) {
 	session.engine.lock.Lock()
 	defer session.engine.lock.Unlock()

@@ -75,8 +75,8 @@ func firstOf(err, other error) error {
 	return other
 }
 
-// FromFS makes an engine with a copy of this tree, as WriteFS does. FromFS(os.DirFS(folder), moment)
-// copies a folder of the system.
+// FromFS makes an engine with a copy of this tree, as WriteFS does. FromFS(os.DirFS(folder),
+// moment) copies a folder of the system.
 func FromFS(tree fs.FS, moment uint32) (*Engine, error) {
 	engine, err := New()
 	if err != nil {

@@ -14,10 +14,10 @@ var ErrMoreClients = errors.New("lucernetick: all clients of the races have conn
 // A Races runs concurrent clients, each in its own goroutine, under a seeded scheduler: the same
 // seed gives the same interleaving, at any speed of the goroutines.
 //
-// A session has a turn, which is one step of a call, only when every client waits for a reply or has
-// closed its connection. The scheduler picks one of the waiting clients. So close a connection when
-// its client is done; until then the others wait. A client that neither sends nor closes for longer
-// than Patience is skipped until it sends again. Reproducible then reports false.
+// A session has a turn, which is one step of a call, only when every client waits for a reply or
+// has closed its connection. The scheduler picks one of the waiting clients. So close a connection
+// when its client is done; until then the others wait. A client that neither sends nor closes for
+// longer than Patience is skipped until it sends again. Reproducible then reports false.
 type Races struct {
 	// Time is the clock of all turns. It is 1000000000 unless a test sets it.
 	Time VirtualTime
@@ -59,8 +59,8 @@ func NewRaces(seed uint64, clients int) *Races {
 	return races
 }
 
-// ReplayRaces replays a schedule that Schedule returned. If the schedule names no waiting client, the
-// first waiting one has the turn, and Reproducible reports false.
+// ReplayRaces replays a schedule that Schedule returned. If the schedule names no waiting client,
+// the first waiting one has the turn, and Reproducible reports false.
 func ReplayRaces(schedule []int, clients int) *Races {
 	races := NewRaces(0, clients)
 	races.replays = true
@@ -72,9 +72,10 @@ func ReplayRaces(schedule []int, clients int) *Races {
 // ended. During the race calls may be in progress, and no other session may have a turn.
 func (races *Races) Engine() *Engine { return races.engine }
 
-// Connect opens the session of the next client: 1, 2, 3 and so on. Connect all clients before any of
-// them runs, since turns depend on their numbers. The first request of a client is part of the race.
-// So make a client that sends one when it is made, as sftp.NewClientPipe does, in its own goroutine.
+// Connect opens the session of the next client: 1, 2, 3 and so on. Connect all clients before any
+// of them runs, since turns depend on their numbers. The first request of a client is part of the
+// race. So make a client that sends one when it is made, as sftp.NewClientPipe does, in its own
+// goroutine.
 //
 // Writes never block. Reads block until a reply or the deadline.
 func (races *Races) Connect() (net.Conn, error) {

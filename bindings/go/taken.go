@@ -46,8 +46,8 @@ func (entry Entry) IsDir() bool { return entry.Mode&kindMask == kindDirectory }
 // Permissions returns the lowest twelve bits of the mode.
 func (entry Entry) Permissions() uint32 { return entry.Mode & 0o7777 }
 
-// Contents returns all bytes of a file, with zeros for its holes; nil for a directory. Do not modify
-// them: they may be the snapshot's own.
+// Contents returns all bytes of a file, with zeros for its holes; nil for a directory. Do not
+// modify them: they may be the snapshot's own.
 func (entry Entry) Contents() []byte {
 	if entry.IsDir() {
 		return nil

@@ -33,8 +33,8 @@ import (
 	"sort"
 )
 
-// ErrBlocked: a call of another session, still in progress, blocks the request. The request stays in
-// progress, and only RunAll advances it. It may hold a directory until then.
+// ErrBlocked: a call of another session, still in progress, blocks the request. The request stays
+// in progress, and only RunAll advances it. It may hold a directory until then.
 var ErrBlocked = errors.New("lucernetick: " + Blocked.String())
 
 // A StatusError is the reply to a failed request of WriteFiles or Link.

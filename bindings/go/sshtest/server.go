@@ -98,8 +98,8 @@ func (server *Server) Start() {
 	go server.accept()
 }
 
-// ClientConfig returns a configuration for ssh.Dial that logs in with the client key. It accepts only
-// the server's host key.
+// ClientConfig returns a configuration for ssh.Dial that logs in with the client key. It accepts
+// only the server's host key.
 func (server *Server) ClientConfig() *ssh.ClientConfig {
 	return &ssh.ClientConfig{
 		User:            server.User,
@@ -116,8 +116,8 @@ func (server *Server) KnownHosts() string {
 	return knownhosts.Line([]string{server.Addr}, server.HostKey()) + "\n"
 }
 
-// ClientKey returns the client's private key in the format of an OpenSSH key file, which must not be
-// readable by others. ssh.ParsePrivateKey parses it.
+// ClientKey returns the client's private key in the format of an OpenSSH key file, which must not
+// be readable by others. ssh.ParsePrivateKey parses it.
 func (server *Server) ClientKey() []byte { return fileOf(server.client) }
 
 // Close ends all connections, and waits for their goroutines. The engine stays open.

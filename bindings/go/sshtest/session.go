@@ -27,8 +27,8 @@ func (server *Server) session(channel ssh.Channel, requests <-chan *ssh.Request)
 	<-answered
 }
 
-// subsystem opens a session of the engine when a request asks for the subsystem sftp. It rejects all
-// other requests. It returns nil if the channel ends without one.
+// subsystem opens a session of the engine when a request asks for the subsystem sftp. It rejects
+// all other requests. It returns nil if the channel ends without one.
 func (server *Server) subsystem(requests <-chan *ssh.Request) *lucernetick.Conn {
 	for request := range requests {
 		if isSubsystem(request) {
