@@ -321,8 +321,8 @@ typedef struct lt_leaf {
 } lt_leaf;
 
 /* Sets `*tree` to a snapshot of the engine, which lt_tree_free frees; returns 0. It has exactly the
- * effects of the calls that have taken effect, also during other calls. A WRITE that has taken
- * effect is included completely. The engine does not change: no session opens and no call is
+ * effects of the calls that have taken effect, also during other calls. A WRITE that is still
+ * copying is included completely. The engine does not change: no session opens and no call is
  * recorded. On an error `*tree` is NULL. */
 int64_t lt_tree_of(const lt_engine *engine, lt_tree **tree);
 
