@@ -2,7 +2,7 @@
 //! each session was sent.
 //!
 //! Start with `schedule`, which has the events: the second session looks for `/a` while the first
-//! one makes it. docs/ENGINE.md explains the program, and what it prints.
+//! one makes it. README.md beside this folder explains the program, and what it prints.
 #![tactic(auto)]
 
 use sf_engine::{Engine, Event};
