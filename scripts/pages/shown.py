@@ -1,38 +1,30 @@
-"""Definitions and contracts that hand-written pages show, cut from the sources.
+"""Definitions that hand-written pages show, cut from the crates' specs.
 
 A page marks each by a comment before a fenced block, and the block is replaced:
 
     <!-- shown: sf_engine/specs/Promise.antt IsKept -->
-    <!-- shown: sf_engine/src/promise.rt Sftp::apply -->
 """
 
 import re
-import textwrap
+from functools import partial
 
-from pages import clauses
 from sources import TOP
 
-MARK = re.compile(r"(<!-- shown: (\w+)/(\S+) (\S+) -->\n```\w*\n).*?(```\n)", re.S)
+MARK = re.compile(r"(<!-- shown: (\w+)/specs/(\w+)\.antt (\S+) -->\n```\n).*?(```\n)", re.S)
 
 
-def definition(source, name):
+def text_of(sources, crate, file, name):
     """The text of a definition, without the words that make it public."""
+    source = sources.specs.get((crate, file))
+    if source is None or name not in source.own:
+        raise LookupError(f"{crate}/specs/{file}.antt does not define {name}, which a page shows")
     text = re.sub(r"^(?:abbrev |unfoldable )?pub ", "", source.own[name].text, flags=re.M)
-    return re.sub(r"^  pub ", "  ", text, flags=re.M)
+    return re.sub(r"^  pub ", "  ", text, flags=re.M) + "\n"
 
 
-def contract(source, name):
-    """The signature and the clauses of a function."""
-    [found] = [f for f in clauses.functions(source) if f"{f.owner}::{f.name}" == name]
-    lines = [line for line in found.lines if not line.strip().startswith("///")]
-    return textwrap.dedent("\n".join(lines))
-
-
-def cut(sources, crate, file, name):
-    """What a mark names."""
-    if file.endswith(".rt"):
-        return contract(sources.rust[crate, file], name)
-    return definition(sources.specs[crate, file.split("/")[-1].removesuffix(".antt")], name)
+def replaced(sources, mark):
+    """A marked block, as the sources have it."""
+    return mark[1] + text_of(sources, mark[2], mark[3], mark[4]) + mark[5]
 
 
 def pages(sources):
@@ -40,7 +32,4 @@ def pages(sources):
     for path in [TOP / "README.md", *sorted((TOP / "docs").glob("**/*.md"))]:
         text = path.read_text(encoding="utf-8")
         if MARK.search(text):
-            yield (
-                str(path.relative_to(TOP)),
-                MARK.sub(lambda m: m[1] + cut(sources, m[2], m[3], m[4]) + "\n" + m[5], text),
-            )
+            yield str(path.relative_to(TOP)), MARK.sub(partial(replaced, sources), text)
