@@ -40,8 +40,8 @@ def page(sources):
     count = number(sum(map(len, found.values())), "mutant", "mutants")
     head = (
         f"A mutant is a wrong body that the prover must reject. There are {count}, in "
-        f"{number(len(found), 'crate', 'crates')}. Each changes a function's body only, and names "
-        "the function that must be rejected. `make mutants` tries them."
+        f"{number(len(found), 'crate', 'crates')}. Each changes code, never a type or a contract, "
+        "and names the function that must be rejected. `make mutants` tries them."
     )
     lines = ["# Mutants", "", *wrapped(head), ""]
     for crate, mutants in found.items():
