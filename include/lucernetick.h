@@ -15,9 +15,9 @@
  *     lt_sent(engine, session, count);
  *     lt_free(engine);
  *
- * `./library` builds it, and `cc -Iinclude program.c out/liblucernetick.a` a program with it. Where
- * `./library --prefix` has installed it, `pkg-config --cflags --libs lucernetick` tells the words.
- * The whole of a program is interop/c/serve.c, a server for many clients. Functions answer numbers:
+ * `make library` builds it, and `cc -Iinclude program.c out/liblucernetick.a` a program with it. If
+ * `make install` has installed it, `pkg-config --cflags --libs lucernetick` tells the words.
+ * The whole of a program is tests/c/serve.c, a server for many clients. Functions answer numbers:
  * those below 0 are refusals, and lt_message has their text.
  *
  * What a caller owes, which nothing checks:

@@ -1,4 +1,4 @@
-"""Takes the shared library that `./library` built into the package, where it is there."""
+"""Takes the shared library that `make library` built into the package, where it is there."""
 
 from __future__ import annotations
 

@@ -1,5 +1,5 @@
 //! Says where the archive is: in the folder that LUCERNETICK_ARCHIVE names, or beside this file, or
-//! where `./library` leaves it.
+//! where `make library` leaves it.
 
 use std::env;
 use std::path::{Path, PathBuf};

@@ -13,7 +13,7 @@ STATUS_BASE = -100
 
 def places() -> Iterator[pathlib.Path]:
     """Where the library may be: the file that the variable names, in this package, or where
-    `./library` leaves it in the repository that this file belongs to."""
+    `make library` leaves it in the repository that this file belongs to."""
     named = os.environ.get(VARIABLE)
     if named:
         yield pathlib.Path(named)
@@ -31,7 +31,7 @@ def find() -> pathlib.Path:
             return place
     told = ", ".join(map(str, tried))
     raise ImportError(
-        f"{NAME} isn't there (looked for {told}); build it by ./library, or name it by {VARIABLE}"
+        f"{NAME} isn't there (looked for {told}); build it by make library, or name it by {VARIABLE}"
     )
 
 

@@ -1,5 +1,5 @@
-"""An SSH server, with clients of OpenSSH, paramiko and asyncssh. interop/python_front has more of
-them, with files of 100 MB."""
+"""An SSH server, with clients of OpenSSH, paramiko and asyncssh. tests/clients/python_ssh has
+more of them, with files of 100 MB."""
 
 from __future__ import annotations
 

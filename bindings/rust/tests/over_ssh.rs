@@ -1,7 +1,7 @@
 //! OpenSSH's `sftp` over SSH: `sftpd-over-ssh` puts an `sshd` in front of a server's socket.
 //!
 //! It is the file that SFTPD_OVER_SSH names, or the one that lies beside the crate in the archive
-//! of `./release`, or in the repository.
+//! of `make dist`, or in the repository.
 
 use lucernetick::{Engine, Kind, Server};
 use std::env;
@@ -25,7 +25,7 @@ fn script() -> PathBuf {
     let named = env::var_os("SFTPD_OVER_SSH").map(PathBuf::from);
     let beside = |place| Path::new(&env::var_os("CARGO_MANIFEST_DIR").unwrap()).join(place);
     named.unwrap_or_else(|| {
-        let places = ["../../bin/sftpd-over-ssh", "../../sftpd-over-ssh"].map(beside);
+        let places = ["../../bin/sftpd-over-ssh", "../../scripts/sftpd-over-ssh"].map(beside);
         places.into_iter().find(|place| place.exists()).expect("no sftpd-over-ssh")
     })
 }

@@ -1,4 +1,4 @@
-//! A first look at the server, which `./unproved` builds before anything is proved: sessions at a
+//! A first look at the server, which `make demo` builds before anything is proved: sessions at a
 //! Unix socket, on one tree, one client after the other.
 //!
 //! A session is served as `sftpd stdio` serves it, by `serve_one` of `sf_alone`. What else
