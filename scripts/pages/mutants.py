@@ -5,7 +5,7 @@ from sources import TOP
 
 PATH = "docs/generated/mutants.md"
 
-FOLDERS = ("mutants", "edits", "must-fail")
+FOLDERS = ("mutants", "must-fail")
 
 
 class Mutant:
