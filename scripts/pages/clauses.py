@@ -98,7 +98,7 @@ def section(sources, crate):
 
 def page(sources):
     head = (
-        "The contract of each public function, crate by crate, in the order of `crates.txt`. "
+        "This page has the contract of each public function, in the order of `crates.txt`. "
         "`requires` is what a caller owes, `ensures` is what is proved. A function with the body "
         "`{}` and clauses alone is a law. Crates of tests are left out. Definitions that clauses "
         "name are in the crates' `specs`."

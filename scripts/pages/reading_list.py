@@ -114,9 +114,9 @@ def section(sources, made, is_first):
 
 def page(sources):
     head = (
-        "The definitions that the main contracts name, directly or through other definitions. To "
-        "know what a contract says, read these and no others: bodies and proofs are not among "
-        "them. Definitions of Rattle's standard library are taken as known."
+        "This page lists the definitions that the main contracts name, directly or through other "
+        "definitions. To know what a contract says, read these and no others. Bodies and proofs "
+        "are not among them. Definitions of Rattle's standard library are taken as known."
     )
     lines = ["# Reading list", "", *wrapped(head), ""]
     for at, made in enumerate(lists(sources)):

@@ -109,8 +109,8 @@ def page(sources):
     counts = {enum: len(variants_of(sources, enum)) for enum in ENUMS}
     rows = [made.row(counts[made.enum]) for made in tables(sources)]
     head = (
-        "Each `match` and each definition by cases that distinguishes requests. A new request "
-        "falls silently through the tables with a default case: look at each of them."
+        "This page lists each `match` and each definition by cases that distinguishes requests. A "
+        "new request falls silently through the tables with a default case: look at each of them."
     )
     head = ["# Tables of requests", "", *wrapped(head), ""]
     return head + table(["File", "Table", "Over", "Named", "Default"], rows)
