@@ -1,5 +1,4 @@
-"""docs/generated/request-tables.md: the places that distinguish requests, which a new request has to
-visit.
+"""docs/generated/request-tables.md: the places that distinguish requests.
 
 A table is a `match` in Rust, or a definition by cases in a crate's specs, over the requests of
 packets (`WireRequest`) or of calls (`Request`)."""
