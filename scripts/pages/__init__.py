@@ -1,1 +1,1 @@
-"""The pages that `scripts/generate` writes, a module each. A page is a list of lines."""
+"""The pages that `scripts/generate` writes, a module each."""
