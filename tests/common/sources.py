@@ -294,5 +294,11 @@ def contract(lines, at, indent):
             yield line
             break
         yield line
-        if line.endswith(";") and not re.match(rf"^{indent} ", line):
+        if line.endswith(";") and are_closed(lines[at : end + 1]):
             break
+
+
+def are_closed(lines):
+    """Whether all braces in these lines are closed."""
+    text = "".join(lines)
+    return text.count("{") == text.count("}")

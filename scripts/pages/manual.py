@@ -1,24 +1,21 @@
-#!/usr/bin/python3 -B
-"""Writes the manual page docs/generated/sftpd.1 from the marked parts of docs/CLIENTS.md.
-
-    scripts/manual [--check]
+"""docs/generated/sftpd.1: the manual page, from the marked parts of docs/CLIENTS.md.
 
 A part begins with a line `<!-- man: SECTION -->` and ends with `<!-- /man -->`. Parts with the same
-section are joined. With --check nothing is written: the exit status is 1 if the page differs."""
+section are joined."""
 
 import re
-import sys
-from pathlib import Path
 
-TOP = Path(__file__).resolve().parent.parent
+from sources import TOP
+
+PATH = "docs/generated/sftpd.1"
+
 SOURCE = TOP / "docs/CLIENTS.md"
-PAGE = TOP / "docs/generated/sftpd.1"
 PART = re.compile(r"^<!-- man: ([A-Z ]+) -->\n(.*?)^<!-- /man -->$", re.MULTILINE | re.DOTALL)
 SECTIONS = (
     ["SYNOPSIS", "DESCRIPTION", "COMMANDS", "OPTIONS", "EXIT STATUS", "FILES", "SIGNALS"]
     + ["LIMITS", "EXAMPLES"]
 )
-HEAD = r""".\" Written by scripts/manual from docs/CLIENTS.md.
+HEAD = r""".\" Written by scripts/generate from docs/CLIENTS.md.
 .TH SFTPD 1 "" "Lucernetick" "User Commands"
 .SH NAME
 sftpd \- an SFTP server, version 3, with its file system in memory
@@ -60,28 +57,14 @@ def block(text):
     return f".PP\n{inline(' '.join(lines))}\n"
 
 
-def page(source):
-    """The whole manual page."""
+def page():
+    """The text of the manual page."""
     parts = {}
-    for name, text in PART.findall(source):
+    for name, text in PART.findall(SOURCE.read_text(encoding="utf-8")):
         parts.setdefault(name, []).extend(text.strip("\n").split("\n\n"))
     if sorted(parts) != sorted(SECTIONS):
-        sys.exit(f"manual: the marked sections are {sorted(parts)}, expected {sorted(SECTIONS)}")
+        raise LookupError(f"{SOURCE} has the sections {sorted(parts)}, not {sorted(SECTIONS)}")
     body = "".join(
         f".SH {name}\n" + "".join(block(text) for text in parts[name]) for name in SECTIONS
     )
     return HEAD + body + TAIL
-
-
-def main():
-    if sys.argv[1:] not in ([], ["--check"]):
-        sys.exit("usage: scripts/manual [--check]")
-    text = page(SOURCE.read_text(encoding="utf-8"))
-    if not sys.argv[1:]:
-        PAGE.parent.mkdir(exist_ok=True)
-        PAGE.write_text(text, encoding="utf-8")
-    elif not PAGE.exists() or PAGE.read_text(encoding="utf-8") != text:
-        sys.exit("manual: docs/generated/sftpd.1 differs from docs/CLIENTS.md; run scripts/manual")
-
-
-main()
