@@ -18,7 +18,7 @@ import warnings
 from typing import NamedTuple
 
 from checks import same
-from serving import SECONDS, TOP, fresh, install_packages, make_tree, run, same_trees
+from serving import TOP, fresh, install_packages, make_tree, run, same_trees
 
 PACKAGES = "openssh-client python3-paramiko python3-asyncssh rclone golang-go".split()
 PACKAGES += ["golang-github-pkg-sftp-dev", "golang-golang-x-crypto-dev"]
