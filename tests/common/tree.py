@@ -10,6 +10,8 @@ from packets import (
 
 LARGEST_DATA = 261120
 LARGEST_FILE = 1 << 40
+BLOCK = 1 << 16
+ZEROS = bytes(BLOCK)
 MOST_NAMES = 32
 MOST_HANDLES = 128
 MOST_LINKS = 1024
@@ -96,11 +98,47 @@ class Fields:
         return parts
 
 
-class Node:
-    """A file, or a directory with entries by name."""
+class Contents:
+    """A file's bytes. What was never written is zeros, and takes no memory."""
 
-    def __init__(self, is_directory, moment):
-        self.data = bytearray()
+    def __init__(self):
+        self.size = 0
+        self.blocks = {}
+
+    def read(self, offset, count):
+        end = min(offset + count, self.size)
+        found = b""
+        while offset < end:
+            number, start = divmod(offset, BLOCK)
+            length = min(BLOCK - start, end - offset)
+            found += self.blocks.get(number, ZEROS)[start : start + length]
+            offset += length
+        return bytes(found)
+
+    def write(self, offset, data):
+        self.size = max(self.size, offset + len(data))
+        while data:
+            number, start = divmod(offset, BLOCK)
+            piece = data[: BLOCK - start]
+            block = self.blocks.setdefault(number, bytearray(ZEROS))
+            block[start : start + len(piece)] = piece
+            offset, data = offset + len(piece), data[len(piece) :]
+
+    def resize(self, size):
+        kept, start = divmod(size, BLOCK)
+        self.blocks = {number: block for number, block in self.blocks.items() if number <= kept}
+        if kept in self.blocks:
+            self.blocks[kept][start:] = bytes(BLOCK - start)
+        self.size = size
+
+
+class Node:
+    """A file, or a directory with entries by name. Its label is the number of the call that made
+    it."""
+
+    def __init__(self, is_directory, moment, label=0):
+        self.label = label
+        self.data = Contents()
         self.entries = {} if is_directory else None
         self.owner = (0, 0)
         self.permissions = 0o755 if is_directory else 0o644
@@ -113,7 +151,7 @@ class Node:
     def attributes(self):
         kind = 0o40000 if self.is_directory() else 0o100000
         numbers = (*self.owner, kind | self.permissions, *self.times)
-        return u32(15) + u64(len(self.data)) + b"".join(map(u32, numbers))
+        return u32(15) + u64(self.data.size) + b"".join(map(u32, numbers))
 
     def set_parts(self, parts):
         for name in ("owner", "permissions", "times"):
@@ -123,8 +161,7 @@ class Node:
         self.times = (self.times[0], moment)
 
     def resize(self, size, moment):
-        del self.data[size:]
-        self.data.extend(bytes(size - len(self.data)))
+        self.data.resize(size)
         self.changed(moment)
 
     def longname(self, name):
@@ -133,7 +170,7 @@ class Node:
         kind = "d" if self.is_directory() else "-"
         owner, group = self.owner
         front = f"{kind}{places} {self.links:3} {owner:<8} {group:<8} "
-        return f"{front}{len(self.data):8} {self.times[1]:12} ".encode() + name
+        return f"{front}{self.data.size:8} {self.times[1]:12} ".encode() + name
 
 
 class Opened:
@@ -174,9 +211,19 @@ class Tree:
         found, left = [], [(b"/", self.root)]
         while left:
             path, node = left.pop()
-            found.append((path, node.attributes(), bytes(node.data), node.links))
+            data = node.data.read(0, node.data.size)
+            found.append((path, node.attributes(), data, node.links))
             left += [(path + name + b"/", below) for name, below in (node.entries or {}).items()]
         return tuple(sorted(found))
+
+    def leaves(self):
+        """Each path with the file or directory that it names, in the order of their names."""
+        left = [((), self.root)]
+        while left:
+            names, node = left.pop()
+            yield b"/" + b"/".join(names), node
+            below = sorted((node.entries or {}).items(), reverse=True)
+            left += [((*names, name), child) for name, child in below]
 
     def find(self, names):
         """What a path names, or nothing."""
@@ -247,7 +294,7 @@ def make_directory(tree, call, fields):
     fails_if(not names)
     parent = tree.parent(names)
     fails_if(names[-1] in parent.entries)
-    parent.entries[names[-1]] = node = Node(True, call.moment)
+    parent.entries[names[-1]] = node = Node(True, call.moment, call.number)
     node.set_parts(parts)
     parent.changed(call.moment)
     return (STATUS,)
@@ -292,7 +339,7 @@ def open_file(tree, call, fields):
     fails_if(node is not None and node.is_directory())
     tree.may_open(call)
     if node is None:
-        parent.entries[names[-1]] = node = Node(False, call.moment)
+        parent.entries[names[-1]] = node = Node(False, call.moment, call.number)
         node.set_parts(parts)
         parent.changed(call.moment)
     elif flags & TRUNCATES and flags & WRITES:
@@ -321,8 +368,8 @@ def read(tree, call, fields):
     opened, offset, count = tree.opened(call, fields), fields.u64(), fields.u32()
     fails_if(opened.node.is_directory())
     fails_if(not opened.marks & READS, PERMISSION_DENIED)
-    fails_if(offset >= len(opened.node.data), EOF)
-    return DATA, string(bytes(opened.node.data[offset : offset + min(count, LARGEST_DATA)]))
+    fails_if(offset >= opened.node.data.size, EOF)
+    return DATA, string(opened.node.data.read(offset, min(count, LARGEST_DATA)))
 
 
 def write(tree, call, fields):
@@ -330,11 +377,10 @@ def write(tree, call, fields):
     fails_if(opened.node.is_directory())
     fails_if(not opened.marks & WRITES, PERMISSION_DENIED)
     contents = opened.node.data
-    start = len(contents) if opened.marks & APPENDS else offset
+    start = contents.size if opened.marks & APPENDS else offset
     if data:
         fails_if(start + len(data) > LARGEST_FILE)
-        contents.extend(bytes(max(start - len(contents), 0)))
-        contents[start : start + len(data)] = data
+        contents.write(start, data)
         opened.node.changed(call.moment)
     return (STATUS,)
 

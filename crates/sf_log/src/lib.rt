@@ -11,6 +11,3 @@ mod reply;
 mod request;
 
 pub use line::{LogLine, write_line};
-
-#[cfg(test)]
-mod tests;

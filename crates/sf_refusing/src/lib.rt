@@ -20,8 +20,6 @@ mod passage;
 mod refusal_laws;
 mod refusals;
 mod rule;
-#[cfg(test)]
-mod tests;
 
 pub use refusal_laws::{events_apart, without_rules};
 pub use refusals::Refusals;
