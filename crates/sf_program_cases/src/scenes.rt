@@ -1,11 +1,10 @@
 //! Sessions that wait for each other on one core: whoever waits is woken, and a client that is slow
 //! or busy delays nobody.
 
-use client::{Client, ClientLine, sends};
+use client::{Client, ClientLine, StillClock, sends};
 use crossbeam_channel::{Receiver, Sender, unbounded};
 use script::{Director, FREE, Script, Signs, Until};
 use sf_call::Record;
-use sf_cases::StillClock;
 use sf_core::Core;
 use sf_workers::{Ended, serve_on_core};
 use std::alloc::Global;

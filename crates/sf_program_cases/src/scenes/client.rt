@@ -1,11 +1,12 @@
-//! Clients whose lines lie in memory, and wait.
+//! Clients whose lines lie in memory, and wait; and a clock.
 
 ghost use Rattle.std.specs.Prelude.{◌≡◌, ◌≤◌, None};
 ghost use Rattle.sf_line.specs.Lines.{Rose};
 
 use super::script::{Signs, Until};
-use sf_cases::hex_packets;
+use sf_hex::hex_packets;
 use sf_line::{Line, LineFault, MemoryLine, Pieces};
+use sf_session::Clock;
 use std::alloc::Global;
 use std::test::Fail;
 
@@ -124,5 +125,17 @@ impl Line for ClientLine<'_> {
 
     fn failures(&self) -> u64 {
         self.failures
+    }
+}
+
+/// A clock that gives the time 100.
+#[derive(Clone, Copy)]
+pub(super) struct StillClock;
+
+impl Clock for StillClock {
+    ghost moments = { λ _. None };
+
+    fn now(&mut self) -> u32 {
+        100
     }
 }
