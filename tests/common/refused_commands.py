@@ -27,7 +27,7 @@ def is_done(server, *words, data=b""):
 
 def is_there(server, path):
     status, _, told = client(server, "stat", path)
-    if (status, told) != (1, b"sftpd: status 2\n"):
+    if (status, told) != (1, f"sftpd: status 2: No such file: {path}\n".encode()):
         same((status, told), (0, b""))
     return status == 0
 

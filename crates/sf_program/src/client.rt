@@ -194,28 +194,30 @@ fn report<W: Write>(
                 "sftpd: protocol: the server's reply is not one to the request"
             )
         }
-        ClientFault::Status(code) => report_status(alloc, errors, command, code),
+        ClientFault::Status(code) => match status_line(alloc, command, code) {
+            Ok(line) => writeln!(errors, "{line}"),
+            Err(_) => writeln!(errors, "sftpd: out of memory"),
+        },
         ClientFault::OutOfMemory => writeln!(errors, "sftpd: out of memory"),
         ClientFault::TooLarge(size) => writeln!(errors, "sftpd: too large to get: {size} bytes"),
     }
 }
 
-/// Writes the status' number and message, and the paths.
-fn report_status<W: Write>(
+/// The status' number and message, and the paths.
+fn status_line(
     alloc: Global,
-    errors: &mut W,
     command: ClientCommand<'_>,
     code: StatusCode,
-) -> io::Result<()> {
+) -> Result<String, AllocError> {
     let (path, second) = paths_of(command);
     let number = code.number();
     let message = shown(alloc, code.message())?;
     let path = shown(alloc, path)?;
     match second {
-        None => writeln!(errors, "sftpd: status {number}: {message}: {path}"),
+        None => format!(in alloc; "sftpd: status {number}: {message}: {path}"),
         Some(second) => {
             let second = shown(alloc, second)?;
-            writeln!(errors, "sftpd: status {number}: {message}: {path} {second}")
+            format!(in alloc; "sftpd: status {number}: {message}: {path} {second}")
         }
     }
 }
