@@ -1,4 +1,4 @@
-//! When a line that reads ahead gives a fault, and when one that gathers sends.
+//! When a line that reads ahead returns a fault, and when one that gathers sends.
 
 use sf_ahead::{AheadLine, Duplex, GatheringLine, Ready};
 use sf_line::{Line, LineFault, write_all};
@@ -54,7 +54,7 @@ fn two_halves<'a>(input: &'a [u8], has_failed: bool, written: &'a AtomicUsize) -
     }
 }
 
-/// A write that reads ahead meets a fault. It is given once, after the bytes before it.
+/// A write that reads ahead meets a fault. Reads return it once, after the bytes before it.
 #[test]
 fn a_fault_met_ahead_comes_last(rt: HostRuntime) -> Result<(), Fail> {
     let written = AtomicUsize::new(0);

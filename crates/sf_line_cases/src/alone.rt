@@ -1,4 +1,5 @@
-//! A session with an engine of its own, over a line and by a clock that tell what they move.
+//! A session with an engine of its own, over a line and a clock whose bytes and times contracts
+//! know.
 
 ghost use Rattle.std.specs.Prelude.{◌≡◌, ◌++◌, ◌∷◌, []};
 

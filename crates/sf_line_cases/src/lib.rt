@@ -1,8 +1,8 @@
-//! What no contract says of lines, and sessions served over them, without threads.
+//! What no contract says of lines, without threads.
 //!
-//! In `ahead.rt` a line reads ahead, and one gathers what is written, over halves in memory: when
-//! they give a fault that they met, and when they send what they gathered. In `alone.rt` a session
-//! has an engine of its own, and its line and its clock tell all that they move.
+//! In `ahead.rt` one line reads ahead, and another one gathers what is written: when they return a
+//! fault that they met, and when they send. In `alone.rt` a session has an engine of its own, and a
+//! line and a clock whose bytes and times contracts know.
 #![tactic(auto)]
 
 #[cfg(test)]

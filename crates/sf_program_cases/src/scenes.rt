@@ -103,9 +103,9 @@ fn serve<R: Threads + Wait + Sync>(
     Ok(serve_on_core(rt, alloc, core, lines, clocks, director, true)?)
 }
 
-/// Serves these clients. Each has one session, together they make so many calls, and nothing that
-/// was waited for is missing. Gives the core, and how many calls were answered before the one that
-/// the scene is about.
+/// Serves these clients. Each has one session, together they make this number of calls, and no wait
+/// was given up. Returns the core, and how many calls were answered before the one that the scene
+/// is about.
 fn plays<R: Threads + Wait + Abort + Sync>(
     rt: &R,
     alloc: Global,
@@ -140,7 +140,7 @@ fn plays<R: Threads + Wait + Abort + Sync>(
     Ok((core, signs.before.load(Ordering::SeqCst)))
 }
 
-/// While one worker's call is held in the middle of its lookup, without the lock, another one's is
+/// While one call is held in the middle of its lookup, without the lock, another session's call is
 /// answered.
 #[test]
 fn gate_two_calls(rt: HostRuntime) -> Result<(), Fail> {
@@ -206,8 +206,8 @@ fn a_sleeper_is_woken(rt: HostRuntime) -> Result<(), Fail> {
     Ok(())
 }
 
-/// Of three calls that sleep, each for a WRITE of its own, each is woken by that WRITE alone: the
-/// other two WRITEs are held meanwhile. The calls fall asleep in the order 12, 11, 10.
+/// Each of three calls that sleep waits for a WRITE of its own, and is woken by it. The other two
+/// WRITEs are held meanwhile. The calls fall asleep in the order 12, 11, 10.
 #[test]
 fn each_of_three_sleepers_is_woken(rt: HostRuntime) -> Result<(), Fail> {
     let clients = [
@@ -244,8 +244,8 @@ fn each_of_three_sleepers_is_woken(rt: HostRuntime) -> Result<(), Fail> {
     Ok(())
 }
 
-/// A session that has made five calls holds the lock for its next one, a rename, which helps a call
-/// that sleeps. That call is woken while the session's client is idle.
+/// A session that has made five calls keeps the lock behind its next one, a rename. The rename helps
+/// a call that sleeps, which is woken while the session's client is idle.
 #[test]
 fn an_idle_client_wakes_whom_it_helped(rt: HostRuntime) -> Result<(), Fail> {
     let script = Script {
@@ -287,8 +287,8 @@ fn one_call_beside_a_deaf_client(rt: HostRuntime) -> Result<(), Fail> {
     Ok(())
 }
 
-/// A session that has 2000 packets in memory lets another one's call in long before the last of
-/// these, and before its replies fill a line.
+/// A session with 2000 packets in memory lets another one's call in before its replies fill a line,
+/// which 490 of them do.
 #[test]
 fn one_call_beside_many(rt: HostRuntime) -> Result<(), Fail> {
     let script = Script {
@@ -309,7 +309,7 @@ fn one_call_beside_many(rt: HostRuntime) -> Result<(), Fail> {
     Ok(())
 }
 
-/// How many calls began before one whose record comes before theirs: so both were under way at
+/// Counts the calls whose record comes after that of a call that began later. Both were under way at
 /// once.
 fn overtakings(core: &Core) -> usize {
     let mut latest = 0u64;
@@ -325,8 +325,8 @@ fn overtakings(core: &Core) -> usize {
     count
 }
 
-/// While one session looks up a path of four names, another one's calls begin and are answered. On
-/// a busy machine one session may end before the other's worker begins: so there are several
+/// While one session looks up a path of four names, another one's calls begin and are answered. On a
+/// busy machine one session may end before the other one's worker begins, so there are several
 /// rounds.
 #[test]
 fn lookups_side_by_side(rt: HostRuntime) -> Result<(), Fail> {

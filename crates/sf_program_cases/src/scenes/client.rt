@@ -1,4 +1,4 @@
-//! Clients whose lines lie in memory, and wait; and a clock.
+//! Clients whose lines are in memory and wait, and a clock.
 
 ghost use Rattle.std.specs.Prelude.{◌≡◌, ◌≤◌, None};
 ghost use Rattle.sf_line.specs.Lines.{Rose};
@@ -49,7 +49,7 @@ impl Client<'_> {
     }
 }
 
-/// A client's line. It tells no bytes.
+/// A client's line. Contracts know none of its bytes.
 #[derive(Drop)]
 pub(super) struct ClientLine<'a> {
     line: MemoryLine<'a>,

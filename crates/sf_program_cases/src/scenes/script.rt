@@ -1,4 +1,4 @@
-//! How far the sessions of a scene are, and what their threads wait for.
+//! What the threads of a scene wait for, and how far they are.
 
 use sf_pool::StepObserver;
 use sf_serving::CallObserver;
@@ -25,9 +25,9 @@ fn let_run(yields: u64) {
 pub(super) enum Until {
     /// Nothing.
     Now,
-    /// So many calls sleep.
+    /// This number of calls sleep.
     Asleep(u64),
-    /// So many calls were answered.
+    /// This number of calls were answered.
     Answers(u64),
     /// The call that the scene is about was answered.
     Done,
@@ -49,7 +49,7 @@ pub(super) struct Signs {
 }
 
 impl Signs {
-    /// So many waits count as begun.
+    /// This number of waits count as begun.
     pub(super) fn new(ready: u64) -> Signs {
         Signs {
             ready: AtomicU64::new(ready),
@@ -99,11 +99,11 @@ pub(super) struct Script<'a> {
     pub holds: &'a [(u64, u64, Until)],
     /// Calls, and the step of each that sleeps.
     pub sleepers: &'a [(u64, u64)],
-    /// The call whose answer wakes; nothing more happens in its session until the scene is done.
+    /// The call whose answer wakes. Its session waits then until the scene is done.
     pub waker: u64,
     /// The session whose one call the scene is about.
     pub woken: u64,
-    /// After so many answers others have time to ask for the core.
+    /// After this number of answers other threads have time to ask for the core.
     pub slow_after: u64,
 }
 
