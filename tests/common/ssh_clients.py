@@ -1,5 +1,5 @@
-"""Clients over SSH, and what each of them does at a server: it puts and gets a large file, has many
-connections at once, is refused with another key, and is cut in the middle."""
+"""Clients over SSH. Each puts and gets a large file, opens many connections at once, is rejected
+with another key, and is disconnected during a transfer."""
 
 import asyncio
 import contextlib
