@@ -10,7 +10,7 @@ use std::sync::Arc;
 /// An append-only byte buffer of fixed capacity. Only `with_capacity` allocates.
 #[derive(Debug)]
 pub struct ByteBuffer {
-    /// `None` if the capacity is 0.
+    /// `None` in a buffer without capacity.
     whole: Option<Arc<Vec<u8>>>,
 }
 
@@ -41,7 +41,8 @@ impl ByteBuffer {
         Self { whole: None }
     }
 
-    /// An empty buffer of capacity `most`. It also allocates the string's reference count.
+    /// An empty buffer with capacity for `most` bytes. It also allocates the string's reference
+    /// count.
     pub fn with_capacity(alloc: Global, most: usize) -> Result<ByteBuffer, AllocError>
         ensures { IfOk result (λ buffer. buffer ≡ []) }
     {

@@ -169,7 +169,8 @@ pub enum Reply {
 }
 
 impl Reply {
-    /// The same reply again. Data and names are shared, so it allocates nothing.
+    /// The same reply again. Data and names are shared, so it allocates nothing. It fails only if a
+    /// reference count would overflow.
     pub fn share(&self) -> Result<Reply, AllocError>
         ensures equal { IfOk result (λ copy. copy ≡ self.now) }
         ensures plain { IsPlain self.now → IsOk result }
