@@ -215,7 +215,7 @@ impl<D: Duplex> AheadLine<D> {
     ghost use Rattle.std.specs.Io.KnownBytes.{append_known};
     ghost use Rattle.sf_ahead.specs.Ahead.{below_of, ahead_of, failures_of};
 
-    /// As `Line::write`, but the output of `below` is unchanged in whether it is exposed.
+    /// As `Line::write`. If `below` exposes no output, it continues to expose none.
     pub fn send(&mut self, bytes: &[u8]) -> Result<usize, LineFault>
         ensures within { IfOk result (λ n. n ≤ length bytes.now) }
         ensures some { 0 < length bytes.now → IfOk result (λ n. 0 < n) }

@@ -8,8 +8,8 @@ use crate::duplex::Duplex;
 use sf_line::{Line, LineFault};
 use std::alloc::{AllocError, Global};
 
-/// The capacity of the write buffer, in bytes: the amount of output at which a session under
-/// `sf_serving` ends its batch to write.
+/// The capacity of the write buffer, in bytes: the output after which a session of `sf_pool`
+/// releases the core to write.
 const ROOM: usize = 16384;
 
 /// An `AheadLine` with a write buffer. It flushes the buffer before it reads, if the buffer is

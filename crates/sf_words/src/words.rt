@@ -73,7 +73,7 @@ impl From<AllocError> for RefusedWords {
 /// The content of the file VERSION.
 const VERSION: &str = "0.2.0";
 
-/// The number of call records retained by default, and the maximum.
+/// The default number of retained call records. The next constant is the maximum.
 const KEEP: usize = 256;
 
 const MOST_KEPT: u64 = 1_000_000;
@@ -107,7 +107,8 @@ fn stdio_words<'a>(alloc: Global) -> Result<Command<'a>, AllocError> {
         .arg(log_word(alloc))
 }
 
-/// The number of workers by default, and the maximum.
+/// The default number of workers. The next constants are the maximum numbers of workers and of
+/// sessions.
 const WORKERS: u32 = 64;
 
 const MOST_WORKERS: u64 = 64;
