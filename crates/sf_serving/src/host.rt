@@ -13,9 +13,9 @@ use std::alloc::AllocError;
 /// The result of `Host::go_on`.
 #[derive(Clone, Copy, Debug, PartialEq, Eq)]
 pub enum SessionStep {
-    /// There is no complete unread packet; all replies were taken.
+    /// No complete packet is unread.
     Waits,
-    /// Replies are ready to be sent.
+    /// Further replies are unsent; complete packets may be unread.
     Answered,
     Ended(Cause),
 }
