@@ -354,7 +354,7 @@ decided_goes s x u answers call given k (inr d) =
     let among = subst (λ (xs : List Record). IsAmong (Did call.number 1 call.moment call.request given) (s.records ++ xs)) (sym (own_alone s x u answers call given k.0 d)) (among_last (Did call.number 1 call.moment call.request given) s.records) in
     decided_as (onward s x.now 0 []) answers call given (omega (arith, k.0)) among (told_now s x u answers call given k.0 d k.1)
 
--- a turn of a session whose call is executing
+-- a turn of a session with an executing call
 step_goes : (s : LoneSession) (x : Added s) (turn : ℕ) (t t' : SessionState) (call : Walking) (r : Happened) → Stands (under_way call) s t.answers → StepLeads (turn_at s x.now (with_phase t (under_way call)) t') call r
     → After s x.now (calls_begun r) (moment_begun (event.Turn 1 turn) (Ok r)) t'
 step_goes s x turn t t' call happened.Moved k (few, inl none, now) = after_by s x.now 0 [] t' _ now (still (under_way (record call { moves = call.moves + 1 })) s x.now t.answers none.0 k)

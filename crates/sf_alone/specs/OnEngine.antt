@@ -134,8 +134,8 @@ io_state line told engine = record { line = line; told = told; engine = engine }
 abbrev pub since_at : (start : IoState) (trace : List TraceEntry) → Fits start.engine trace → Since
 since_at start trace fits = since start.engine trace fits start.told
 
--- The effect of serving a transport to this end, whatever trace the engine represents: a new
--- session was fed all bytes read, all of its transcript was sent, and it has ended. At the end of
+-- The effect of serving a transport to this end, whatever trace the engine represents. A new
+-- session was fed all bytes read, its whole transcript was sent, and it has ended. At the end of
 -- the input the session is closed.
 abbrev pub ServesLine : IoState → IoState → Cause → Type 0
 ServesLine start now cause = (trace : List TraceEntry) → (fits : Fits start.engine trace)

@@ -36,7 +36,7 @@ call_records session records = filter_map (call_record_of session) records
 abbrev pub is_kept : List Record → AnsweredCall → Bool
 is_kept records e = list_any (is_of e.answer.number) records
 
--- the number of calls before the first whose record is retained, and the calls from there on
+-- the number of calls before the first with a retained record, and the calls from there on
 abbrev pub front_len : List Record → Transcript → ℕ
 front_len records t = prefix_len (λ e. not (is_kept records e)) t.calls.items
 
@@ -71,8 +71,10 @@ IsWithin (x ∷ xs) (y ∷ ys) = ((x ≡ y) × IsWithin xs ys) ⊎ IsWithin (x �
 abbrev pub AreInRecords : List Record → Transcript → Type 0
 AreInRecords records t = AllByRecursion (IsIn (call_records t.session records)) (rest records t)
 
--- The fault of a transcript: a call from the first retained one on is not in the records; or all
--- are, in another order; or the records contain further calls of its session.
+-- The fault of a transcript, from its first call with a retained record on:
+-- - `NotInHistory`: a call is not in the records;
+-- - `OutOfOrder`: all are, in another order;
+-- - `Missing`: the records contain further calls of its session.
 abbrev pub IsFaultOf : List Record → Transcript → AuditFault → Type 0
 IsFaultOf records t NotInHistory = ¬ AreInRecords records t
 IsFaultOf records t OutOfOrder =

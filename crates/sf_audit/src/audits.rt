@@ -48,7 +48,7 @@ fn is_kept(records: &[Record], call: &AnsweredCall) -> bool
     records.iter().any(|entry| has_number(entry, number))
 }
 
-/// The number of calls before the first whose record is retained.
+/// The number of calls before the first with a retained record.
 fn front_len(records: &[Record], calls: &[AnsweredCall]) -> usize
     ensures count { result ≡ prefix_len (λ e. not (is_kept records.now e)) calls.now }
     ensures within { result ≤ length calls.now }
@@ -245,7 +245,8 @@ fn compare(records: &[Record], folded: u64, transcripts: &[Transcript]) -> Resul
 /// Compares the replies that sessions received with the history that a core retains. It allocates
 /// nothing.
 ///
-/// A transcript may begin with calls whose records were trimmed. Only their number is compared.
+/// A transcript may begin with calls that were trimmed from the history. Only their number is
+/// compared.
 pub fn audit(core: &Core, transcripts: &[Transcript]) -> Result<(), AuditFault>
     ensures ok { IsOk result ↔ AgreesWith core.now.records core.now.folded transcripts.now }
     ensures fault { IfErr result

@@ -9,7 +9,7 @@ pub struct AnsweredCall {
     pub answer: Answer,
 }
 
-/// The calls of a session, as the client saw them.
+/// The calls of a session, with the replies that it received.
 #[derive(Debug, Drop)]
 pub struct Transcript {
     /// 0 if the session never joined.

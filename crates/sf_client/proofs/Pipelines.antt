@@ -295,8 +295,9 @@ pub ended : {p : Pipeline} {v : ClientView} {x : p.Gathered} {y : ClientAhead} (
 ended {p} {v} {x} {y} S at none some ends =
     (elim y.ahead.stopped as (λ (s : Option ClientFault). y.ahead.stopped ≡ s → DoesCall S v (ended_by s x) y.client) [ None ↦ λ is. absurd (some is) | Some f ↦ λ is. ended_does (ends f (stopped_by at f is none)) (all_taken at none) ]) refl
 
--- Until it is stopped, each reply that counts adds an item, with at most 64 requests in flight, and
--- the replies to be discarded arrive one after the other. After that only replies arrive.
+-- A bound on the remaining steps. Until it is stopped, each reply that counts adds an item, and at
+-- most 64 requests are in flight. Replies to be discarded arrive one after the other. After the
+-- stop only replies arrive.
 abbrev pub measure : Option ClientFault → ℕ → ℕ → ℕ → ℕ
 measure None len zero waiting = 300 * (2 ^ 63 - len) + (192 - waiting)
 measure None len (suc dropped) waiting = 300 * (2 ^ 63 - len) + (192 + waiting)

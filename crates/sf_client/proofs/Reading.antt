@@ -52,7 +52,7 @@ keeps_more n [] kept x is h = (is, inl ([], ap (λ (t : List Exchange). t ++ x �
 keeps_more n (y ∷ xs) kept x is (asks, inl h) = (asks, inl (h.0 ++ x ∷ [], ap (λ (t : List Exchange). t ++ x ∷ []) h.1, keeps_more n xs h.0 x is h.2))
 keeps_more n (y ∷ xs) kept x is (asks, inr h) = (asks, inr (keeps_more n xs kept x is h))
 
--- one more exchange, whose reply was discarded
+-- one more exchange, with its reply discarded
 drops_more : (n : ℕ) (xs kept : List Exchange) (x : Exchange) → IsReadOf n x.request → KeepsSome n xs kept → KeepsSome n (xs ++ x ∷ []) kept
 unfolding KeepsSome
 drops_more n [] kept x is h = (is, inr h)

@@ -18,9 +18,8 @@ use Rattle.sf_client.specs.Exchanges.{ClientView, Exchange, Exchanged, Unanswere
 use Rattle.sf_client.specs.Outcomes.{asked, Broke, Comes, SettlesRequest}
 use Rattle.sf_client.specs.Ahead.{EndsCallBy}
 
--- The effect of a call whose possible exchanges are given by `Script`: it made such exchanges and
--- has no pending reply; the transport failed; or after some exchanges the expected reply didn't
--- arrive.
+-- The effect of a call with the possible exchanges `Script`. It made such exchanges, and no reply
+-- is pending; or the transport failed; or after some exchanges the expected reply didn't arrive.
 abbrev pub DoesCall : {X : Type 0} → (List Exchange → Result X ClientFault → Type 0) → ClientView
     → Result X ClientFault → ClientView → Type 0
 DoesCall Script v (Ok x) w = (xs : List Exchange) × Script xs (Ok x) × Exchanged v xs w

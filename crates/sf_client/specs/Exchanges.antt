@@ -10,9 +10,12 @@ use Rattle.sf_field.specs.Fields.{packet, max_body}
 use Rattle.sf_client.specs.declared.due.Due.{Due}
 use Rattle.sf_client.specs.Dues.{due_of, is_due}
 
--- The observable state of a client: the id of the oldest pending reply (if none is pending, of the
--- next request), whether it has failed, its transport's input not yet read and output so far, if
--- exposed, and the number of failed transport calls.
+-- The observable state of a client:
+-- - `next`: the id of the oldest pending reply; if none is pending, of the next request;
+-- - `failed`: whether it has failed;
+-- - `incoming`, `outgoing`: the input not yet read and the output so far, if the transport exposes
+--   them;
+-- - `failures`: the number of failed calls of the transport.
 pub record ClientView : Type 0 where
   pub next : ℕ
   pub failed : Bool
@@ -48,8 +51,8 @@ replies_from id (x ∷ xs) = packet (reply_body id x.reply) ++ replies_from (id_
 abbrev pub IsDueReply : Exchange → Type 0
 IsDueReply x = is_due (due_of x.request) x.reply ≡ true
 
--- The client sent these requests in order and received their replies. It also sent some later
--- requests, whose replies are pending.
+-- The client sent these requests in order and received their replies. It also sent `later`
+-- requests; their replies are pending.
 pub record SentAhead (v : ClientView) (xs : List Exchange) (later : List WireRequest)
     (w : ClientView) : Type 0 where
   pub began : v.failed ≡ false

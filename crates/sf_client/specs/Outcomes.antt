@@ -22,9 +22,12 @@ pub record Broke (v w : ClientView) : Type 0 where
   pub grew : v.failures ≤ w.failures
   pub rose : Rose v.failures w.failures
 
--- The effect of a call of one request: its reply was received, with this result or an error status;
--- the transport failed; the expected reply didn't arrive; or memory ran out, before anything was
--- sent or for the data or names of the reply. A client that failed before does nothing.
+-- The effect of a call of one request:
+-- - its reply was received, with this result or an error status;
+-- - the transport failed;
+-- - the expected reply didn't arrive;
+-- - memory ran out, before anything was sent or for the data or names of the reply;
+-- - the client had failed before, and does nothing.
 abbrev pub Comes : {X : Type 0} → (X → Reply) → ClientView → WireRequest → Result X ClientFault
     → ClientView → Type 0
 Comes as_reply v q (Ok x) w = Exchanged v (asked q (as_reply x) ∷ []) w

@@ -18,7 +18,7 @@ use sf_reply::Reply;
 use sf_request::{ByteStr, WireRequest};
 
 impl<L: Line + Drop> Client<L> {
-    /// Sends a request whose expected reply is `SSH_FX_OK`.
+    /// Sends a request that expects `SSH_FX_OK`.
     pub(crate) fn done(&mut self, request: &WireRequest) -> Result<(), ClientFault>
         requires short { length (request_body self.old.next request.now) < 2 ^ 32 }
         requires due { due_of request.now ≡ Due.Success }

@@ -11,7 +11,7 @@ pub enum ClientFault {
     #[error("the line failed")]
     Stream,
     /// The input was not the expected reply: no packet (also at the end of the input), no valid
-    /// reply, an unexpected id or kind of reply, or a version other than 3.
+    /// reply, another id or kind of reply, or a version other than 3.
     #[error("not the reply that was due")]
     Protocol,
     /// The server replied with this error status.

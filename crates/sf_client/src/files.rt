@@ -346,7 +346,7 @@ impl<L: Line + Drop> Client<L> {
         }
     }
 
-    /// Lists the directory to its end, with two READDIRs in flight.
+    /// Lists the directory to its end, with at most two READDIRs in flight.
     fn list_all(&mut self, handle: u64) -> Result<Gathered<Entry>, ClientFault>
         requires { self.old.failed ≡ false }
         ensures { DoesCall (ListsAll handle) self.old result self.new }

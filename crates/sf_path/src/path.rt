@@ -259,7 +259,7 @@ impl Ord for Path {
 
     ghost matches_eq = { λ a b. refl };
 
-    /// Lexicographic order of the names: a path precedes every path of which it is a prefix.
+    /// Lexicographic order of the names: a prefix precedes the longer path.
     fn cmp(&self, other: &Path) -> Ordering {
         self.as_slice().cmp(other.as_slice())
     }

@@ -59,10 +59,15 @@ fn columns(
     Ok(text)
 }
 
-/// Formats a listing line in the style of `ls -l`: type and permissions, the link count (width 3,
-/// right), uid and gid (width 8, left), size (width 8, right), modification time in seconds since
-/// 1970 (width 12, right) and the name, separated by single spaces. Wider numbers are not
-/// truncated.
+/// Formats a listing line in the style of `ls -l`. The fields are separated by single spaces:
+/// - type and permissions;
+/// - link count, right-aligned in 3 columns;
+/// - uid and gid, each left-aligned in 8;
+/// - size in bytes, right-aligned in 8;
+/// - modification time in seconds since 1970, right-aligned in 12;
+/// - name.
+///
+/// Wider numbers are not truncated.
 pub fn longname(
     alloc: Global,
     attrs: &Attrs,

@@ -74,7 +74,7 @@ two_strings make kind of_kind spells =
 
 -- ---- the extensions
 
--- An extension with this name, whose requests have two strings.
+-- An extension with this name; its requests have two strings.
 record IsExtension (known : List ℕ) (make : List ℕ → List ℕ → WireRequest) : Type 0 where
   of_kind : (s t : List ℕ) → kind_of (make s t) ≡ 200
   spells : (text s t : List ℕ) → (IsString known ⨾ IsString s ⨾ IsString t) text → SpellsFields text (make s t)

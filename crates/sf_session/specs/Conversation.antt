@@ -40,10 +40,10 @@ IsSubsequence [] all = Unit {0}
 IsSubsequence (x ∷ some) all =
     (before after : List ℕ) × (all ≡ before ++ x ∷ after) × IsSubsequence some after
 
--- The input is packets and a remainder. Each packet is answered in order, except at most one, whose
--- reply is pending. The output and the bytes not yet sent are the packets of the answers. The
--- replies to calls are those of one legal history of this session's calls, one record per call, in
--- order. The calls' timestamps are a subsequence of `moments`.
+-- The input is packets and a remainder. Each packet is answered in order; at most one reply is
+-- pending. The output and the bytes not yet sent are the packets of the answers. The replies to
+-- calls are those of one legal history of this session's calls, one record per call, in order. The
+-- calls' timestamps are a subsequence of `moments`.
 pub record IsConversation (input moments output : List ℕ) : Type 0 where
   pub session : ℕ
   pub history : List Record

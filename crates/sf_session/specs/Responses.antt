@@ -17,8 +17,8 @@ use Rattle.sf_session.specs.Sessions.{refusal_of}
 abbrev pub most_calls : ℕ
 most_calls = 2 ^ 63 - 1
 
--- The answer to a body: VERSION; a reply without a file-system call; the reply of the call with
--- this number; or a refusal, because the call could not start.
+-- The answer to a body: VERSION, a reply without a file-system call, the reply of the call with
+-- this number, or a refusal because the call could not start.
 pub data Response : Type 0 where
   Version : Response
   Locally : (id : ℕ) → (reply : Reply) → Response

@@ -13,18 +13,20 @@ use Rattle.sf_session.specs.declared.cause.Cause.TheVariants.{Closed}
 use Rattle.sf_session.specs.Sessions.{EndsBy}
 use Rattle.sf_session.specs.Responses.{Response, ByCall, ask_behind, packet_for, transcript, has_begun, AreAsked}
 
--- A session is idle; its call is executing and has made `moves` steps; its call is decided and the
--- reply is not yet written; or the session has ended. A call has the id of its request, its number,
--- its timestamp and its request.
+-- The phases of a session: idle; a call is executing and has made `moves` steps; a call is decided
+-- and its reply is not yet written; ended. A call has the id of its request, its number, its
+-- timestamp and its request.
 pub data Phase : Type 0 where
   Resting : Phase
   UnderWay : (id number moment : ℕ) → (request : Request) → (moves : ℕ) → Phase
   Decided : (id number : ℕ) → (request : Request) → (reply : Reply) → Phase
   Gone : (cause : Cause) → Phase
 
--- The state of a session after a trace: the bytes it received, those of them not yet processed, the
--- bodies processed, their answers, the bytes sent, whether it was closed during its call, and its
--- phase.
+-- The state of a session after a trace:
+-- - `stream`: the bytes received; `unread`: those not yet processed;
+-- - `bodies`: the bodies processed; `answers`: their answers;
+-- - `sent`: the bytes sent;
+-- - `closed`: whether it was closed during its call.
 pub record SessionState : Type 0 where
   pub stream : List ℕ
   pub unread : List ℕ

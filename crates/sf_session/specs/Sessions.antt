@@ -21,8 +21,11 @@ use Rattle.sf_session.specs.declared.session.Next.{Next}
 use Rattle.sf_session.specs.declared.session.Next.TheVariants as next
 use Rattle.sf_session.specs.Asking.{AsksFor}
 
--- The observable state of a session: the unread bytes, the bytes to be sent, whether it has
--- processed its first packet, the id of the pending request, and why it ended.
+-- The observable state of a session:
+-- - `unread`: the bytes not yet processed; `output`: the bytes to be sent;
+-- - `begun`: whether its first packet was processed;
+-- - `waiting`: the id of the pending request;
+-- - `ended`: why it ended.
 pub record SessionView : Type 0 where
   pub unread : List ℕ
   pub output : List ℕ

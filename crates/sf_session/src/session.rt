@@ -113,8 +113,8 @@ impl Session {
         Ok(())
     }
 
-    /// Whether the unread bytes are an incomplete packet whose length, if complete, is valid. It
-    /// allocates nothing.
+    /// Whether the unread bytes are an incomplete packet, with a valid length as far as it is
+    /// complete. It allocates nothing.
     pub fn is_drained(&self) -> bool
         ensures { IsTrue result ↔ IsCut self.now.unread More }
     {
