@@ -1,4 +1,5 @@
--- No public clause cites this module. The first packet of a transport's input.
+-- No public clause cites this module.
+-- The first packet of a transport's input.
 use Rattle.std.specs.Prelude.{◌≡◌, ◌<◌, ℕ, List, ◌++◌, length, Option, IfSome}
 use Rattle.sf_field.specs.Fields.{packet}
 use Rattle.sf_wire.specs.Packets.{IsBody}

@@ -1,4 +1,5 @@
--- No public clause cites this module. The buffer that a byte string refers to.
+-- No public clause cites this module.
+-- The buffer that a byte string refers to.
 use Rattle.std.specs.Prelude.{ℕ, List, [], Option, Some, None}
 use Rattle.std.specs.declared.alloc.Global.{Global}
 use Rattle.std.specs.declared.sync.Arc.{Arc}

@@ -1,4 +1,5 @@
--- No public clause cites this module. A name's first 8 bytes as a big-endian integer.
+-- No public clause cites this module.
+-- A name's first 8 bytes as a big-endian integer.
 use Rattle.std.specs.Prelude.{ℕ, zero, suc, ◌+◌, ◌*◌, List, [], ◌∷◌}
 
 -- `n` followed by the first `more` bytes, in base 256; a shorter text is padded with zeros

@@ -1,4 +1,5 @@
--- No public clause cites this module. Decoding of a body, from left to right.
+-- No public clause cites this module.
+-- Decoding of a body, from left to right.
 use Rattle.std.specs.Prelude.{ℕ, List, [], ◌∷◌, Bool, false, Option, Some, None, option_map, not, ◌==◌, ◌||◌, if◌then◌else◌}
 use Rattle.std.specs.Str.{bytes_eq}
 use Rattle.std.specs.Int.{w32, w64}

@@ -1,4 +1,5 @@
--- No public clause cites this module. The parts of the serve loop.
+-- No public clause cites this module.
+-- The parts of the serve loop.
 use Rattle.std.specs.Prelude.{◌≡◌, ◌≢◌, ◌≤◌, ℕ, List, [], ◌++◌, length, Option, Some, None}
 use Rattle.std.specs.List.{AllByRecursion}
 use Rattle.std.specs.Io.KnownBytes.{Appends, IsAtEnd}

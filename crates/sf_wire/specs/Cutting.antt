@@ -1,4 +1,5 @@
--- No public clause cites this module. Framing, computed from left to right.
+-- No public clause cites this module.
+-- Framing, computed from left to right.
 use Rattle.std.specs.Prelude.{ℕ, ◌+◌, List, length, Option, Some, None, nat_lt, ◌==◌, if◌then◌else◌}
 use Rattle.std.specs.Int.{w32}
 use Rattle.sf_field.specs.Fields.{max_body}
