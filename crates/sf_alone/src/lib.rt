@@ -5,7 +5,7 @@
 //! effect on the transport, the clock and the engine. `serve_alone` in `own_engine.rt` creates an
 //! engine for one session, so its contract is about bytes and timestamps only (`specs/Talks.antt`).
 //! `alone_law.rt` states that a single session is deterministic, and `specs/Alone.antt` defines its
-//! answers by a sequential model.
+//! answers by the sequential specification.
 #![tactic(auto)]
 
 mod alone_law;
