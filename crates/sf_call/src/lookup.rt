@@ -1,7 +1,7 @@
-//! Where a path leads.
+//! Results of lookups.
 
-/// A part of the path before its last is missing or is no directory; or nothing is there; or the
-/// object with a label.
+/// The result of a lookup: a component before the last is absent or no directory, the path is
+/// absent, or its inode number.
 #[derive(Clone, Copy, Debug, PartialEq, Eq)]
 pub enum Lookup {
     NoWay,
