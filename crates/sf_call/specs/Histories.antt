@@ -55,8 +55,8 @@ pub record DoneCall : Type 0 where
 abbrev pub due_reply : List Record → DoneCall → Reply
 due_reply history d = (apply (replay history) d.session d.number d.moment d.request).reply
 
--- A call may come next if its values are in range, its number is new and above 0, its session has
--- not ended, and its reply is the specified one or out of memory.
+-- A call may come next if its values are in range, its number is new and above 0, and its session
+-- has not ended. Its reply is the specified one or out of memory.
 pub record CallMayFollow (history : List Record) (d : DoneCall) : Type 0 where
   pub is_call : IsCall d.number d.session d.moment d.request
   pub above_zero : 0 < d.number
