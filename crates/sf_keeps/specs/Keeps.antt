@@ -25,7 +25,7 @@ view_of s = record {
 abbrev pub times_open : Tree → ℕ → ℕ
 times_open t label = count_by (λ e. nat_eq e.1.label label) t.handles
 
--- an inode without an entry of its own or below it, other than the root
+-- an inode that no entry links, that is not the root, and that has no entries
 pub record IsUnlinked (s : StoreState) (id : ℕ) : Type 0 where
   pub free : (x : ℕ) (n : Name) → child_of s.nodes x n ≡ Some id → ⊥
   pub other : s.root ≡ id → ⊥

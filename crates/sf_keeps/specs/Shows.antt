@@ -42,7 +42,7 @@ abbrev pub AllUsed : Tree → Type 0
 AllUsed t = (label : ℕ) (o : Object) → object_of t.objects label ≡ Some o
     → is_used t.names t.handles label ≡ true
 
--- the observable part of a store: where entries lead, what inodes are, and what is open
+-- the observable part of a store: its entries, its inodes and its open handles
 pub record View : Type 0 where
   pub step : EntryMap
   pub shown : Shown
