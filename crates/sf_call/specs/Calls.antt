@@ -55,8 +55,8 @@ refuses_size object None = false
 refuses_size (Directory m) (Some size) = true
 refuses_size (File m contents) (Some size) = nat_lt MAX_FILE_SIZE size
 
--- The size is set first, which sets the modification time to the call's timestamp (POSIX,
--- ftruncate). Then the other attributes are set.
+-- A given size is set first, with the call's timestamp as modification time (POSIX, ftruncate).
+-- Then the other attributes are set.
 abbrev pub with_size : ℕ → Attrs → Option ℕ → Metadata → List ℕ → Object
 with_size moment attrs None m contents = File (with_parts m attrs) contents
 with_size moment attrs (Some size) m contents =

@@ -39,7 +39,7 @@ pub enum Stage {
         /// The directory's number in the store.
         node: usize,
     },
-    /// A rename after its paths diverged: it holds the last common directory, and one on each path.
+    /// A call on two paths that diverged: it holds the last common directory, and one on each path.
     Ends {
         common: Reached,
         old: Reached,
