@@ -74,7 +74,7 @@ pub fn closed_handles()
     ensures nodes { (s : StoreState) (session : ℕ) → KeepsNodes s (closed_all s session) }
 {}
 
-/// The listing of a directory. One path at most has a directory's inode number. The tree lists the
+/// The listing of a directory. A directory's inode number determines its path. The tree lists the
 /// first entries that `Store::entries_after` returns, each with its name and an existing inode. A
 /// removed directory that is still open lists nothing and has no entries.
 pub fn listed_entries()

@@ -57,8 +57,8 @@ pub fn shown_nodes()
         × ((bytes_of nodes id) ≡ bytes) }
 {}
 
-/// An operation leaves other inodes and their holders alone, except the one that is changed, made,
-/// or loses its entry.
+/// An operation leaves inodes and their holders alone, except the one that is edited, inserted, or
+/// loses its entry.
 pub fn other_nodes()
     ensures edited { (f : Node → Node) (s : StoreState) (id i : ℕ) → i ≢ id
         → node_in (edited f s id).nodes i ≡ node_in s.nodes i }
