@@ -1,5 +1,6 @@
--- No public clause cites this module. The representation of a file's bytes: numbered blocks of 4096
--- bytes. A missing block is zeros, and so is the missing end of a shorter one.
+-- No public clause cites this module.
+-- The representation of a file's bytes: numbered blocks of 4096 bytes. A missing block is zeros,
+-- and so is the missing end of a shorter one.
 use Rattle.std.specs.Prelude.{◌≡◌, ◌⊎◌, ◌≢◌, ◌<◌, ◌≤◌, ◌+◌, ◌-◌, ◌*◌, ◌/◌, ◌%◌, ℕ, zero, suc, max, min, nat_le, nat_lt, ◌&&◌, if◌then◌else◌, Bool, IsTrue, List, [], ◌∷◌, ◌++◌, map, length, take, drop, Option, Some, None, slice_index_or}
 use Rattle.std.specs.Option.{unwrap_or}
 use Rattle.std.specs.List.{range_with_len}

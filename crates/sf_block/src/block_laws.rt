@@ -3,8 +3,8 @@
 ghost use Rattle.std.specs.Prelude.{◌≡◌, ◌<◌, ◌≤◌, ◌+◌, ℕ, List, length};
 ghost use Rattle.sf_block.specs.Contents.{FileBytes, complete, blocks_of, most_blocks, copied};
 
-/// A write of n bytes touches at most n / 4096, rounded up, plus one blocks at any start. A write
-/// of 10000 bytes at 4000 touches four.
+/// At any start, a write touches at most one block more than its bytes fill, rounded up. A write of
+/// 10000 bytes at 4000 touches four.
 #[tactic(auto, using(crate::proofs::Counts::blocks_few, crate::proofs::Counts::four_blocks))]
 pub fn few_blocks()
     ensures few { (start : ℕ) (bytes : List ℕ) → blocks_of start bytes ≤ most_blocks bytes }

@@ -56,7 +56,7 @@ impl Blocks {
         })
     }
 
-    /// The bytes of a block, without zeros at its end; none if it is missing.
+    /// The bytes of a block; zeros at its end may be missing, and a missing block has none.
     pub(crate) fn get(&self, number: u64) -> &[u8]
         ensures { result.now ≡ block_in self.now number }
     {

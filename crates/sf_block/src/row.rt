@@ -40,7 +40,7 @@ impl Row {
         self.list.is_empty()
     }
 
-    /// The bytes of a block, without zeros at its end; none if it is missing.
+    /// The bytes of a block; zeros at its end may be missing, and a missing block has none.
     pub(crate) fn get(&self, i: usize) -> &[u8]
         ensures { result.now ≡ slice_index_or self.now i [] }
     {

@@ -1,4 +1,5 @@
--- No public clause cites this module. The object of a node.
+-- No public clause cites this module.
+-- The object of a node.
 use Rattle.std.specs.Prelude.{ℕ, nat_eq, Bool, true, false, ◌&&◌, Option, Some, None}
 use Rattle.sf_call.specs.Attributes.{Object}
 use Rattle.sf_call.specs.Attributes.Object.{Directory, File}
