@@ -1,4 +1,4 @@
--- The sequential specification: the reply to each request, and the changes that it makes. Cases are
+-- The sequential specification of each request: its reply, and the changes that it makes. Cases are
 -- tried in order; the first that matches applies.
 use Rattle.std.specs.Prelude.{ℕ, ◌+◌, not, nat_eq, nat_lt, nat_le, min, Bool, true, false, ◌&&◌, ◌||◌, if◌then◌else◌, List, [], ◌∷◌, ◌++◌, length, take, drop, filter, count_by, Option, Some, None, is_some}
 use Rattle.sf_field.specs.declared.attrs.Attrs.{Attrs}

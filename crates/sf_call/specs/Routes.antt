@@ -1,4 +1,4 @@
--- The route of a call: the paths that it resolves by lock coupling.
+-- The paths that a call resolves by lock coupling (its route).
 use Rattle.std.specs.Prelude.{Bool, true, false, ◌||◌, if◌then◌else◌, is_some}
 use Rattle.sf_path.specs.Names.{Path}
 use Rattle.sf_call.specs.declared.request.Request.{Request}

@@ -1,4 +1,5 @@
--- The abstraction relation: a store represents a tree, and the counts in its inodes agree with it.
+-- The abstraction relation between a store and a tree: the store represents the tree, and the
+-- counts in its inodes agree with it.
 use Rattle.std.specs.Prelude.{◌≡◌, ℕ, ◌<◌, ◌^◌, nat_eq, T, List, Option, Some, None, option_map}
 use Rattle.std.specs.List.{count_by}
 use Rattle.std.specs.Ordering.{nat_cmp}
