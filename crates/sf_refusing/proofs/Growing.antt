@@ -75,7 +75,7 @@ unsent_more log e s u U le =
           ∙ ap (λ (b : List ℕ). b ++ t) U.packets ∙ four U.sent (take n u) (drop n u) t u (take-append-drop n u);
     }
 
--- one output is buffered
+-- the unsent output is unique
 pub same_unsent : (log : List LogEntry) (s : ℕ) (u v : List ℕ) → IsUnsent log s u → IsUnsent log s v → u ≡ v
 same_unsent log s u v U V =
     let t : List ℕ = transcript (written_in s log) in
