@@ -1,10 +1,10 @@
-//! Clocks.
+//! Deterministic clocks.
 
 ghost use Rattle.std.specs.Prelude.{None};
 
 use sf_session::Clock;
 
-/// A clock at the moment 100.
+/// A clock that always returns the timestamp 100.
 #[derive(Clone, Copy)]
 pub struct StillClock;
 
@@ -16,19 +16,19 @@ impl Clock for StillClock {
     }
 }
 
-/// A clock whose moments rise by one each time, up to the last one that there is.
+/// A clock whose timestamp increases by one at each call, up to the largest one.
 #[derive(Clone, Copy)]
 pub struct RisingClock {
     next: u32,
 }
 
 impl RisingClock {
-    /// A clock that tells this moment first.
+    /// A clock whose first timestamp is `first`.
     pub fn new(first: u32) -> RisingClock {
         RisingClock { next: first }
     }
 
-    /// The moment that it tells next.
+    /// The timestamp of the next call.
     pub fn next(&self) -> u32 {
         self.next
     }

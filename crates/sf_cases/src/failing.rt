@@ -1,12 +1,11 @@
-//! A line that fails.
+//! A stream that fails.
 
 ghost use Rattle.std.specs.Prelude.{◌≡◌, ◌≤◌, None};
 ghost use Rattle.sf_line.specs.Lines.{Rose};
 
 use sf_line::{Line, LineFault, MemoryLine};
 
-/// A line over memory that fails after so many reads, after so many writes, and once it has taken
-/// so many bytes.
+/// A stream over memory that fails after a number of reads, of writes, or of written bytes.
 #[derive(Drop)]
 pub struct FailingLine<'a> {
     line: MemoryLine<'a>,
@@ -17,7 +16,7 @@ pub struct FailingLine<'a> {
 }
 
 impl<'a> FailingLine<'a> {
-    /// A line that fails after so many reads, and after so many writes.
+    /// A stream that fails after this many reads, and after this many writes.
     pub fn new(line: MemoryLine<'a>, reads: usize, writes: usize) -> FailingLine<'a> {
         FailingLine {
             line,
@@ -28,7 +27,7 @@ impl<'a> FailingLine<'a> {
         }
     }
 
-    /// A line that takes so many bytes, and then fails.
+    /// A stream that accepts this many bytes, and then fails.
     pub fn with_room(line: MemoryLine<'a>, room: usize) -> FailingLine<'a> {
         FailingLine {
             line,
