@@ -10,7 +10,7 @@ pub enum Line {
     Event(Event),
     /// Events in sequence.
     Run(Vec<Event>),
-    /// Turns of a session with a timestamp, until its call is answered.
+    /// Turns of a session with a timestamp, until its call is answered or can't progress.
     Turns(u64, u32),
     /// Bytes for a session, by `Engine::feed`.
     FeedSlice(u64, Vec<u8>),
@@ -19,7 +19,7 @@ pub enum Line {
     /// A new engine that retains this many records.
     Keep(usize),
     State,
-    /// A session's output after its first bytes, whose number is given.
+    /// A session's output after this many bytes.
     Output(u64, usize),
     /// Whether a session needs input.
     Wants(u64),

@@ -7,7 +7,8 @@
 //! close 1                         closes session 1
 //! sent 1 9                        removes the first 9 bytes of its output
 //! run open | turn 1 100           applies these events; prints the number of errors
-//! turns 1 100                     takes turns until its call is answered; prints the last result
+//! turns 1 100                     takes turns until its call is answered or can't progress;
+//!                                 prints the last result
 //! feed_slice 1 000000050100000003 as feed, by the method for slices
 //! run_all                         runs rounds until no call is unanswered; prints their number
 //! keep 2                          replaces the engine by a new one that retains 2 records

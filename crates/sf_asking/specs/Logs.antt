@@ -32,7 +32,7 @@ abbrev pub FeedsBy : EngineView → ℕ → List ℕ → Result Happened EngineF
 FeedsBy old session bytes result new =
     (fed : Vec ℕ) → fed.items ≡ bytes → EventLeads old (event.Feed session fed) result new
 
--- turns, the last of which had this result
+-- turns; the last one had this result
 abbrev pub TurnsLead : ℕ → EngineView → Event → Result Happened EngineFault → EngineView → Type 0
 TurnsLead n old turn result new = ((log : List LogEntry) → ghosts.has_log old log
     → (entries : List LogEntry) × AreTurns turn result entries

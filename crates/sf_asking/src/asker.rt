@@ -12,7 +12,7 @@ use sf_trees::{Server, TreeFault, is_too_long};
 use std::alloc::Global;
 use std::marker::Model;
 
-/// An engine whose sessions send requests one at a time, all with one timestamp.
+/// An engine with sessions that send requests one at a time, all with one timestamp.
 #[derive(Drop)]
 pub struct Asker {
     engine: Box<Engine, Global>,

@@ -38,7 +38,7 @@ fn stuck_by(outcome: Result<Happened, EngineFault>) -> Option<TreeFault>
     }
 }
 
-/// Feeds bytes, and takes turns until a reply is written.
+/// Feeds bytes, and takes turns until a reply is written. Fails if the session can't progress.
 fn converse(engine: &mut Engine, session: u64, moment: u32, bytes: &[u8]) -> Result<(), TreeFault>
     requires { length bytes.now < 2 ^ 63 }
     ensures { Converses session moment bytes.now engine.old result engine.new }

@@ -71,8 +71,8 @@ abbrev pub TurnsOnce : ℕ → ℕ → ℤ → EngineView → Refusals → Engin
 TurnsOnce session moment n old r new r' = (result : Result Happened EngineFault)
     × IsNumber result n × JournalGoesOn (IsOneTurn session moment result) old r new r'
 
--- The same, but the engine takes turns until the session's call is answered. No call has as many as
--- 2^64 steps.
+-- The same, but the engine takes turns until the session's call is answered or can't progress. No
+-- call has as many as 2^64 steps.
 abbrev pub AreTurnsOf : ℕ → ℕ → Result Happened EngineFault → List Act → List Act → Type 0
 AreTurnsOf session moment result journal acts =
     IsTurn journal session (AreTurns (event.Turn session moment) result) result acts

@@ -113,7 +113,7 @@ IsFresh keep engine = ghosts.has_log engine [] × Fits engine []
     × (keep ≡ 0 → engine.core.keep ≡ None)
     × (0 < keep → engine.core.keep ≡ Some keep)
 
--- a new engine was made, with refusals whose journal is empty; or memory ran out
+-- a new engine was made, with refusals that have an empty journal; or memory ran out
 abbrev pub IsNewEngine : ℕ → ℤ → Option EngineView → Option Refusals → Type 0
 IsNewEngine keep n made rules = ((n ≡ negsuc 0) × (made ≡ None) × (rules ≡ None))
     ⊎ ((engine : EngineView) × (r : Refusals) × (n ≡ pos 0) × (made ≡ Some engine)

@@ -81,7 +81,7 @@ pub fn tree_of(engine: &Engine, alloc: Global) -> Result<Box<Leaves, Global>, Al
     }
 }
 
-/// The numbers of a leaf whose path's text has `path` bytes.
+/// The numbers of a leaf; `path` is the length of its path's text.
 fn leaf_parts(leaf: &Leaf, path: usize) -> LeafParts
     requires { path ≡ length (text_of leaf.now.0) }
     ensures { result ≡ leaf_parts leaf.now }

@@ -37,7 +37,7 @@ pub fn turn(engine: &mut Engine, refusals: &mut Refusals, session: u64, moment: 
     number_of(refusals.turn(engine, session, moment))
 }
 
-/// As `turn`, but the engine takes turns until the session's call is answered.
+/// As `turn`, but the engine takes turns until the session's call is answered or can't progress.
 fn turns(
     engine: &mut Engine,
     refusals: &mut Refusals,

@@ -16,14 +16,14 @@ impl Clock for StillClock {
     }
 }
 
-/// A clock whose timestamp increases by one at each call, up to the largest one.
+/// A clock that returns a timestamp larger by one at each call, up to the largest one.
 #[derive(Clone, Copy)]
 pub struct RisingClock {
     next: u32,
 }
 
 impl RisingClock {
-    /// A clock whose first timestamp is `first`.
+    /// A clock that starts at the timestamp `first`.
     pub fn new(first: u32) -> RisingClock {
         RisingClock { next: first }
     }

@@ -7,11 +7,11 @@ use Rattle.sf_call.specs.declared.call.Call.{Call}
 use Rattle.sf_call.specs.declared.record.Record.{Record}
 use Rattle.sf_inode.specs.Stores.{StoreState}
 
--- A core: the retained records, the oldest first; the most records that it retains, if not all; the
--- number of calls whose records were dropped; the numbers of calls and of sessions so far, counted
--- from 1; the joined sessions in ascending order, each with the number of its unanswered call; the
--- unanswered calls in ascending order; the number of lookups; and the store. Only the clauses about
--- the history and about a blocked step speak of the store.
+-- A core. `records` are the retained records, the oldest first, and at most `keep` if that is set.
+-- `folded` counts the dropped call records. `drawn` and `joins` count the calls and the sessions so
+-- far, which are numbered from 1. `sessions` has the joined sessions in ascending order, each with
+-- the number of its unanswered call, and `calls` the unanswered calls. `look_ups` counts the
+-- lookups. Only the clauses about the history and about a blocked step speak of `store`.
 pub record CoreView : Type 0 where
   pub records : List Record
   pub keep : Option ℕ
@@ -23,8 +23,8 @@ pub record CoreView : Type 0 where
   pub look_ups : ℕ
   pub store : StoreState
 
--- the state of a session: it never joined or has left; it is idle; or it has an unanswered call, of
--- which something is known
+-- the state of a session: it never joined or has left; it is idle; or it has an unanswered call,
+-- with something `Known` about it
 pub data LaneState (Known : Type 0) : Type 0 where
   NoLane : LaneState Known
   Idle : LaneState Known

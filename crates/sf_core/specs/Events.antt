@@ -129,8 +129,8 @@ pub record After : Type 0 where
   pub added : List Record
   pub lane : LaneView
 
--- The call's record was already in the history: a pending reply is fetched, after a WRITE's last
--- block.
+-- The call's record was already in the history, and its pending reply is fetched. A WRITE copies
+-- its last block first.
 pub record Fetches (b : Before) (a : After) (c : Call) (given : Reply) : Type 0 where
   pub own : OwnCall b.core b.lane c
   pub decided : waiting_reply c ≡ Some given
@@ -330,7 +330,7 @@ pub record WalkEnd : Type 0 where
 abbrev pub walk_end : Step → CoreView → LaneView → WalkEnd
 walk_end s w lane = record { step = s; core = w; lane = lane }
 
--- n steps, one after the other, each of which moved
+-- n steps in sequence, all of which moved
 unfoldable pub TakesMoves : ℕ → CoreView → LaneView → CoreView → Type 0
 TakesMoves zero v lane w = w ≡ v
 TakesMoves (suc n) v lane w =

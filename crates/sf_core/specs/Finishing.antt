@@ -49,8 +49,8 @@ pub record FinishesWriter (p q : PartsView) (c : Call) : Type 0 where
       ⊎ ((w : Writer) × IsWriter looked c.request ways.path w
       × (q ≡ write_finished (record p { store = looked }) w.number w.node))
 
--- the paths were resolved before the remaining blocks were copied, and now no block is left to copy
--- into a file whose length the call sets
+-- the paths were resolved before the remaining blocks were copied; now a file has no blocks left if
+-- the call sets its length
 pub record IsReadyToHelp (p q : PartsView) (c : Call) (ways : Ways) : Type 0 where
   pub finishes : FinishesWriter p q c
   pub same : finishes.ways ≡ ways

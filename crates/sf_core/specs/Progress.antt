@@ -151,7 +151,7 @@ are_past [] paths front = false
 are_past (r ∷ at) [] front = false
 are_past (r ∷ at) (path ∷ paths) front = has_walked path r.walked front || are_past at paths front
 
--- whether a path is a prefix of what the call has walked
+-- whether a path is a prefix of what the call has resolved
 abbrev pub has_passed : Call → Path → Bool
 has_passed c front = are_past (reached_at c.stage) (paths_on (route_of c.request)) front
 

@@ -38,12 +38,12 @@ walker_of nodes id = if is_directory_at nodes id then holder_of nodes id else No
 abbrev pub writer_of_file : List (Option Node) → ℕ → Option ℕ
 writer_of_file nodes id = if is_file_at nodes id then holder_of nodes id else None
 
--- a call whose reply is pending holds nothing, or is copying
+-- a call with a pending reply holds nothing, or is copying
 abbrev pub IsAtRest : Stage → Type 0
 IsAtRest at = (at ≡ stage.Fresh) ⊎ IsCopying at
 
 -- Lock coupling: what the calls hold is as `AreWalks` says, and each undecided call is on its
--- route. A call whose reply is pending holds no directory.
+-- route. A call with a pending reply holds no directory.
 pub record Coupled (p : PartsView) : Type 0 where
   pub walks : AreWalks
       (walkers_at (namespace p.store) (held_paths_in p.calls) (walker_of p.store.nodes))

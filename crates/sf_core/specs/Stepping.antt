@@ -129,7 +129,7 @@ stage_after (walk.Moved after) at = after
 stage_after (walk.Blocked holder) at = at
 stage_after (walk.Ready found) at = at
 
--- a sound core with this store, whose call of this number is undecided and at this stage
+-- a sound core with this store; its call of this number is undecided and at this stage
 pub record HasComeTo (p : PartsView) (number : ℕ) (s : StoreState) (c : Call)
     (at : Stage) : Type 0 where
   pub core : IsCore p
@@ -159,7 +159,7 @@ pub record CallStep (p : PartsView) (session number : ℕ) (result : WalkOutcome
   pub fits : p.store.look_ups < 2 ^ 64
   pub comes : WalkComesTo p q session number result
 
--- n steps, one after the other, each of which moved
+-- n steps in sequence, all of which moved
 unfoldable pub Moved : ℕ → PartsView → ℕ → ℕ → PartsView → Type 0
 Moved zero p session number q = q ≡ p
 Moved (suc n) p session number q = (mid : PartsView) × Moved n p session number mid

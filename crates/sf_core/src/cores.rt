@@ -316,7 +316,7 @@ impl Core {
         self.parts.leaves(alloc)
     }
 
-    /// The number of calls whose records are no longer retained.
+    /// The number of dropped call records.
     pub fn folded(&self) -> u64
         ensures { result ≡ self.now.folded }
     {

@@ -96,7 +96,7 @@ impl Parts {
         self.book.records()
     }
 
-    /// The number of calls whose records were dropped.
+    /// The number of dropped call records.
     pub(crate) fn folded(&self) -> u64
         ensures { result ≡ self.now.book.folded }
     {
@@ -252,8 +252,8 @@ impl Parts {
         Ok(copy)
     }
 
-    /// Takes up to `most` steps of a session's call, until one doesn't move it. A call whose reply
-    /// is pending takes none. The stage is stored once, after the last step.
+    /// Takes up to `most` steps of a session's call, until one doesn't move it. A call with a
+    /// pending reply takes none. The stage is stored once, after the last step.
     pub(crate) fn walk_on(&mut self, session: u64, number: u64, most: u64) -> WalkOutcome
         requires core { IsCore self.old }
         requires some { 0 < most }

@@ -51,7 +51,7 @@ fn data_from(file: &OwnedFd, offset: u64, size: u64) -> u64 {
 }
 
 impl LocalFile {
-    /// Opens a file, whose size `stat` returned.
+    /// Opens a file. `size` is from `stat`.
     pub(crate) fn open(path: &[u8], attrs: Attrs, size: u64) -> Result<LocalFile, ReadFault> {
         let file = opened(os::open_read(path))?;
         Ok(LocalFile {

@@ -162,7 +162,7 @@ impl<'a> LocalFolder<'a> {
     }
 
     /// Leaves the innermost directory. Returns its attributes, or `None` at the end. The folder
-    /// itself becomes `/`, whose attributes aren't set.
+    /// itself becomes `/`; the attributes of `/` aren't set.
     fn leave(&mut self) -> Result<Option<Item>, FolderFault> {
         match self.levels.pop() {
             Some(level) if !self.levels.is_empty() => Ok(Some(Item::DirectoryAttributes(

@@ -176,7 +176,7 @@ impl Refusals {
         engine.apply(&Event::Turn(session, moment))
     }
 
-    /// As `turn`, but the engine takes turns until the session's call is answered.
+    /// As `turn`, but the engine takes turns until the session's call is answered or can't progress.
     pub fn turns<E: Sftp>(
         &mut self,
         engine: &mut E,

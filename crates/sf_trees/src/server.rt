@@ -8,7 +8,7 @@ use crate::fault::{Place, Refused, TreeFault};
 use sf_reply::{Reply, StatusCode};
 use sf_request::WireRequest;
 
-/// An SFTP server whose sessions send one request after the other.
+/// An SFTP server. Each session sends one request after the other.
 pub trait Server {
     /// The operations that lead from one state of the server to another.
     ghost reaches: { Self → List Operation → Self → Type 0 };
@@ -59,7 +59,7 @@ fn done_by(place: Place, outcome: &Result<Reply, TreeFault>) -> Result<(), Refus
     }
 }
 
-/// Sends a request whose reply is a status.
+/// Sends a request that expects a status.
 pub(crate) fn succeed<S: Server>(
     server: &mut S,
     session: u64,
@@ -90,7 +90,7 @@ fn handle_by(place: Place, outcome: &Result<Reply, TreeFault>) -> Result<u64, Re
     }
 }
 
-/// Sends a request whose reply is a handle.
+/// Sends a request that expects a handle.
 pub(crate) fn open<S: Server>(
     server: &mut S,
     session: u64,

@@ -27,7 +27,7 @@ pub record PartLater (old new : Path) (walked : ℕ) : Type 0 where
   pub part : PartAt old new count
   pub later : walked ≤ count
 
--- a call on two paths reached a common directory; where they part, both its ends are there
+-- a call on two paths reached a common directory; where they part, both its ends are at it
 abbrev pub ComesToBoth : Path → Path → Reached → Stage → Type 0
 ComesToBoth old new to after = ((count : ℕ) × PartAt old new count × (to.walked < count)
     × (after ≡ stage.At to.walked to.node))

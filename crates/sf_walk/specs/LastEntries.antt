@@ -1,5 +1,5 @@
 -- No public clause cites this module.
--- The last name of a path whose parent exists.
+-- The last name of a path with an existing parent.
 use Rattle.std.specs.Prelude.{◌≡◌, ℕ}
 use Rattle.sf_walk.specs.declared.finding.Located.{Located}
 use Rattle.sf_walk.specs.declared.finding.Located.TheVariants as located

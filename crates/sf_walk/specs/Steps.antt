@@ -30,8 +30,8 @@ pub record Walker : Type 0 where
 abbrev pub walker : ℕ → Route → Stage → Walker
 walker number route at = record { number = number; route = route; at = at }
 
--- The path that a call follows next, and from where. On two paths that is the old one up to its
--- parent, and then the new one.
+-- The path that a call follows next, and its position on it. On two paths that is the old one up to
+-- its parent, and then the new one.
 pub data GoesFrom : Route → Stage → Path → Reached → Type 0 where
   OnOne : (path : Path) (walked node : ℕ)
       → GoesFrom (Along path) (stage.At walked node) path (reached walked node)
@@ -119,8 +119,8 @@ abbrev pub EndsAt : List (Option Node) → Path → Reached → Type 0
 EndsAt nodes path at = (at.walked + 1 ≡ length path)
     ⊎ ((at.walked + 1 < length path) × LeadsNowhere nodes at.node (slice_get path at.walked))
 
--- A call may be decided: at once, if it has no path or the root's; otherwise where its path
--- resolution `ends`.
+-- A call may be decided: at once, if it has no path or the root's; otherwise at the position at
+-- which its path resolution `ends`.
 pub data MayDecideWhere (ends : Path → Reached → Type 0) : Route → Stage → Type 0 where
   AtOnce : MayDecideWhere ends NoPath stage.Fresh
   AtRoot : MayDecideWhere ends (Along []) stage.Fresh

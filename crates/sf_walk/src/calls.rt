@@ -25,12 +25,12 @@ use sf_inode::Store;
 use sf_reply::Reply;
 use std::alloc::AllocError;
 
-/// Decides a call whose paths are resolved, without a lookup. Returns its reply and a copy for its
-/// record.
+/// Decides a call after its paths were resolved, without a lookup. Returns its reply and a copy for
+/// its record.
 ///
-/// `ways` is ignored for a call without a path. A file that the call reads or whose length it sets
-/// must have no blocks left to copy. A WRITE is decided by `start` instead. The call's number is
-/// above 0, and unused as a label or a handle of the tree.
+/// `ways` is ignored for a call without a path. If the call reads a file or sets its length, the
+/// file must have no blocks left to copy. A WRITE is decided by `start` instead. The call's number
+/// is above 0, and unused as a label or a handle of the tree.
 ///
 /// `NoMemory` changes nothing. It replaces only a success, and only of a call that creates
 /// something, transfers bytes or returns names.

@@ -129,7 +129,7 @@ pub fn left_to_copy(store: &Store, call: &Call) -> Option<Copying>
     Some(Copying { node, left })
 }
 
-/// The call that holds the file whose length a request on a path sets. `found` is the result of
+/// The call that holds a file, if a request on its path sets its length. `found` is the result of
 /// resolving that path.
 pub fn writer_to_finish(store: &Store, request: &Request, found: Located) -> Option<Writer>
     ensures some { IfSome result (λ w. IsWriter store.now request.now found w) }

@@ -30,7 +30,7 @@ pub(crate) struct FoundEntry {
     pub(crate) node: NodeId,
 }
 
-/// The last name of a path whose parent exists: it is missing, or it is an inode's.
+/// The last name of a path with an existing parent: it is missing, or it is an inode's.
 #[derive(Clone, Copy)]
 pub(crate) enum LastEntry {
     Missing { parent: NodeId },

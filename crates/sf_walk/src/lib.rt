@@ -1,7 +1,7 @@
 //! SFTP calls on the inode store: path resolution with lock coupling, and each request's effect.
 //!
-//! Start with `decide` in `calls`. For a call whose paths are resolved it returns the sequential
-//! tree's reply, and updates the store to represent the tree after the call (`IsCarriedOut`,
+//! Start with `decide` in `calls`. For a call with resolved paths it returns the sequential tree's
+//! reply, and updates the store to represent the tree after the call (`IsCarriedOut`,
 //! `specs/Served.antt`). `start` in `files` decides a WRITE. `advance` in `walking` is one step of
 //! path resolution: it holds the next directory before it releases the one above
 //! (`specs/Steps.antt`). `locate_all` in `finding` resolves paths at once. `way_from` in

@@ -48,7 +48,7 @@ pub(crate) fn link(
     name_anew(store, moment, new, course)
 }
 
-/// The outcome of a link whose paths are resolved. If one path is a prefix of the other, see
+/// The outcome of a link with resolved paths. If one path is a prefix of the other, see
 /// `nested_code`.
 fn link_course(store: &Store, old: &Path, new: &Path, ways: Ways) -> LinkCourse
     requires { AreWays store.now (route_between old.now new.now) ways }

@@ -174,8 +174,8 @@ fn together(store: &mut Store, number: u64, old: &Path, new: &Path, at: Reached)
     }
 }
 
-/// The stage of a call on two paths that holds a common directory. Where they part, both its ends
-/// are there.
+/// The stage of a call on two paths that holds a common directory. Where the paths part, it holds
+/// that directory with both ends.
 fn arrived(old: &Path, new: &Path, to: Reached) -> Stage
     requires { PartLater old.now new.now to.walked }
     ensures { ComesToBoth old.now new.now (reached to.walked to.node) result }

@@ -21,9 +21,9 @@ use sf_path::Path;
 use sf_walk::{Located, Ways, decide, is_move, let_go, locate_all, writer_to_finish};
 
 impl Parts {
-    /// Runs before a call that moves a path is decided. Each other undecided call that has passed
-    /// the path releases what it holds, and is then decided, in ascending order of numbers. Their
-    /// replies are pending until their sessions fetch them.
+    /// Runs before a call that moves a path is decided. All other undecided calls that have passed
+    /// the path release what they hold. They are then decided in ascending order of their numbers.
+    /// Their replies are pending until their sessions fetch them.
     pub(crate) fn overtake(&mut self, number: u64, ways: Ways, numbers: &mut Vec<u64>)
         requires core { IsCore self.old }
         requires located { (c : Call) → call_at self.old.calls number ≡ Some c
@@ -166,7 +166,7 @@ fn is_overtaken(placed: &PlacedCall, other: u64, number: u64, old: &Path) -> boo
     other != number && call.reply.is_none() && has_passed(call, placed.route(), old)
 }
 
-/// Whether a path is a prefix of what a call has walked.
+/// Whether a path is a prefix of what a call has resolved.
 fn has_passed(call: &Call, route: RoutePaths<'_>, front: &Path) -> bool
     requires { route_in route ≡ route_of call.now.request }
     ensures { result ≡ has_passed call.now front.now }
