@@ -1,4 +1,4 @@
--- Steps of a call from one stage, of which only the last stage is stored.
+-- Steps of a call from one stage; only the last stage is stored.
 use Rattle.std.specs.Prelude.{◌≡◌, ◌<◌, ◌^◌, ℕ, List, Some, refl}
 use Rattle.std.proofs.Common.{sym, ap, subst, ◌∙◌}
 use Rattle.std.specs.Ordering.{nat_cmp}

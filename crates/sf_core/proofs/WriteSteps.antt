@@ -78,7 +78,7 @@ module _ (p q : PartsView) (h : List Record) (sound : Sound p h) (c : Call) (at 
   pub new_number : IsNewNumber c.number h
   new_number = sound.history.undecided c.number c at undecided
 
-  -- it is carried out: otherwise no block would remain
+  -- it succeeds: otherwise no block would remain
   pub carried : IsCarriedOut w.mid (replay h) (answer_to (replay h) c.session c.number c.moment c.request) given
   carried = elim (w.begins.served (replay h) sound.history.tree) [
     | inl e ↦

@@ -82,8 +82,8 @@ fn is_ruled(rules: &[GivenRule], passage: &Passage) -> bool
 }
 
 /// Takes the first packet of a session that waits for bytes. It is passed on unexamined if it is
-/// the session's first one, if there is no rule, or if its length is invalid (with all that follows
-/// it). Otherwise rules decide.
+/// the session's first one or if there is no rule. An invalid length is passed on with all that
+/// follows it. Otherwise rules decide.
 pub(crate) fn take_front<E: Sftp>(
     alloc: Global,
     rules: &mut Vec<GivenRule>,

@@ -176,7 +176,8 @@ impl Refusals {
         engine.apply(&Event::Turn(session, moment))
     }
 
-    /// As `turn`, but the engine takes turns until the session's call is answered or can't progress.
+    /// As `turn`, but the engine takes turns until the session's call is answered or can't
+    /// progress.
     pub fn turns<E: Sftp>(
         &mut self,
         engine: &mut E,

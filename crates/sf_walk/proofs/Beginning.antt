@@ -73,7 +73,7 @@ label_marked f g h None = refl
 label_marked f g h (Some node) = refl
 
 -- ---- the three changes
--- A WRITE starts in a file. It has these bytes to copy, so many blocks are left after the first
+-- A WRITE starts in a file. It has these bytes to copy, this many blocks are left after the first
 -- one, and the file's modification time is set; with the stores between.
 pub record WriteBegun (s new : StoreState) (node : ℕ) : Type 0 where
   pub moment : ℕ

@@ -117,7 +117,7 @@ module _ (s : StoreState) (old new : Path) (ways : Ways) (are : AreWays s (route
   pub new_named : (ways.kind ≡ kind.NoPath → ⊥) → 0 < length new
   new_named some = not_nothing new (no_roots some).1
 
-  -- ---- where the paths lead
+  -- ---- the inodes of the paths
   old_by : (a b : Bool) → a ≡ false → Lead s (if a then NoPath else if b then Along old else Between old new) ways → ways.path ≡ way_from s.nodes s.root s.root old
   old_by true b e h = cc
   old_by false true e h = h

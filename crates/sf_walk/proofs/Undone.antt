@@ -49,7 +49,7 @@ entry_out : (n : Name) (id : ℕ) (c : Content) → child_in c n ≡ None → le
 entry_out n id (content.Directory es) h = ap content.Directory (taken_out n id es h)
 entry_out n id (content.File contents) h = refl
 
--- ---- nodes
+-- ---- inodes
 edited_at : (f : Node → Node) (nodes : List (Option Node)) (id : ℕ) (o : Option Node) → node_in nodes id ≡ o → (i : ℕ) → node_in (edited_by f nodes id o) i ≡ cond (nat_eq id i) (option_map f o) (node_in nodes i)
 edited_at f nodes id None e i = elim (nat_eq id i) as (λ b. nat_eq id i ≡ b → node_in nodes i ≡ cond b None (node_in nodes i)) [
   | true ↦ λ h. ap (node_in nodes) (sym (eqb-true id i h)) ∙ e

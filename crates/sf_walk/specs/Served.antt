@@ -95,7 +95,7 @@ ServesOutcome new t answer (Ok given) = IsCarriedOut new t answer given
 ServesOutcome new t answer (Err error) = is_success answer.reply ≡ true
 
 -- The requests that allocate if they succeed: those that reply with more than a status and
--- attributes, and those that create an inode or a handle, put bytes into a file, or add a name.
+-- attributes, create an inode or a handle, write bytes, or add a name.
 abbrev pub wants_room : Wanted → Bool
 wants_room StatusAlone = false
 wants_room Attributes = false

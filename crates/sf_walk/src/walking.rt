@@ -28,11 +28,10 @@ pub enum Walk {
     Ready(Ways),
 }
 
-/// Takes one step of a call, by lock coupling. The step acquires the root, or looks up the next
-/// component in the directory that the call holds, acquires that directory, and then releases the
-/// one above. A call without a path, or on the root's path, decides at once and holds nothing. A
-/// call on another path decides at the parent of its last name, or at a component that is missing
-/// or a file.
+/// Takes one step of a call, by lock coupling. The step acquires the root; or it looks up the next
+/// component, acquires that directory, and then releases the one above. A call without a path, or
+/// on the root's path, decides at once and holds nothing. A call on another path decides at the
+/// parent of its last name, or at a component that is missing or a file.
 ///
 /// A call on two paths follows the old one. Where they part, it keeps the last common directory. It
 /// proceeds to the old path's parent, and then from the common directory to the new path's parent.
