@@ -139,8 +139,8 @@ impl Core {
     /// 1970). It takes no step yet. Room for its record is reserved, and in the list of helped
     /// calls.
     ///
-    /// Errors: `Stranger` if the lane's session isn't joined and idle, `NumbersSpent` if all 2^63 - 1
-    /// call numbers are used, and `OutOfMemory`.
+    /// Errors: `Stranger` if the lane's session isn't joined and idle, `NumbersSpent` if all
+    /// 2^63 - 1 call numbers are used, and `OutOfMemory`.
     pub fn begin(&mut self, lane: &mut Lane, request: Request, moment: u32) -> Result<(), CoreFault>
         requires { lane.old.call ≡ None }
         ensures ok { OnOk result (CallBegins self.old self.new lane.old request moment) }
