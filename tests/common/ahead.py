@@ -1,8 +1,8 @@
-"""Sessions whose clients send much before they read, for the scripts of this folder:
+"""Sessions that send much before they read:
 
     python3 -B tests/common/ahead.py SOCKET
 
-has two of them at a Unix socket, and ends well where their replies are right."""
+runs two of them at a Unix socket, and succeeds if their replies are right."""
 
 import os
 import random

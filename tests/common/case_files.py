@@ -1,13 +1,13 @@
-"""Files of cases in rows, for the scripts of this folder that run them. A file has
+"""Files of cases in rows, for the scripts that run them. A file has
 
     # a comment
-    NAME = words                    a name for bytes; INIT and VERSION are there
+    NAME = words                    a name for bytes; INIT and VERSION are defined
     == name_of_case                 a case, whose rows are the lines that follow
-    each 01..33                     the lines behind it that are set in stand once for each n:
+    each 01..33                     the indented lines after it are repeated once for each n:
         ask 1 OPEN /n{n} wc > HANDLE {2*n+1}
 
-There {n} is the number as it stands, {2*n+1} is reckoned, and {n:016x} has a format of Python. A
-line that ends with a backslash goes on in the next one."""
+There {n} is the number as it is written, {2*n+1} is computed, and {n:016x} has a format of Python.
+A line that ends with a backslash continues in the next one."""
 
 import re
 from collections import deque

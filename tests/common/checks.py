@@ -1,4 +1,4 @@
-"""Named checks for the scripts of this folder: each tells how it went, and has a time limit."""
+"""Named checks: each prints its result, and has a time limit."""
 
 import signal
 import sys

@@ -1,4 +1,4 @@
-"""Builds the programs in C of this folder, for its scripts."""
+"""Builds the C programs in tests/c."""
 
 import os
 import subprocess

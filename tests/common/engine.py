@@ -1,4 +1,4 @@
-"""The library for C, by its calls, for the scripts of this folder (include/lucernetick.h)."""
+"""The C library (include/lucernetick.h), by its calls."""
 
 import ctypes
 import os

@@ -1,4 +1,4 @@
-"""What counts the growths of a program and refuses some, for the scripts of this folder."""
+"""Counts the allocations of a program, and lets some fail."""
 
 import mmap
 import os

@@ -1,9 +1,8 @@
 #!/usr/bin/env bash
-# Installs what is missing of these packages of Debian's, and where several scripts ask at once one
-# after the other:
+# Installs those of these Debian packages that are missing. Scripts that run it at once take turns:
 #   bash tests/common/install.sh PACKAGE..
-# A package that has a `/` is a command and its package: `sftp/openssh-client`. Tells nothing: who
-# asked looks whether what it needs is there.
+# COMMAND/PACKAGE is a package that is needed if the command is missing: `sftp/openssh-client`.
+# Prints nothing: the caller checks that it has what it needs.
 set -u
 exec >/dev/null 2>&1 9>/tmp/lucernetick-packages.lock
 flock 9

@@ -1,8 +1,8 @@
 """The crates' mutants: wrong bodies, written as changes of the sources; and what a check of the
 prover says of them.
 
-A mutant is a file NAME.edit in a crate's `mutants/`, or in `must-fail/`, which `rt ci` tries too. It
-has a line `refuses: FUNCTION`, which names the function that the prover must reject, a line
+A mutant is a file NAME.edit in a crate's `mutants/`, or in `must-fail/`, which `rt ci` tries too.
+It has a line `refuses: FUNCTION`, which names the function that the prover must reject, a line
 `file: PATH`, and then pairs of lines `old: TEXT` and `new: TEXT`. Each old text occurs once in its
 file when it is replaced. In `must-fail/` the line `refuses` begins with `# `, since `rt` doesn't
 know it."""

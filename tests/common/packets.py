@@ -1,5 +1,4 @@
-"""Packets of the protocol, by name, for the scripts of this folder (docs/PROTOCOL.md,
-"Packets")."""
+"""Packets of the protocol, by name (docs/PROTOCOL.md, "Packets")."""
 
 INIT, VERSION, OPEN, CLOSE, READ, WRITE, LSTAT, FSTAT, SETSTAT, FSETSTAT = range(1, 11)
 OPENDIR, READDIR, REMOVE, MKDIR, RMDIR, REALPATH, STAT, RENAME = range(11, 19)

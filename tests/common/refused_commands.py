@@ -1,4 +1,4 @@
-"""Commands of `sftpd client` with a growth refused, for the scripts of this folder."""
+"""Commands of `sftpd client` in which an allocation fails."""
 
 import subprocess
 

@@ -1,4 +1,4 @@
-"""Sessions of `sftpd serve` with a growth refused, for the scripts of this folder."""
+"""Sessions of `sftpd serve` in which an allocation fails."""
 
 import contextlib
 import copy

@@ -1,5 +1,5 @@
-"""Runs of a schedule by a program that replays it, with a growth refused, and what must be true of
-each."""
+"""Runs of a schedule by a program that replays it, in which an allocation fails, and what must be
+true of each."""
 
 import copy
 import re

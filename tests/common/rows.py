@@ -1,5 +1,5 @@
-"""Rows of packets, each with the reply that docs/PROTOCOL.md gives it, for the scripts of this
-folder. Every row begins with an empty tree, and all moments are 100."""
+"""Rows of packets, each with the reply that docs/PROTOCOL.md gives it. Every row begins with an
+empty tree, and all timestamps are 100."""
 
 from engine import (
     BEGUN, BLOCKED, CLOSED, DECIDED, ENDED, MOVED, NO_ID, NOT_INIT, OLD_VERSION, SECOND_INIT,

@@ -1,5 +1,5 @@
-"""Schedules of sessions on one engine, as the program of crates/replay reads them. Calls are
-numbered in the order in which they begin, so that handles are known beforehand. All moments are
+"""Schedules of sessions on one engine, as the program in crates/replay reads them. Calls are
+numbered in the order in which they begin, so the handles are known in advance. All timestamps are
 100."""
 
 from packets import (

@@ -1,4 +1,4 @@
-"""`sftpd serve` for the scripts of this folder, and what its clients need."""
+"""`sftpd serve`, and what its clients need."""
 
 import contextlib
 import importlib

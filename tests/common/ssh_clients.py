@@ -1,5 +1,5 @@
-"""Clients over SSH, and what each of them does at a server: it puts and gets a large file, has many
-connections at once, is refused with another key, and is cut in the middle."""
+"""Clients over SSH. Each puts and gets a large file, opens many connections at once, is rejected
+with another key, and is disconnected during a transfer."""
 
 import asyncio
 import contextlib
@@ -18,7 +18,7 @@ import warnings
 from typing import NamedTuple
 
 from checks import same
-from serving import SECONDS, TOP, fresh, install_packages, make_tree, run, same_trees
+from serving import TOP, fresh, install_packages, make_tree, run, same_trees
 
 PACKAGES = "openssh-client python3-paramiko python3-asyncssh rclone golang-go".split()
 PACKAGES += ["golang-github-pkg-sftp-dev", "golang-golang-x-crypto-dev"]

@@ -8,7 +8,7 @@
 //! eight sessions have drawn events, which the slow tree answers too; `cores.rt` also has which
 //! records are kept, the book that keeps them, and the tree whole, with `leaves.rt` to compare two.
 //! `trees.rt` has trees that are made by requests. Cases whose events are known are rows of
-//! `tests/rows/engine`, which `replay` replays.
+//! `interop/engine_rows`, which `replay` replays.
 #![tactic(auto)]
 
 #[cfg(test)]

@@ -1,5 +1,5 @@
 //! The whole tree of a core: what was taken stays as it was, many names, and deep directories.
-//! What a tree has is in `tests/rows/engine/trees`.
+//! What a tree has is in `interop/engine_rows/trees`.
 
 use super::*;
 use crate::leaves::{at, has_bytes, text_of};

@@ -1,5 +1,5 @@
 //! Snapshots of the tree while calls are under way: after each event it is the slow tree after the
-//! calls that were decided so far. What it then has is in `tests/rows/engine/trees`.
+//! calls that were decided so far. What it then has is in `interop/engine_rows/trees`.
 
 use super::*;
 use crate::leaves::are_alike;
