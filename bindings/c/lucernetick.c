@@ -1,22 +1,22 @@
-/* The functions of lucernetick.h over those that the crate `sf_c` exports: what can't be refused
- * there, since a reference isn't NULL, is refused here. */
+/* Implements lucernetick.h by the functions that the crate `sf_c` exports. It rejects what they
+ * cannot check, since a reference is never NULL. */
 #include "lucernetick.h"
 
 #include <stdlib.h>
 
-/* How many records lt_new keeps. */
+/* The number of records that lt_new retains. */
 enum { KEEP = 256 };
 
-/* A file of so many bytes at most is told with its leaf. */
+/* Files up to this size are read together with their leaf. */
 enum { FEW = 32768 };
 
-/* What the crate has of an engine's refusals, their box or NULL. */
+/* The crate's state of an engine's rules: its box, or NULL. */
 struct refusals {
     void *at;
 };
 
-/* What the crate has of an engine, its box or NULL; its refusals; and room for the bytes of a
- * record, of which the crate doesn't know. */
+/* The crate's engine, a box or NULL; its rules; and a buffer for the bytes of a record, which the
+ * crate does not know. */
 struct lt_engine {
     void *at;
     struct refusals refusals;
@@ -24,21 +24,21 @@ struct lt_engine {
     size_t capacity;
 };
 
-/* What the crate has of a tree, its box or NULL, and room for the text of a path. */
+/* The crate's tree, a box or NULL, and a buffer for the text of a path. */
 struct lt_tree {
     void *at;
     uint8_t *room;
     size_t capacity;
 };
 
-/* A leaf as the crate tells it, in `src/leaves.rt`. */
+/* A leaf as in the crate's `src/leaves.rt`. */
 struct leaf {
     lt_attributes attributes;
     uint64_t label;
     uint64_t path;
 };
 
-/* A record as the crate tells it, in `src/told.rt`. */
+/* A record as in the crate's `src/told.rt`. */
 struct asked {
     lt_attributes attributes;
     uint64_t handle;
@@ -68,7 +68,7 @@ struct told {
     uint32_t moment;
 };
 
-/* A rule as the crate is given it, in `src/rules.rt`. */
+/* A rule as in the crate's `src/rules.rt`. */
 struct rule {
     uint64_t session;
     uint64_t pass;
@@ -78,7 +78,7 @@ struct rule {
     bool has_path;
 };
 
-/* Where one takes a `const` engine, refusals or tree, the crate takes the box out for the call and
+/* If an argument is a `const` engine, rules or tree, the crate takes the box out for the call and
  * puts it back. */
 int64_t lucernetick_new(lt_engine *engine, struct refusals *refusals, uint64_t keep);
 void lucernetick_free(lt_engine *engine, struct refusals *refusals);
@@ -117,7 +117,7 @@ int64_t lucernetick_tree_read(const lt_tree *tree, uint64_t at, uint64_t offset,
 int64_t lucernetick_tree_gap(const lt_tree *tree, uint64_t at, uint64_t offset);
 void lucernetick_tree_free(lt_tree *tree);
 
-/* Whether so many bytes may be there. */
+/* Whether the pointer and the length are valid. */
 static int are_bytes(const uint8_t *bytes, size_t length)
 {
     return length <= PTRDIFF_MAX && (bytes != NULL || length == 0);
@@ -128,7 +128,7 @@ const char *lt_version(void)
     return LT_VERSION;
 }
 
-/* The text of a status, by its code. */
+/* The text of a status code. */
 static const char *status_text(int64_t code)
 {
     switch (code) {
@@ -326,7 +326,7 @@ int64_t lt_sent(lt_engine *engine, uint64_t session, size_t count)
                           : lucernetick_sent(engine, &engine->refusals, session, count);
 }
 
-/* The next so many bytes at a place, which moves behind them. */
+/* The next `length` bytes at `*at`, which advances past them. */
 static lt_bytes next_bytes(const uint8_t **at, uint64_t length)
 {
     lt_bytes bytes = {*at, (size_t)length};
@@ -359,7 +359,7 @@ static lt_call call_of(const struct told *told, const uint8_t *bytes)
     return call;
 }
 
-/* Makes room for so many bytes. Answers whether there is memory for it. */
+/* Grows the buffer to at least `length` bytes. Returns whether memory sufficed. */
 static bool make_room(uint8_t **room, size_t *capacity, size_t length)
 {
     if (length <= *capacity)
@@ -394,13 +394,13 @@ int64_t lt_calls(lt_engine *engine, uint64_t at, lt_call *call)
     return count;
 }
 
-/* Whether these bytes may be there. */
+/* Whether these bytes are valid. */
 static int are_there(lt_bytes bytes)
 {
     return are_bytes(bytes.at, bytes.length);
 }
 
-/* Where bytes are; none have a place of their own, since the crate wants one. */
+/* A pointer to the bytes. The crate requires one even for none. */
 static const uint8_t *place_of(lt_bytes bytes)
 {
     static const uint8_t none[1];
@@ -429,7 +429,7 @@ int64_t lt_refused(const lt_engine *engine, uint64_t number)
     return engine == NULL ? LT_REFUSAL_BAD_POINTER : lucernetick_refused(&engine->refusals, number);
 }
 
-/* Tells where a function stopped, and answers its number. */
+/* Stores the place at which a function stopped, and returns its result. */
 static int64_t stopped_at(int64_t answer, lt_place at, lt_place *place)
 {
     if (place != NULL)
@@ -507,8 +507,8 @@ int64_t lt_tree_leaf(lt_tree *tree, uint64_t at, lt_leaf *leaf)
     return count;
 }
 
-/* Tells a leaf, if there is one: its path goes into the room, and behind it the bytes of a file
- * that has few. Answers how many bytes these are, 0 where there isn't room for them. */
+/* Copies the path of a leaf into `room`, followed by the contents of a small file. Returns the
+ * number of bytes copied: 0 if they do not fit, or if there is no such leaf. */
 static int64_t tell_leaf(const lt_tree *tree, uint64_t at, lt_leaf *leaf, uint8_t *room,
                          size_t length)
 {

@@ -10,7 +10,8 @@ import (
 	"unsafe"
 )
 
-// A Kind is what a call asked, where LSTAT is KindStat; or which requests a Rule is for.
+// A Kind is the request of a call, or the requests that a Rule matches. Records have KindStat for
+// LSTAT.
 type Kind uint32
 
 // The kinds of calls.
@@ -19,7 +20,7 @@ const (
 	KindClose       Kind = C.LT_KIND_CLOSE
 	KindRead        Kind = C.LT_KIND_READ
 	KindWrite       Kind = C.LT_KIND_WRITE
-	KindLstat       Kind = C.LT_KIND_LSTAT // of a Rule alone
+	KindLstat       Kind = C.LT_KIND_LSTAT // only in a Rule
 	KindFstat       Kind = C.LT_KIND_FSTAT
 	KindSetstat     Kind = C.LT_KIND_SETSTAT
 	KindFsetstat    Kind = C.LT_KIND_FSETSTAT
@@ -28,19 +29,19 @@ const (
 	KindRemove      Kind = C.LT_KIND_REMOVE
 	KindMkdir       Kind = C.LT_KIND_MKDIR
 	KindRmdir       Kind = C.LT_KIND_RMDIR
-	KindRealpath    Kind = C.LT_KIND_REALPATH // of a Rule alone
+	KindRealpath    Kind = C.LT_KIND_REALPATH // only in a Rule
 	KindStat        Kind = C.LT_KIND_STAT
 	KindRename      Kind = C.LT_KIND_RENAME
 	KindPosixRename Kind = C.LT_KIND_POSIX_RENAME
 	KindHardlink    Kind = C.LT_KIND_HARDLINK
 )
 
-// An AnswerKind is what a call was answered.
+// An AnswerKind is the kind of a reply.
 type AnswerKind uint32
 
 // The kinds of answers.
 const (
-	AnswerNoMemory AnswerKind = C.LT_ANSWER_NO_MEMORY // the status FAILURE, for want of memory
+	AnswerNoMemory AnswerKind = C.LT_ANSWER_NO_MEMORY // the status FAILURE, because memory ran out
 	AnswerStatus   AnswerKind = C.LT_ANSWER_STATUS
 	AnswerHandle   AnswerKind = C.LT_ANSWER_HANDLE
 	AnswerData     AnswerKind = C.LT_ANSWER_DATA
@@ -48,9 +49,8 @@ const (
 	AnswerAttrs    AnswerKind = C.LT_ANSWER_ATTRS
 )
 
-// A CallAttributes has the attributes that a call asks for, or is answered. Given has the
-// protocol's bits for those that are there: 1 for the size, 2 for both owners, 4 for the
-// permissions, 8 for both times.
+// A CallAttributes has the attributes of a request or a reply. Given has the protocol's bits of
+// those present: 1 for the size, 2 for uid and gid, 4 for the permissions, 8 for both times.
 type CallAttributes struct {
 	Given        uint32
 	Size         uint64
@@ -59,40 +59,40 @@ type CallAttributes struct {
 	Atime, Mtime uint32
 }
 
-// A Call is the record of a call. What its kind, or its answer, doesn't have is 0 or empty.
+// A Call is the record of a call. Fields that its kind or reply does not have are 0 or empty.
 type Call struct {
 	Number     uint64 // 1, 2, 3 and so on, as calls begin
 	Session    uint64
-	Moment     uint32 // when it began, in seconds since 1970
+	Moment     uint32 // the timestamp at which it began, in seconds since 1970
 	Kind       Kind
-	Path       string // in normal form, from / on; of a rename or a link the old path
+	Path       string // absolute, in normal form; of a rename or a link the old path
 	NewPath    string
 	Handle     uint64 // the number of the call that opened it
 	Offset     uint64
-	Length     uint64 // how many bytes were asked for, or written
+	Length     uint64 // the number of bytes requested or written
 	Flags      uint32 // the pflags of OPEN
 	Data       []byte // the bytes of WRITE
 	Attributes CallAttributes
 	Answer     Answer
 }
 
-// An Answer is what a call was answered.
+// An Answer is the reply to a call.
 type Answer struct {
 	Kind       AnswerKind
 	Status     uint32 // the code of a status: 0 for OK
 	Handle     uint64 // the number of the call, which is its handle
-	Data       []byte // the bytes that were read
+	Data       []byte // the bytes of READ
 	Names      []string
 	Attributes CallAttributes
 }
 
-// IsOK tells whether the call was done: it got what it asked for, or the status OK.
+// IsOK reports whether the call succeeded.
 func (answer Answer) IsOK() bool {
 	return answer.Kind > AnswerStatus || answer.Kind == AnswerStatus && answer.Status == 0
 }
 
-// Calls has the records of calls that are kept, in the order in which they took effect, the oldest
-// first. Those of WriteFiles and of snapshots are among them, by sessions of their own.
+// Calls returns the retained records, in the order in which the calls took effect, the oldest
+// first. They include the calls of WriteFiles, in sessions of their own. Snapshots make no calls.
 func (engine *Engine) Calls() ([]Call, error) {
 	engine.lock.Lock()
 	defer engine.lock.Unlock()

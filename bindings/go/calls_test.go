@@ -2,7 +2,7 @@ package lucernetick
 
 import "testing"
 
-// What is tested writes to a temporary name, and renames.
+// The code under test writes to a temporary name, and renames.
 func TestAnUploadByATemporaryName(t *testing.T) {
 	engine := newEngine(t)
 	clock := &VirtualTime{}

@@ -15,7 +15,7 @@ import (
 	"github.com/pkg/sftp"
 )
 
-// connect gives a client on the engine, which ends with the test.
+// connect returns a client of the engine, which is closed at the end of the test.
 func connect(t *testing.T, engine *Engine, clock Clock) *sftp.Client {
 	t.Helper()
 	conn, err := engine.Connect(clock)
@@ -137,7 +137,7 @@ func TestTimesAreVirtual(t *testing.T) {
 		[]uint32{1700000000, 7, 1700000000})
 }
 
-// hold makes a session's turns until its call has taken the root.
+// hold runs a session until its call holds the root.
 func hold(t *testing.T, session *Session) {
 	t.Helper()
 	for _, wanted := range []Turn{Wrote, Begun, Moved} {
@@ -171,7 +171,7 @@ func TestAConnWaitsForACallThatIsHeld(t *testing.T) {
 	must(t, <-told)
 }
 
-// A client that a held session keeps waiting goes on when the rounds have carried out both calls.
+// A client that a paused session blocks continues after RunAll has completed both calls.
 func TestAConnGoesOnAfterRounds(t *testing.T) {
 	engine := newEngine(t)
 	held := open(t, engine, makes)

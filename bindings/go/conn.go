@@ -6,7 +6,7 @@ import (
 	"time"
 )
 
-// A Clock tells the moment at which a call begins, in seconds since 1970.
+// A Clock returns the timestamp of a call that begins, in seconds since 1970.
 type Clock func() uint32
 
 // WallClock is the system's clock.
@@ -21,31 +21,30 @@ func WallClock() uint32 {
 	return uint32(now)
 }
 
-// A VirtualTime is a clock that stands still until the test moves it.
+// A VirtualTime is a clock that only the test advances.
 type VirtualTime struct{ moment atomic.Uint32 }
 
-// Now is the moment that was set; it is a Clock.
+// Now returns the time that was set. It is a Clock.
 func (clock *VirtualTime) Now() uint32 { return clock.moment.Load() }
 
-// Set makes it this moment, earlier or later than before.
+// Set sets the time, earlier or later than before.
 func (clock *VirtualTime) Set(moment uint32) { clock.moment.Store(moment) }
 
-// most is how many replies are written before another session may have the engine.
+// most is how many replies are written before another session may use the engine.
 const most = 64
 
-// A Conn is a session as a client's connection: what is written to it are requests, what is read
-// from it their replies. One goroutine may read while another one writes.
+// A Conn is a client's connection to a session: write requests to it, and read replies from it. One
+// goroutine may read while another one writes.
 type Conn struct {
 	session *Session
 	clock   Clock
-	closed  bool // under the engine's lock, as all that follows
+	closed  bool // protected by the engine's lock, as the next field
 	ended   bool
 }
 
 var _ io.ReadWriteCloser = (*Conn)(nil)
 
-// Connect opens a session for a client. The clock tells the moment at which each of its calls
-// begins.
+// Connect opens a session for a client. The clock returns the timestamps of its calls.
 func (engine *Engine) Connect(clock Clock) (*Conn, error) {
 	session, err := engine.Open()
 	if err != nil {
@@ -54,7 +53,7 @@ func (engine *Engine) Connect(clock Clock) (*Conn, error) {
 	return &Conn{session: session, clock: clock}, nil
 }
 
-// Write feeds the session, and takes the turns that it can take.
+// Write feeds the session, and runs all turns that it can.
 func (conn *Conn) Write(data []byte) (int, error) {
 	engine := conn.session.engine
 	engine.lock.Lock()
@@ -72,8 +71,7 @@ func (conn *Conn) Write(data []byte) (int, error) {
 	return len(data), nil
 }
 
-// Read waits for bytes to be there, and takes them. After the session's last reply it answers
-// io.EOF.
+// Read waits for output, and returns it. After the session's last reply it returns io.EOF.
 func (conn *Conn) Read(room []byte) (int, error) {
 	engine := conn.session.engine
 	engine.lock.Lock()
@@ -96,8 +94,7 @@ func (conn *Conn) Read(room []byte) (int, error) {
 	}
 }
 
-// Close ends the session. A call of it that another session's call has stopped is carried out when
-// somebody reads on.
+// Close ends the session. If its call is blocked by another session, a later Read completes it.
 func (conn *Conn) Close() error {
 	engine := conn.session.engine
 	engine.lock.Lock()
@@ -112,7 +109,7 @@ func (conn *Conn) Close() error {
 	return conn.turns()
 }
 
-// turns takes the session's turns until it waits for bytes or for another session, or has ended.
+// turns runs the session until it waits for bytes or for another session, or has ended.
 func (conn *Conn) turns() error {
 	for !conn.ended {
 		turn, err := conn.session.settle(conn.clock(), most)

@@ -1,6 +1,6 @@
 package lucernetick
 
-// A splitMix draws numbers by SplitMix64: the same ones for a seed, in every language.
+// A splitMix is the generator SplitMix64: the same numbers for a seed in every language.
 type splitMix struct{ state uint64 }
 
 func (drawn *splitMix) next() uint64 {
@@ -13,19 +13,19 @@ func (drawn *splitMix) next() uint64 {
 
 const (
 	lengthBytes = 4      // a packet begins with its length
-	mostLength  = 262144 // a session ends at one that is above
+	mostLength  = 262144 // a longer packet ends the session
 )
 
-// An unanswered counts the packets that a client has sent and that its session hasn't answered yet.
+// An unanswered counts the packets that a client has sent and its session has not answered.
 type unanswered struct {
 	count  int
-	length []byte // the first bytes of the next packet's length, fewer than all four
-	left   int    // how many bytes the packet still wants, whose length is known
-	ended  bool   // by a length at which the session ends, and reads no further
+	length []byte // the first bytes of the next packet's length, fewer than four
+	left   int    // how many bytes of the current packet are missing
+	ended  bool   // a bad length ended the session, which reads no further
 }
 
-// fed counts the packets that are whole with these bytes. A length at which the session ends counts
-// as one.
+// fed counts the packets that these bytes complete. A bad length, which ends the session, counts as
+// one.
 func (packets *unanswered) fed(data []byte) {
 	for len(data) > 0 && !packets.ended {
 		if packets.left == 0 {
@@ -46,7 +46,7 @@ func (packets *unanswered) fed(data []byte) {
 	}
 }
 
-// begin begins a packet, where its length is there.
+// begin starts a packet once its length is complete.
 func (packets *unanswered) begin() {
 	if len(packets.length) < lengthBytes {
 		return

@@ -1,9 +1,8 @@
-// Package lucernetick is a whole SFTP server, version 3, inside a test: its tree is in memory, and
-// its clock is the test's.
+// Package lucernetick is an in-memory SFTP server, version 3, for tests.
 //
-// An Engine asks no clock and starts no goroutine: sessions are fed bytes, are given turns, and
-// have the bytes that their clients are to be sent. The same calls give the same bytes each time. A
-// Conn is a session for a client, as sftp.NewClientPipe of github.com/pkg/sftp takes it.
+// An Engine reads no clock and starts no goroutine: the caller feeds a session bytes, gives it
+// turns, and sends its output. The same calls produce the same bytes each time. A Conn is a session
+// for a client, for example for sftp.NewClientPipe of github.com/pkg/sftp.
 package lucernetick
 
 /*
@@ -19,7 +18,7 @@ import (
 	"unsafe"
 )
 
-// A Refusal is why a call was refused. A refused call has changed nothing, and may be made again.
+// A Refusal is the error of a rejected call. The call has changed nothing and may be retried.
 type Refusal int64
 
 // The refusals.
@@ -29,30 +28,30 @@ const (
 	ErrTooManySessions Refusal = C.LT_REFUSAL_TOO_MANY_SESSIONS // 256 sessions are open
 	ErrHasEnded        Refusal = C.LT_REFUSAL_HAS_ENDED         // the session has ended or was closed
 	ErrNumbersSpent    Refusal = C.LT_REFUSAL_NUMBERS_SPENT
-	ErrNotSent         Refusal = C.LT_REFUSAL_NOT_SENT    // fewer bytes wait to be sent
+	ErrNotSent         Refusal = C.LT_REFUSAL_NOT_SENT    // fewer bytes are pending
 	ErrBadPointer      Refusal = C.LT_REFUSAL_BAD_POINTER // the engine was closed
 	ErrLongPath        Refusal = C.LT_REFUSAL_LONG_PATH   // a path has more than 262080 bytes
-	ErrNoReply         Refusal = C.LT_REFUSAL_NO_REPLY    // not the reply that was due
-	ErrBadKind         Refusal = C.LT_REFUSAL_BAD_KIND    // a rule's kind is not that of a request
-	ErrBadStatus       Refusal = C.LT_REFUSAL_BAD_STATUS  // a rule's status is none
-	ErrBadPath         Refusal = C.LT_REFUSAL_BAD_PATH    // a rule's path has one of a path's faults
+	ErrNoReply         Refusal = C.LT_REFUSAL_NO_REPLY    // the reply is not the expected one
+	ErrBadKind         Refusal = C.LT_REFUSAL_BAD_KIND    // the kind of a rule is not a request's
+	ErrBadStatus       Refusal = C.LT_REFUSAL_BAD_STATUS  // the status of a rule is not valid
+	ErrBadPath         Refusal = C.LT_REFUSAL_BAD_PATH    // the path of a rule is not valid
 )
 
 // Error is the library's text.
 func (refusal Refusal) Error() string { return "lucernetick: " + message(C.int64_t(refusal)) }
 
-// A Turn is what a turn did, or why the session has ended.
+// A Turn is what a turn did, or why the session ended.
 type Turn int64
 
-// What turns do. Those from NotInit on are endings.
+// The results of turns. Those from NotInit on are endings.
 const (
-	Idle       Turn = C.LT_TURN_IDLE    // nothing: no whole packet is unread
-	Wrote      Turn = C.LT_TURN_WROTE   // it wrote a reply, which the output has
-	Begun      Turn = C.LT_TURN_BEGUN   // it read a request, whose call begins at this turn's moment
-	Moved      Turn = C.LT_TURN_MOVED   // the call made a step on its way
-	Blocked    Turn = C.LT_TURN_BLOCKED // the call of another session has to go on first
-	Decided    Turn = C.LT_TURN_DECIDED // the call is decided: the next turn writes its reply
-	Spent      Turn = C.LT_TURN_SPENT   // by Settle alone: as many replies as it may were written
+	Idle       Turn = C.LT_TURN_IDLE    // nothing: no complete packet is buffered
+	Wrote      Turn = C.LT_TURN_WROTE   // it wrote a reply, now in the output
+	Begun      Turn = C.LT_TURN_BEGUN   // it read a request; its call begins at this timestamp
+	Moved      Turn = C.LT_TURN_MOVED   // the call made one step
+	Blocked    Turn = C.LT_TURN_BLOCKED // the call of another session has to advance first
+	Decided    Turn = C.LT_TURN_DECIDED // the call is decided; the next turn writes its reply
+	Spent      Turn = C.LT_TURN_SPENT   // only by Settle: the maximum number of replies was written
 	NotInit    Turn = C.LT_TURN_ENDED + C.LT_CAUSE_NOT_INIT
 	OldVersion Turn = C.LT_TURN_ENDED + C.LT_CAUSE_OLD_VERSION
 	SecondInit Turn = C.LT_TURN_ENDED + C.LT_CAUSE_SECOND_INIT
@@ -65,23 +64,23 @@ const (
 // String is the library's text.
 func (turn Turn) String() string { return message(C.int64_t(turn)) }
 
-// HasEnded tells whether the session has ended.
+// HasEnded reports whether the session has ended.
 func (turn Turn) HasEnded() bool { return turn > C.LT_TURN_ENDED }
 
-// An Engine is one tree of files, and any sessions on it. Goroutines may share it: one call is made
-// at a time.
+// An Engine is one file system and any number of sessions on it. Goroutines may share it; it runs
+// one call at a time.
 type Engine struct {
 	lock    sync.Mutex
-	moved   *sync.Cond // told when a session did something, was fed, or was closed
+	moved   *sync.Cond // signalled after a session made progress, was fed, or was closed
 	pointer *C.lt_engine
 }
 
-// New makes an engine whose tree is the root alone. It keeps the records of its last 256 calls.
-// Close frees it.
+// New makes an engine with an empty root. It retains the records of its last 256 calls. Close frees
+// it.
 func New() (*Engine, error) { return over(C.lt_new()) }
 
-// NewKeeping makes an engine as New does, which keeps the records of its last keep calls, or of all
-// of them where keep is 0. They take memory, with what was written and read, and change no answer.
+// NewKeeping is like New, but retains the records of the last keep calls, or of all calls if keep
+// is 0. Records take memory, including the bytes written and read. They change no reply.
 func NewKeeping(keep uint64) (*Engine, error) { return over(C.lt_new_keeping(C.uint64_t(keep))) }
 
 func over(pointer *C.lt_engine) (*Engine, error) {
@@ -95,8 +94,8 @@ func over(pointer *C.lt_engine) (*Engine, error) {
 
 var _ io.Closer = (*Engine)(nil)
 
-// Close frees the engine. Further calls on it and its sessions are refused; a further Close does
-// nothing. The error is always nil.
+// Close frees the engine. Further calls on it and its sessions return ErrBadPointer; a further
+// Close does nothing. The error is always nil.
 func (engine *Engine) Close() error {
 	engine.lock.Lock()
 	defer engine.lock.Unlock()
@@ -113,9 +112,9 @@ func (engine *Engine) Open() (*Session, error) {
 	return engine.open()
 }
 
-// RunAll makes rounds, until no call is under way: in each, every session whose call is under way
-// has one turn, at the moment 0, by rising session numbers. It answers how many there were. What
-// these calls are answered waits for later turns, which write it. A closed engine alone refuses it.
+// RunAll runs rounds until no call is in progress. In a round every session with a call in progress
+// has one turn, with the timestamp 0, in the order of session numbers. It returns the number of
+// rounds. Later turns write the replies. It fails only on a closed engine.
 func (engine *Engine) RunAll() (uint64, error) {
 	engine.lock.Lock()
 	defer engine.lock.Unlock()
@@ -135,16 +134,16 @@ type Session struct {
 // Number is 1 for an engine's first session, then 2, 3 and so on.
 func (session *Session) Number() uint64 { return uint64(session.number) }
 
-// Feed appends bytes that the client sent to those that the session hasn't read. They may be cut
-// anywhere.
+// Feed appends bytes that the client sent to the session's input. They may be fragmented in any
+// way.
 func (session *Session) Feed(data []byte) error {
 	session.engine.lock.Lock()
 	defer session.engine.lock.Unlock()
 	return session.feed(data)
 }
 
-// Turn does one thing: it writes an answer, makes one step of the session's call, or reads a
-// packet. A call that begins has moment as its time, in seconds since 1970.
+// Turn does one thing: it writes a reply, makes one step of the session's call, or reads a packet.
+// A call that begins has the timestamp moment, in seconds since 1970.
 func (session *Session) Turn(moment uint32) (Turn, error) {
 	session.engine.lock.Lock()
 	defer session.engine.lock.Unlock()
@@ -157,16 +156,16 @@ func (session *Session) Turn(moment uint32) (Turn, error) {
 	return turn, err
 }
 
-// Settle turns until the session is idle or blocked or has ended, or until most replies were
-// written.
+// Settle repeats turns until the session is idle, blocked or ended, or until it has written most
+// replies.
 func (session *Session) Settle(moment uint32, most uint64) (Turn, error) {
 	session.engine.lock.Lock()
 	defer session.engine.lock.Unlock()
 	return session.settle(moment, most)
 }
 
-// WantsBytes tells whether the session waits for bytes of its client: none of its calls is under
-// way, no whole packet is unread, and it hasn't ended.
+// WantsBytes reports whether the session waits for bytes from its client: no call is in progress,
+// no complete packet is buffered, and it has not ended.
 func (session *Session) WantsBytes() (bool, error) {
 	session.engine.lock.Lock()
 	defer session.engine.lock.Unlock()
@@ -174,15 +173,15 @@ func (session *Session) WantsBytes() (bool, error) {
 	return wants == 1, err
 }
 
-// Output copies the bytes that wait to be sent to the client. Where a request was refused, these
-// are those up to the last such reply: what is behind it waits once they were sent.
+// Output copies the pending output. If a rule rejected requests, these are the bytes up to the last
+// injected reply; later output follows once they were sent.
 func (session *Session) Output() ([]byte, error) {
 	session.engine.lock.Lock()
 	defer session.engine.lock.Unlock()
 	return session.output()
 }
 
-// Sent tells that the first count bytes that waited were sent: they are dropped.
+// Sent discards the first count bytes of the pending output, which were sent.
 func (session *Session) Sent(count int) error {
 	session.engine.lock.Lock()
 	defer session.engine.lock.Unlock()
@@ -191,14 +190,14 @@ func (session *Session) Sent(count int) error {
 
 var _ io.Closer = (*Session)(nil)
 
-// Close ends the session's input. A call that is under way goes on to its reply by further turns.
+// Close ends the session's input. Further turns finish a call in progress and write its reply.
 func (session *Session) Close() error {
 	session.engine.lock.Lock()
 	defer session.engine.lock.Unlock()
 	return session.close()
 }
 
-// What follows is called with the engine's lock held.
+// The methods below are called with the engine's lock held.
 
 func (engine *Engine) open() (*Session, error) {
 	number, err := checked(C.lt_open(engine.pointer))
@@ -214,7 +213,7 @@ func (session *Session) feed(data []byte) error {
 	return err
 }
 
-// settle tells sessions that were blocked where something moved, also before a refusal.
+// settle wakes blocked sessions if a turn made progress, also before an error.
 func (session *Session) settle(moment uint32, most uint64) (Turn, error) {
 	engine := session.engine
 	var moved C.bool
@@ -236,14 +235,14 @@ func (session *Session) output() ([]byte, error) {
 	return data, err
 }
 
-// look copies the first bytes that wait, and tells how many wait.
+// look copies the first pending bytes, and returns how many are pending.
 func (session *Session) look(room []byte) (int, error) {
 	answer := C.lt_output(session.engine.pointer, session.number, start(room), C.size_t(len(room)))
 	waiting, err := checked(answer)
 	return int(waiting), err
 }
 
-// take takes the first bytes that wait, as many as there is room for.
+// take copies and discards the first pending bytes, as many as fit.
 func (session *Session) take(room []byte) (int, error) {
 	count, err := session.look(room)
 	if err != nil {

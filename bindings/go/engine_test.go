@@ -19,8 +19,8 @@ const looks = "\x00\x00\x00\x05\x01\x00\x00\x00\x03\x00\x00\x00\x0b\x11\x00\x00\
 // version is the length of VERSION's packet.
 const version = 71
 
-// What the second session of the schedule is sent after VERSION: the attributes of /a, size 0,
-// nobody's, 0o755, of the moment 100.
+// The output of the schedule's second session after VERSION: the attributes of /a, with size 0, uid
+// and gid 0, mode 0o755, and the timestamp 100.
 const looked = "\x00\x00\x00\x25\x69\x00\x00\x00\x08\x00\x00\x00\x0f" +
 	"\x00\x00\x00\x00\x00\x00\x00\x00\x00\x00\x00\x00\x00\x00\x00\x00" +
 	"\x00\x00\x41\xed\x00\x00\x00\x64\x00\x00\x00\x64"
@@ -34,8 +34,8 @@ func open(t *testing.T, engine *Engine, data string) *Session {
 	return session
 }
 
-// replay is what the turns of a schedule did, and what its two sessions were sent. The second
-// session looks at /a before the first one has made it.
+// replay returns what the turns of a schedule did, and the output of its two sessions. The second
+// session asks for /a before the first one has made it.
 func replay(t *testing.T) ([]Turn, [2]string) {
 	t.Helper()
 	engine := newEngine(t)
@@ -65,7 +65,7 @@ func TestAScheduleGivesTheSameBytesEachTime(t *testing.T) {
 	same(t, sent[1][version:], looked)
 }
 
-// begun is a session whose rename, under the id 7, has begun.
+// begun returns a session with a rename in progress, with the id 7.
 func begun(t *testing.T, engine *Engine, old, new string) *Session {
 	t.Helper()
 	rename := packet(18, number(7), text([]byte(old)), text([]byte(new)))
@@ -79,7 +79,7 @@ func begun(t *testing.T, engine *Engine, old, new string) *Session {
 	return session
 }
 
-// written is what a turn of the session writes.
+// written returns what a turn of the session writes.
 func written(t *testing.T, session *Session) string {
 	t.Helper()
 	turn, err := session.Turn(100)
@@ -90,8 +90,8 @@ func written(t *testing.T, session *Session) string {
 	return string(output)
 }
 
-// In rounds the first rename is ahead: five of them until it is decided, in the last of which the
-// other one takes the root, and three more, since what that moves to is gone.
+// In rounds the first rename is ahead. It is decided after five rounds, in the last of which the
+// other one acquires the root. That takes three more, since its target is gone.
 func TestCrossingRenamesInRounds(t *testing.T) {
 	engine := newEngine(t)
 	must(t, engine.WriteFiles(map[string][]byte{"/a/x": nil, "/b/y": nil}, 0))
@@ -179,7 +179,7 @@ func setSize(t *testing.T, engine *Engine, path string, size uint64) {
 	set(t, engine, path, append(number(1), binary.BigEndian.AppendUint64(nil, size)...))
 }
 
-// A sparse file's gaps are told and not read.
+// Holes of a sparse file are reported and not read.
 func TestASparseFile(t *testing.T) {
 	engine, err := FromFiles(map[string][]byte{"/d/f": []byte("one")}, 0)
 	must(t, err)
@@ -206,7 +206,7 @@ func TestASparseFile(t *testing.T) {
 	same(t, string(room[:count]), "\x00\x00")
 }
 
-// Zeros that were written are as a gap.
+// Written zeros are like a hole.
 func TestAGapIsZeros(t *testing.T) {
 	long := make([]byte, 100_000)
 	long[0] = '1'
@@ -219,8 +219,8 @@ func TestAGapIsZeros(t *testing.T) {
 	same(t, found["/g"].Pieces, found["/f"].Pieces)
 }
 
-// No session opens, also where as many are open as may be, and no call is recorded; and a snapshot
-// stays.
+// A snapshot opens no session, so it works when all 256 are open. It records no call, and does not
+// change.
 func TestASnapshotAsksForNothing(t *testing.T) {
 	engine, err := FromFiles(map[string][]byte{"/f": bytes.Repeat([]byte("1"), 40_000)}, 0)
 	must(t, err)
@@ -240,7 +240,7 @@ func TestASnapshotAsksForNothing(t *testing.T) {
 	same(t, found["/f"].Contents(), bytes.Repeat([]byte("1"), 40_000))
 }
 
-// A snapshot has what took effect so far, also while a call stands half way.
+// A snapshot has the effects of earlier calls, also while a call is in progress.
 func TestASnapshotWhileACallStandsHalfWay(t *testing.T) {
 	engine := newEngine(t)
 	held := open(t, engine, makes)
@@ -284,7 +284,7 @@ func TestVersionAndTexts(t *testing.T) {
 	same(t, Closed.String(), "ended: the session was closed")
 }
 
-// Each of these makes turns up to one reply, and the last one finds nothing to do.
+// Each of these runs up to one reply, and the last one does nothing.
 func TestSettleByReplies(t *testing.T) {
 	session := open(t, newEngine(t), makes)
 	for _, wanted := range []Turn{Spent, Spent, Idle} {

@@ -10,10 +10,9 @@ import (
 	"time"
 )
 
-// Save writes the tree into a folder of the system, which is made where it is missing: names,
-// contents, times, and the nine lowest bits of the permissions; all names of a file are one file,
-// and a sparse file has its gaps there too. Owners aren't set. Nothing that is there is replaced:
-// Save stops at it, with fs.ErrExist.
+// Save writes the tree to a folder of the system, which it makes if necessary: names, contents,
+// times, hard links, holes of sparse files, and the nine lowest permission bits. It does not set
+// owners. It replaces nothing: an existing file is fs.ErrExist.
 func (tree Snapshot) Save(folder string) error {
 	if err := os.MkdirAll(folder, 0o777); err != nil {
 		return err
@@ -32,7 +31,7 @@ func (tree Snapshot) Save(folder string) error {
 			return err
 		}
 	}
-	// All is there, and what is below a directory comes before it here.
+	// Everything exists now. The contents of a directory come before it in this order.
 	for last := len(paths) - 1; last >= 0; last-- {
 		at := paths[last]
 		if err := saveAttributes(tree[at], filepath.Join(folder, at)); err != nil {
@@ -42,7 +41,7 @@ func (tree Snapshot) Save(folder string) error {
 	return nil
 }
 
-// save makes a directory, a file, or one more name of a file. Nobody else can read it yet.
+// save makes a directory, a file, or a hard link, not yet readable by others.
 func save(entry Entry, to string, names map[int]string) error {
 	if entry.IsDir() {
 		return os.Mkdir(to, 0o700)
@@ -76,8 +75,8 @@ func firstOf(err, other error) error {
 	return other
 }
 
-// FromFS makes an engine whose tree is this one's, as by WriteFS: FromFS(os.DirFS(folder), moment)
-// takes a folder of the system.
+// FromFS makes an engine with a copy of this tree, as WriteFS does. FromFS(os.DirFS(folder),
+// moment) copies a folder of the system.
 func FromFS(tree fs.FS, moment uint32) (*Engine, error) {
 	engine, err := New()
 	if err != nil {
@@ -90,10 +89,10 @@ func FromFS(tree fs.FS, moment uint32) (*Engine, error) {
 	return engine, nil
 }
 
-// WriteFS makes or replaces all files and directories of a tree, as WriteFiles and Link do: it
-// takes their names and contents, and neither permissions nor times. All names of a file are one
-// file, where the tree tells that: a folder of the system and a Snapshot do. What is neither a file
-// nor a directory is an error.
+// WriteFS makes or replaces all files and directories of a tree, as WriteFiles and Link do. It
+// copies names and contents, but no permissions or times. It keeps hard links if the tree shows
+// them, as a folder of the system and a Snapshot do. Anything else than files and directories is an
+// error.
 func (engine *Engine) WriteFS(tree fs.FS, moment uint32) error {
 	found := gathered{files: map[string][]byte{}, names: map[interface{}]string{}}
 	err := fs.WalkDir(tree, ".", func(name string, entry fs.DirEntry, err error) error {
@@ -116,7 +115,7 @@ func (engine *Engine) WriteFS(tree fs.FS, moment uint32) error {
 	return nil
 }
 
-// A gathered is what was found in a tree.
+// A gathered has the contents of a tree.
 type gathered struct {
 	files map[string][]byte // nil for directories
 	names map[interface{}]string
@@ -150,7 +149,7 @@ func (found *gathered) add(tree fs.FS, name string, entry fs.DirEntry) error {
 	return err
 }
 
-// identityOf is what all names of a file share, or nil where that isn't told.
+// identityOf is equal for all names of a file. It is nil if the tree does not show it.
 func identityOf(info fs.FileInfo) interface{} {
 	switch told := info.Sys().(type) {
 	case *syscall.Stat_t:

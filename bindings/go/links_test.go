@@ -7,8 +7,8 @@ import (
 	"testing"
 )
 
-// alike is an engine with two files of two names each and one of one, which differ in their names
-// alone: their atimes are 5, their mtimes 9.
+// alike returns an engine with two files of two names each and one file of one name. They differ
+// only in their names: their atimes are 5, their mtimes 9.
 func alike(t *testing.T) *Engine {
 	t.Helper()
 	same := []byte("same")
@@ -25,7 +25,7 @@ func alike(t *testing.T) *Engine {
 
 var alikeNumbers = map[string]int{"/": 0, "/a": 1, "/b": 2, "/c": 2, "/d": 0, "/d/a": 1, "/d/e": 3}
 
-// numbersOf are the numbers of the files of a snapshot.
+// numbersOf returns the numbers of the files of a snapshot.
 func numbersOf(found map[string]Entry) map[string]int {
 	numbers := map[string]int{}
 	for path, entry := range found {
@@ -34,7 +34,7 @@ func numbersOf(found map[string]Entry) map[string]int {
 	return numbers
 }
 
-// snapshot is a snapshot that mustn't be refused.
+// snapshot returns a snapshot, which must not fail.
 func snapshot(t *testing.T, engine *Engine) Snapshot {
 	t.Helper()
 	found, err := engine.Snapshot()
@@ -42,7 +42,7 @@ func snapshot(t *testing.T, engine *Engine) Snapshot {
 	return found
 }
 
-// asker is a session that was answered VERSION.
+// asker returns a session after VERSION.
 func asker(t *testing.T, engine *Engine) *Session {
 	t.Helper()
 	session := open(t, engine, looks[:9])
@@ -52,7 +52,7 @@ func asker(t *testing.T, engine *Engine) *Session {
 	return session
 }
 
-// look has the replies to STAT of all paths of alike, as the server tells them.
+// look returns the server's replies to STAT of all paths of alike.
 func look(session *Session) (map[string]string, error) {
 	told := map[string]string{}
 	for path := range alikeNumbers {
@@ -155,7 +155,7 @@ func TestLinksThatAreRefused(t *testing.T) {
 	same(t, numbersOf(snapshot(t, engine)), alikeNumbers)
 }
 
-// The request that was refused is told with its path, and what was done before stays.
+// The error names the failed request and its path, and earlier files stay.
 func TestTheRequestThatIsRefused(t *testing.T) {
 	engine := alike(t)
 	var status *StatusError

@@ -24,8 +24,7 @@ func packet(kind byte, parts ...[]byte) []byte {
 	return text(body)
 }
 
-// set sets attributes of what is at a path, by a session of its own. They are spelled with their
-// flags.
+// set sets attributes of a path in a new session. They are encoded with their flags.
 func set(t *testing.T, engine *Engine, path string, attributes []byte) {
 	t.Helper()
 	session := asker(t, engine)

@@ -8,16 +8,16 @@ import (
 	"time"
 )
 
-// A racer is a client's connection in races. All of it is under the lock of these.
+// A racer is the connection of a client in a race. The lock of the race protects it.
 type racer struct {
 	races   *Races
 	session *Session
 	number  int
 	packets unanswered
 	closed  bool  // by its client
-	ended   bool  // its session takes no more turns
-	slow    bool  // it was waited for in vain
-	fault   error // why its session was ended, where a turn was refused
+	ended   bool  // its session has no more turns
+	slow    bool  // it was skipped
+	fault   error // the error of the turn that ended its session
 
 	readUntil, writeUntil time.Time
 	alarm                 *time.Timer // for readUntil
@@ -25,10 +25,10 @@ type racer struct {
 
 var _ net.Conn = (*racer)(nil)
 
-// waits tells whether the client waits for a reply: its session has one to write.
+// waits reports whether the client waits for a reply.
 func (one *racer) waits() bool { return !one.ended && one.packets.count > 0 }
 
-// turn takes a turn. A client that has closed its connection goes with its last reply.
+// turn runs one turn. A client that has closed its connection leaves after its last reply.
 func (one *racer) turn(moment uint32) {
 	turn, err := one.session.Turn(moment)
 	one.fault = err
@@ -39,7 +39,7 @@ func (one *racer) turn(moment uint32) {
 	one.leave()
 }
 
-// leave ends the session of a client that has closed its connection, where it waits for nothing.
+// leave ends the session of a client that has closed its connection and waits for no reply.
 func (one *racer) leave() {
 	if one.closed && !one.ended && !one.waits() {
 		one.fault = one.session.Close()
@@ -68,8 +68,7 @@ func (one *racer) Write(data []byte) (int, error) {
 	return len(data), nil
 }
 
-// Read waits for bytes to be there, and takes them. After the session's last reply it answers
-// io.EOF.
+// Read waits for output, and returns it. After the session's last reply it returns io.EOF.
 func (one *racer) Read(room []byte) (int, error) {
 	one.races.lock.Lock()
 	defer one.races.lock.Unlock()
@@ -102,7 +101,7 @@ func (one *racer) take(room []byte) (int, error) {
 	return one.session.take(room)
 }
 
-// Close ends the client's requests. Those that it has made are carried out.
+// Close ends the client's requests. Those already sent take effect.
 func (one *racer) Close() error {
 	one.races.lock.Lock()
 	defer one.races.lock.Unlock()
@@ -151,7 +150,7 @@ func (one *racer) LocalAddr() net.Addr { return raceAddr(fmt.Sprintf("client %d"
 
 func (one *racer) RemoteAddr() net.Addr { return raceAddr("races") }
 
-// A raceAddr names an end of a connection that has no address.
+// A raceAddr names one end of a connection without an address.
 type raceAddr string
 
 func (name raceAddr) Network() string { return "lucernetick" }

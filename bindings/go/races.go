@@ -8,46 +8,43 @@ import (
 	"time"
 )
 
-// ErrMoreClients is what Connect answers once as many clients have connected as a Races was made
-// for.
+// ErrMoreClients is the error of Connect after all clients of a Races have connected.
 var ErrMoreClients = errors.New("lucernetick: all clients of the races have connected")
 
-// A Races is an engine whose clients race, each in a goroutine of its own, in an order that a seed
-// draws: the same seed gives the same replies each time, whatever the goroutines' speed.
+// A Races runs concurrent clients, each in its own goroutine, under a seeded scheduler: the same
+// seed gives the same interleaving, at any speed of the goroutines.
 //
-// The session of a client takes a turn, which is one step of a call, only once each client waits
-// for a reply or has closed its connection; whose turn it is, among those that wait, is drawn. So a
-// client that has done its part must close its connection, or the others wait for it. Where that
-// takes longer than Patience, as where a client waits for another one by other means than the
-// server, it is taken for slow, and waited for no more until it asks again: Reproducible tells that
-// the run wasn't the seed's alone.
+// A session has a turn, which is one step of a call, only when every client waits for a reply or
+// has closed its connection. The scheduler picks one of the waiting clients. So close a connection
+// when its client is done; until then the others wait. A client that neither sends nor closes for
+// longer than Patience is skipped until it sends again. Reproducible then reports false.
 type Races struct {
-	// Time is the moment of all turns. It is 1000000000 unless a test sets it.
+	// Time is the clock of all turns. It is 1000000000 unless a test sets it.
 	Time VirtualTime
-	// Patience is how long a client is waited for that neither asks nor goes: 30 seconds, unless a
-	// test sets it before its clients connect.
+	// Patience is how long the scheduler waits for a client that neither sends nor closes: 30
+	// seconds, unless a test sets it before its clients connect.
 	Patience time.Duration
 
 	engine *Engine
-	fault  error // why there is no engine
+	fault  error // set if no engine could be made
 
 	lock     sync.Mutex
-	moved    *sync.Cond // told when turns were taken, or the races or a connection were closed
+	moved    *sync.Cond // signalled after turns, and when the races or a connection close
 	draws    splitMix
-	replayed []int // the turns that are given, in place of draws
+	replayed []int // the turns of the schedule to replay
 	replays  bool
-	clients  int // how many are to connect
-	awaited  int // as many of them as are waited for until they do
+	clients  int // how many will connect
+	awaited  int // how many must connect before the first turn
 	racers   []*racer
 	schedule []int
 	strayed  bool
 	timer    *time.Timer
-	since    time.Time // when a client last did something
+	since    time.Time // when a client last acted
 	closed   bool
 }
 
-// NewRaces makes races of so many clients on an empty tree. Where there is no memory for one,
-// Connect says so.
+// NewRaces makes a race of this number of clients on an empty file system. If memory runs out,
+// Connect returns the error.
 func NewRaces(seed uint64, clients int) *Races {
 	races := &Races{Patience: 30 * time.Second, clients: clients, awaited: clients}
 	races.draws.state = seed
@@ -55,16 +52,15 @@ func NewRaces(seed uint64, clients int) *Races {
 	races.moved = sync.NewCond(&races.lock)
 	races.engine, races.fault = New()
 	if races.fault != nil {
-		// As one that was closed, which refuses all calls.
+		// Like a closed engine, it rejects all calls.
 		races.engine = &Engine{}
 		races.engine.moved = sync.NewCond(&races.engine.lock)
 	}
 	return races
 }
 
-// ReplayRaces makes races whose turns are those of a schedule, as Schedule told them of earlier
-// ones. Where it has no turn for a client that waits, the first of those that wait has it, and
-// Reproducible tells so.
+// ReplayRaces replays a schedule that Schedule returned. If the schedule names no waiting client,
+// the first waiting one has the turn, and Reproducible reports false.
 func ReplayRaces(schedule []int, clients int) *Races {
 	races := NewRaces(0, clients)
 	races.replays = true
@@ -72,16 +68,16 @@ func ReplayRaces(schedule []int, clients int) *Races {
 	return races
 }
 
-// Engine is the engine, for the tree before the clients run and after they have ended. Meanwhile
-// calls may stand half way, and no other session may have a turn.
+// Engine returns the engine, to write and inspect files before the clients run and after they have
+// ended. During the race calls may be in progress, and no other session may have a turn.
 func (races *Races) Engine() *Engine { return races.engine }
 
-// Connect opens the session of the next client, the first of which is client 1. All are to connect
-// before any of them runs, since the order of turns goes by their numbers. A client's first request
-// and its reply are of the race too: so a client that asks as it is made, as sftp.NewClientPipe
-// does, is made in its own goroutine.
+// Connect opens the session of the next client: 1, 2, 3 and so on. Connect all clients before any
+// of them runs, since turns depend on their numbers. The first request of a client is part of the
+// race. So make a client that sends one when it is made, as sftp.NewClientPipe does, in its own
+// goroutine.
 //
-// To write never waits. To read waits for replies, or for the deadline.
+// Writes never block. Reads block until a reply or the deadline.
 func (races *Races) Connect() (net.Conn, error) {
 	races.lock.Lock()
 	defer races.lock.Unlock()
@@ -101,16 +97,15 @@ func (races *Races) Connect() (net.Conn, error) {
 	return one, nil
 }
 
-// Schedule has the turns that were taken until now, each by the number of the client whose session
-// had it.
+// Schedule returns the turns so far, each as the number of its client.
 func (races *Races) Schedule() []int {
 	races.lock.Lock()
 	defer races.lock.Unlock()
 	return append([]int(nil), races.schedule...)
 }
 
-// Reproducible tells whether the turns until now were the seed's alone, or the schedule's: no
-// client was taken for slow, and no turn was missing.
+// Reproducible reports whether the turns so far depend only on the seed or the schedule: no client
+// was skipped, and no turn was missing.
 func (races *Races) Reproducible() bool {
 	races.lock.Lock()
 	defer races.lock.Unlock()
@@ -131,10 +126,10 @@ func (races *Races) Close() error {
 	return races.engine.Close()
 }
 
-// What follows is called with the lock held.
+// The methods below are called with the lock held.
 
-// advance takes turns, as long as each client waits for a reply or has gone. It is called where a
-// client did something.
+// advance runs turns as long as every client waits for a reply or has disconnected. It is called
+// after each action of a client.
 func (races *Races) advance() {
 	for !races.closed && len(races.racers) >= races.awaited {
 		waiting, all := races.waiting()
@@ -150,8 +145,8 @@ func (races *Races) advance() {
 	races.watch(races.Patience)
 }
 
-// waiting are the clients that wait for a reply, by their numbers, and whether each one does or has
-// gone.
+// waiting returns the clients that wait for a reply, in order, and whether all others have
+// disconnected.
 func (races *Races) waiting() ([]*racer, bool) {
 	var waiting []*racer
 	all := true
@@ -165,7 +160,7 @@ func (races *Races) waiting() ([]*racer, bool) {
 	return waiting, all
 }
 
-// choose chooses whose turn it is.
+// choose picks the client of the next turn.
 func (races *Races) choose(waiting []*racer) *racer {
 	if !races.replays {
 		return waiting[races.draws.next()%uint64(len(waiting))]
@@ -183,7 +178,7 @@ func (races *Races) choose(waiting []*racer) *racer {
 	return waiting[0]
 }
 
-// watch looks after this time whether somebody still waits, in vain.
+// watch checks after this time whether clients still wait.
 func (races *Races) watch(patience time.Duration) {
 	if races.timer != nil {
 		races.timer.Stop()
@@ -193,7 +188,7 @@ func (races *Races) watch(patience time.Duration) {
 	}
 }
 
-// hurry takes those for slow who are waited for, where nobody did anything for long enough.
+// hurry skips the clients that the race waits for, if no client acted for long enough.
 func (races *Races) hurry() {
 	races.lock.Lock()
 	defer races.lock.Unlock()

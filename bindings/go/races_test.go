@@ -15,7 +15,7 @@ import (
 	"github.com/pkg/sftp"
 )
 
-// What SplitMix64 draws for the seeds 0 and 1234567, as its other implementations have it.
+// Values of other implementations of SplitMix64 for the seeds 0 and 1234567.
 func TestDraws(t *testing.T) {
 	for seed, wanted := range map[uint64][5]uint64{
 		0: {
@@ -55,8 +55,7 @@ func TestPacketsAreCounted(t *testing.T) {
 	}
 }
 
-// A session ends at a length of 0, or one that is too long, before a packet of that length is
-// there.
+// A session ends at a length of 0 or above the limit, before a packet of that length is complete.
 func TestLengthsThatEndASession(t *testing.T) {
 	for _, length := range []string{"\x00\x00\x00\x00", "\x00\x04\x00\x01", "\xff\xff\xff\xff"} {
 		var packets unanswered
@@ -68,7 +67,7 @@ func TestLengthsThatEndASession(t *testing.T) {
 	same(t, packets.count, 0)
 }
 
-// racing is races, and the connections of all of its clients.
+// racing returns a race, and the connections of all its clients.
 func racing(t *testing.T, races *Races) []net.Conn {
 	t.Helper()
 	t.Cleanup(func() { races.Close() })
@@ -81,14 +80,14 @@ func racing(t *testing.T, races *Races) []net.Conn {
 	return conns
 }
 
-// ask writes what a client asks, all at once.
+// ask writes all requests of a client at once.
 func ask(t *testing.T, conn net.Conn, data string) {
 	t.Helper()
 	_, err := conn.Write([]byte(data))
 	must(t, err)
 }
 
-// told reads so many bytes, which are there.
+// told reads this number of bytes, which are pending.
 func told(t *testing.T, conn net.Conn, count int) string {
 	t.Helper()
 	data := make([]byte, count)
@@ -97,9 +96,9 @@ func told(t *testing.T, conn net.Conn, count int) string {
 	return string(data)
 }
 
-// The first five numbers of this seed are odd: so client 2 has five turns. By these it was sent
-// VERSION, and its MKDIR was read, took the root, was decided and was answered. Client 1 goes on
-// once it has gone.
+// The first five numbers of this seed are odd, so client 2 has five turns. They send VERSION, then
+// read its MKDIR, acquire the root, decide it and write the reply. Client 1 continues after client
+// 2 has disconnected.
 func TestTheTurnsOfASeed(t *testing.T) {
 	races := NewRaces(1234567, 2)
 	conns := racing(t, races)
@@ -116,7 +115,7 @@ func TestTheTurnsOfASeed(t *testing.T) {
 	same(t, races.Reproducible(), true)
 }
 
-// Those of this one are odd, even, odd, even and odd.
+// The numbers of this seed are odd, even, odd, even and odd.
 func TestTheTurnsOfAnotherSeed(t *testing.T) {
 	races := NewRaces(0, 2)
 	conns := racing(t, races)
@@ -125,8 +124,8 @@ func TestTheTurnsOfAnotherSeed(t *testing.T) {
 	same(t, races.Schedule()[:5], []int{2, 1, 2, 1, 2})
 }
 
-// uploader is a client that makes /out, writes a file there and renames the directory away, and
-// tells how that went.
+// uploader is a client that makes /out, writes a file there and renames the directory. It reports
+// the results.
 func uploader(conn net.Conn, name string) string {
 	client, err := sftp.NewClientPipe(conn, conn)
 	if err != nil {
@@ -157,14 +156,14 @@ func writeAndRename(client *sftp.Client, name string) error {
 	return client.Rename("/out", "/done-"+name)
 }
 
-// A run is what came of races.
+// A run is the result of a race.
 type run struct {
 	told     [2]string
 	schedule []int
 	tree     Snapshot
 }
 
-// race lets two uploaders race.
+// race runs two uploaders.
 func race(t *testing.T, races *Races) run {
 	t.Helper()
 	defer races.Close()
@@ -222,7 +221,8 @@ func TestAScheduleIsGivenBack(t *testing.T) {
 	}
 }
 
-// A schedule of something else: what it lacks, and a turn of a client that doesn't wait, are told.
+// The schedule of another race: missing turns, and turns of a client that does not wait, are
+// reported.
 func TestSchedulesThatDoNotFit(t *testing.T) {
 	for _, schedule := range [][]int{{}, {2, 2, 2, 2}, {2, 2, 2, 2, 2, 1, 2, 1, 1, 1}, {3, 2}} {
 		races := ReplayRaces(schedule, 2)
@@ -244,7 +244,7 @@ func TestSchedulesThatDoNotFit(t *testing.T) {
 	}
 }
 
-// Client 1 waits for something else than the server, until client 2 has its reply.
+// Client 1 waits for the reply of client 2, not for the server.
 func TestAClientThatWaitsForAnother(t *testing.T) {
 	races := NewRaces(0, 2)
 	races.Patience = 50 * time.Millisecond
@@ -284,7 +284,7 @@ func TestAClientThatDoesNotCome(t *testing.T) {
 	same(t, err, ErrMoreClients)
 }
 
-// What a client has asked is carried out, though it reads no reply.
+// The requests of a client take effect, although it reads no reply.
 func TestAClientThatGoesEarly(t *testing.T) {
 	races := NewRaces(0, 2)
 	conns := racing(t, races)
@@ -336,7 +336,7 @@ func TestDeadlines(t *testing.T) {
 	same(t, conns[1].RemoteAddr().Network(), "lucernetick")
 }
 
-// A client that waits is told that the races were closed.
+// A waiting client gets an error when the race is closed.
 func TestRacesThatAreClosed(t *testing.T) {
 	races := NewRaces(0, 2)
 	conns := racing(t, races)
@@ -353,7 +353,7 @@ func TestRacesThatAreClosed(t *testing.T) {
 	must(t, races.Close())
 }
 
-// Times are of the races, and a tree may be there before.
+// The race has its own clock, and may start with files.
 func TestATreeThatIsThereBefore(t *testing.T) {
 	races := NewRaces(7, 1)
 	must(t, races.Engine().WriteFiles(map[string][]byte{"/out/x": []byte("1")}, 5))

@@ -11,7 +11,7 @@ import (
 	"unsafe"
 )
 
-// A Status is what a refused request is answered.
+// A Status is the reply to a rejected request.
 type Status uint32
 
 // The statuses of the protocol. The zero value is StatusFailure.
@@ -25,7 +25,7 @@ const (
 	StatusOpUnsupported
 )
 
-// Code is the protocol's number of a status.
+// Code returns the protocol's number of a status.
 func (status Status) Code() uint32 {
 	codes := [...]uint32{4, 0, 1, 2, 3, 5, 8}
 	if int(status) >= len(codes) {
@@ -34,29 +34,29 @@ func (status Status) Code() uint32 {
 	return codes[status]
 }
 
-// Always is a Rule's Times where all requests are refused.
+// Always is a Rule's Times that rejects all requests.
 const Always = math.MaxUint64
 
-// A Rule is which requests are refused, how many of them, and by which status. The zero value
-// refuses the next request, whatever it asks, by StatusFailure.
+// A Rule injects errors: it selects requests, how many of them, and the status to return. The zero
+// value rejects the next request of any kind with StatusFailure.
 type Rule struct {
-	Session uint64 // its number; 0 is any, also one that opens later
+	Session uint64 // its number; 0 is any, including later ones
 	Kind    Kind   // 0 is any
-	Path    string // "" is any. A request names it, in any spelling; one by a handle, as WRITE, none
-	After   uint64 // so many of these are let through first
-	Times   uint64 // so many are refused then, and later ones are let through; 0 is one
+	Path    string // "" is any. In any spelling; a request by handle, as WRITE, has no path
+	After   uint64 // how many matching requests to skip first
+	Times   uint64 // how many to reject then; 0 is one. Later requests are skipped
 	Status  Status
 }
 
-// A GivenRule is a rule that an engine has.
+// A GivenRule is a rule of an engine.
 type GivenRule struct {
 	engine *Engine
 	number C.uint64_t
 }
 
-// Refuse refuses requests from now on: each is answered by a status in its place, never reaches the
-// tree, and is no call that is recorded. Of more rules for one request the first that refuses it
-// answers. INIT is never refused, and no request that a turn has taken already.
+// Refuse adds a rule. A rejected request gets a status in its place, never reaches the file system,
+// and is not recorded. If several rules match, the first that rejects the request wins. Rules never
+// apply to INIT, nor to requests that a turn has already read.
 func (engine *Engine) Refuse(rule Rule) (*GivenRule, error) {
 	given := C.lt_rule{
 		session: C.uint64_t(rule.Session),
@@ -82,7 +82,7 @@ func (engine *Engine) Refuse(rule Rule) (*GivenRule, error) {
 	return &GivenRule{engine, C.uint64_t(number)}, nil
 }
 
-// Refused tells how many requests the rule has refused so far.
+// Refused returns how many requests the rule has rejected so far.
 func (rule *GivenRule) Refused() (uint64, error) {
 	rule.engine.lock.Lock()
 	defer rule.engine.lock.Unlock()

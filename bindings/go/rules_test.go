@@ -9,7 +9,7 @@ import (
 	"github.com/pkg/sftp"
 )
 
-// refuse gives a rule to the engine.
+// refuse adds a rule to the engine.
 func refuse(t *testing.T, engine *Engine, rule Rule) *GivenRule {
 	t.Helper()
 	given, err := engine.Refuse(rule)
@@ -24,12 +24,12 @@ func refusals(t *testing.T, rule *GivenRule) uint64 {
 	return count
 }
 
-// mkdir is a MKDIR under this id.
+// mkdir returns a MKDIR with this id.
 func mkdir(id uint32, path string) []byte {
 	return packet(14, number(id), text([]byte(path)), number(0))
 }
 
-// codes are those of the statuses that a new session is answered.
+// codes returns the status codes that a new session receives.
 func codes(t *testing.T, engine *Engine, requests ...[]byte) []byte {
 	t.Helper()
 	session := open(t, engine, looks[:9])

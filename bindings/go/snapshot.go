@@ -9,13 +9,13 @@ import (
 	"time"
 )
 
-// A Snapshot is a whole tree by its paths, from "/" on. It is an fs.FS too, in which a path has no
-// first "/", and the root is ".": as there, a name that isn't UTF-8 can't be opened.
+// A Snapshot is a whole file system: entries by absolute path. It is also an fs.FS, with paths
+// without a leading "/" and the root "."; there a name that is not UTF-8 cannot be opened.
 type Snapshot map[string]Entry
 
 var _ fs.FS = Snapshot(nil)
 
-// FileMode is its kind and its permissions as Go has them.
+// FileMode returns the type and permissions as Go represents them.
 func (entry Entry) FileMode() fs.FileMode {
 	mode := fs.FileMode(entry.Mode & 0o777)
 	for bit, flag := range map[uint32]fs.FileMode{
@@ -33,7 +33,7 @@ func (entry Entry) FileMode() fs.FileMode {
 	return mode
 }
 
-// Open opens a file or a directory to be read.
+// Open opens a file or a directory for reading.
 func (tree Snapshot) Open(name string) (fs.File, error) {
 	if !fs.ValidPath(name) {
 		return nil, &fs.PathError{Op: "open", Path: name, Err: fs.ErrInvalid}
@@ -50,7 +50,7 @@ func (tree Snapshot) Open(name string) (fs.File, error) {
 	return &openDirectory{info, name, tree.below(at)}, nil
 }
 
-// below are the entries of a directory, by their names.
+// below returns the entries of a directory, sorted by name.
 func (tree Snapshot) below(directory string) []fs.DirEntry {
 	entries := []fs.DirEntry{}
 	for at, entry := range tree {
@@ -64,7 +64,7 @@ func (tree Snapshot) below(directory string) []fs.DirEntry {
 	return entries
 }
 
-// An entryInfo is an entry with its name. Sys is the Entry.
+// An entryInfo is an entry with its name. Sys returns the Entry.
 type entryInfo struct {
 	name  string
 	entry Entry

@@ -11,7 +11,7 @@ import (
 	"time"
 )
 
-// grown is a snapshot of files and directories of many kinds, all of the moment 77 but for /s.
+// grown returns a snapshot of various files and directories, all with the timestamp 77 except /s.
 func grown(t *testing.T) Snapshot {
 	t.Helper()
 	engine, err := FromFiles(map[string][]byte{
@@ -103,7 +103,7 @@ func TestASnapshotIsSavedAndTakenBack(t *testing.T) {
 	same(t, errors.Is(tree.Save(folder), fs.ErrExist), true)
 }
 
-// Directories that nobody may enter are saved with what is in them.
+// Directories without permissions are saved with their contents.
 func TestASnapshotOfWhatMayNotBeRead(t *testing.T) {
 	engine, err := FromFiles(map[string][]byte{"/d/f": []byte("1")}, 7)
 	must(t, err)
@@ -136,7 +136,7 @@ func TestATreeOfAnotherFS(t *testing.T) {
 	same(t, []uint32{found["/d/f"].Mode, found["/d/f"].Mtime}, []uint32{0o100644, 3})
 }
 
-// The tree has no symbolic links, so none are taken.
+// Symbolic links are not supported, so they are an error.
 func TestFoldersThatAreRefused(t *testing.T) {
 	folder := t.TempDir()
 	must(t, os.WriteFile(filepath.Join(folder, "f"), []byte("1"), 0o600))

@@ -13,41 +13,41 @@ const (
 	kindDirectory = 0o040000
 )
 
-// unit: a sparse file's gaps begin and end at multiples of it, or at the file's end.
+// unit is the granularity of holes: they begin and end at multiples of it, or at the file's end.
 const unit = 32768
 
 var zeros [unit]byte
 
 // An Entry is a file or directory of a snapshot.
 type Entry struct {
-	Mode         uint32 // the bits of its kind and its permissions, as in stat(2)
+	Mode         uint32 // type and permissions, as in stat(2)
 	UID, GID     uint32
 	Atime, Mtime uint32 // seconds since 1970
-	Size         uint64 // how many bytes a file has; 0 for a directory
-	// Pieces are a file's bytes without the gaps of a sparse one: all that is in no piece is zeros.
-	// A piece begins at a multiple of 32768. None is 32768 zeros, so that files of the same bytes
-	// have the same pieces.
+	Size         uint64 // 0 for a directory
+	// Pieces are a file's bytes without its holes: all other bytes are zeros. A piece begins at a
+	// multiple of 32768. Blocks of 32768 zeros are omitted, so that files with equal bytes have
+	// equal pieces.
 	Pieces []Piece
-	// File is a file's number, which all of its names share and no other one has; 0 for a
-	// directory. Numbers are given by each snapshot, from 1 in the order of the tree: a directory
-	// comes before what is below it, and names in the order of their bytes.
+	// File is equal for all names of a file, and different for different files; 0 for a directory.
+	// Each snapshot numbers files from 1 in the order of the tree: a directory comes before its
+	// contents, and names are in byte order.
 	File int
 }
 
-// A Piece is bytes of a file from an offset on.
+// A Piece is a range of bytes of a file.
 type Piece struct {
 	Offset uint64
 	Bytes  []byte
 }
 
-// IsDir tells whether it is a directory.
+// IsDir reports whether it is a directory.
 func (entry Entry) IsDir() bool { return entry.Mode&kindMask == kindDirectory }
 
-// Permissions are the lowest twelve bits of its mode.
+// Permissions returns the lowest twelve bits of the mode.
 func (entry Entry) Permissions() uint32 { return entry.Mode & 0o7777 }
 
-// Contents are all bytes of a file, a sparse one's gaps as zeros; nil for a directory. They may be
-// the snapshot's own.
+// Contents returns all bytes of a file, with zeros for its holes; nil for a directory. Do not
+// modify them: they may be the snapshot's own.
 func (entry Entry) Contents() []byte {
 	if entry.IsDir() {
 		return nil
@@ -62,7 +62,7 @@ func (entry Entry) Contents() []byte {
 	return contents
 }
 
-// ReadAt reads a file's bytes, a sparse one's gaps as zeros.
+// ReadAt reads bytes of a file, with zeros for its holes.
 func (entry Entry) ReadAt(room []byte, offset int64) (int, error) {
 	if offset < 0 || uint64(offset) >= entry.Size {
 		return 0, io.EOF
@@ -87,10 +87,10 @@ func (entry Entry) ReadAt(room []byte, offset int64) (int, error) {
 	return count, nil
 }
 
-// Snapshot is the whole tree by paths, "/" among them. It is exactly the tree after the calls that
-// took effect so far, also while others are under way: none is waited for. Nothing is asked of the
-// engine as a client asks: no session opens, no call is recorded, and no time changes. The engine
-// is locked while the tree is taken, and not while files are read.
+// Snapshot returns the whole file system by path, including "/". It has exactly the effects of the
+// calls that have taken effect, and does not wait for calls in progress. It opens no session,
+// records no call, and changes no time. The engine is locked only while the snapshot is taken, not
+// while files are read.
 func (engine *Engine) Snapshot() (Snapshot, error) {
 	tree, err := engine.take()
 	if err != nil {
@@ -110,11 +110,11 @@ func (engine *Engine) Snapshot() (Snapshot, error) {
 	}
 }
 
-// A taken is a tree that the library took. It stays as it is.
+// A taken is a snapshot in the library. It does not change.
 type taken struct {
 	pointer *C.lt_tree
 	room    []byte
-	numbers map[uint64]int // of files, by their labels
+	numbers map[uint64]int // file numbers by label
 }
 
 func (engine *Engine) take() (taken, error) {
@@ -125,7 +125,7 @@ func (engine *Engine) take() (taken, error) {
 	return tree, err
 }
 
-// entry is the one at a place, with its path, or no path where there is none.
+// entry returns the entry at an index, with its path; no path if there is none.
 func (tree taken) entry(at C.uint64_t) (string, Entry, error) {
 	var told C.lt_leaf
 	count, err := checked(C.lt_tree_leaf(tree.pointer, at, &told))
@@ -143,7 +143,7 @@ func (tree taken) entry(at C.uint64_t) (string, Entry, error) {
 	return path, entry, err
 }
 
-// number is a file's, by its label.
+// number returns the number of a file.
 func (tree taken) number(label uint64) int {
 	if tree.numbers[label] == 0 {
 		tree.numbers[label] = len(tree.numbers) + 1
@@ -151,7 +151,7 @@ func (tree taken) number(label uint64) int {
 	return tree.numbers[label]
 }
 
-// pieces are a file's bytes, as an Entry has them.
+// pieces returns the bytes of a file, in the form of an Entry.
 func (tree taken) pieces(at C.uint64_t, size uint64) ([]Piece, error) {
 	var pieces []Piece
 	for offset := uint64(0); offset < size; {
@@ -174,7 +174,7 @@ func (tree taken) pieces(at C.uint64_t, size uint64) ([]Piece, error) {
 	return pieces, nil
 }
 
-// added are pieces with so many bytes more, unless these are zeros.
+// added appends bytes to pieces, unless they are all zeros.
 func added(pieces []Piece, offset uint64, more []byte) []Piece {
 	if bytes.Equal(more, zeros[:len(more)]) {
 		return pieces

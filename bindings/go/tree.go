@@ -3,8 +3,7 @@ package lucernetick
 /*
 #include "lucernetick.h"
 
-// As lt_make_directory, lt_write_file and lt_link, with each pointer of Go's an argument of its
-// own.
+// lt_make_directory, lt_write_file and lt_link with each Go pointer as a separate argument.
 static int64_t make_directory(lt_engine *engine, const uint8_t *path, size_t length,
                               uint32_t moment, lt_place *place)
 {
@@ -34,12 +33,11 @@ import (
 	"sort"
 )
 
-// ErrBlocked: the call of another session, which has yet to take its turns, holds what a request
-// wants. The request stays as it is, in a session that gets no further turn but by RunAll: it may
-// hold a directory until then.
+// ErrBlocked: a call of another session, still in progress, blocks the request. The request stays
+// in progress, and only RunAll advances it. It may hold a directory until then.
 var ErrBlocked = errors.New("lucernetick: " + Blocked.String())
 
-// A StatusError is the answer to a request of WriteFiles or Link that wasn't done.
+// A StatusError is the reply to a failed request of WriteFiles or Link.
 type StatusError struct {
 	Code    uint32
 	Message string
@@ -50,7 +48,7 @@ func (status *StatusError) Error() string {
 	return fmt.Sprintf("lucernetick: %s: %s", status.Request, status.Message)
 }
 
-// FromFiles makes an engine whose tree has these files, as by WriteFiles.
+// FromFiles makes an engine with these files, as WriteFiles does.
 func FromFiles(files map[string][]byte, moment uint32) (*Engine, error) {
 	engine, err := New()
 	if err != nil {
@@ -63,9 +61,8 @@ func FromFiles(files map[string][]byte, moment uint32) (*Engine, error) {
 	return engine, nil
 }
 
-// WriteFiles makes or replaces these files, by requests of sessions of their own at this moment, in
-// the order of their paths. Directories on the way are made where they are missing. Nil stands for
-// a directory.
+// WriteFiles makes or replaces these files, in the order of their paths, with the timestamp moment.
+// It sends requests in new sessions. It makes missing parents. Nil contents make a directory.
 func (engine *Engine) WriteFiles(files map[string][]byte, moment uint32) error {
 	paths := make([]string, 0, len(files))
 	for path := range files {
@@ -82,9 +79,8 @@ func (engine *Engine) WriteFiles(files map[string][]byte, moment uint32) error {
 	return nil
 }
 
-// Link gives the file at the old path the new one too, by a request of a session of its own at this
-// moment. Directories on the new path's way are made where they are missing. It is refused with a
-// StatusError where the new path is there already.
+// Link adds the new path to the file at the old one (a hard link), with the timestamp moment. It
+// makes missing parents of the new path. If the new path exists, it returns a StatusError.
 func (engine *Engine) Link(old, new string, moment uint32) error {
 	engine.lock.Lock()
 	defer engine.lock.Unlock()
@@ -98,7 +94,7 @@ func (engine *Engine) Link(old, new string, moment uint32) error {
 	return refused(answer, place, new[:place.length])
 }
 
-// place makes a directory where contents is nil, else a file, and the directories on its way.
+// place makes a directory if contents is nil, otherwise a file, and its missing parents.
 func (engine *Engine) place(path string, contents []byte, moment C.uint32_t) error {
 	var place C.lt_place
 	var answer C.int64_t
@@ -112,7 +108,7 @@ func (engine *Engine) place(path string, contents []byte, moment C.uint32_t) err
 	return refused(answer, place, path[:place.length])
 }
 
-// refused is why a request on this path wasn't done, if it wasn't.
+// refused returns the error of a request on this path, or nil.
 func refused(answer C.int64_t, place C.lt_place, path string) error {
 	request := requestName(uint32(place.kind)) + " " + path
 	switch {
@@ -125,7 +121,7 @@ func refused(answer C.int64_t, place C.lt_place, path string) error {
 	return err
 }
 
-// requestName is the name of a kind of request.
+// requestName returns the name of a kind of request.
 func requestName(kind uint32) string {
 	names := map[uint32]string{
 		C.LT_KIND_INIT:     "INIT",

@@ -1,5 +1,5 @@
-//! Says where the archive is: in the folder that LUCERNETICK_ARCHIVE names, or beside this file, or
-//! where `./library` leaves it.
+//! Finds the static library: in the folder LUCERNETICK_ARCHIVE, next to this file, or in the
+//! repository, where `make library` builds it.
 
 use std::env;
 use std::path::{Path, PathBuf};

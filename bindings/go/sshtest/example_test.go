@@ -8,7 +8,7 @@ import (
 	"lucernetick/sshtest"
 )
 
-// What is tested makes its own connection.
+// The code under test makes its own connection.
 func ExampleNewServer() {
 	engine, err := lucernetick.New()
 	if err != nil {

@@ -25,7 +25,7 @@ func signerOf(key ed25519.PrivateKey) ssh.Signer {
 	return signer
 }
 
-// fileOf is a private key as OpenSSH keeps it in a file, without a passphrase (PROTOCOL.key of its
+// fileOf returns a private key in OpenSSH's file format, without a passphrase (PROTOCOL.key of its
 // sources).
 func fileOf(key ed25519.PrivateKey) []byte {
 	public := signerOf(key).PublicKey()

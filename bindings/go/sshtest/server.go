@@ -1,9 +1,9 @@
 // Package sshtest puts SSH in front of an engine, on a port of this machine, as net/http/httptest
-// puts HTTP in front of a handler: so what is tested makes its own connection, to an address, by a
-// key or a password.
+// puts HTTP in front of a handler. So the code under test makes its own connection, to an address,
+// by a key or a password.
 //
-// Of SSH only the subsystem sftp is served: no shell, no commands, nothing forwarded. There may be
-// many connections, and many channels on each; all of them are sessions on the engine's tree.
+// Only the subsystem sftp exists: no shell, no commands, no forwarding. Each channel of each
+// connection is a session of the engine.
 package sshtest
 
 import (
@@ -25,46 +25,46 @@ import (
 const (
 	// patience is how long a client may take to log in.
 	patience = 30 * time.Second
-	// pause is how long to wait after a connection couldn't be taken.
+	// pause is how long to wait after a failed accept.
 	pause = 10 * time.Millisecond
 )
 
-// A Server is an SSH server on a port of this machine, whose sessions are an engine's.
+// A Server is an SSH server on a port of this machine. Its sessions are those of an engine.
 type Server struct {
-	// Addr is the host and the port, as ssh.Dial takes them, once the server has started.
+	// Addr is the host and port for ssh.Dial, once the server has started.
 	Addr string
-	// Listener takes the connections. It is on the loopback interface, at a port that was free.
+	// Listener accepts the connections, on a free port of the loopback interface.
 	Listener net.Listener
 
-	// User is who may log in, by a key or by a password. Both were drawn for this server.
+	// User may log in, by a key or by a password. Both are random for each server.
 	User     string
 	Password string
 
-	// Config says who may log in, and has the host's key. A test may change it before the server
-	// starts.
+	// Config has the authentication callbacks and the host key. A test may change it before the
+	// server starts.
 	Config *ssh.ServerConfig
-	// Clock tells the moment at which each call begins.
+	// Clock returns the timestamp of each call.
 	Clock lucernetick.Clock
 
 	engine       *lucernetick.Engine
 	host, client ed25519.PrivateKey
 
 	lock    sync.Mutex
-	lines   map[net.Conn]bool // those that are served
+	lines   map[net.Conn]bool // the open connections
 	closed  bool
 	serving sync.WaitGroup
 }
 
-// NewServer starts a server of the engine's tree, whose calls begin by the system's clock. Close
-// ends it. As that of net/http/httptest it panics where no port can be had.
+// NewServer starts a server for the engine, with the system's clock. Close ends it. Like
+// net/http/httptest it panics if no port is available.
 func NewServer(engine *lucernetick.Engine) *Server {
 	server := NewUnstartedServer(engine)
 	server.Start()
 	return server
 }
 
-// NewUnstartedServer makes a server that has yet to be started, so that a test can change its
-// clock, or who may log in.
+// NewUnstartedServer makes a server without starting it, so that a test can change its clock or who
+// may log in.
 func NewUnstartedServer(engine *lucernetick.Engine) *Server {
 	listener, err := net.Listen("tcp", "127.0.0.1:0")
 	if err != nil {
@@ -98,8 +98,8 @@ func (server *Server) Start() {
 	go server.accept()
 }
 
-// ClientConfig is what ssh.Dial takes to log in by the user's key. It knows the host's key, and
-// refuses any other one.
+// ClientConfig returns a configuration for ssh.Dial that logs in with the client key. It accepts
+// only the server's host key.
 func (server *Server) ClientConfig() *ssh.ClientConfig {
 	return &ssh.ClientConfig{
 		User:            server.User,
@@ -108,23 +108,23 @@ func (server *Server) ClientConfig() *ssh.ClientConfig {
 	}
 }
 
-// HostKey is the key by which the server is known.
+// HostKey returns the host key of the server.
 func (server *Server) HostKey() ssh.PublicKey { return signerOf(server.host).PublicKey() }
 
-// KnownHosts is the line of a file known_hosts that tells the host's key.
+// KnownHosts returns a line of a known_hosts file with the host key.
 func (server *Server) KnownHosts() string {
 	return knownhosts.Line([]string{server.Addr}, server.HostKey()) + "\n"
 }
 
-// ClientKey is the user's private key as OpenSSH keeps it in a file, which nobody else may read
-// there. ssh.ParsePrivateKey takes it.
+// ClientKey returns the client's private key in the format of an OpenSSH key file, which must not
+// be readable by others. ssh.ParsePrivateKey parses it.
 func (server *Server) ClientKey() []byte { return fileOf(server.client) }
 
-// Close ends all connections, and waits until none is served. The engine stays as it is.
+// Close ends all connections, and waits for their goroutines. The engine stays open.
 func (server *Server) Close() {
 	server.lock.Lock()
 	server.closed = true
-	// Either may have been closed before.
+	// Both may be closed already.
 	server.Listener.Close()
 	for line := range server.lines {
 		line.Close()
@@ -155,7 +155,7 @@ func (server *Server) check(client ssh.ConnMetadata, shown, wanted []byte) error
 	return nil
 }
 
-// accept takes connections until the server is closed.
+// accept accepts connections until the server is closed.
 func (server *Server) accept() {
 	defer server.serving.Done()
 	for {
@@ -173,7 +173,7 @@ func (server *Server) accept() {
 	}
 }
 
-// begin counts a connection among those that are served, unless the server was closed.
+// begin registers a connection, unless the server was closed.
 func (server *Server) begin(line net.Conn) bool {
 	server.lock.Lock()
 	defer server.lock.Unlock()
@@ -202,7 +202,7 @@ func (server *Server) serve(line net.Conn) {
 		return
 	}
 	line.SetDeadline(time.Time{})
-	// So nothing is forwarded.
+	// This rejects all forwarding.
 	go ssh.DiscardRequests(requests)
 	var sessions sync.WaitGroup
 	for asked := range channels {

@@ -28,7 +28,7 @@ func must(t *testing.T, err error) {
 	}
 }
 
-// start starts a server of an empty tree, which ends with the test.
+// start starts a server without files, which is closed at the end of the test.
 func start(t *testing.T) (*sshtest.Server, *lucernetick.Engine) {
 	t.Helper()
 	engine, err := lucernetick.New()
@@ -39,7 +39,7 @@ func start(t *testing.T) (*sshtest.Server, *lucernetick.Engine) {
 	return server, engine
 }
 
-// dial logs in by the user's key.
+// dial logs in with the client key.
 func dial(t *testing.T, server *sshtest.Server) *ssh.Client {
 	t.Helper()
 	client, err := ssh.Dial("tcp", server.Addr, server.ClientConfig())
@@ -57,7 +57,7 @@ func open(t *testing.T, client *ssh.Client) *sftp.Client {
 	return session
 }
 
-// drawn are bytes that look like no others.
+// drawn returns random bytes.
 func drawn(count int) []byte {
 	data := make([]byte, count)
 	rand.New(rand.NewSource(int64(count))).Read(data)
@@ -86,7 +86,7 @@ func get(client *sftp.Client, path string) ([]byte, error) {
 	return contents.Bytes(), err
 }
 
-// putAndGet puts a file, and gets the same.
+// putAndGet stores a file, and reads the same bytes back.
 func putAndGet(client *sftp.Client, path string, contents []byte) error {
 	if err := put(client, path, contents); err != nil {
 		return fmt.Errorf("put: %w", err)
@@ -114,7 +114,7 @@ func TestPutAndGet100MB(t *testing.T) {
 
 func TestFiftyConnectionsAtOnce(t *testing.T) {
 	server, engine := start(t)
-	// All of them stay until the last one has done its part.
+	// All of them stay open until the last one is done.
 	var all, done sync.WaitGroup
 	all.Add(50)
 	for number := 0; number < 50; number++ {
@@ -163,7 +163,7 @@ func TestManyChannelsOfOneConnection(t *testing.T) {
 		}()
 	}
 	done.Wait()
-	// One that ends leaves the others.
+	// Closing one does not affect the others.
 	must(t, sessions[0].Close())
 	found, err := sessions[1].ReadDir("/")
 	must(t, err)
@@ -172,7 +172,7 @@ func TestManyChannelsOfOneConnection(t *testing.T) {
 	}
 }
 
-// refused is why somebody can't log in, who mustn't.
+// refused returns the error of a login that must fail.
 func refused(t *testing.T, server *sshtest.Server, config *ssh.ClientConfig) string {
 	t.Helper()
 	client, err := ssh.Dial("tcp", server.Addr, config)
@@ -209,7 +209,7 @@ func TestWhoMayNotLogIn(t *testing.T) {
 	if told := refused(t, server, config); !strings.Contains(told, none) {
 		t.Errorf("with nothing: %s", told)
 	}
-	// And a client takes no other host for this one.
+	// A client rejects another host key.
 	told := refused(t, other, server.ClientConfig())
 	if !strings.Contains(told, "host key mismatch") {
 		t.Errorf("at another host: %s", told)
@@ -227,7 +227,7 @@ func TestAPassword(t *testing.T) {
 	must(t, putAndGet(open(t, client), "/f", drawn(10)))
 }
 
-// A test may say who may log in.
+// A test may set who may log in.
 func TestAUserOfTheTests(t *testing.T) {
 	_, engine := start(t)
 	server := sshtest.NewUnstartedServer(engine)
@@ -250,7 +250,7 @@ func TestAUserOfTheTests(t *testing.T) {
 	}
 }
 
-// A raw line to the server, over which a client of SSH logs in.
+// A raw connection to the server, over which an SSH client logs in.
 func cuttable(t *testing.T, server *sshtest.Server) (net.Conn, *sftp.Client) {
 	t.Helper()
 	line, err := net.Dial("tcp", server.Addr)
@@ -260,7 +260,7 @@ func cuttable(t *testing.T, server *sshtest.Server) (net.Conn, *sftp.Client) {
 	return line, open(t, ssh.NewClient(conn, channels, requests))
 }
 
-// endless are bytes of which `cut` is told once so many of them were taken.
+// endless is an endless input, which signals `cut` after a number of bytes.
 type endless struct {
 	left int
 	cut  chan<- bool
@@ -291,7 +291,7 @@ func TestAConnectionThatIsCut(t *testing.T) {
 	if err := <-told; err == nil {
 		t.Fatal("the client wasn't told")
 	}
-	// What was written stays, and the other client goes on.
+	// The written data stays, and the other client continues.
 	must(t, putAndGet(stays, "/g", drawn(1_000_000)))
 	tree, err := engine.Snapshot()
 	must(t, err)
@@ -301,7 +301,7 @@ func TestAConnectionThatIsCut(t *testing.T) {
 	must(t, stays.Remove("/f"))
 }
 
-// The engine has room for 256 sessions: each one that is cut gives its own back.
+// An engine has at most 256 sessions: each dropped connection frees one.
 func TestConnectionsThatAreCutLeaveNoSession(t *testing.T) {
 	server, engine := start(t)
 	for count := 0; count < 300; count++ {
@@ -316,13 +316,13 @@ func TestConnectionsThatAreCutLeaveNoSession(t *testing.T) {
 	}
 }
 
-// A call that stands in another one's way is a session's by hand. Its client, which is kept
-// waiting, is cut, and the server ends all the same.
+// The test's own session blocks the call of a client. The client's connection is dropped, and the
+// server still closes.
 func TestACallThatIsBlockedIsCut(t *testing.T) {
 	server, engine := start(t)
 	held, err := engine.Open()
 	must(t, err)
-	// INIT, and MKDIR of /a, of which three turns take the root.
+	// INIT, and MKDIR of /a; three turns acquire the root.
 	must(t, held.Feed([]byte("\x00\x00\x00\x05\x01\x00\x00\x00\x03"+
 		"\x00\x00\x00\x0f\x0e\x00\x00\x00\x07\x00\x00\x00\x02/a\x00\x00\x00\x00")))
 	for count := 0; count < 3; count++ {
@@ -344,7 +344,7 @@ func TestACallThatIsBlockedIsCut(t *testing.T) {
 	server.Close()
 }
 
-// What the server refuses leaves the connection as it was.
+// Rejected requests do not affect the connection.
 func TestNothingButSFTP(t *testing.T) {
 	server, _ := start(t)
 	client := dial(t, server)
@@ -371,7 +371,7 @@ func TestNothingButSFTP(t *testing.T) {
 	must(t, putAndGet(open(t, client), "/f", drawn(10)))
 }
 
-// The 257th session is refused, and the connection goes on.
+// The 257th session is rejected, and the connection continues.
 func TestMoreSessionsThanThereMayBe(t *testing.T) {
 	server, engine := start(t)
 	client := dial(t, server)
@@ -388,7 +388,7 @@ func TestMoreSessionsThanThereMayBe(t *testing.T) {
 	must(t, putAndGet(open(t, client), "/f", drawn(10)))
 }
 
-// A session that ends by itself, here by a first packet that isn't INIT, ends its channel.
+// A session that ends, here by a first packet other than INIT, ends its channel.
 func TestASessionThatEnds(t *testing.T) {
 	server, _ := start(t)
 	session, err := dial(t, server).NewSession()
@@ -424,12 +424,12 @@ func TestAServerThatIsClosed(t *testing.T) {
 	if len(tree) != 2 {
 		t.Errorf("%d paths", len(tree))
 	}
-	// And one that was never used.
+	// Also a server that was never used.
 	unused := sshtest.NewServer(engine)
 	unused.Close()
 }
 
-// An engine that was closed ends its sessions, and the server stays.
+// Closing the engine ends its sessions, and the server stays open.
 func TestAnEngineThatIsClosed(t *testing.T) {
 	server, engine := start(t)
 	client := dial(t, server)
@@ -443,7 +443,7 @@ func TestAnEngineThatIsClosed(t *testing.T) {
 	}
 }
 
-// OpenSSH's client, which finds its key and the host's in files.
+// OpenSSH's client, which reads its key and the host key from files.
 func TestOpenSSH(t *testing.T) {
 	server, engine := start(t)
 	folder := t.TempDir()

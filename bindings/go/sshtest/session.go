@@ -7,8 +7,8 @@ import (
 	"lucernetick"
 )
 
-// session serves a channel: it waits for the subsystem to be asked for, and passes bytes on, both
-// ways.
+// session serves a channel: it waits for a request for the subsystem, then forwards bytes in both
+// directions.
 func (server *Server) session(channel ssh.Channel, requests <-chan *ssh.Request) {
 	defer channel.Close()
 	conn := server.subsystem(requests)
@@ -21,14 +21,14 @@ func (server *Server) session(channel ssh.Channel, requests <-chan *ssh.Request)
 		defer close(answered)
 		answer(channel, conn)
 	}()
-	// Whatever ends the requests, the client has no more of them.
+	// However this ends, the client sends no more requests.
 	io.Copy(conn, channel)
 	conn.Close()
 	<-answered
 }
 
-// subsystem opens a session on the engine where a request asks for the subsystem sftp. All other
-// ones are refused. It is nil where the channel ends without such a request.
+// subsystem opens a session of the engine when a request asks for the subsystem sftp. It rejects
+// all other requests. It returns nil if the channel ends without one.
 func (server *Server) subsystem(requests <-chan *ssh.Request) *lucernetick.Conn {
 	for request := range requests {
 		if isSubsystem(request) {
@@ -48,14 +48,14 @@ func isSubsystem(request *ssh.Request) bool {
 		subsystem.Name == "sftp"
 }
 
-// answer sends the client its replies, until the session's last one.
+// answer sends the replies to the client, until the session's last one.
 func answer(channel ssh.Channel, conn *lucernetick.Conn) {
 	if _, err := io.Copy(channel, conn); err != nil {
-		// The client has gone. What it asked for before is done.
+		// The client has disconnected. Its earlier requests still take effect.
 		io.Copy(io.Discard, conn)
 	}
 	status := struct{ Status uint32 }{0}
 	channel.SendRequest("exit-status", false, ssh.Marshal(&status))
-	// So a client whose session has ended is told, and ends its requests.
+	// This notifies a client whose session has ended.
 	channel.Close()
 }

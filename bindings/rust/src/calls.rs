@@ -1,9 +1,9 @@
-//! The records of calls that an engine keeps.
+//! The records of an engine's calls.
 
 use crate::{checked, sys, Engine, Refusal};
 use std::slice;
 
-/// What a call asked, where LSTAT is `Stat`; or which requests a `Rule` is for.
+/// The request of a call, or the requests that a `Rule` matches. Records have `Stat` for LSTAT.
 #[derive(Clone, Copy, Debug, PartialEq, Eq)]
 #[non_exhaustive]
 pub enum Kind {
@@ -11,7 +11,7 @@ pub enum Kind {
     Close,
     Read,
     Write,
-    /// Of a `Rule` alone.
+    /// Only in a `Rule`.
     Lstat,
     Fstat,
     Setstat,
@@ -21,13 +21,13 @@ pub enum Kind {
     Remove,
     Mkdir,
     Rmdir,
-    /// Of a `Rule` alone.
+    /// Only in a `Rule`.
     Realpath,
     Stat,
     Rename,
     PosixRename,
     Hardlink,
-    /// By a number of the library that this crate doesn't know.
+    /// A number of the library that this crate does not know.
     Other(u32),
 }
 
@@ -79,14 +79,14 @@ impl Kind {
     }
 }
 
-/// Attributes that a call asks for, or is answered, as far as they are given.
+/// The attributes of a request or a reply; `None` if not given.
 #[derive(Clone, Copy, Debug, Default, PartialEq, Eq)]
 #[non_exhaustive]
 pub struct Attributes {
     pub size: Option<u64>,
     pub uid: Option<u32>,
     pub gid: Option<u32>,
-    /// The bits of the kind and the permissions.
+    /// Type and permissions.
     pub permissions: Option<u32>,
     pub atime: Option<u32>,
     pub mtime: Option<u32>,
@@ -106,26 +106,26 @@ impl Attributes {
     }
 }
 
-/// What a call was answered.
+/// The reply to a call.
 #[derive(Clone, Debug, PartialEq, Eq)]
 #[non_exhaustive]
 pub enum Answer {
     /// The code of a status: 0 for OK.
     Status(u32),
-    /// The status FAILURE, for want of memory.
+    /// The status FAILURE, because memory ran out.
     NoMemory,
     /// The number of the call, which is its handle.
     Handle(u64),
-    /// The bytes that were read.
+    /// The bytes of READ.
     Data(Vec<u8>),
     Names(Vec<Vec<u8>>),
     Attributes(Attributes),
-    /// By a number of the library that this crate doesn't know.
+    /// A number of the library that this crate does not know.
     Other(u32),
 }
 
 impl Answer {
-    /// Whether the call was done: it got what it asked for, or the status OK.
+    /// Whether the call succeeded.
     pub fn is_ok(&self) -> bool {
         match self {
             Answer::Status(code) => *code == 0,
@@ -135,23 +135,23 @@ impl Answer {
     }
 }
 
-/// The record of a call. What its kind doesn't have is 0 or empty.
+/// The record of a call. Fields that its kind does not have are 0 or empty.
 #[derive(Clone, Debug, PartialEq, Eq)]
 #[non_exhaustive]
 pub struct Call {
     /// 1, 2, 3 and so on, as calls begin.
     pub number: u64,
     pub session: u64,
-    /// When it began, in seconds since 1970.
+    /// The timestamp at which it began, in seconds since 1970.
     pub moment: u32,
     pub kind: Kind,
-    /// In normal form, from / on; of a rename or a link the old path.
+    /// Absolute, in normal form; of a rename or a link the old path.
     pub path: Vec<u8>,
     pub new_path: Vec<u8>,
     /// The number of the call that opened it.
     pub handle: u64,
     pub offset: u64,
-    /// How many bytes were asked for, or written.
+    /// The number of bytes requested or written.
     pub length: u64,
     /// The pflags of OPEN.
     pub flags: u32,
@@ -162,8 +162,7 @@ pub struct Call {
 }
 
 impl Call {
-    /// SAFETY: the bytes of what was told must still be there: no other call was made on its
-    /// engine.
+    /// SAFETY: the bytes of the record must still be valid: no other call was made on its engine.
     unsafe fn of(told: &sys::Call) -> Self {
         Call {
             number: told.number,
@@ -197,20 +196,20 @@ unsafe fn answer_of(told: &sys::Call) -> Answer {
     }
 }
 
-/// The names of a listing, each of which has a byte 0 behind it.
+/// The names of a listing, each followed by a byte 0.
 fn names_of(bytes: &[u8]) -> Vec<Vec<u8>> {
     let mut names: Vec<_> = bytes.split(|byte| *byte == 0).map(<[u8]>::to_vec).collect();
     names.pop();
     names
 }
 
-/// SAFETY: so many bytes must be there.
+/// SAFETY: the bytes must be valid.
 pub(crate) unsafe fn bytes_of(bytes: &sys::Bytes) -> Vec<u8> {
     slice::from_raw_parts(bytes.at, bytes.length).to_vec()
 }
 
-/// The records of calls that an engine keeps, in the order in which they took effect, the oldest
-/// first. It stops after a refusal.
+/// The retained records, in the order in which the calls took effect, the oldest first. It stops
+/// after an error.
 #[derive(Debug)]
 pub struct Calls<'a> {
     engine: &'a mut Engine,
@@ -218,18 +217,18 @@ pub struct Calls<'a> {
 }
 
 impl Engine {
-    /// The records of calls that are kept, those of `write_files` among them.
+    /// The retained records of calls, including those of `write_files`.
     pub fn calls(&mut self) -> Calls<'_> {
         Calls { engine: self, at: 0 }
     }
 }
 
 impl Calls<'_> {
-    /// The record at the place, which moves behind it.
+    /// The record at the current index, which advances.
     fn step(&mut self) -> Result<Option<sys::Call>, Refusal> {
         let mut told = sys::Call::default();
-        // SAFETY: the pointer is an engine's, which `drop` alone frees, and the other one is of a
-        // variable here.
+        // SAFETY: the pointer is an engine's, which only `drop` frees, and the other one is of a
+        // local variable.
         let answer = unsafe { sys::lt_calls(self.engine.pointer.as_ptr(), self.at, &mut told) };
         let count = checked(answer)?;
         if self.at >= count {

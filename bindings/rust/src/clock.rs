@@ -1,4 +1,4 @@
-//! What tells the moment at which a call begins.
+//! Clocks, which return the timestamps of calls.
 
 use std::sync::atomic::{AtomicU32, Ordering};
 use std::sync::Arc;
@@ -12,14 +12,14 @@ pub fn wall_clock() -> u32 {
     }
 }
 
-/// A clock that stands still until the test moves it. Its clones are the same clock.
+/// A clock that only the test advances. Its clones are the same clock.
 #[derive(Clone, Debug, Default)]
 pub struct VirtualTime {
     moment: Arc<AtomicU32>,
 }
 
 impl VirtualTime {
-    /// It is `moment`, in seconds since 1970.
+    /// A clock at `moment`, in seconds since 1970.
     pub fn new(moment: u32) -> Self {
         Self { moment: Arc::new(AtomicU32::new(moment)) }
     }
@@ -28,12 +28,12 @@ impl VirtualTime {
         self.moment.load(Ordering::SeqCst)
     }
 
-    /// From now on it is `moment`: earlier or later than before.
+    /// Sets the time, earlier or later than before.
     pub fn set(&self, moment: u32) {
         self.moment.store(moment, Ordering::SeqCst);
     }
 
-    /// What `Server::new` takes.
+    /// The argument for `Server::new`.
     pub fn clock(&self) -> impl Fn() -> u32 + Send + Sync + 'static {
         let clock = self.clone();
         move || clock.now()

@@ -1,6 +1,6 @@
-//! Numbers that a seed draws, and packets that are counted.
+//! The random generator of races, and counting packets.
 
-/// SplitMix64: it draws the same numbers for a seed, in every language.
+/// SplitMix64: the same numbers for a seed in every language.
 #[derive(Debug)]
 pub(crate) struct SplitMix64 {
     state: u64,
@@ -20,20 +20,20 @@ impl SplitMix64 {
     }
 }
 
-/// How many bytes a packet's length has, which it begins with.
+/// The number of bytes of a packet's length field.
 const LENGTH: usize = 4;
-/// A session ends at a length above this one.
+/// A longer packet ends the session.
 const MOST: usize = 262144;
 
-/// The packets that a client has sent and that its session hasn't answered yet.
+/// The packets that a client has sent and its session has not answered.
 #[derive(Debug, Default)]
 pub(crate) struct Unanswered {
     count: u64,
-    /// The first bytes of the next packet's length, fewer than all four.
+    /// The first bytes of the next packet's length, fewer than four.
     length: Vec<u8>,
-    /// How many bytes the packet still wants, whose length is known.
+    /// How many bytes of the current packet are missing.
     left: usize,
-    /// The session ends at a length that came, and reads no further.
+    /// A bad length ended the session, which reads no further.
     has_ended: bool,
 }
 
@@ -47,8 +47,8 @@ impl Unanswered {
         self.count = self.count.saturating_sub(1);
     }
 
-    /// Counts the packets that are whole with these bytes. A length at which the session ends
-    /// counts as one.
+    /// Counts the packets that these bytes complete. A bad length, which ends the session, counts
+    /// as one.
     pub(crate) fn feed(&mut self, bytes: &[u8]) {
         let mut rest = bytes;
         while !rest.is_empty() && !self.has_ended {
@@ -57,7 +57,7 @@ impl Unanswered {
         }
     }
 
-    /// The next byte of a length. Answers how many bytes were taken.
+    /// Adds a byte of a length. Returns how many bytes were used.
     fn begin(&mut self, byte: u8) -> usize {
         self.length.push(byte);
         if self.length.len() == LENGTH {
@@ -70,7 +70,7 @@ impl Unanswered {
         1
     }
 
-    /// So many bytes more. Answers how many of them are the packet's.
+    /// Adds bytes of a packet. Returns how many were used.
     fn go_on(&mut self, count: usize) -> usize {
         let taken = count.min(self.left);
         self.left -= taken;
@@ -83,7 +83,7 @@ impl Unanswered {
 mod tests {
     use super::*;
 
-    /// As other implementations of SplitMix64 have it.
+    /// Values of other implementations of SplitMix64.
     #[test]
     fn draws() {
         let zero = [
@@ -126,7 +126,7 @@ mod tests {
         assert!(packets.is_empty());
     }
 
-    /// A session ends there before a packet of this length is there.
+    /// The session ends before a packet of this length is complete.
     #[test]
     fn lengths_that_end_a_session() {
         for length in [b"\0\0\0\0", b"\0\x04\0\x01", b"\xff\xff\xff\xff"] {

@@ -1,33 +1,33 @@
-//! What can go wrong.
+//! Errors.
 
 use crate::message;
 use std::error;
 use std::fmt;
 use std::io;
 
-/// Why the engine refused a call. A refused call has changed nothing, and may be made again.
+/// Why the engine rejected a call. The call has changed nothing and may be retried.
 #[derive(Clone, Copy, Debug, PartialEq, Eq)]
 #[non_exhaustive]
 pub enum Refusal {
     OutOfMemory,
-    /// No session of this number was ever opened.
+    /// No session with this number was ever opened.
     NoSuchSession,
     /// 256 sessions are open.
     TooManySessions,
-    /// The session has ended or was closed, and takes no more bytes.
+    /// The session has ended or was closed, and accepts no more bytes.
     HasEnded,
     NumbersSpent,
-    /// Fewer bytes wait to be sent.
+    /// Fewer bytes are pending.
     NotSent,
-    /// A path, or both of a link, have more bytes than a packet has room for: 262080.
+    /// A path, or both of a link, do not fit in a packet: 262080 bytes.
     LongPath,
-    /// A rule's kind is not that of a request.
+    /// The kind of a rule is not a request's.
     BadKind,
-    /// A rule's path has more than 4096 bytes, a name of more than 255, or a byte 0.
+    /// The path of a rule has more than 4096 bytes, a name of more than 255, or a byte 0.
     BadPath,
-    /// A rule was given to another engine.
+    /// The rule belongs to another engine.
     NoSuchRule,
-    /// By a number of the library that this crate doesn't know.
+    /// A number of the library that this crate does not know.
     Other(i64),
 }
 
@@ -85,19 +85,18 @@ impl From<Error> for io::Error {
     }
 }
 
-/// Why a tree wasn't written.
+/// Why files were not written.
 #[derive(Clone, Debug, PartialEq, Eq)]
 #[non_exhaustive]
 pub enum Error {
-    /// The engine refused a call.
+    /// The engine rejected a call.
     Refused(Refusal),
-    /// A request was answered by a status other than OK: its code, and its message.
+    /// A request returned an error status: its code and message.
     Status(u32, String),
-    /// The call of another session, which has yet to take its turns, holds what a request wants.
-    /// The request stays as it is, in a session that gets no further turn but by `run_all`: it may
-    /// hold a directory until then.
+    /// A call of another session, still in progress, blocks the request. The request stays in
+    /// progress, and only `run_all` advances it. It may hold a directory until then.
     Blocked,
-    /// A reply isn't what its request is answered.
+    /// A reply is not the expected one.
     Reply,
 }
 

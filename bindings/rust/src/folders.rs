@@ -1,4 +1,4 @@
-//! Trees from folders of the system, and into them.
+//! Copies from folders of the system, and to them.
 
 use crate::{sys, Engine, Entry, Snapshot};
 use std::collections::BTreeMap;
@@ -10,10 +10,9 @@ use std::os::unix::fs::{DirBuilderExt, FileExt, MetadataExt, OpenOptionsExt, Per
 use std::path::{Path, PathBuf};
 
 impl Snapshot {
-    /// Writes the tree into a folder of the system, which is made where it is missing: names,
-    /// contents, times, and the nine lowest bits of the permissions; all names of a file are one
-    /// file, and a sparse file has its gaps there too. Owners aren't set. Nothing that is there is
-    /// replaced: it stops there, with `AlreadyExists`.
+    /// Writes the tree to a folder of the system, which it makes if necessary: names, contents,
+    /// times, hard links, holes of sparse files, and the nine lowest permission bits. It does not
+    /// set owners. It replaces nothing: an existing file is `AlreadyExists`.
     pub fn save(&self, folder: impl AsRef<Path>) -> io::Result<()> {
         let folder = folder.as_ref();
         fs::create_dir_all(folder)?;
@@ -21,7 +20,7 @@ impl Snapshot {
         for (path, entry) in self.iter().filter(|(path, _)| *path != b"/") {
             make(entry, below(folder, path), &mut names)?;
         }
-        // All is there, and what is below a directory comes before it here.
+        // Everything exists now. The contents of a directory come before it in this order.
         for (path, entry) in self.iter().rev() {
             set_attributes(entry, &below(folder, path))?;
         }
@@ -29,12 +28,12 @@ impl Snapshot {
     }
 }
 
-/// Where a path of the tree is in a folder.
+/// The location of a path of the tree in a folder.
 fn below(folder: &Path, path: &[u8]) -> PathBuf {
     folder.join(OsStr::from_bytes(&path[1..]))
 }
 
-/// Makes a directory, a file, or one more name of a file. Nobody else can read it yet.
+/// Makes a directory, a file, or a hard link, not yet readable by others.
 fn make(entry: &Entry, to: PathBuf, names: &mut BTreeMap<u64, PathBuf>) -> io::Result<()> {
     let file = match entry.file {
         Some(file) => file,
@@ -56,7 +55,7 @@ fn set_attributes(entry: &Entry, to: &Path) -> io::Result<()> {
     let path = CString::new(to.as_os_str().as_bytes())?;
     let times = [entry.atime, entry.mtime];
     let times = times.map(|moment| sys::Timespec { seconds: i64::from(moment), nanoseconds: 0 });
-    // SAFETY: a text with its end, and both times, are there.
+    // SAFETY: the path is NUL-terminated, and both times are valid.
     let answer = unsafe { sys::utimensat(sys::AT_FDCWD, path.as_ptr(), times.as_ptr(), 0) };
     if answer == 0 {
         return Ok(());
@@ -65,9 +64,9 @@ fn set_attributes(entry: &Entry, to: &Path) -> io::Result<()> {
 }
 
 impl Engine {
-    /// An engine whose tree is a folder's of the system: names and contents, as by `write_files` at
-    /// this moment, and neither permissions nor times. All names of a file are one file. What is
-    /// neither a file nor a directory is refused.
+    /// An engine with a copy of a folder of the system: names, contents and hard links, as by
+    /// `write_files`, but no permissions or times. Anything else than files and directories is an
+    /// error.
     pub fn from_folder(folder: impl AsRef<Path>, moment: u32) -> io::Result<Self> {
         let mut engine = Engine::new()?;
         let mut names = BTreeMap::new();
@@ -110,7 +109,7 @@ impl Engine {
     }
 }
 
-/// What is in a folder, in the order of the names.
+/// The entries of a folder, sorted by name.
 fn sorted(folder: &Path) -> io::Result<Vec<DirEntry>> {
     let mut entries = fs::read_dir(folder)?.collect::<io::Result<Vec<_>>>()?;
     entries.sort_by_key(DirEntry::file_name);

@@ -1,8 +1,7 @@
-//! A whole SFTP server, version 3, inside a test: its tree is in memory, and its clock is the
-//! test's.
+//! An in-memory SFTP server, version 3, for tests.
 //!
-//! An [`Engine`] asks no clock and starts no thread: sessions are fed bytes, are given turns, and
-//! have the bytes that their clients are to be sent. The same calls give the same bytes each time.
+//! An [`Engine`] reads no clock and starts no thread: the caller feeds a session bytes, gives it
+//! turns, and sends its output. The same calls produce the same bytes each time.
 //!
 //! ```
 //! use lucernetick::Engine;
@@ -16,8 +15,8 @@
 //! # Ok::<(), lucernetick::Error>(())
 //! ```
 //!
-//! A [`Server`] has an engine behind connected sockets, for clients that want one. [`Races`] let
-//! clients race in an order that a seed draws, the same each time.
+//! A [`Server`] serves an engine over connected sockets. [`Races`] runs concurrent clients under a
+//! seeded scheduler.
 
 mod calls;
 mod clock;
@@ -47,37 +46,37 @@ use std::fmt;
 use std::os::raw::c_char;
 use std::ptr::NonNull;
 
-/// One tree of files, and any sessions on it.
+/// One file system and any number of sessions on it.
 pub struct Engine {
     pointer: NonNull<sys::Engine>,
 }
 
-// SAFETY: the library takes calls on an engine by any thread that it was handed to, one at a time,
-// which `&mut self` sees to.
+// SAFETY: any thread may call the library on an engine, one call at a time, which `&mut self`
+// ensures.
 unsafe impl Send for Engine {}
 
-/// A session, which an engine has opened.
+/// A session of an engine.
 #[derive(Clone, Copy, Debug, PartialEq, Eq, PartialOrd, Ord, Hash)]
 pub struct Session(u64);
 
 impl Session {
-    /// 1 for an engine's first session, then 2, 3 and so on, as `Call::session` tells it.
+    /// 1 for an engine's first session, then 2, 3 and so on, as in `Call::session`.
     pub fn number(self) -> u64 {
         self.0
     }
 }
 
 impl Engine {
-    /// An engine whose tree is the root alone. It keeps the records of its last 256 calls.
+    /// An engine with an empty root. It retains the records of its last 256 calls.
     pub fn new() -> Result<Self, Refusal> {
-        // SAFETY: it takes nothing.
+        // SAFETY: it has no arguments.
         Self::over(unsafe { sys::lt_new() })
     }
 
-    /// As `new`, but it keeps the records of its last `keep` calls, or of all of them where `keep`
-    /// is 0. They take memory, with what was written and read, and change no answer.
+    /// As `new`, but it retains the records of its last `keep` calls, or of all calls if `keep` is
+    /// 0. Records take memory, including the bytes written and read. They change no reply.
     pub fn with_keep(keep: u64) -> Result<Self, Refusal> {
-        // SAFETY: a number is all that it takes.
+        // SAFETY: its argument is a number.
         Self::over(unsafe { sys::lt_new_keeping(keep) })
     }
 
@@ -90,13 +89,13 @@ impl Engine {
 
     /// Opens a session. At most 256 are open at a time.
     pub fn open(&mut self) -> Result<Session, Refusal> {
-        // SAFETY: the pointer is an engine's, which `drop` alone frees.
+        // SAFETY: the pointer is an engine's, which only `drop` frees.
         let answer = unsafe { sys::lt_open(self.pointer.as_ptr()) };
         checked(answer).map(Session)
     }
 
-    /// Appends bytes that its client sent to those that the session hasn't read. They may be cut
-    /// anywhere.
+    /// Appends bytes that the client sent to the session's input. They may be fragmented in any
+    /// way.
     pub fn feed(&mut self, session: Session, bytes: &[u8]) -> Result<(), Refusal> {
         // SAFETY: as above, and a slice has as many bytes as its length says.
         let answer =
@@ -104,21 +103,21 @@ impl Engine {
         checked(answer).map(drop)
     }
 
-    /// Does one thing: writes an answer, makes one step of the session's call, or reads a packet. A
-    /// call that begins has `moment` as its time, in seconds since 1970.
+    /// Does one thing: writes a reply, makes one step of the session's call, or reads a packet. A
+    /// call that begins has the timestamp `moment`, in seconds since 1970.
     pub fn turn(&mut self, session: Session, moment: u32) -> Result<Turn, Refusal> {
-        // SAFETY: the pointer is an engine's, which `drop` alone frees.
+        // SAFETY: the pointer is an engine's, which only `drop` frees.
         let answer = unsafe { sys::lt_turn(self.pointer.as_ptr(), session.0, moment) };
         checked(answer).map(Turn::of_number)
     }
 
-    /// Turns until the session is idle or blocked or has ended, or until `most` replies were
-    /// written.
+    /// Repeats turns until the session is idle, blocked or ended, or until it has written `most`
+    /// replies.
     pub fn settle(&mut self, session: Session, moment: u32, most: u64) -> Result<Turn, Refusal> {
         self.settle_moving(session, moment, most).0
     }
 
-    /// As `settle`, and tells whether anything moved, also before a refusal.
+    /// As `settle`; also returns whether any turn made progress, even before an error.
     pub(crate) fn settle_moving(
         &mut self,
         session: Session,
@@ -126,49 +125,49 @@ impl Engine {
         most: u64,
     ) -> (Result<Turn, Refusal>, bool) {
         let mut moved = false;
-        // SAFETY: the pointer is an engine's, which `drop` alone frees, and the other one is of a
-        // variable here.
+        // SAFETY: the pointer is an engine's, which only `drop` frees; the other one is of a local
+        // variable.
         let answer = unsafe {
             sys::lt_settle(self.pointer.as_ptr(), session.0, moment, most, &mut moved)
         };
         (checked(answer).map(Turn::of_number), moved)
     }
 
-    /// Rounds, until no call is under way: in each, every session whose call is under way has one
-    /// turn, at the moment 0, by rising session numbers. Tells how many there were. What these
-    /// calls are answered waits for later turns, which write it.
+    /// Runs rounds until no call is in progress. In a round every session with a call in progress
+    /// has one turn, with the timestamp 0, in the order of session numbers. Returns the number of
+    /// rounds. Later turns write the replies.
     pub fn run_all(&mut self) -> u64 {
-        // SAFETY: the pointer is an engine's, which `drop` alone frees.
+        // SAFETY: the pointer is an engine's, which only `drop` frees.
         let rounds = unsafe { sys::lt_run_all(self.pointer.as_ptr()) };
-        // A null pointer alone is refused, by a number below 0.
+        // Only a null pointer is rejected, by a negative number.
         rounds.unsigned_abs()
     }
 
-    /// Whether the session waits for bytes of its client: none of its calls is under way, no whole
-    /// packet is unread, and it hasn't ended.
+    /// Whether the session waits for bytes from its client: no call is in progress, no complete
+    /// packet is buffered, and it has not ended.
     pub fn wants_bytes(&self, session: Session) -> bool {
-        // SAFETY: the pointer is an engine's, which `drop` alone frees. A null pointer alone is
-        // refused.
+        // SAFETY: the pointer is an engine's, which only `drop` frees. Only a null pointer is
+        // rejected.
         unsafe { sys::lt_wants_bytes(self.pointer.as_ptr(), session.0) == 1 }
     }
 
-    /// Ends the session's input. A call that is under way goes on to its reply by further turns.
+    /// Ends the session's input. Further turns finish a call in progress and write its reply.
     pub fn close(&mut self, session: Session) -> Result<(), Refusal> {
-        // SAFETY: the pointer is an engine's, which `drop` alone frees.
+        // SAFETY: the pointer is an engine's, which only `drop` frees.
         let answer = unsafe { sys::lt_close(self.pointer.as_ptr(), session.0) };
         checked(answer).map(drop)
     }
 
-    /// The bytes that wait to be sent to the session's client. Where a request was refused, these
-    /// are those up to the last such reply: what is behind it waits once they were sent.
+    /// The pending output. If a rule rejected requests, these are the bytes up to the last injected
+    /// reply; later output follows once they were sent.
     pub fn output(&self, session: Session) -> Result<Vec<u8>, Refusal> {
         let mut room = vec![0; self.look(session, &mut [])?];
         self.look(session, &mut room)?;
         Ok(room)
     }
 
-    /// Copies the first bytes that wait to be sent, as `output` tells them, as many as there is
-    /// room for. Answers how many wait.
+    /// Copies the first bytes of the pending output, as many as fit. Returns how many are
+    /// pending.
     pub fn look(&self, session: Session, room: &mut [u8]) -> Result<usize, Refusal> {
         // SAFETY: as above, and a slice has as many bytes as its length says.
         let answer = unsafe {
@@ -177,14 +176,14 @@ impl Engine {
         checked(answer).map(|waiting| waiting as usize)
     }
 
-    /// The first `count` bytes that waited were sent: they are dropped.
+    /// Discards the first `count` bytes of the pending output, which were sent.
     pub fn sent(&mut self, session: Session, count: usize) -> Result<(), Refusal> {
-        // SAFETY: the pointer is an engine's, which `drop` alone frees.
+        // SAFETY: the pointer is an engine's, which only `drop` frees.
         let answer = unsafe { sys::lt_sent(self.pointer.as_ptr(), session.0, count) };
         checked(answer).map(drop)
     }
 
-    /// All bytes that wait to be sent, which are dropped at once.
+    /// Returns and discards all pending output.
     pub fn take(&mut self, session: Session) -> Result<Vec<u8>, Refusal> {
         let mut taken = Vec::new();
         loop {
@@ -206,29 +205,29 @@ impl fmt::Debug for Engine {
 
 impl Drop for Engine {
     fn drop(&mut self) {
-        // SAFETY: the pointer came from `lt_new`, and isn't used again.
+        // SAFETY: the pointer came from `lt_new`, and is not used again.
         unsafe { sys::lt_free(self.pointer.as_ptr()) }
     }
 }
 
 /// The library's version.
 pub fn version() -> &'static str {
-    // SAFETY: the library answers a text that stays.
+    // SAFETY: the library returns a static text.
     text(unsafe { sys::lt_version() })
 }
 
-/// The library's text of an answer.
+/// The library's text of a result.
 pub(crate) fn message(answer: i64) -> &'static str {
     // SAFETY: as above.
     text(unsafe { sys::lt_message(answer) })
 }
 
 fn text(pointer: *const c_char) -> &'static str {
-    // SAFETY: both functions that this is called for answer a text with its end, which stays.
+    // SAFETY: both callers pass a static, NUL-terminated text.
     unsafe { CStr::from_ptr(pointer) }.to_str().unwrap_or("")
 }
 
-/// An answer of the library as a number or a refusal.
+/// A result of the library as a number or an error.
 fn checked(answer: i64) -> Result<u64, Refusal> {
     u64::try_from(answer).map_err(|_| Refusal::of_number(answer))
 }

@@ -7,11 +7,11 @@ use std::os::unix::io::AsRawFd;
 use std::os::unix::net::UnixStream;
 
 const PIECE: usize = 65536;
-/// How many bytes of requests are read ahead at most, while the replies before them can't be sent.
+/// How many bytes of requests are buffered at most while replies cannot be sent.
 const MOST_AHEAD: usize = 1 << 24;
 
-/// A connection that reads on while it can't send, and keeps what it read for later: so a client
-/// that sends before it reads doesn't hang.
+/// A connection that continues to read while it cannot send, and buffers the input. So a client
+/// that sends before it reads does not deadlock.
 pub(crate) struct Line {
     stream: UnixStream,
     ahead: VecDeque<u8>,
@@ -23,7 +23,7 @@ impl Line {
         Self { stream, ahead: VecDeque::new(), has_ended: false }
     }
 
-    /// The next bytes, none at the end of the input.
+    /// The next bytes; none at the end of the input.
     pub(crate) fn read(&mut self, room: &mut [u8]) -> io::Result<usize> {
         if !self.ahead.is_empty() {
             let count = self.ahead.read(room)?;
@@ -60,18 +60,18 @@ impl Line {
     /// Sends some of the bytes, without waiting.
     fn send(&self, bytes: &[u8]) -> io::Result<usize> {
         let flags = sys::MSG_DONTWAIT | sys::MSG_NOSIGNAL;
-        // SAFETY: so many bytes are there, and the socket is open.
+        // SAFETY: the bytes are valid, and the socket is open.
         let sent =
             unsafe { sys::send(self.stream.as_raw_fd(), bytes.as_ptr(), bytes.len(), flags) };
         usize::try_from(sent).map_err(|_| io::Error::last_os_error())
     }
 
-    /// Waits until it can send, or something comes, which it reads.
+    /// Waits until it can send or receive; reads what arrives.
     fn wait(&mut self) -> io::Result<()> {
         let reads = !self.has_ended && self.ahead.len() < MOST_AHEAD;
         let events = if reads { sys::POLLIN | sys::POLLOUT } else { sys::POLLOUT };
         let mut line = sys::PollFd { fd: self.stream.as_raw_fd(), events, revents: 0 };
-        // SAFETY: there is one, which nothing else uses.
+        // SAFETY: it is one element, which nothing else uses.
         let found = unsafe { sys::poll(&mut line, 1, -1) };
         if found < 0 {
             return Err(io::Error::last_os_error());

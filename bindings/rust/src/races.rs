@@ -1,4 +1,4 @@
-//! Races of clients, in an order that a seed draws.
+//! Concurrent clients under a seeded scheduler.
 
 use crate::draws::{SplitMix64, Unanswered};
 use crate::{Engine, Refusal, Session, Snapshot, Turn, VirtualTime};
@@ -11,15 +11,13 @@ use std::time::{Duration, Instant};
 const MOMENT: u32 = 1_000_000_000;
 const PATIENCE: Duration = Duration::from_secs(30);
 
-/// An engine whose clients race, each in a thread of its own, in an order that a seed draws: the
-/// same seed gives the same replies each time, whatever the threads' speed.
+/// Runs concurrent clients, each in its own thread, under a seeded scheduler: the same seed gives
+/// the same interleaving, at any speed of the threads.
 ///
-/// The session of a client takes a turn, which is one step of a call, only once each client waits
-/// for a reply or has dropped its stream; whose turn it is, among those that wait, is drawn. So a
-/// client that has done its part must drop its stream, or the others wait for it. Where that takes
-/// longer than the races' patience, as where a client waits for another one by other means than the
-/// server, it is taken for slow, and waited for no more until it asks again: `is_reproducible`
-/// tells that the run wasn't the seed's alone.
+/// A session has a turn, which is one step of a call, only when every client waits for a reply or
+/// has dropped its stream. The scheduler picks one of the waiting clients. So drop a stream when
+/// its client is done; until then the others wait. A client that neither sends nor drops its stream
+/// for longer than the patience is skipped until it sends again. `is_reproducible` is then false.
 ///
 /// ```
 /// use lucernetick::Races;
@@ -44,19 +42,18 @@ pub struct Races {
 }
 
 impl Races {
-    /// Races of so many clients on an empty tree.
+    /// A race of this number of clients on an empty file system.
     pub fn new(seed: u64, clients: usize) -> Result<Self, Refusal> {
         Ok(Self::over(Engine::new()?, seed, clients))
     }
 
-    /// Races of so many clients on this engine's tree.
+    /// A race of this number of clients on this engine.
     pub fn over(engine: Engine, seed: u64, clients: usize) -> Self {
         Self::by(engine, Choice::Drawn(SplitMix64::new(seed)), clients)
     }
 
-    /// Races on this engine's tree whose turns are those of a schedule, as `schedule` told them of
-    /// earlier ones. Where it has no turn for a client that waits, the first of those that wait has
-    /// it, and `is_reproducible` tells so.
+    /// Replays a schedule that `schedule` returned. If the schedule names no waiting client, the
+    /// first waiting one has the turn, and `is_reproducible` is false.
     pub fn replay(engine: Engine, schedule: &[usize], clients: usize) -> Self {
         Self::by(engine, Choice::Given(schedule.iter().copied().collect()), clients)
     }
@@ -78,8 +75,8 @@ impl Races {
         Self { shared: Arc::new(Shared { state: Mutex::new(state), moved: Condvar::new() }) }
     }
 
-    /// Opens the session of the next client, the first of which is client 1. All are to connect
-    /// before any of them runs, since the order of turns goes by their numbers.
+    /// Opens the session of the next client: 1, 2, 3 and so on. Connect all clients before any of
+    /// them runs, since turns depend on their numbers.
     pub fn connect(&self) -> io::Result<RaceStream> {
         let mut state = self.shared.lock();
         let number = state.racers.len();
@@ -95,29 +92,30 @@ impl Races {
         Ok(RaceStream { shared: Arc::clone(&self.shared), number })
     }
 
-    /// The turns that were taken until now, each by the number of the client whose session had it.
+    /// The turns so far, each as the number of its client.
     pub fn schedule(&self) -> Vec<usize> {
         self.shared.lock().schedule.clone()
     }
 
-    /// Whether the turns until now were the seed's alone, or the schedule's: no client was taken
-    /// for slow, and no turn was missing.
+    /// Whether the turns so far depend only on the seed or the schedule: no client was skipped, and
+    /// no turn was missing.
     pub fn is_reproducible(&self) -> bool {
         self.shared.lock().is_reproducible
     }
 
-    /// The moment of all turns, in seconds since 1970: 1000000000 until it is set.
+    /// The clock of all turns, in seconds since 1970: 1000000000 until it is set.
     pub fn time(&self) -> VirtualTime {
         self.shared.lock().time.clone()
     }
 
-    /// How long a client is waited for that neither asks nor goes: 30 seconds until it is set.
+    /// How long the scheduler waits for a client that neither sends nor leaves: 30 seconds until it
+    /// is set.
     pub fn set_patience(&self, patience: Duration) {
         self.shared.lock().patience = patience;
     }
 
-    /// Makes calls on the engine, before the clients run or after they have gone. Meanwhile calls
-    /// may stand half way, and no other session may have a turn.
+    /// Calls methods of the engine, before the clients run or after they have left. During the race
+    /// calls may be in progress, and no other session may have a turn.
     pub fn with_engine<T>(&self, work: impl FnOnce(&mut Engine) -> T) -> T {
         work(&mut self.shared.lock().engine)
     }
@@ -145,13 +143,13 @@ impl Drop for Races {
     }
 }
 
-/// A client's stream in races. Where it is dropped, what its client has asked is carried out.
+/// The stream of a client in a race. When it is dropped, requests already sent still take effect.
 ///
-/// To write never waits. To read waits for replies; after the session's last one there is the end.
+/// Writes never block. Reads block until a reply; after the session's last one they return 0.
 #[derive(Debug)]
 pub struct RaceStream {
     shared: Arc<Shared>,
-    /// Its client's place among the racers.
+    /// The index of its client among the racers.
     number: usize,
 }
 
@@ -212,10 +210,10 @@ impl Drop for RaceStream {
     }
 }
 
-/// What races and their streams have in common.
+/// The state shared by a race and its streams.
 struct Shared {
     state: Mutex<State>,
-    /// Told when turns were taken, and when the races go.
+    /// Notified after turns, and when the race is dropped.
     moved: Condvar,
 }
 
@@ -226,18 +224,18 @@ impl fmt::Debug for Shared {
 }
 
 impl Shared {
-    /// A thread that panicked has left the engine between two calls, as any other one.
+    /// A panicking thread leaves the engine between two calls, so its state is valid.
     fn lock(&self) -> MutexGuard<'_, State> {
         self.state.lock().unwrap_or_else(PoisonError::into_inner)
     }
 
-    /// Takes all turns that there are, where a client did something.
+    /// Runs all possible turns, after an action of a client.
     fn advance(&self, state: &mut State) {
         state.advance();
         self.moved.notify_all();
     }
 
-    /// Waits until something moved, or nobody did anything for too long, where somebody waits.
+    /// Waits for progress, or until the patience ends.
     fn wait<'a>(&self, state: MutexGuard<'a, State>) -> MutexGuard<'a, State> {
         let left = state.patience.saturating_sub(state.since.elapsed());
         let (mut state, _) =
@@ -253,28 +251,28 @@ impl Shared {
 struct State {
     engine: Engine,
     choice: Choice,
-    /// How many are to connect, and how many of them are waited for until they do.
+    /// How many will connect, and how many must connect before the first turn.
     clients: usize,
     awaited: usize,
     racers: Vec<Racer>,
     schedule: Vec<usize>,
     is_reproducible: bool,
     patience: Duration,
-    /// When a client last did something.
+    /// When a client last acted.
     since: Instant,
     time: VirtualTime,
-    /// The races were dropped.
+    /// The race was dropped.
     has_gone: bool,
 }
 
-/// How it is chosen whose turn it is.
+/// How the client of the next turn is chosen.
 enum Choice {
     Drawn(SplitMix64),
     Given(VecDeque<usize>),
 }
 
 impl State {
-    /// Takes turns, as long as each client waits for a reply or has gone.
+    /// Runs turns as long as every client waits for a reply or has left.
     fn advance(&mut self) {
         while let Some(number) = self.next() {
             self.schedule.push(number + 1);
@@ -283,7 +281,7 @@ impl State {
         self.since = Instant::now();
     }
 
-    /// Whose turn it is, if it is anybody's.
+    /// The client of the next turn, if any.
     fn next(&mut self) -> Option<usize> {
         let is_awaited = |one: &Racer| !one.waits() && !one.has_ended && !one.is_slow;
         if self.racers.len() < self.awaited || self.racers.iter().any(is_awaited) {
@@ -318,8 +316,8 @@ impl State {
         }
     }
 
-    /// A turn of this client's session. A client that has dropped its stream goes with its last
-    /// reply.
+    /// Runs a turn of this client's session. A client that has dropped its stream leaves after its
+    /// last reply.
     fn turn(&mut self, number: usize) {
         let racer = &mut self.racers[number];
         match self.engine.turn(racer.session, self.time.now()) {
@@ -331,7 +329,7 @@ impl State {
         self.leave(number);
     }
 
-    /// Ends the session of a client that has dropped its stream, where it waits for nothing.
+    /// Ends the session of a client that has dropped its stream and waits for no reply.
     fn leave(&mut self, number: usize) {
         let racer = &mut self.racers[number];
         if racer.is_dropped && !racer.has_ended && !racer.waits() {
@@ -347,8 +345,8 @@ impl State {
         Ok(())
     }
 
-    /// Takes the first bytes that wait to be sent, as many as there is room for. Where there are
-    /// none, tells why a turn was refused, if one was.
+    /// Takes the first bytes of the pending output, as many as fit. If there are none, returns the
+    /// error of an earlier turn.
     fn take(&mut self, number: usize, room: &mut [u8]) -> Result<usize, Refusal> {
         let racer = &mut self.racers[number];
         let count = self.engine.look(racer.session, room)?.min(room.len());
@@ -359,7 +357,7 @@ impl State {
         }
     }
 
-    /// Takes those for slow who are waited for, where others wait.
+    /// Skips the clients that the race waits for, if others wait.
     fn hurry(&mut self) {
         if !self.waiting().is_empty() {
             self.is_reproducible = false;
@@ -378,11 +376,11 @@ struct Racer {
     packets: Unanswered,
     /// Its stream was dropped.
     is_dropped: bool,
-    /// Its session takes no more turns.
+    /// Its session has no more turns.
     has_ended: bool,
-    /// It was waited for in vain.
+    /// It was skipped.
     is_slow: bool,
-    /// Why its session was ended, where a call was refused.
+    /// The error that ended its session.
     refusal: Option<Refusal>,
 }
 
@@ -393,7 +391,7 @@ impl Racer {
         Self { session, packets, is_dropped, has_ended, is_slow, refusal: None }
     }
 
-    /// Whether the client waits for a reply: its session has one to write.
+    /// Whether the client waits for a reply.
     fn waits(&self) -> bool {
         !self.has_ended && !self.packets.is_empty()
     }

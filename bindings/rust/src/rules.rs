@@ -1,8 +1,8 @@
-//! Requests that are refused because a test says so.
+//! Injected errors.
 
 use crate::{checked, sys, Engine, Kind, Refusal, Session};
 
-/// The statuses that a refused request may be answered.
+/// The statuses of rejected requests.
 #[derive(Clone, Copy, Debug, Default, PartialEq, Eq)]
 #[non_exhaustive]
 pub enum Status {
@@ -31,8 +31,8 @@ impl Status {
     }
 }
 
-/// Which requests are refused, how many of them, and by which status: by default the next one,
-/// whatever it asks, by `Status::Failure`.
+/// Injects errors: selects requests, how many of them, and the status to return. The default
+/// rejects the next request of any kind with `Status::Failure`.
 ///
 /// ```
 /// use lucernetick::{Kind, Rule};
@@ -43,16 +43,16 @@ impl Status {
 #[derive(Clone, Debug, PartialEq, Eq)]
 #[non_exhaustive]
 pub struct Rule {
-    /// None is any, also one that opens later.
+    /// None is any, including later ones.
     pub session: Option<Session>,
     /// None is any.
     pub kind: Option<Kind>,
-    /// None is any. A request has to name it, in any spelling; one by a handle, as a WRITE, names
-    /// none.
+    /// None is any. Otherwise a request must name this path, in any spelling. A request by handle,
+    /// such as WRITE, names none.
     pub path: Option<Vec<u8>>,
-    /// So many of these are let through first,
+    /// How many matching requests to skip first.
     pub after: u64,
-    /// then so many are refused, and later ones are let through.
+    /// How many to reject then. Later requests are skipped.
     pub times: u64,
     pub status: Status,
 }
@@ -65,45 +65,45 @@ impl Default for Rule {
 }
 
 impl Rule {
-    /// For requests of this session alone.
+    /// Matches only requests of this session.
     pub fn session(self, session: Session) -> Self {
         Rule { session: Some(session), ..self }
     }
 
-    /// For requests of this kind alone.
+    /// Matches only requests of this kind.
     pub fn kind(self, kind: Kind) -> Self {
         Rule { kind: Some(kind), ..self }
     }
 
-    /// For requests that name this path alone.
+    /// Matches only requests that name this path.
     pub fn path(self, path: impl AsRef<[u8]>) -> Self {
         Rule { path: Some(path.as_ref().to_vec()), ..self }
     }
 
-    /// Lets so many through first.
+    /// Skips this number of matching requests first.
     pub fn after(self, after: u64) -> Self {
         Rule { after, ..self }
     }
 
-    /// Refuses so many: `u64::MAX` is all.
+    /// Rejects this number of requests; `u64::MAX` is all.
     pub fn times(self, times: u64) -> Self {
         Rule { times, ..self }
     }
 
-    /// Answers those by this status.
+    /// Returns this status.
     pub fn status(self, status: Status) -> Self {
         Rule { status, ..self }
     }
 }
 
-/// A rule that an engine has.
+/// A rule of an engine.
 #[derive(Clone, Copy, Debug, PartialEq, Eq, PartialOrd, Ord, Hash)]
 pub struct GivenRule(u64);
 
 impl Engine {
-    /// Refuses requests from now on: each is answered by a status in its place, never reaches the
-    /// tree, and is no call that is recorded. Of more rules for one request the first that refuses
-    /// it answers. INIT is never refused, and no request that a turn has taken already.
+    /// Adds a rule. A rejected request gets a status in its place, never reaches the file system,
+    /// and is not recorded. If several rules match, the first that rejects the request wins. Rules
+    /// never apply to INIT, nor to requests that a turn has already read.
     pub fn refuse(&mut self, rule: Rule) -> Result<GivenRule, Refusal> {
         let path = match &rule.path {
             Some(path) => sys::Bytes { at: path.as_ptr(), length: path.len() },
@@ -117,15 +117,15 @@ impl Engine {
             kind: rule.kind.map_or(0, Kind::number),
             status: rule.status.code(),
         };
-        // SAFETY: the pointer is an engine's, which `drop` alone frees, and the rule's path stays
+        // SAFETY: the pointer is an engine's, which only `drop` frees, and the rule's path stays
         // until the call is done.
         let answer = unsafe { sys::lt_refuse(self.pointer.as_ptr(), &given) };
         checked(answer).map(GivenRule)
     }
 
-    /// How many requests a rule has refused so far.
+    /// How many requests a rule has rejected so far.
     pub fn refused(&self, rule: GivenRule) -> Result<u64, Refusal> {
-        // SAFETY: the pointer is an engine's, which `drop` alone frees.
+        // SAFETY: the pointer is an engine's, which only `drop` frees.
         checked(unsafe { sys::lt_refused(self.pointer.as_ptr(), rule.0) })
     }
 }

@@ -1,4 +1,4 @@
-//! An engine behind connected sockets.
+//! An engine served over sockets.
 
 use crate::line::Line;
 use crate::{Call, Engine, Refusal, Session, Snapshot, Turn};
@@ -15,42 +15,42 @@ use std::thread::{self, JoinHandle};
 use std::time::Duration;
 
 const PIECE: usize = 65536;
-/// How long to wait after a connection couldn't be taken.
+/// How long to wait after a failed accept.
 const PAUSE: Duration = Duration::from_millis(10);
 
-/// Serves sessions on one tree, each over a connected socket whose other end a thread has.
+/// Serves the sessions of an engine, each over a connected socket with its own thread.
 ///
-/// Where it is dropped, all of its connections are closed.
+/// Dropping it closes all its connections.
 pub struct Server {
     shared: Arc<Shared>,
     listeners: Vec<Listener>,
 }
 
 impl Server {
-    /// Serves this engine. `clock` tells the moment at which each call begins, in seconds since
-    /// 1970: `wall_clock`, or `VirtualTime::clock`.
+    /// Serves this engine. `clock` returns the timestamp of each call, in seconds since 1970:
+    /// `wall_clock`, or `VirtualTime::clock`.
     pub fn new(engine: Engine, clock: impl Fn() -> u32 + Send + Sync + 'static) -> Self {
         let state = Mutex::new(State { engine, lines: BTreeMap::new(), left: false });
         let shared = Shared { state, moved: Condvar::new(), clock: Box::new(clock) };
         Self { shared: Arc::new(shared), listeners: Vec::new() }
     }
 
-    /// Opens a session, and gives its client's end. Dropping that ends the session.
+    /// Opens a session, and returns the client's end. Dropping that ends the session.
     pub fn connect(&self) -> io::Result<UnixStream> {
         let (ours, theirs) = UnixStream::pair()?;
         serve(&self.shared, theirs)?;
         Ok(ours)
     }
 
-    /// Listens at a path, where it makes a Unix socket: each connection to it is a session. The
-    /// socket is removed where the server is dropped.
+    /// Listens on a new Unix socket at this path: each connection is a session. The socket is
+    /// removed when the server is dropped.
     pub fn listen(&mut self, path: impl AsRef<Path>) -> io::Result<()> {
         self.listeners.push(Listener::new(&self.shared, path.as_ref())?);
         Ok(())
     }
 
-    /// Makes calls on the engine by hand. Connections stand still meanwhile, so it mustn't wait for
-    /// a client. Those that a call by hand has stopped go on then, where it lets them.
+    /// Calls methods of the engine. Connections are paused meanwhile, so it must not wait for a
+    /// client. Connections that were blocked continue afterwards, if they can.
     pub fn with_engine<T>(&self, work: impl FnOnce(&mut Engine) -> T) -> T {
         let done = work(&mut self.shared.lock().engine);
         self.shared.moved.notify_all();
@@ -62,7 +62,7 @@ impl Server {
         self.with_engine(|engine| engine.snapshot())
     }
 
-    /// What its clients did: the records of calls that are kept, as `Engine::calls`.
+    /// The retained records of calls, as `Engine::calls`.
     pub fn calls(&self) -> Result<Vec<Call>, Refusal> {
         self.with_engine(|engine| engine.calls().collect())
     }
@@ -87,7 +87,7 @@ impl fmt::Debug for Server {
 }
 
 impl Drop for Server {
-    /// Waits until no thread serves a session.
+    /// Waits for the threads of all sessions.
     fn drop(&mut self) {
         self.end_lines();
         self.listeners.clear();
@@ -98,24 +98,24 @@ impl Drop for Server {
     }
 }
 
-/// What a server and its threads have in common.
+/// The state shared by a server and its threads.
 struct Shared {
     state: Mutex<State>,
-    /// Told when a session did something, when a connection was closed, and when the server goes.
+    /// Notified after progress of a session, and when a connection or the server closes.
     moved: Condvar,
     clock: Box<dyn Fn() -> u32 + Send + Sync>,
 }
 
 struct State {
     engine: Engine,
-    /// The server's ends of the connections that are served.
+    /// The server's ends of the open connections.
     lines: BTreeMap<Session, UnixStream>,
     /// The server was dropped.
     left: bool,
 }
 
 impl Shared {
-    /// A thread that panicked has left the engine between two calls, as any other one.
+    /// A panicking thread leaves the engine between two calls, so its state is valid.
     fn lock(&self) -> MutexGuard<'_, State> {
         self.state.lock().unwrap_or_else(PoisonError::into_inner)
     }
@@ -125,19 +125,19 @@ impl Shared {
     }
 }
 
-/// Opens a session, and serves it over this socket by a thread of its own.
+/// Opens a session, and serves it over this socket in its own thread.
 fn serve(shared: &Arc<Shared>, line: UnixStream) -> io::Result<()> {
     let connection = Connection::new(shared, line.try_clone()?)?;
     let name = format!("lucernetick session {}", connection.session.number());
     let work = move || {
-        // Whatever ends it, the client is told by the end of its connection.
+        // The client notices an error by the end of its connection.
         let _ = connection.pump(Line::new(line));
     };
     thread::Builder::new().name(name).spawn(work)?;
     Ok(())
 }
 
-/// A session that is served over a socket.
+/// A session served over a socket.
 struct Connection {
     shared: Arc<Shared>,
     session: Session,
@@ -154,7 +154,7 @@ impl Connection {
         Ok(Self { shared: Arc::clone(shared), session })
     }
 
-    /// Passes bytes on, both ways, until the client, the session or the server ends.
+    /// Forwards bytes in both directions, until the client, the session or the server ends.
     fn pump(&self, mut line: Line) -> io::Result<()> {
         let mut room = vec![0; PIECE];
         loop {
@@ -172,7 +172,7 @@ impl Connection {
         }
     }
 
-    /// Sends the replies to all packets that are there.
+    /// Sends the replies to all complete packets.
     fn answer(&self, line: &mut Line) -> io::Result<Turn> {
         loop {
             let (turn, output) = self.reply()?;
@@ -183,9 +183,9 @@ impl Connection {
         }
     }
 
-    /// Turns until a reply is written, no packet is there, or the session or the server has ended.
-    /// Where the call of another session is in the way, waits until one has moved. No call stands
-    /// half way while its client is slow to read or has gone, so none keeps other clients waiting.
+    /// Runs turns until a reply is written, no complete packet is buffered, or the session or the
+    /// server has ended. If another session's call blocks this one, it waits for progress. Calls
+    /// are completed before their replies are sent, so a slow client delays no others.
     fn reply(&self) -> Result<(Turn, Vec<u8>), Refusal> {
         let mut state = self.shared.lock();
         loop {
@@ -196,7 +196,7 @@ impl Connection {
         }
     }
 
-    /// Turns up to a reply. Where something moved, sessions that are blocked are told.
+    /// Runs turns up to a reply. After progress it wakes blocked sessions.
     fn settle(&self, engine: &mut Engine) -> Result<Turn, Refusal> {
         let (turn, moved) = engine.settle_moving(self.session, (self.shared.clock)(), 1);
         if moved {
@@ -210,17 +210,17 @@ impl Drop for Connection {
     /// Ends the session.
     fn drop(&mut self) {
         let mut state = self.shared.lock();
-        // It isn't refused, since there is such a session.
+        // This cannot fail, since the session exists.
         let _ = state.engine.close(self.session);
         state.lines.remove(&self.session);
         self.shared.moved.notify_all();
     }
 }
 
-/// A thread that takes the connections to a socket.
+/// A thread that accepts the connections to a socket.
 struct Listener {
     path: PathBuf,
-    /// The socket that listens, to be shut down.
+    /// The listening socket, for shutdown.
     socket: UnixStream,
     thread: Option<JoinHandle<()>>,
 }
@@ -237,9 +237,9 @@ impl Listener {
 }
 
 impl Drop for Listener {
-    /// Waits until no further connection is taken.
+    /// Waits for the accepting thread.
     fn drop(&mut self) {
-        // These fail where somebody else has removed the path, or the thread has panicked.
+        // These fail if somebody else removed the path, or the thread panicked.
         let _ = fs::remove_file(&self.path);
         let _ = self.socket.shutdown(Shutdown::Both);
         if let Some(thread) = self.thread.take() {
@@ -248,7 +248,7 @@ impl Drop for Listener {
     }
 }
 
-/// Takes connections until the server goes. One that can't be served is closed.
+/// Accepts connections until the server is dropped. Closes those that it cannot serve.
 fn accept(shared: &Arc<Shared>, listener: &UnixListener) {
     for line in listener.incoming() {
         if shared.lock().left {

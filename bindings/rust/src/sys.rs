@@ -1,15 +1,14 @@
-//! The library's functions, as include/lucernetick.h declares them, and three of the system's
-//! (Linux).
+//! The functions of include/lucernetick.h, and three of Linux.
 
 use std::os::raw::{c_char, c_int, c_short, c_ulong};
 
-/// An engine, of which the library alone knows what it is.
+/// An opaque engine.
 #[repr(C)]
 pub struct Engine {
     _private: [u8; 0],
 }
 
-/// So many bytes.
+/// A byte string.
 #[repr(C)]
 pub struct Bytes {
     pub at: *const u8,
@@ -58,13 +57,13 @@ pub struct Call {
     pub answer_bytes: Bytes,
 }
 
-/// A tree that was taken, of which the library alone knows what it is.
+/// An opaque snapshot.
 #[repr(C)]
 pub struct Tree {
     _private: [u8; 0],
 }
 
-/// What a tree has at a path.
+/// An entry of a snapshot.
 #[repr(C)]
 #[derive(Default)]
 pub struct Leaf {
@@ -73,7 +72,7 @@ pub struct Leaf {
     pub label: u64,
 }
 
-/// Which requests are refused.
+/// A rule that injects errors.
 #[repr(C)]
 pub struct Rule {
     pub session: u64,
@@ -84,7 +83,7 @@ pub struct Rule {
     pub status: u32,
 }
 
-/// The request at which a function that makes trees stopped.
+/// The request at which a function that writes files stopped.
 #[repr(C)]
 pub struct Place {
     pub length: u64,
@@ -152,7 +151,7 @@ extern "C" {
     pub fn lt_tree_free(tree: *mut Tree);
 }
 
-/// What is asked of a descriptor, and what it shows.
+/// The events to poll for, and those that occurred.
 #[repr(C)]
 pub struct PollFd {
     pub fd: c_int,
@@ -165,7 +164,7 @@ pub const POLLOUT: c_short = 0x04;
 pub const MSG_DONTWAIT: c_int = 0x40;
 pub const MSG_NOSIGNAL: c_int = 0x4000;
 
-/// A moment, in seconds since 1970.
+/// A time, in seconds since 1970.
 #[repr(C)]
 pub struct Timespec {
     pub seconds: i64,

@@ -1,4 +1,4 @@
-//! A tree that the library took of an engine, and what it has.
+//! Snapshots in the library.
 
 use crate::calls::bytes_of;
 use crate::tree::{Entry, Piece};
@@ -6,19 +6,19 @@ use crate::{checked, sys, Engine, Refusal};
 use std::collections::{BTreeMap, HashMap};
 use std::ptr;
 
-/// A sparse file's gaps begin and end at multiples of it, or at the file's end.
+/// Holes begin and end at multiples of it, or at the file's end.
 const UNIT: usize = 32768;
 
-/// A tree, which stays as it is. It is freed where it is dropped.
+/// A snapshot, which does not change. Dropping it frees it.
 pub(crate) struct Taken {
     pointer: *mut sys::Tree,
-    /// Of files, by their labels.
+    /// File numbers by label.
     numbers: HashMap<u64, u64>,
 }
 
 impl Drop for Taken {
     fn drop(&mut self) {
-        // SAFETY: the pointer is a tree's, or null, and isn't used again.
+        // SAFETY: the pointer is a tree's, or null, and is not used again.
         unsafe { sys::lt_tree_free(self.pointer) }
     }
 }
@@ -26,13 +26,13 @@ impl Drop for Taken {
 impl Taken {
     pub(crate) fn of(engine: &Engine) -> Result<Self, Refusal> {
         let mut tree = Taken { pointer: ptr::null_mut(), numbers: HashMap::new() };
-        // SAFETY: the pointer is an engine's, which `drop` alone frees, and the other one is of a
-        // variable here. No other thread has this engine.
+        // SAFETY: the pointer is an engine's, which only `drop` frees, and the other one is of a
+        // local variable. No other thread has this engine.
         checked(unsafe { sys::lt_tree_of(engine.pointer.as_ptr(), &mut tree.pointer) })?;
         Ok(tree)
     }
 
-    /// What is at each path.
+    /// The entry of each path.
     pub(crate) fn entries(&mut self) -> Result<BTreeMap<Vec<u8>, Entry>, Refusal> {
         let mut entries = BTreeMap::new();
         let mut at = 0;
@@ -43,14 +43,14 @@ impl Taken {
         Ok(entries)
     }
 
-    /// The one at a place, if there is one, with its path.
+    /// The entry at an index, if any, with its path.
     fn entry(&mut self, at: u64) -> Result<Option<(Vec<u8>, Entry)>, Refusal> {
         let mut told = sys::Leaf::default();
-        // SAFETY: the pointer is a tree's, and the other one is of a variable here.
+        // SAFETY: the pointer is a tree's, and the other one is of a local variable.
         if at >= checked(unsafe { sys::lt_tree_leaf(self.pointer, at, &mut told) })? {
             return Ok(None);
         }
-        // SAFETY: no leaf was asked for since.
+        // SAFETY: no other leaf was read since.
         let path = unsafe { bytes_of(&told.path) };
         let found = &told.attributes;
         let mut entry = Entry {
@@ -70,7 +70,7 @@ impl Taken {
         Ok(Some((path, entry)))
     }
 
-    /// The bytes of a file of this size, as an `Entry` has them.
+    /// The bytes of a file of this size, in the form of an `Entry`.
     fn pieces(&self, at: u64, size: u64) -> Result<Vec<Piece>, Refusal> {
         let mut pieces = Vec::new();
         let mut offset = 0;
@@ -93,7 +93,7 @@ impl Taken {
     }
 }
 
-/// Adds so many bytes more, unless these are zeros.
+/// Appends bytes, unless they are all zeros.
 fn add(pieces: &mut Vec<Piece>, offset: u64, more: &[u8]) {
     if more.iter().all(|byte| *byte == 0) {
         return;

@@ -1,5 +1,4 @@
-//! Whole trees: written by the library, which does it by requests of sessions of its own, and their
-//! snapshots.
+//! Writing files, and snapshots.
 
 use crate::taken::Taken;
 use crate::{message, sys, Engine, Error, Refusal};
@@ -12,8 +11,8 @@ use std::ptr;
 const KIND: u32 = 0o170000;
 const DIRECTORY: u32 = 0o040000;
 
-/// A tree's files and directories by their paths, the root `/` among them. A path is bytes, and is
-/// asked for as text or as bytes: `tree["/a"]`, `tree[b"/a"]`.
+/// A whole file system: entries by absolute path, including `/`. Paths are bytes; index them by
+/// text or bytes: `tree["/a"]`, `tree[b"/a"]`.
 #[derive(Clone, Debug, Default, PartialEq, Eq)]
 pub struct Snapshot {
     entries: BTreeMap<Vec<u8>, Entry>,
@@ -32,12 +31,12 @@ impl Snapshot {
         self.entries.len()
     }
 
-    /// Never: the root is always there, but in a `Snapshot::default()`.
+    /// False, except for `Snapshot::default()`: the root always exists.
     pub fn is_empty(&self) -> bool {
         self.entries.is_empty()
     }
 
-    /// The paths with their entries, in the order of their bytes.
+    /// The paths with their entries, in byte order.
     pub fn iter(&self) -> Iter<'_> {
         self.entries.iter().map(|(path, entry)| (path.as_slice(), entry))
     }
@@ -47,7 +46,7 @@ impl Snapshot {
         self.entries.keys().map(Vec::as_slice)
     }
 
-    /// The paths as text, in which bytes that aren't UTF-8 are replaced.
+    /// The paths as text. Bytes that are not UTF-8 are replaced.
     pub fn paths(&self) -> impl Iterator<Item = Cow<'_, str>> {
         self.entries.keys().map(|path| String::from_utf8_lossy(path))
     }
@@ -60,7 +59,7 @@ impl Snapshot {
 impl<P: AsRef<[u8]> + ?Sized> Index<&P> for Snapshot {
     type Output = Entry;
 
-    /// Panics where nothing has this path, as maps do.
+    /// Panics if the path does not exist, as maps do.
     fn index(&self, path: &P) -> &Entry {
         match self.entries.get(path.as_ref()) {
             Some(entry) => entry,
@@ -78,7 +77,7 @@ impl IntoIterator for Snapshot {
     }
 }
 
-/// Paths with their entries.
+/// An iterator over paths and entries.
 type Iter<'a> = iter::Map<
     btree_map::Iter<'a, Vec<u8>, Entry>,
     fn((&'a Vec<u8>, &'a Entry)) -> (&'a [u8], &'a Entry),
@@ -97,26 +96,25 @@ impl<'a> IntoIterator for &'a Snapshot {
 #[derive(Clone, Debug, PartialEq, Eq)]
 #[non_exhaustive]
 pub struct Entry {
-    /// The bits of its kind and its permissions, as in stat(2).
+    /// Type and permissions, as in stat(2).
     pub mode: u32,
     pub uid: u32,
     pub gid: u32,
     /// Seconds since 1970, as `mtime`.
     pub atime: u32,
     pub mtime: u32,
-    /// How many bytes a file has; 0 for a directory.
+    /// 0 for a directory.
     pub size: u64,
-    /// A file's bytes without the gaps of a sparse one: all that is in no piece is zeros. A piece
-    /// begins at a multiple of 32768. None is 32768 zeros, so that files of the same bytes have the
-    /// same pieces.
+    /// A file's bytes without its holes: all other bytes are zeros. A piece begins at a multiple of
+    /// 32768. Blocks of 32768 zeros are omitted, so that files with equal bytes have equal pieces.
     pub pieces: Vec<Piece>,
-    /// A file's number, which all of its names share and no other one has; none for a directory.
-    /// Numbers are given by each snapshot, from 1 in the order of the tree: a directory comes
-    /// before what is below it, and names in the order of their bytes.
+    /// Equal for all names of a file, and different for different files; none for a directory. Each
+    /// snapshot numbers files from 1 in the order of the tree: a directory comes before its
+    /// contents, and names are in byte order.
     pub file: Option<u64>,
 }
 
-/// Bytes of a file from an offset on.
+/// A range of bytes of a file.
 #[derive(Clone, Debug, PartialEq, Eq)]
 pub struct Piece {
     pub offset: u64,
@@ -124,7 +122,7 @@ pub struct Piece {
 }
 
 impl Entry {
-    /// All bytes of a file, a sparse one's gaps as zeros; none for a directory.
+    /// All bytes of a file, with zeros for its holes; none for a directory.
     pub fn contents(&self) -> Option<Cow<'_, [u8]>> {
         self.file?;
         match self.pieces.as_slice() {
@@ -150,7 +148,7 @@ impl Entry {
 }
 
 impl Engine {
-    /// An engine whose tree has these files, as by `write_files`.
+    /// An engine with these files, as by `write_files`.
     pub fn from_files<P, C, I>(files: I, moment: u32) -> Result<Self, Error>
     where
         P: AsRef<[u8]>,
@@ -162,8 +160,8 @@ impl Engine {
         Ok(engine)
     }
 
-    /// Makes or replaces files, given by paths and contents, by requests of sessions of their own
-    /// at this moment. Directories on the way are made where they are missing.
+    /// Makes or replaces files, given by paths and contents, with the timestamp `moment`. It sends
+    /// requests in new sessions. It makes missing parents.
     pub fn write_files<P, C, I>(&mut self, files: I, moment: u32) -> Result<(), Error>
     where
         P: AsRef<[u8]>,
@@ -173,23 +171,22 @@ impl Engine {
         for (path, contents) in files {
             let (path, contents) = (told(path.as_ref()), told(contents.as_ref()));
             let engine = self.pointer.as_ptr();
-            // SAFETY: the pointer is an engine's, which `drop` alone frees, and the bytes are of
-            // slices that stay until the call ends.
+            // SAFETY: the pointer is an engine's, which only `drop` frees, and the bytes are of
+            // slices that outlive the call.
             done(unsafe { sys::lt_write_file(engine, path, contents, moment, ptr::null_mut()) })?;
         }
         Ok(())
     }
 
-    /// Makes a directory, and those on its way, where they are missing.
+    /// Makes a directory and its missing parents.
     pub fn make_directories(&mut self, path: impl AsRef<[u8]>, moment: u32) -> Result<(), Error> {
         let (engine, path) = (self.pointer.as_ptr(), told(path.as_ref()));
         // SAFETY: as above.
         done(unsafe { sys::lt_make_directory(engine, path, moment, ptr::null_mut()) })
     }
 
-    /// Gives the file at the old path the new one too, by a request of a session of its own at this
-    /// moment. Directories on the new path's way are made where they are missing. It is refused
-    /// where the new path is there already.
+    /// Adds the new path to the file at the old one, with the timestamp `moment`. It makes missing
+    /// parents of the new path. If the new path exists, it fails.
     pub fn hard_link(
         &mut self,
         old: impl AsRef<[u8]>,
@@ -202,20 +199,20 @@ impl Engine {
         done(unsafe { sys::lt_link(engine, old, new, moment, ptr::null_mut()) })
     }
 
-    /// The whole tree. It is exactly the tree after the calls that took effect so far, also while
-    /// others are under way: none is waited for. Nothing is asked of the engine as a client asks:
-    /// no session opens, no call is recorded, and no time changes. Want of memory alone refuses it.
+    /// The whole file system. It has exactly the effects of the calls that have taken effect, and
+    /// does not wait for calls in progress. It opens no session, records no call, and changes no
+    /// time. It fails only if memory runs out.
     pub fn snapshot(&self) -> Result<Snapshot, Refusal> {
         Ok(Snapshot { entries: Taken::of(self)?.entries()? })
     }
 }
 
-/// A slice as the library takes it.
+/// A slice in the library's form.
 fn told(bytes: &[u8]) -> sys::Bytes {
     sys::Bytes { at: bytes.as_ptr(), length: bytes.len() }
 }
 
-/// Why a request on a tree wasn't done, if it wasn't.
+/// The error of a request, if any.
 fn done(answer: i64) -> Result<(), Error> {
     if answer < 0 {
         return Err(error_of(answer));

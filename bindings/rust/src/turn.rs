@@ -1,22 +1,22 @@
-//! What turns do.
+//! The results of turns.
 
-/// What a turn did, or why the session has ended.
+/// What a turn did, or why the session ended.
 #[derive(Clone, Copy, Debug, PartialEq, Eq)]
 #[non_exhaustive]
 pub enum Turn {
-    /// Nothing: no whole packet is unread.
+    /// Nothing: no complete packet is buffered.
     Idle,
-    /// It wrote a reply, which the output has.
+    /// It wrote a reply, now in the output.
     Wrote,
-    /// It read a request, whose call begins at this turn's moment.
+    /// It read a request; its call begins with this turn's timestamp.
     Begun,
-    /// The call made a step on its way.
+    /// The call made one step.
     Moved,
-    /// The call of another session holds what the call wants: that one has to go on first.
+    /// A call of another session holds what this call needs, and has to advance first.
     Blocked,
-    /// The call is decided: the next turn writes its reply.
+    /// The call is decided; the next turn writes its reply.
     Decided,
-    /// By `settle` alone: as many replies as it may were written, and the session goes on.
+    /// Only by `settle`: the maximum number of replies was written, and the session continues.
     Spent,
     /// The session has ended.
     Ended(Ending),
@@ -26,7 +26,7 @@ pub enum Turn {
 #[derive(Clone, Copy, Debug, PartialEq, Eq)]
 #[non_exhaustive]
 pub enum Ending {
-    /// Its first packet isn't INIT.
+    /// Its first packet is not INIT.
     NotInit,
     /// Its client has a version below 3.
     OldVersion,
@@ -40,12 +40,12 @@ pub enum Ending {
     NoId,
     /// It was closed.
     Closed,
-    /// By a number of the library that this crate doesn't know.
+    /// A number of the library that this crate does not know.
     Other(u64),
 }
 
 impl Turn {
-    /// A turn by the library's number.
+    /// The turn with the library's number.
     pub(crate) fn of_number(number: u64) -> Self {
         match number {
             0 => Turn::Idle,

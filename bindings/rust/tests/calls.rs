@@ -1,4 +1,4 @@
-//! What a client did, by the records of its calls.
+//! Records of calls.
 
 use lucernetick::{Answer, Engine, Kind, Session};
 
@@ -12,7 +12,7 @@ const RENAMES: &[u8] = b"\0\0\0\x11\x12\0\0\0\x09\0\0\0\x02/a\0\0\0\x02/b\
     \0\0\0\x0a\x0b\0\0\0\x0a\0\0\0\x01/\
     \0\0\0\x11\x0c\0\0\0\x0b\0\0\0\x08\0\0\0\0\0\0\0\x04";
 
-/// A session that has asked for these, at the moment 7.
+/// A session that has sent these requests, with the timestamp 7.
 fn asked(engine: &mut Engine, bytes: &[u8]) -> Session {
     let session = engine.open().unwrap();
     engine.feed(session, bytes).unwrap();
@@ -48,7 +48,7 @@ fn the_last_so_many_are_kept() {
         engine.calls().map(|call| call.unwrap().number).collect::<Vec<_>>()
     };
     assert_eq!(numbers(&mut engine), [4, 5]);
-    // A session's leaving takes the place of a call.
+    // The end of a session has a record too.
     engine.close(session).unwrap();
     assert_eq!(numbers(&mut engine), [5]);
 }

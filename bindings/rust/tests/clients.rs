@@ -1,4 +1,4 @@
-//! OpenSSH's `sftp` on a server. `socat` joins it to the server's socket.
+//! OpenSSH's `sftp` on a server. `socat` connects it to the server's socket.
 
 use lucernetick::{Engine, Kind, Refusal, Server, Session, Turn, VirtualTime};
 use std::collections::BTreeSet;
@@ -20,10 +20,10 @@ const LOOKS: &[u8] = b"\0\0\0\x05\x01\0\0\0\x03\0\0\0\x0b\x11\0\0\0\x08\0\0\0\x0
 const LOOKS_BELOW: &[u8] = b"\0\0\0\x0d\x11\0\0\0\x08\0\0\0\x04/a/f";
 /// The length of VERSION's packet.
 const VERSION: usize = 71;
-/// For what comes at once where the machine has nothing else to do.
+/// A timeout for events that are immediate on an idle machine.
 const LIMIT: Duration = Duration::from_secs(120);
 
-/// A server that listens in a folder of its own.
+/// A server that listens in its own folder.
 struct Listening {
     server: Server,
     time: VirtualTime,
@@ -31,7 +31,7 @@ struct Listening {
 }
 
 impl Listening {
-    /// The test's name, which no other one has, names its folder.
+    /// The folder has the test's name, which is unique.
     fn new(test: &str, engine: Engine) -> Self {
         let folder = std::env::temp_dir().join(format!("lucernetick-{}-{}", process::id(), test));
         fs::create_dir(&folder).unwrap();
@@ -49,7 +49,7 @@ impl Listening {
         Client::new(self)
     }
 
-    /// Makes a local file with the permissions 0o640, which `put` asks for.
+    /// Makes a local file with the permissions 0o640, which `put` requests.
     fn write(&self, name: &str, contents: &[u8]) {
         let path = self.folder.join(name);
         fs::write(&path, contents).unwrap();
@@ -78,7 +78,7 @@ impl Drop for Listening {
     }
 }
 
-/// A running `sftp`, whose local folder is its server's.
+/// A running `sftp` in its server's folder.
 struct Client {
     child: Child,
     commands: ChildStdin,
@@ -101,8 +101,8 @@ impl Client {
         Self { child, commands, printed }
     }
 
-    /// What the client prints for a command, which must succeed: all lines up to those for `pwd`,
-    /// without the echoed commands.
+    /// Returns what the client prints for a command, which must succeed, without the echoed
+    /// commands.
     fn run(&mut self, command: &str) -> Vec<String> {
         writeln!(self.commands, "{}\npwd", command).unwrap();
         let mut lines = Vec::new();
@@ -117,7 +117,7 @@ impl Client {
         }
     }
 
-    /// Ends the client's input; it must end well.
+    /// Ends the client's input; it must succeed.
     fn end(mut self) {
         drop(self.commands);
         assert!(self.child.wait().unwrap().success());
@@ -150,7 +150,7 @@ fn list() {
     client.run("put none /d/c");
     client.run("chmod 600 /d/c");
     assert_eq!(client.run("ls -1 /d"), ["/d/a", "/d/b", "/d/c"]);
-    // The client's `mkdir` asks for 0o777.
+    // The client's `mkdir` requests 0o777.
     let wanted = [
         "-rw-r-----   1 0        0               5   1700000000 a",
         "drwxrwxrwx   1 0        0               0   1000000000 b",
@@ -224,7 +224,7 @@ fn times_are_virtual() {
     let directory = ["drwxrwxrwx", "?", "0", "0", "0", "Jan", "1", "1970", "/d"];
     let file = ["-rw-r-----", "?", "0", "0", "6", "Nov", "14", "2023", "/f"];
     assert_eq!(words, [directory, file]);
-    // By STAT: `get -p` gives the local file the times that it tells.
+    // By STAT: `get -p` sets the times of the local file.
     client.run("get -p /f got");
     client.end();
     let found = fs::metadata(server.folder.join("got")).unwrap();
@@ -267,7 +267,7 @@ fn many_clients_at_once() {
     assert_eq!(files.filter(|file| file.contents().as_deref() == Some(b"contents")).count(), 120);
 }
 
-/// Fifty sessions at once, each of which makes `/dNN` and looks at it.
+/// Fifty concurrent sessions, each of which makes `/dNN` and reads its attributes.
 #[test]
 fn fifty_sessions_at_once() {
     let server = Server::new(Engine::with_keep(0).unwrap(), || 7);
@@ -293,7 +293,7 @@ fn fifty_sessions_at_once() {
     assert_eq!(made.map(|call| call.session).collect::<BTreeSet<_>>().len(), 50);
 }
 
-/// A session that is moved by hand, and is fed these bytes.
+/// A session controlled by the test, fed with these bytes.
 fn fed(server: &Server, bytes: &[u8]) -> Session {
     server.with_engine(|engine| {
         let session = engine.open().unwrap();
@@ -302,18 +302,18 @@ fn fed(server: &Server, bytes: &[u8]) -> Session {
     })
 }
 
-/// So many turns by hand, at the moment 100, after which the session's call is on its way.
+/// Runs this number of turns with the timestamp 100; the session's call is then in progress.
 fn hold(server: &Server, session: Session, turns: u64) {
     let last = (0..turns).map(|_| server.with_engine(|engine| engine.turn(session, 100).unwrap()));
     assert_eq!(last.last(), Some(Turn::Moved));
 }
 
-/// Turns by hand, at the moment 100.
+/// Runs turns with the timestamp 100.
 fn settle(server: &Server, session: Session, most: u64) -> Turn {
     server.with_engine(|engine| engine.settle(session, 100, most).unwrap())
 }
 
-/// Reads so many bytes, which come soon.
+/// Reads this number of bytes, which arrive soon.
 fn take(line: &mut UnixStream, count: usize) -> Vec<u8> {
     line.set_read_timeout(Some(LIMIT)).unwrap();
     let mut bytes = vec![0; count];
@@ -325,7 +325,7 @@ fn take(line: &mut UnixStream, count: usize) -> Vec<u8> {
 fn a_connection_waits_for_a_call_that_is_held() {
     let server = Server::new(Engine::new().unwrap(), || 0);
     let held = fed(&server, MAKES);
-    // VERSION, the call's beginning, and the root taken.
+    // VERSION, the beginning of the call, and the root acquired.
     hold(&server, held, 3);
 
     let mut line = server.connect().unwrap();
@@ -340,7 +340,7 @@ fn a_connection_waits_for_a_call_that_is_held() {
     assert_eq!((reply[4], &reply[37..]), (105, &[0, 0, 0, 100][..]));
 }
 
-/// A client that a held session keeps waiting goes on when the rounds have carried out both calls.
+/// A client that a paused session blocks continues after `run_all` has completed both calls.
 #[test]
 fn rounds_carry_out_the_calls_of_connections() {
     let server = Server::new(Engine::new().unwrap(), || 0);
@@ -359,15 +359,15 @@ fn rounds_carry_out_the_calls_of_connections() {
     assert_eq!((reply[4], &reply[37..]), (105, &[0, 0, 0, 100][..]));
 }
 
-/// Whether the root is held by a call: the probe looks there for what isn't there.
+/// Whether a call holds the root: the probe looks up a missing name there.
 fn root_is_held(server: &Server, probe: Session) -> bool {
     let looks = b"\0\0\0\x0b\x11\0\0\0\x08\0\0\0\x02/z";
     server.with_engine(|engine| engine.feed(probe, looks).unwrap());
     settle(server, probe, 1000) == Turn::Blocked
 }
 
-/// A call that is held in `/a` stops one that is on its way there, which stops all others in the
-/// root. When the first one goes on, so do they, in whatever order their threads wake.
+/// A call paused in `/a` blocks one that needs `/a` and holds the root, which blocks all others.
+/// When the first one continues, all others do, in whatever order their threads wake up.
 #[test]
 fn blocked_connections_go_on_one_after_the_other() {
     for _ in 0..20 {
@@ -439,7 +439,7 @@ fn a_client_may_send_much_before_it_reads() {
     line.set_write_timeout(Some(LIMIT)).unwrap();
     line.write_all(INIT).unwrap();
     reply(&mut line);
-    // OPEN of `/f`, to be read.
+    // OPEN of `/f` for reading.
     line.write_all(b"\0\0\0\x13\x03\0\0\0\0\0\0\0\x02/f\0\0\0\x01\0\0\0\0").unwrap();
     let opened = reply(&mut line);
     let asks = |number: u32| {
@@ -491,8 +491,8 @@ fn a_257th_client_is_refused() {
     assert_eq!(lines.len(), 256);
 }
 
-/// The clients are one that waits for replies, one whose call is blocked, and one that reads none
-/// of the many bytes that it is sent.
+/// One client waits for replies, one has a blocked call, and one does not read its large
+/// replies.
 #[test]
 fn a_server_that_is_dropped_ends_its_connections() {
     let mut server = Server::new(Engine::from_files([("/f", "1")], 0).unwrap(), || 0);

@@ -1,4 +1,4 @@
-//! Trees from folders of the system, and into them.
+//! Copies from folders of the system, and to them.
 
 use lucernetick::{Engine, Session};
 use std::fs;
@@ -7,7 +7,7 @@ use std::os::unix::fs::{symlink, MetadataExt, PermissionsExt};
 use std::path::PathBuf;
 use std::process;
 
-/// A folder that is removed where this is dropped.
+/// A folder that is removed when this is dropped.
 struct Folder(PathBuf);
 
 impl Folder {
@@ -24,7 +24,7 @@ impl Drop for Folder {
     }
 }
 
-/// Sets attributes, which are spelled with their flags.
+/// Sets attributes, encoded with their flags.
 fn set(engine: &mut Engine, session: Session, path: &str, attributes: &[u8]) {
     let body = [&[9, 0, 0, 0, 1, 0, 0, 0, path.len() as u8], path.as_bytes(), attributes].concat();
     engine.feed(session, &[&(body.len() as u32).to_be_bytes()[..], &body].concat()).unwrap();

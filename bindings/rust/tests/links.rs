@@ -21,7 +21,7 @@ fn string(bytes: &[u8]) -> Vec<u8> {
     [&(bytes.len() as u32).to_be_bytes()[..], bytes].concat()
 }
 
-/// Opens a session, which has been answered VERSION.
+/// Opens a session and reads VERSION.
 fn client(engine: &mut Engine) -> Session {
     let session = engine.open().unwrap();
     engine.feed(session, INIT).unwrap();
@@ -30,7 +30,7 @@ fn client(engine: &mut Engine) -> Session {
     session
 }
 
-/// The reply to a request under the id 1.
+/// The reply to a request with the id 1.
 fn ask(engine: &mut Engine, session: Session, kind: u8, fields: &[u8]) -> Vec<u8> {
     let request = string(&[&[kind, 0, 0, 0, 1], fields].concat());
     engine.feed(session, &request).unwrap();
@@ -38,7 +38,7 @@ fn ask(engine: &mut Engine, session: Session, kind: u8, fields: &[u8]) -> Vec<u8
     engine.take(session).unwrap()
 }
 
-/// All attributes of what is at the paths of `alike`, as the server tells them.
+/// The server's attributes of all paths of `alike`.
 fn look(engine: &mut Engine, session: Session) -> Vec<Vec<u8>> {
     let told = ALIKE.iter().map(|(path, _)| ask(engine, session, 17, &string(path.as_bytes())));
     let told: Vec<Vec<u8>> = told.collect();
@@ -46,8 +46,8 @@ fn look(engine: &mut Engine, session: Session) -> Vec<Vec<u8>> {
     told
 }
 
-/// Two files of two names each and one of one, which differ in their names alone: their atimes are
-/// 5, their mtimes 9.
+/// Two files of two names each and one file of one name. They differ only in their names: their
+/// atimes are 5, their mtimes 9.
 fn alike() -> Engine {
     let files = [("/a", "same"), ("/b", "same"), ("/d/e", "same")];
     let mut engine = Engine::from_files(files, 77).unwrap();
@@ -62,7 +62,7 @@ fn alike() -> Engine {
     engine
 }
 
-/// The numbers of a snapshot's files, by paths.
+/// The numbers of a snapshot's files, by path.
 fn numbers(found: &Snapshot) -> Vec<(&str, Option<u64>)> {
     let named = |path| std::str::from_utf8(path).unwrap();
     found.iter().map(|(path, entry)| (named(path), entry.file)).collect()

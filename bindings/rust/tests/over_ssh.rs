@@ -1,7 +1,7 @@
 //! OpenSSH's `sftp` over SSH: `sftpd-over-ssh` puts an `sshd` in front of a server's socket.
 //!
-//! It is the file that SFTPD_OVER_SSH names, or the one that lies beside the crate in the archive
-//! of `./release`, or in the repository.
+//! It is the file SFTPD_OVER_SSH, or the one of the archive of `make dist`, or of the
+//! repository.
 
 use lucernetick::{Engine, Kind, Server};
 use std::env;
@@ -12,25 +12,25 @@ use std::process::{self, Child, ChildStdin, ChildStdout, Command, Stdio};
 use std::thread;
 use std::time::{Duration, Instant};
 
-/// For what comes about by itself.
+/// A timeout for events without a request.
 const LIMIT: Duration = Duration::from_secs(120);
 const LARGE: usize = 100_000_000;
-/// More bytes than a client puts before it is cut.
+/// More bytes than a client stores before its connection is dropped.
 const ENDLESS: u64 = 1 << 33;
 const MANY: usize = 50;
-/// How many sessions an engine has room for.
+/// The maximum number of sessions of an engine.
 const ROOM: usize = 256;
 
 fn script() -> PathBuf {
     let named = env::var_os("SFTPD_OVER_SSH").map(PathBuf::from);
     let beside = |place| Path::new(&env::var_os("CARGO_MANIFEST_DIR").unwrap()).join(place);
     named.unwrap_or_else(|| {
-        let places = ["../../bin/sftpd-over-ssh", "../../sftpd-over-ssh"].map(beside);
+        let places = ["../../bin/sftpd-over-ssh", "../../scripts/sftpd-over-ssh"].map(beside);
         places.into_iter().find(|place| place.exists()).expect("no sftpd-over-ssh")
     })
 }
 
-/// A server behind an `sshd`, in a folder of its own.
+/// A server behind an `sshd`, in its own folder.
 struct OverSsh {
     server: Server,
     sshd: Child,
@@ -38,14 +38,14 @@ struct OverSsh {
 }
 
 impl OverSsh {
-    /// The test's name, which no other one has, names its folder.
+    /// The folder has the test's name, which is unique.
     fn new(test: &str) -> Self {
         let folder = env::temp_dir().join(format!("lucernetick-{}-{}", process::id(), test));
         fs::create_dir(&folder).unwrap();
         let socket = folder.join("socket");
         let mut server = Server::new(Engine::new().unwrap(), || 0);
         server.listen(&socket).unwrap();
-        // At a port that is free.
+        // Port 0 picks a free port.
         let mut sshd = Command::new(script())
             .args([socket, "0".into(), folder.join("keys")])
             .stdout(Stdio::piped())
@@ -66,7 +66,7 @@ impl OverSsh {
         Client::new(&self.folder, "ssh_config")
     }
 
-    /// Waits until no session is open: until there is room for all that there may be.
+    /// Waits until no session is open, so that the maximum number can be opened.
     fn has_no_session(&self) {
         wait_for(|| {
             self.server.with_engine(|engine| {
@@ -94,7 +94,7 @@ fn wait_for(is_so: impl Fn() -> bool) {
     }
 }
 
-/// A running `sftp`, which leads its processes.
+/// A running `sftp` in its own process group.
 struct Client {
     child: Child,
     commands: ChildStdin,
@@ -119,20 +119,20 @@ impl Client {
         self.commands.write_all(commands.as_bytes()).unwrap();
     }
 
-    /// Asks for `pwd`, and waits until it is told, after all before.
+    /// Sends `pwd`, and waits for its output, which follows all earlier output.
     fn is_done(&mut self) {
         self.asks("pwd\n");
         let told = |line: String| line == "Remote working directory: /";
         assert!(self.printed.by_ref().lines().map(Result::unwrap).any(told));
     }
 
-    /// Whether it did all that it was asked.
+    /// Whether all its commands succeeded.
     fn ends(mut self) -> bool {
         drop(self.commands);
         self.child.wait().unwrap().success()
     }
 
-    /// Cuts its connection: nothing of it says goodbye.
+    /// Drops its connection without closing it properly.
     fn is_killed(mut self) {
         let group = format!("-{}", self.child.id());
         assert!(Command::new("kill").args(["-KILL", "--", &group]).status().unwrap().success());
@@ -140,7 +140,7 @@ impl Client {
     }
 }
 
-/// Bytes that differ from number to number.
+/// Bytes that are different for each number.
 fn contents(number: usize, count: usize) -> Vec<u8> {
     (0..count).map(|at| (at / 7 + at % (number + 11)) as u8).collect()
 }
@@ -158,7 +158,7 @@ fn put_and_get_100_mb() {
     assert!(tree["/f"].contents().as_deref() == Some(&large[..]));
 }
 
-/// Each puts a file, and once all have gets what the next one put.
+/// Each client stores a file, and then reads the file of the next one.
 #[test]
 fn fifty_connections_at_once() {
     let over = OverSsh::new("fifty");
@@ -194,7 +194,7 @@ fn a_wrong_key() {
     assert!(over.client().ends());
 }
 
-/// What came until then stays, and other clients go on.
+/// The data received so far stays, and other clients continue.
 #[test]
 fn a_connection_that_is_cut_in_the_middle() {
     let over = OverSsh::new("cut");

@@ -1,4 +1,4 @@
-//! Races of clients, by a seed.
+//! Concurrent clients under a seeded scheduler.
 
 use lucernetick::{Engine, RaceStream, Races};
 use std::borrow::Cow;
@@ -23,16 +23,16 @@ fn streams(races: &Races, clients: usize) -> Vec<RaceStream> {
     (0..clients).map(|_| races.connect().unwrap()).collect()
 }
 
-/// Reads so many bytes.
+/// Reads this number of bytes.
 fn take(stream: &mut RaceStream, count: usize) -> Vec<u8> {
     let mut bytes = vec![0; count];
     stream.read_exact(&mut bytes).unwrap();
     bytes
 }
 
-/// The first five numbers of this seed are odd: so client 2 has five turns. By these it was sent
-/// VERSION, and its MKDIR was read, took the root, was decided and was answered. Client 1 goes on
-/// once it has gone.
+/// The first five numbers of this seed are odd, so client 2 has five turns. They send VERSION, then
+/// read its MKDIR, acquire the root, decide it and write the reply. Client 1 continues after client
+/// 2 has disconnected.
 #[test]
 fn the_turns_of_a_seed() {
     let races = Races::new(1234567, 2).unwrap();
@@ -45,12 +45,12 @@ fn the_turns_of_a_seed() {
     assert_eq!(races.schedule(), [2, 2, 2, 2, 2, 1, 1, 1, 1, 1]);
     take(&mut streams[0], VERSION);
     let reply = take(&mut streams[0], ATTRS);
-    // The moment of its MKDIR.
+    // The timestamp of its MKDIR.
     assert_eq!((reply[4], &reply[37..]), (105, &1_000_000_000_u32.to_be_bytes()[..]));
     assert!(races.is_reproducible());
 }
 
-/// Those of this one are odd, even, odd, even and odd.
+/// The numbers of this seed are odd, even, odd, even and odd.
 #[test]
 fn the_turns_of_another_seed() {
     let races = Races::new(0, 2).unwrap();
@@ -84,14 +84,14 @@ impl Client {
         take(&mut self.stream, count as usize)
     }
 
-    /// The reply to a request under the id 1.
+    /// The reply to a request with the id 1.
     fn ask(&mut self, kind: u8, fields: &[&[u8]]) -> Vec<u8> {
         let body = [&[kind, 0, 0, 0, 1][..], &fields.concat()].concat();
         self.stream.write_all(&string(&body)).unwrap();
         self.reply()
     }
 
-    /// Whether a request was answered by OK.
+    /// Whether the reply to a request is OK.
     fn does(&mut self, kind: u8, fields: &[&[u8]]) -> bool {
         self.ask(kind, fields)[..9] == [101, 0, 0, 0, 1, 0, 0, 0, 0]
     }
@@ -115,8 +115,8 @@ impl Client {
     }
 }
 
-/// Makes `/out`, writes a file there, and renames the directory away. Tells whether it made it, and
-/// whether it renamed it with the file in it.
+/// Makes `/out`, writes a file there, and renames the directory. Returns whether it made it, and
+/// whether it renamed it with the file.
 fn upload(stream: RaceStream, name: &str) -> (bool, bool) {
     let mut client = Client::new(stream);
     let made = client.make_directory("/out");
@@ -124,10 +124,10 @@ fn upload(stream: RaceStream, name: &str) -> (bool, bool) {
     (made, written && client.rename("/out", &format!("/done-{}", name)))
 }
 
-/// What came of races: what each client was told, the turns, and the tree.
+/// The result of a race: what each client received, the turns, and the files.
 type Run = (Vec<(bool, bool)>, Vec<usize>, BTreeMap<String, Option<Vec<u8>>>);
 
-/// Two uploaders race.
+/// Runs two uploaders.
 fn race(races: &Races) -> Run {
     let streams = streams(races, 2);
     let told = thread::scope(|scope| {
@@ -154,7 +154,7 @@ fn the_same_each_time() {
     }
     let schedules: BTreeSet<_> = runs.iter().map(|(_, schedule, _)| schedule).collect();
     assert!(schedules.len() > 500, "{} schedules", schedules.len());
-    // Who made it, and who renamed it away.
+    // Who made it, and who renamed it.
     let outcomes: BTreeSet<_> = runs[..200].iter().map(|(told, _, _)| told.as_slice()).collect();
     let (made, renamed) = ((true, false), (false, true));
     let (both, neither) = ((true, true), (false, false));
@@ -170,7 +170,8 @@ fn a_schedule_is_given_back() {
     }
 }
 
-/// A schedule of something else: what it lacks, and a turn of a client that doesn't wait, are told.
+/// The schedule of another race: missing turns, and turns of a client that does not wait, are
+/// reported.
 #[test]
 fn schedules_that_do_not_fit() {
     for schedule in [&[][..], &[2, 2, 2, 2], &[2, 2, 2, 2, 2, 1, 2, 1, 1, 1], &[3, 2]] {
@@ -188,7 +189,7 @@ fn schedules_that_do_not_fit() {
     }
 }
 
-/// Client 1 waits for something else than the server, until client 2 has its reply.
+/// Client 1 waits for the reply of client 2, not for the server.
 #[test]
 fn a_client_that_waits_for_another() {
     let races = Races::new(0, 2).unwrap();
@@ -227,7 +228,7 @@ fn a_client_that_does_not_come() {
     drop(other);
 }
 
-/// What a client has asked is carried out, though it reads no reply.
+/// The requests of a client take effect, although it reads no reply.
 #[test]
 fn a_client_that_goes_early() {
     let races = Races::new(0, 2).unwrap();
@@ -255,7 +256,7 @@ fn sessions_that_end_themselves() {
     assert_eq!(races.schedule().len(), 2);
 }
 
-/// A client that waits is told that the races were dropped.
+/// A waiting client gets an error when the race is dropped.
 #[test]
 fn races_that_are_dropped() {
     let races = Races::new(0, 2).unwrap();
@@ -269,7 +270,7 @@ fn races_that_are_dropped() {
     assert_eq!(streams[0].write(LOOKS).unwrap_err().kind(), ErrorKind::BrokenPipe);
 }
 
-/// Times are of the races, and a tree may be there before.
+/// The race has its own clock, and may start with files.
 #[test]
 fn a_tree_that_is_there_before() {
     let engine = Engine::from_files([("/out/x", "1")], 5).unwrap();
@@ -282,7 +283,7 @@ fn a_tree_that_is_there_before() {
     assert!(races.schedule().iter().all(|client| *client == 1));
 }
 
-/// One thread reads what another one asks.
+/// One thread reads the replies to requests of another one.
 #[test]
 fn a_stream_is_shared() {
     let races = Races::new(0, 1).unwrap();

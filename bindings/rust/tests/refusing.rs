@@ -1,4 +1,4 @@
-//! Requests that are refused because a test says so.
+//! Injected errors.
 
 use lucernetick::{wall_clock, Engine, Kind, Refusal, Rule, Server, Session, Status, Turn};
 use std::io::{Read, Write};
@@ -7,12 +7,12 @@ const INIT: &[u8] = b"\0\0\0\x05\x01\0\0\0\x03";
 /// The length of VERSION's packet.
 const VERSION: usize = 71;
 
-/// MKDIR of a path of two bytes, under this id.
+/// MKDIR of a path of two bytes, with this id.
 fn mkdir(id: u8, path: &[u8; 2]) -> Vec<u8> {
     [&[0, 0, 0, 15, 14, 0, 0, 0, id, 0, 0, 0, 2][..], path, &[0; 4]].concat()
 }
 
-/// Opens a session, which has been answered VERSION.
+/// Opens a session and reads VERSION.
 fn client(engine: &mut Engine) -> Session {
     let session = engine.open().unwrap();
     engine.feed(session, INIT).unwrap();
@@ -21,7 +21,7 @@ fn client(engine: &mut Engine) -> Session {
     session
 }
 
-/// The codes of the statuses that these requests are answered.
+/// The status codes of the replies to these requests.
 fn codes(engine: &mut Engine, session: Session, requests: &[Vec<u8>]) -> Vec<u8> {
     engine.feed(session, &requests.concat()).unwrap();
     assert_eq!(engine.settle(session, 100, 1000), Ok(Turn::Idle));
@@ -101,7 +101,7 @@ fn what_no_rule_can_be() {
     assert_eq!(engine.refused(rule), Err(Refusal::NoSuchRule));
 }
 
-/// Output goes up to the last refusal, and `take` takes all.
+/// The output ends at the last injected reply, and `take` takes all.
 #[test]
 fn output_up_to_a_refusal() {
     let mut engine = Engine::new().unwrap();

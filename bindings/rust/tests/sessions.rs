@@ -1,4 +1,4 @@
-//! Sessions by their packets, and whole trees.
+//! Sessions packet by packet, and snapshots.
 
 use lucernetick::{Ending, Engine, Entry, Error, Refusal, Server, Session, Turn};
 
@@ -17,7 +17,7 @@ const LOOKS: &[u8] = b"\0\0\0\x05\x01\0\0\0\x03\0\0\0\x0b\x11\0\0\0\x08\0\0\0\x0
 /// The length of VERSION's packet.
 const VERSION: usize = 71;
 
-/// A request: its type, its id, and fields that are bytes as they are.
+/// A request: its type, its id, and its encoded fields.
 fn request(kind: u8, id: u32, fields: &[&[u8]]) -> Vec<u8> {
     let body = [&[kind][..], &id.to_be_bytes(), &fields.concat()].concat();
     [&(body.len() as u32).to_be_bytes()[..], &body].concat()
@@ -27,7 +27,7 @@ fn string(bytes: &[u8]) -> Vec<u8> {
     [&(bytes.len() as u32).to_be_bytes()[..], bytes].concat()
 }
 
-/// Opens a session, which has been answered VERSION.
+/// Opens a session and reads VERSION.
 fn client(engine: &mut Engine) -> Session {
     let session = engine.open().unwrap();
     engine.feed(session, INIT).unwrap();
@@ -36,7 +36,7 @@ fn client(engine: &mut Engine) -> Session {
     session
 }
 
-/// The body of the reply to a request that is made at this moment.
+/// The body of the reply to a request with this timestamp.
 fn ask(engine: &mut Engine, session: Session, moment: u32, request: &[u8]) -> Vec<u8> {
     engine.feed(session, request).unwrap();
     assert_eq!(engine.settle(session, moment, 1000), Ok(Turn::Idle));
@@ -45,12 +45,12 @@ fn ask(engine: &mut Engine, session: Session, moment: u32, request: &[u8]) -> Ve
     reply[4..].to_vec()
 }
 
-/// STATUS OK under the id 1.
+/// STATUS OK with the id 1.
 fn done() -> Vec<u8> {
     [&[STATUS, 0, 0, 0, 1, 0, 0, 0, 0][..], &string(b"Success"), &string(b"")].concat()
 }
 
-/// Attributes of a file: nobody's, 0o644, all its times this moment.
+/// Attributes of a file: uid and gid 0, mode 0o644, and this timestamp.
 fn file(size: u64, moment: u32) -> Vec<u8> {
     let times = [moment.to_be_bytes(), moment.to_be_bytes()].concat();
     let mode = 0o100644_u32.to_be_bytes();
@@ -104,8 +104,8 @@ fn times_are_those_of_turns() {
     assert_eq!(engine.snapshot().unwrap()["/"].mtime, 4_000_000_000);
 }
 
-/// What a schedule's turns did, and what its two sessions were sent. The second one looks at `/a`
-/// before the first one has made it.
+/// What the turns of a schedule did, and the output of its two sessions. The second one asks for
+/// `/a` before the first one has made it.
 fn replay() -> (Vec<Turn>, [Vec<u8>; 2]) {
     let mut engine = Engine::with_keep(0).unwrap();
     let (first, second) = (engine.open().unwrap(), engine.open().unwrap());
@@ -131,7 +131,7 @@ fn a_schedule_gives_the_same_bytes_each_time() {
     assert_eq!(sent[1][VERSION..], looked);
 }
 
-/// A session whose rename, under the id 7, has begun.
+/// A session with a rename in progress, with the id 7.
 fn begun(engine: &mut Engine, old: &[u8], new: &[u8]) -> Session {
     let session = client(engine);
     engine.feed(session, &request(18, 7, &[&string(old), &string(new)])).unwrap();
@@ -139,8 +139,8 @@ fn begun(engine: &mut Engine, old: &[u8], new: &[u8]) -> Session {
     session
 }
 
-/// In rounds the first rename is ahead: five of them until it is decided, in the last of which the
-/// other one takes the root, and three more, since what that moves to is gone.
+/// In rounds the first rename is ahead. It is decided after five rounds, in the last of which the
+/// other one acquires the root. That takes three more, since its target is gone.
 #[test]
 fn crossing_renames_in_rounds() {
     let mut engine = Engine::new().unwrap();
@@ -263,7 +263,7 @@ fn set_size(engine: &mut Engine, path: &str, size: u64) {
     engine.close(session).unwrap();
 }
 
-/// Its gaps are told and not read.
+/// Its holes are reported and not read.
 #[test]
 fn a_sparse_file() {
     let mut engine = Engine::from_files([("/d/f", "one")], 0).unwrap();
@@ -282,7 +282,7 @@ fn a_sparse_file() {
     assert_eq!(found.pieces[1].bytes[4..9], *b"\0two\0");
 }
 
-/// Zeros that were written are as a gap.
+/// Written zeros are like a hole.
 #[test]
 fn a_gap_is_zeros() {
     let mut long = vec![0; 100_000];
@@ -295,8 +295,8 @@ fn a_gap_is_zeros() {
     assert_eq!(found["/g"].pieces, found["/f"].pieces);
 }
 
-/// No session opens, also where as many are open as may be, and no call is recorded; and a snapshot
-/// stays.
+/// A snapshot opens no session, so it works when all 256 are open. It records no call, and does not
+/// change.
 #[test]
 fn a_snapshot_asks_for_nothing() {
     let long = vec![b'1'; 40_000];
@@ -313,7 +313,7 @@ fn a_snapshot_asks_for_nothing() {
     assert_eq!(found["/f"].contents().as_deref(), Some(&long[..]));
 }
 
-/// It has what took effect so far.
+/// It has the effects of earlier calls.
 #[test]
 fn a_snapshot_while_a_call_stands_half_way() {
     let mut engine = Engine::new().unwrap();
@@ -369,7 +369,7 @@ fn a_path_that_is_not_there() {
     let _ = &Engine::new().unwrap().snapshot().unwrap()["/c"];
 }
 
-/// What a test prints where it fails.
+/// What a failed test prints.
 #[test]
 fn engines_and_servers_are_printed() {
     let mut engine = Engine::new().unwrap();

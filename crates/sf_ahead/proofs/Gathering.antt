@@ -1,4 +1,4 @@
--- What is sent of what was gathered is lost to neither.
+-- A flush moves bytes from the buffer to the underlying transport without loss.
 use Rattle.std.proofs.Common.{◌≡◌, ℕ, zero, suc, ◌+◌, ◌≤◌, List, [], ◌∷◌, ◌++◌, Option, None, Some, take, drop, sym, ap, refl, subst, ◌∙◌, arith, zero-add, append_assoc}
 use Rattle.std.specs.Io.KnownBytes.{append_known}
 use Rattle.std.proofs.lemmas.List.{take-append-drop, drop_all}

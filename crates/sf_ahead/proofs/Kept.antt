@@ -1,4 +1,4 @@
--- What a line gives where nothing was read ahead, and what stays as it was.
+-- Reads without a read-ahead, and what stays unchanged.
 use Rattle.std.proofs.Common.{◌≡◌, ℕ, List, [], Option, None, Some, sym, ap, refl, subst, ◌∙◌}
 use Rattle.std.specs.Io.KnownBytes.{Keeps, Appends, Consumes, IsAtEnd, prepend_known, append_known}
 use Rattle.std.proofs.KnownBytes.{Keeps-refl, prepend_known-nil}

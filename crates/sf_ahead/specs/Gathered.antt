@@ -1,4 +1,4 @@
--- What a line that gathers is made of.
+-- The observable state of a transport with a write buffer.
 use Rattle.std.specs.Prelude.{ℕ, List, drop, Option}
 use Rattle.std.specs.Io.KnownBytes.{prepend_known, append_known}
 use Rattle.sf_ahead.specs.declared.duplex.Duplex.{Ghosts}
@@ -9,14 +9,14 @@ use Rattle.sf_ahead.specs.Ahead.{below_of, ahead_of}
 abbrev pub line_of : {D : Type 0} {G : Ghosts D} → GatheringLine D G → AheadLine D G
 line_of l = l.line
 
--- what was written, and not yet sent
+-- the bytes written and not yet sent
 abbrev pub gathered_of : {D : Type 0} {G : Ghosts D} → GatheringLine D G → List ℕ
 gathered_of l = drop l.sent l.gathered.items
 
--- what is still to be read
+-- the bytes not yet read
 abbrev pub input_of : {D : Type 0} {G : Ghosts D} → GatheringLine D G → Option (List ℕ)
 input_of {G = G} l = prepend_known (ahead_of l.line) (G.incoming (below_of l.line))
 
--- what was written: what lies below has its front, and what was gathered follows
+-- the bytes written: those sent, followed by the write buffer
 abbrev pub output_of : {D : Type 0} {G : Ghosts D} → GatheringLine D G → Option (List ℕ)
 output_of {G = G} l = append_known (G.outgoing (below_of l.line)) (gathered_of l)

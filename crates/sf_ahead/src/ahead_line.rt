@@ -1,4 +1,4 @@
-//! A line that reads ahead while a write waits.
+//! A transport that reads ahead while a write blocks.
 
 ghost use Rattle.std.specs.Prelude.{◌≡◌, ◌-◌, ◌+◌, ◌*◌, ◌^◌, ◌<◌, ◌≤◌, ◌++◌, [], length, take, drop, IsTrue, IfOk, OnOk, OnErr, vec_len, vec_capacity};
 ghost use Rattle.std.specs.Io.KnownBytes.{Keeps, Consumes, IsAtEnd, prepend_known};
@@ -10,13 +10,13 @@ use crate::duplex::{Duplex, Ready};
 use sf_line::{Line, LineFault};
 use std::alloc::{AllocError, Global};
 
-/// How many bytes are read ahead at once.
+/// The size of one read-ahead, in bytes.
 const PIECE: usize = 1 << 16;
 
-/// How many bytes are kept at most that were read ahead.
+/// The maximum number of bytes kept in the read-ahead buffer.
 const MOST: usize = 1 << 24;
 
-/// What was met behind the bytes that were read ahead.
+/// What ended the read-ahead, if anything.
 #[derive(Clone, Copy, Debug, PartialEq, Eq)]
 enum Met {
     Nothing,
@@ -24,17 +24,16 @@ enum Met {
     Fault,
 }
 
-/// A line that reads on while a write waits. What it has read so it keeps, up to 16 MiB, and gives
-/// it to later reads, in order and each byte once; an end of input or a fault that it met is told
-/// once the bytes before it are taken. Beyond 16 MiB, or where there is no memory for more, it
-/// waits until it can write.
+/// A transport that reads ahead while a write would block. It buffers up to 16 MiB and serves later
+/// reads from the buffer, in order and each byte once. An end of input or an error found ahead is
+/// reported after the buffered bytes. If the buffer is full or memory runs out, it blocks until it
+/// can write.
 ///
-/// It takes memory only while a write waits, and gives that back once all that was read ahead is
-/// taken.
+/// It allocates only while a write would block, and frees the buffer once all of it was read.
 #[derive(Debug, Drop)]
 pub struct AheadLine<D: Duplex> {
     below: D,
-    /// What was read ahead, of which some bytes at the front are taken.
+    /// The read-ahead buffer, including a prefix of `taken` bytes already delivered.
     kept: Vec<u8>,
     taken: usize,
     met: Met,
@@ -47,7 +46,7 @@ pub struct AheadLine<D: Duplex> {
 impl<D: Duplex> AheadLine<D> {
     ghost use Rattle.sf_ahead.specs.Ahead.{below_of, ahead_of, failures_of};
 
-    /// A line that has moved nothing yet.
+    /// A new transport over `below`.
     pub fn new(alloc: Global, below: D) -> AheadLine<D>
         ensures below { below_of result ≡ below }
         ensures ahead { ahead_of result ≡ [] }
@@ -62,7 +61,7 @@ impl<D: Duplex> AheadLine<D> {
         }
     }
 
-    /// What was read ahead and not yet taken, at most 16 MiB.
+    /// The bytes read ahead and not yet delivered, at most 16 MiB.
     pub fn ahead(&self) -> &[u8]
         ensures ahead { result.now ≡ ahead_of self.now }
         ensures bounded { length result.now ≤ 2 ^ 24 }
@@ -70,7 +69,7 @@ impl<D: Duplex> AheadLine<D> {
         &self.kept[self.taken..]
     }
 
-    /// What lies below.
+    /// The underlying transport.
     pub fn below(&self) -> &D
         ensures { result.now ≡ below_of self.now }
     {
@@ -87,7 +86,7 @@ impl<D: Duplex> AheadLine<D> {
         LineFault
     }
 
-    /// Gives the front of what was read ahead.
+    /// Delivers a prefix of the buffer.
     fn take(&mut self, buffer: &mut [u8]) -> usize
         requires { 0 < length (ahead_of self.old) }
         ensures within { result ≤ length buffer.new }
@@ -106,7 +105,7 @@ impl<D: Duplex> AheadLine<D> {
         n
     }
 
-    /// Gives the memory back, once all is taken.
+    /// Frees the buffer, which was delivered completely.
     fn let_go(&mut self)
         requires { ahead_of self.old ≡ [] }
         ensures ahead { ahead_of self.new ≡ [] }
@@ -118,7 +117,7 @@ impl<D: Duplex> AheadLine<D> {
         self.kept.shrink_to_fit();
     }
 
-    /// Reads from below, where nothing is kept.
+    /// Reads from the underlying transport; the buffer is empty.
     #[tactic(auto, using(crate::proofs::Kept::same_keeps, crate::proofs::Kept::read_alone, crate::proofs::Kept::end_alone))]
     fn read_below(&mut self, buffer: &mut [u8]) -> Result<usize, LineFault>
         requires none { ahead_of self.old ≡ [] }
@@ -143,7 +142,7 @@ impl<D: Duplex> AheadLine<D> {
         }
     }
 
-    /// Forgets the bytes that are taken.
+    /// Drops the delivered prefix.
     fn forget_taken(&mut self)
         ensures ahead { ahead_of self.new ≡ ahead_of self.old }
         ensures below { below_of self.new ≡ below_of self.old }
@@ -156,8 +155,8 @@ impl<D: Duplex> AheadLine<D> {
         self.kept.truncate(ahead);
     }
 
-    /// Makes room for a piece more. Taken bytes are forgotten once they are a quarter of the
-    /// others, so that a byte moves four times at most, whatever the order of reads and writes.
+    /// Reserves capacity for one more read-ahead. The delivered prefix is dropped once it is a
+    /// quarter of the rest, so a byte moves at most four times.
     fn make_room(&mut self) -> Result<(), AllocError>
         ensures room { OnOk result (vec_len self.new.kept + 65536 ≤ vec_capacity self.new.kept) }
         ensures ahead { ahead_of self.new ≡ ahead_of self.old }
@@ -171,7 +170,7 @@ impl<D: Duplex> AheadLine<D> {
         self.kept.reserve(PIECE)
     }
 
-    /// Reads some ahead, and keeps it, or what it meets.
+    /// Reads ahead once, and buffers the bytes, the end of input or the error.
     #[cold]
     #[inline(never)]
     fn read_ahead(&mut self)
@@ -194,7 +193,7 @@ impl<D: Duplex> AheadLine<D> {
         }
     }
 
-    /// Waits until some can be written, or something comes to be read, and keeps that.
+    /// Blocks until some bytes can be written, or reads ahead if input arrives first.
     fn wait(&mut self) -> Result<(), LineFault>
         ensures incoming { prepend_known (ahead_of self.new) (D.incoming (below_of self.new))
             ≡ prepend_known (ahead_of self.old) (D.incoming (below_of self.old)) }
@@ -216,7 +215,7 @@ impl<D: Duplex> AheadLine<D> {
     ghost use Rattle.std.specs.Io.KnownBytes.{append_known};
     ghost use Rattle.sf_ahead.specs.Ahead.{below_of, ahead_of, failures_of};
 
-    /// As `write` of `Line`, and what lies below tells no bytes of which it told none.
+    /// As `Line::write`. If `below` exposes no output, it continues to expose none.
     pub fn send(&mut self, bytes: &[u8]) -> Result<usize, LineFault>
         ensures within { IfOk result (λ n. n ≤ length bytes.now) }
         ensures some { 0 < length bytes.now → IfOk result (λ n. 0 < n) }

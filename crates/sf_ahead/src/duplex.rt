@@ -1,30 +1,29 @@
-//! What has two halves, one to read and one to write.
+//! Transports that can report that a write would block.
 
 ghost use Rattle.std.specs.Prelude.{◌≡◌, ◌≢◌, ℕ, ◌<◌, ◌≤◌, List, length, take, Option, Some, Ok, IsTrue, IfOk, OnErr, IfSome, IfNone};
 ghost use Rattle.std.specs.Io.KnownBytes.{IsAtEnd, prepend_known, append_known};
 
 use sf_line::LineFault;
 
-/// What can be done now.
+/// Readiness of a transport.
 #[derive(Clone, Copy, Debug, PartialEq, Eq)]
 pub enum Ready {
-    /// Some can be read, or the input has ended or failed.
+    /// A read would not block: bytes, the end of input or an error are available.
     Read,
-    /// Some can be written, or the output has failed.
+    /// A write would not block: some bytes can be written, or the output has failed.
     Write,
 }
 
-/// Bytes in and bytes out, where it can be told that a write would wait. Where it tells its bytes,
-/// it goes on telling them.
+/// A byte transport with a non-blocking write. One that exposes its bytes does so for its lifetime.
 pub trait Duplex {
-    /// The bytes that are still to be read, where they are told.
+    /// The input not yet read, if exposed.
     ghost incoming: { Self → Option (List ℕ) };
 
-    /// The bytes that were written, where they are told.
+    /// The output written so far, if exposed.
     ghost outgoing: { Self → Option (List ℕ) };
 
-    /// Reads some bytes to the front of the buffer, none only at the end of input or where the
-    /// buffer is empty. It waits for them. A fault reads nothing.
+    /// Reads some bytes into a prefix of the buffer, and blocks until there are some. It returns 0
+    /// only at the end of input or for an empty buffer. On an error nothing was read.
     fn read(&mut self, buffer: &mut [u8]) -> Result<usize, LineFault>
         ensures within { IfOk result (λ n. n ≤ length buffer.new) }
         ensures taken { IfOk result (λ n. incoming self.old
@@ -34,9 +33,8 @@ pub trait Duplex {
         ensures err { OnErr result (incoming self.new ≡ incoming self.old) }
         ensures outgoing { outgoing self.new ≡ outgoing self.old };
 
-    /// Writes some of the bytes from their front, at least one if there is one, and doesn't wait:
-    /// where it would have to, it writes nothing and answers nothing. Nor does a fault write
-    /// anything.
+    /// Writes a nonempty prefix of the bytes (0 bytes only if there are none) without blocking. It
+    /// returns `None` if the write would block. In that case and on an error nothing was written.
     fn try_write(&mut self, bytes: &[u8]) -> Result<Option<usize>, LineFault>
         ensures within { IfOk result (λ wrote. IfSome wrote (λ n. n ≤ length bytes.now)) }
         ensures some { 0 < length bytes.now → IfOk result (λ wrote. IfSome wrote (λ n. 0 < n)) }
@@ -47,8 +45,7 @@ pub trait Duplex {
         ensures err { OnErr result (outgoing self.new ≡ outgoing self.old) }
         ensures incoming { incoming self.new ≡ incoming self.old };
 
-    /// Waits until some can be written, or, where that is asked too, some can be read. It moves
-    /// nothing.
+    /// Blocks until a write, or if `reads` is set a read, would not block. It transfers nothing.
     fn wait(&mut self, reads: bool) -> Result<Ready, LineFault>
         ensures asked { result ≡ Ok Ready.Read → IsTrue reads }
         ensures incoming { incoming self.new ≡ incoming self.old }

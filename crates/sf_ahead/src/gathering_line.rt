@@ -1,4 +1,4 @@
-//! A line that gathers what is written.
+//! A transport with a write buffer.
 
 ghost use Rattle.std.specs.Prelude.{◌≡◌, ◌-◌, ◌+◌, ◌≤◌, [], length, drop, IfOk, OnOk, OnErr, vec_len, vec_capacity};
 ghost use Rattle.sf_line.specs.Lines.{Rose};
@@ -8,17 +8,17 @@ use crate::duplex::Duplex;
 use sf_line::{Line, LineFault};
 use std::alloc::{AllocError, Global};
 
-/// How many bytes are gathered at most: as many as the host of a lane counts before it lets go of
-/// the core for a write.
+/// The capacity of the write buffer, in bytes: the output after which a session of `sf_pool`
+/// releases the core to write.
 const ROOM: usize = 16384;
 
-/// A line that reads ahead, and gathers what is written: that is sent before the line reads, once
-/// there is no more room, and when it is dropped. So who waits for a reply gets it, and many
-/// replies go by one write. A byte that was written is either below, or gathered.
+/// An `AheadLine` with a write buffer. It flushes the buffer before it reads, if the buffer is
+/// full, and when it is dropped. Thus a client that waits for a reply receives it, and many replies
+/// share one write. Every byte written is either in `below` or in the buffer.
 #[derive(Debug)]
 pub struct GatheringLine<D: Duplex + Drop> {
     line: AheadLine<D>,
-    /// What was written, of which some bytes at the front are sent.
+    /// The write buffer, including a prefix of `sent` bytes already sent.
     gathered: Vec<u8>,
     sent: usize,
     ghost in_range: { sent ≤ length gathered.items },
@@ -30,7 +30,7 @@ impl<D: Duplex + Drop> GatheringLine<D> {
     ghost use Rattle.sf_ahead.specs.Ahead.{below_of, ahead_of, failures_of};
     ghost use Rattle.sf_ahead.specs.Gathered.{line_of, gathered_of, input_of, output_of};
 
-    /// A line that has moved nothing yet.
+    /// A new transport over `below`. It allocates the write buffer.
     pub fn new(alloc: Global, below: D) -> Result<GatheringLine<D>, AllocError>
         ensures below { IfOk result (λ line. below_of (line_of line) ≡ below) }
         ensures ahead { IfOk result (λ line. ahead_of (line_of line) ≡ []) }
@@ -45,21 +45,21 @@ impl<D: Duplex + Drop> GatheringLine<D> {
         })
     }
 
-    /// What was written and not yet sent.
+    /// The bytes written and not yet sent.
     pub fn gathered(&self) -> &[u8]
         ensures { result.now ≡ gathered_of self.now }
     {
         &self.gathered[self.sent..]
     }
 
-    /// The line that it is sent by.
+    /// The transport that the buffer is flushed to.
     pub fn line(&self) -> &AheadLine<D>
         ensures { result.now ≡ line_of self.now }
     {
         &self.line
     }
 
-    /// Sends what was gathered. What a fault leaves unsent stays.
+    /// Flushes the write buffer. Bytes that an error leaves unsent stay in the buffer.
     fn flush(&mut self) -> Result<(), LineFault>
         ensures output { output_of self.new ≡ output_of self.old }
         ensures input { input_of self.new ≡ input_of self.old }

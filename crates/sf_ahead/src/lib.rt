@@ -1,11 +1,10 @@
-//! A line that reads on while it can't write, and one that gathers what is written.
+//! Transports with a read-ahead buffer, and with a write buffer.
 //!
-//! Start with the trait `Duplex`: what lies below, which can tell that a write would wait, and
-//! which waits until it can write some or read some. `AheadLine` is a line over it: while a write
-//! waits, it reads what comes, keeps up to 16 MiB of that, and gives it, in order and each byte
-//! once, to later reads. So whoever sends much before it reads a reply doesn't hang.
-//! `GatheringLine` is one that gathers what is written, up to 16 KiB. `specs/Ahead.antt` and
-//! `specs/Gathered.antt` say what such lines are made of.
+//! Start with the trait `Duplex`, the underlying transport, which can report that a write would
+//! block and wait until it can read or write. `AheadLine` reads ahead while a write would block, up
+//! to 16 MiB. A client that sends many requests before it reads a reply thus doesn't deadlock.
+//! `GatheringLine` also buffers up to 16 KiB of output. `specs/Ahead.antt` and
+//! `specs/Gathered.antt` define their observable state.
 #![tactic(auto)]
 
 mod ahead_line;

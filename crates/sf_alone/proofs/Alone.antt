@@ -1,4 +1,4 @@
--- One session alone, told twice: the input and the moments say what is written.
+-- A single session, twice: the input and the timestamps determine the output.
 use Rattle.std.proofs.Common.{◌≡◌, ℕ, List, [], ◌∷◌, ◌++◌, Bool, false, Option, Some, None, refl, ap, sym, ◌∙◌, subst, inl, inr, append-nil, append_assoc, map}
 use Rattle.std.specs.Io.KnownBytes.{Appends, Consumes, IsAtEnd}
 use Rattle.std.specs.List.{AllByRecursion, flat_map}
@@ -24,7 +24,7 @@ use Rattle.sf_alone.specs.Alone.{answers_alone, moments_begun, HadMemoryThrougho
 use Rattle.sf_alone.proofs.OneStream.{Reads, one_reading}
 use Rattle.sf_alone.proofs.Reaching.{one_session, answered_alone}
 
--- ---- bytes more
+-- ---- more bytes
 
 nothing_more : (xs ys : List ℕ) → xs ≡ xs ++ ys → ys ≡ []
 nothing_more [] ys e = sym e
@@ -44,7 +44,7 @@ ends_more begun bytes more cause (inr h) = inr (
   h.3,
 )
 
--- what ends a beginning of the input ends the input there
+-- what ends a prefix of the input ends the input
 end_more : (begun : Bool) (bytes more : List ℕ) (cause : Cause) → (cause ≡ Closed → more ≡ []) → IsEnd begun bytes cause → IsEnd begun (bytes ++ more) cause
 end_more begun bytes more cause none (inl h) =
     let same : bytes ≡ bytes ++ more = sym (append-nil bytes) ∙ ap (λ (b : List ℕ). bytes ++ b) (sym (none h.0)) in inl (h.0, subst (λ (b : List ℕ). IsCut b cut.More) same h.1)
@@ -81,7 +81,7 @@ two_whole {trace = trace} {trace' = trace'} {t = t} {t' = t'} are a b =
 same_told : (w : World) (s : ℕ) (t u : SessionState) → IsSession w s t → IsSession w s u → u ≡ t
 same_told w s t u a b = let x : Some u ≡ Some t = sym b.1 ∙ a.1 in cc
 
--- what an engine sent and has to send
+-- the output of an engine, sent and unsent
 sent_of : {e : EngineView} {trace : List TraceEntry} (fits : Fits e trace) {t : SessionState} (output : List ℕ) → IsSession fits.world 1 t → IsSentBy e 1 output → transcript t.answers ≡ t.sent ++ output
 sent_of {trace = trace} fits {t = t} output is sent =
     let u = sent trace fits in
@@ -93,7 +93,7 @@ pub two_outputs : {s : Supply} {trace trace' : List TraceEntry} {e e' : EngineVi
 two_outputs fits fits' are x y a b sent sent' =
     sym (sent_of fits a x.tells.is_session sent) ∙ ap transcript (two_whole are x y).1 ∙ sent_of fits' b y.tells.is_session sent'
 
--- ---- two servings
+-- ---- two transports served
 
 was_fed : (incoming now : Option (List ℕ)) (input stream unfed : List ℕ) → incoming ≡ Some input → unfed ≡ [] → Consumes incoming now (stream ++ unfed) → (left : List ℕ) × (now ≡ Some left) × (input ≡ stream ++ left)
 was_fed incoming now input stream unfed e none h =
@@ -103,12 +103,12 @@ was_fed incoming now input stream unfed e none h =
     given None k = absurd k
     given (Some left) k = (left, refl, k)
 
--- all of the input was read where the line was at its end
+-- all of the input was read if the transport was at its end
 read_all : (now : Option (List ℕ)) (input stream left : List ℕ) → now ≡ Some left → input ≡ stream ++ left → IsAtEnd now → stream ≡ input
 read_all now input stream left e is at =
     let none : left ≡ [] = subst (λ (o : Option (List ℕ)). IsAtEnd o) e at in sym (is ∙ ap (λ (b : List ℕ). stream ++ b) none ∙ append-nil stream)
 
--- a serving is a trace of one session alone
+-- serving a transport yields a trace of a single session
 ends_of : {start now : IoState} {s : Supply} {cause : Cause} {p : Progress} (a : ServesAlone start now s cause p) → EndsAlone a.tells.entries a.tells.fit.world p.state s cause
 ends_of {start = start} {now = now} {s = s} {p = p} a =
     let serves = a.tells in
@@ -150,7 +150,7 @@ two_servings {start = start} {now = now} {start' = start'} {now' = now'} {p = p}
           ∙ sym (appended start'.line.outgoing now'.line.outgoing before p'.written e' b.served.wrote),
     )
 
--- what a new engine serves is a session alone
+-- a new engine serves a single session
 pub line_alone : (start now : IoState) (input : List ℕ) (cause : Cause) (fits : Fits start.engine []) → start.line.incoming ≡ Some input → ServesLine start now cause
     → (session : ℕ) × (p : Progress) × (tells : IsTold (since_at start [] fits) session now.engine now.told p.state)
     × (HadMemoryThroughout tells.entries p.state → ServesAlone start now (supply input (moments_begun tells.entries)) cause p)

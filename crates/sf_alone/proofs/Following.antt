@@ -1,4 +1,4 @@
--- One event more of a session that an engine serves.
+-- One more event of a session of an engine.
 use Rattle.std.proofs.Common.{◌≡◌, ℕ, ◌+◌, ◌-◌, List, [], ◌∷◌, ◌++◌, Option, Result, Some, length, slice_get, slice_set, zero, suc, refl, ap, sym, ◌∙◌, subst, append-nil, append_assoc, length-append}
 use Rattle.std.specs.Io.KnownBytes.{Appends}
 use Rattle.std.proofs.KnownBytes.{Appends-trans}
@@ -15,7 +15,7 @@ use Rattle.sf_engine.specs.Fits.{Fits, GoesOnTrace, trace_entry}
 use Rattle.sf_session.proofs.Laws.{all_push}
 use Rattle.sf_alone.specs.OnEngine.{IsOf, IsEntryOf, IsTimed, AreTimed, IsLowAt, RunsLow, Since, IsTold}
 
--- the same fit of an equal trace
+-- the same representation, of an equal trace
 abbrev pub fits_by : (e : EngineView) (trace trace' : List TraceEntry) → trace ≡ trace' → Fits e trace → Fits e trace'
 fits_by e trace trace' same f = record {
   world = f.world;
@@ -31,7 +31,7 @@ low_push session w [] v e v' h low leads =
     (v', subst (λ (z : World). IsLowAt z session e.event) h low, subst (λ (z : World). Leads z e v') h leads, refl)
 low_push session w (x ∷ entries) v e v' h low leads = (h.0, h.1, h.2, low_push session h.0 entries v e v' h.3 low leads)
 
--- what the clock told for an event
+-- the timestamps read from the clock for an event
 abbrev pub Timing : ℕ → SessionState → Event → Result Happened EngineFault → List ℕ → Type 0
 Timing session t ev r moments = (w w' : World) (added : List Record) → IsSession w session t → LeadsBy w ev r added w' → IsTimed ev r moments
 
@@ -41,11 +41,11 @@ timed_push [] moments e now h timed = (now, [], ap (λ (m : List ℕ). m ++ now)
 timed_push (x ∷ entries) moments e now h timed =
     (h.0, h.1 ++ now, ap (λ (m : List ℕ). m ++ now) h.2 ∙ append_assoc h.0 h.1 now, h.3, timed_push entries h.1 e now h.4 timed)
 
--- an event leads from what was told of the session to this
+-- an event leads from this state of the session to a state with Q
 abbrev pub Leading : ℕ → SessionState → Event → Result Happened EngineFault → (SessionState → Type 0) → Type 0
 Leading session t ev r Q = (w w' : World) (added : List Record) → IsSession w session t → LeadsBy w ev r added w' → (t' : SessionState) × IsSession w' session t' × Q t'
 
--- The session's next event: the clock told these moments for it, before a turn little waits, and it leads to this.
+-- The session's next event: its timestamps, and for a turn the bound on the unsent output.
 pub record IsNext (session : ℕ) (t : SessionState) (ev : Event) (r : Result Happened EngineFault) (moments : List ℕ) (Q : SessionState → Type 0) : Type 0 where
   pub own : IsOf session ev r
   pub timed : Timing session t ev r moments
@@ -74,7 +74,7 @@ tells_on {start = start} {session = session} {e' = e'} {tl = tl} {tl' = tl'} {ev
       n.2,
     )
 
--- two things told of a session are one
+-- a session has one state
 pub same_told : (w : World) (s : ℕ) (t u : SessionState) → IsSession w s t → IsSession w s u → t ≡ u
 same_told w s t u a b = let x : Some t ≡ Some u = sym a.1 ∙ b.1 in cc
 
@@ -83,6 +83,6 @@ get_set_same [] i t u e = absurd cc
 get_set_same (x ∷ xs) zero t u e = refl
 get_set_same (x ∷ xs) (suc i) t u e = get_set_same xs i t u e
 
--- what is told of a session that was written
+-- the session's state after an update
 pub told_now : (w : World) (s : ℕ) (t t' : SessionState) (added : List Record) (more : ℕ) → IsSession w s t → IsSession (with_state w s t' added more) s t'
 told_now w s t t' added more session = (session.0, get_set_same w.sessions (s - 1) t t' session.1)

@@ -1,4 +1,4 @@
--- A session that an engine serves: it opens, is fed, goes on, is told what was sent, and is closed.
+-- A session of an engine: open, feed, turns, sent and close.
 use Rattle.std.proofs.Common.{◌≡◌, ◌≢◌, ◌<◌, ◌≤◌, ℕ, ◌+◌, ◌-◌, List, [], ◌∷◌, ◌++◌, Bool, true, Some, Option, Result, Ok, Err, slice_get, length, take, drop, refl, ap, sym, ◌∙◌, subst, inl, inr, length-drop, arith}
 use Rattle.std.proofs.KnownBytes.{Appends-nil}
 use Rattle.std.proofs.lemmas.List.{take_all}
@@ -30,7 +30,7 @@ use Rattle.sf_alone.proofs.Following.{Leading, IsNext, tells_on, same_told, told
 use Rattle.sf_serving.proofs.Laws.{whole_left}
 use Rattle.sf_alone.proofs.Turning.{few_sent, batch_of, Turned, HasTurn, HasTurned, turned_more, since_first, turns_on}
 
--- ---- it opens
+-- ---- open
 
 last_get : (xs : List SessionState) (v : SessionState) → slice_get (xs ++ v ∷ []) (length xs) ≡ Some v
 last_get [] v = refl
@@ -66,7 +66,7 @@ opened start e' s goes =
       omega arith,
     )
 
--- an event that opens a session opened one
+-- an event that opens a session has the result `Opened`
 pub opened_only : (e e' : EngineView) (k : Happened) → ((session : ℕ) → k ≡ happened.Opened session → ⊥) → GoesOnTrace e event.Open (Ok k) e' → (trace : List TraceEntry) → Fits e trace → ⊥
 opened_only e e' k other goes trace fits = let g = goes trace fits in other (length fits.world.sessions + 1) g.2.0
 
@@ -87,15 +87,15 @@ open_fault e serve.Line old new h = absurd h
 open_fault e serve.Stranger old new h = absurd h
 open_fault e f old new h = tt
 
--- ---- it is fed
+-- ---- feed
 
--- what an event does to a session
+-- how an event changes a session
 session_now : (f : SessionState → SessionState) (w : World) {w' : World} (s : ℕ) {t u : SessionState} (added : List Record) → IsSession w s t → IsSession w s u → w' ≡ with_state w s (f u) added 0 → IsSession w' s (f t)
 session_now f w s {t = t} {u = u} added session other now =
     let same : u ≡ t = same_told w s u t other session in
     subst (λ (z : World). IsSession z s (f t)) (sym (now ∙ ap (λ (z : SessionState). with_state w s (f z) added 0) same)) (told_now w s t (f t) added 0 session)
 
--- one event that is no turn
+-- one event that is not a turn
 event_on : {turns : ℕ} {start : Since} {s : ℕ} {e e' : EngineView} {tl : Option (List ℕ)} {t t' : SessionState} (ev : Event) (r : Result Happened EngineFault) → IsToldBy turns start s e tl t → GoesOnTrace e ev r e' → IsOf s ev r → moment_of ev ≡ []
     → ((w : World) → IsLowAt w s ev) → Leading s t ev r (λ u. u ≡ t') → IsToldBy turns start s e' tl t'
 event_on {turns = turns} {start = start} {s = s} {e' = e'} {tl = tl} {t = t} {t' = t'} ev r T goes own none low leads =
@@ -108,7 +108,7 @@ fed_on {s = s} {t = t} T feeds =
     event_on (event.Feed s feeds.0) (Ok feeds.2) T feeds.3 refl refl (λ w. tt) (λ w w' added session leads.
     (fed t feeds.0.items, session_now (λ z. fed z feeds.0.items) w s [] session leads.2.1 leads.2.3, ap (λ (b : List ℕ). fed t b) feeds.1))
 
--- ---- it is closed
+-- ---- close
 
 close_not_refused : (w : World) (s : ℕ) (t : SessionState) (f : EngineFault) → IsSession w s t → MayRefuse w (event.Close s) f → ⊥
 close_not_refused w s t fault.NoSuchSession session h = told_of_none w s t h session
@@ -121,7 +121,7 @@ close_leads s t (Err f) w w' added session leads = absurd (close_not_refused w s
 pub closed_on : {turns : ℕ} {start : Since} {s : ℕ} {e e' : EngineView} {tl : Option (List ℕ)} {t : SessionState} → IsToldBy turns start s e tl t → Applies e (event.Close s) e' → IsToldBy turns start s e' tl (ended t)
 closed_on {s = s} {t = t} T applies = event_on (event.Close s) applies.0 T applies.1 refl refl (λ w. tt) (close_leads s t applies.0)
 
--- ---- what waits was sent
+-- ---- sent
 
 pub output_sent : (e : EngineView) (s : ℕ) (output : List ℕ) → IsSentBy e s output → HasOutput e s output
 output_sent e s output is trace fits t session =
@@ -131,7 +131,7 @@ output_sent e s output is trace fits t session =
 pub output_unknown : (e : EngineView) (s : ℕ) (output : List ℕ) → IsUnknownSession e s → HasOutput e s output
 output_unknown e s output unknown trace fits t session = absurd (told_of_none fits.world s t (unknown trace fits) session)
 
--- what waits of a session that is served
+-- the unsent output of a session that is served
 pub output_here : {turns : ℕ} {start : Since} {s : ℕ} {e : EngineView} {tl : Option (List ℕ)} {t : SessionState} (output : List ℕ) → IsToldBy turns start s e tl t → HasOutput e s output → transcript t.answers ≡ t.sent ++ output
 output_here {start = start} {t = t} output T waits = waits (start.trace ++ T.0.entries) T.0.fit t T.0.is_session
 
@@ -163,20 +163,20 @@ pub sent_on : {turns : ℕ} {start : Since} {s n : ℕ} {e e' : EngineView} {tl 
 sent_on {s = s} {n = n} {t = t} output T waits count applies =
     event_on (event.Sent s n) applies.0 T applies.1 refl refl (λ w. tt) (sent_leads s n t output applies.0 (output_here output T waits) count)
 
--- ---- it goes on
+-- ---- turns
 
 open_turn : (t : SessionState) → IsOpen t → IsLow t → HasTurn true t
 open_turn t is_open low = record { takes = (is_open.closed, ap is_here_in is_open.rests); low = low; may = tt }
 
--- where all was sent, nothing waits
+-- if all was sent, nothing is unsent
 pub first_turn : (t : SessionState) → IsOpen t → HasSent t → HasTurn true t
 first_turn t is_open sent = open_turn t is_open (omega (arith, ap (λ (b : List ℕ). length b) sent, length-drop (length t.sent) (transcript t.answers)))
 
--- what its host's contract asks of going on
+-- what the backend's contract requires of `go_on`
 abbrev pub Gone : (turns : ℕ) → Since → ℕ → EngineView → Option (List ℕ) → Result SessionStep ServeFault → SessionState → Type 0
 Gone turns start s e tl r t = (t' : SessionState) × IsToldBy turns start s e tl t' × IsFurther engine_held t t' × IsSessionStep r t t'
 
--- it may stop so after a turn that came to this
+-- after a turn with this result it may stop with this result
 abbrev pub Leaves : EngineView → ℕ → Result Happened EngineFault → Result SessionStep ServeFault → Type 0
 Leaves e s r (Err f) = Unit {0}
 Leaves e s (Ok happened.Idle) (Ok session_step.Waits) = Unit {0}
@@ -200,11 +200,11 @@ host_after_turn (Ok (happened.Ended cause)) (Ok (session_step.Ended cause')) t {
     subst (λ (c : Cause). IsWhole t' c × (c ≢ Closed)) same (whole_left t' cause (read_of T) h.0 h.1, h.1)
 host_after_turn r w t leaves T h = absurd leaves
 
--- turns so far, after which it may have one more
+-- turns so far, after which another one may follow
 abbrev pub MayTurn : (turns : ℕ) → Since → ℕ → EngineView → Option (List ℕ) → Bool → SessionState → Type 0
 MayTurn turns start s e tl begin t = (t' : SessionState) × IsToldBy turns start s e tl t' × Turned t t' × HasTurn begin t'
 
--- one turn more
+-- one more turn
 pub goes_turn : {turns : ℕ} {start : Since} {s s0 : ℕ} {e e' : EngineView} {tl tl' : Option (List ℕ)} {t : SessionState} {begin : Bool} {r r0 : Result Happened EngineFault} → s ≡ s0 → MayTurn turns start s0 e tl begin t → Turns s begin tl tl' e r e' → r ≡ r0
     → (t' : SessionState) × IsToldBy (turns + 1) start s0 e' tl' t' × Turned t t' × HasTurned r0 t t'
 goes_turn {s0 = s0} {e = e} {e' = e'} {tl = tl} {tl' = tl'} {t = t} {begin = begin} {r = r} same h by is =
@@ -220,31 +220,31 @@ gone_at {turns = turns} {start = start} {s = s} {e = e} {tl = tl} r w {t = t} {t
       host_after_turn r w t leaves mine to,
     )
 
--- the last one
+-- the last turn
 pub gone : {turns : ℕ} {start : Since} {s s0 : ℕ} {e e' : EngineView} {tl tl' : Option (List ℕ)} {t : SessionState} {begin : Bool} {r r0 : Result Happened EngineFault} (w : Result SessionStep ServeFault) → s ≡ s0 → HasSent t → MayTurn turns start s0 e tl begin t
     → Turns s begin tl tl' e r e' → r ≡ r0 → Leaves e' s r0 w → Gone (turns + 1) start s e' tl' w t
 gone {r0 = r0} w same sent h by is leaves = let g = goes_turn same h by is in gone_at r0 w same sent g.1 g.2 g.3 leaves
 
--- so many turns
+-- the count of turns is exhausted
 pub gone_spent : {turns : ℕ} {start : Since} {s s0 : ℕ} {e : EngineView} {tl : Option (List ℕ)} {begin : Bool} (f : ServeFault) {t : SessionState} → s ≡ s0 → HasSent t → MayTurn turns start s0 e tl begin t → Gone turns start s e tl (Err f) t
 gone_spent f same sent h = gone_at (Err fault.OutOfMemory) (Err f) same sent h.1 h.2 tt tt
 
--- a session that neither waits for bytes nor has left, and that no reply was written of, may have its next turn
+-- a session may take its next turn if it doesn't wait for input, has not ended, and wrote no reply
 pub still_turns : (r : Happened) (t t' : SessionState) → (r ≡ happened.Idle → ⊥) → ((cause : Cause) → r ≡ happened.Ended cause → ⊥) → (r ≡ happened.Wrote → ⊥) → HasTurned (Ok r) t t' → HasTurn (may_begin_after r) t'
 still_turns happened.Idle t t' idle ended wrote h = absurd (idle refl)
 still_turns (happened.Ended cause) t t' idle ended wrote h = absurd (ended cause refl)
 still_turns happened.Wrote t t' idle ended wrote h = absurd (wrote refl)
 still_turns r t t' idle ended wrote h = h
 
--- a reply was written, and little waits
+-- a reply was written, and less than 64 KiB are unsent
 pub low_turn : {turns : ℕ} {start : Since} {s s0 : ℕ} {e : EngineView} {tl : Option (List ℕ)} (t : SessionState) {t' : SessionState} (output : List ℕ) → s ≡ s0 → IsToldBy turns start s0 e tl t' → HasOutput e s output → length output < 65536 → HasTurned (Ok happened.Wrote) t t' → HasTurn true t'
 low_turn {s0 = s0} {e = e} t {t' = t'} output same T waits few h =
     let mine : HasOutput e s0 output = subst (λ (k : ℕ). HasOutput e k output) same waits in
     open_turn t' (record { rests = h.0; closed = h.1 }) (subst (λ (b : List ℕ). length b ≤ engine_held) (sym (output_is t' output (output_here output T mine))) (omega (arith, few)))
 
--- ---- a line
+-- ---- a transport
 
--- a session that an engine served to its end, or so far
+-- a session that an engine served to its end, or until an error
 pub told_alone : {held : ℕ} {turns : ℕ} {start : Since} {s : ℕ} {e : EngineView} {tl : Option (List ℕ)} {from now : LineView} {P : Progress → Type 0} → Serves held (IsToldBy turns start s e tl) from now P → Serves held (IsTold start s e tl) from now P
 told_alone serves = (serves.0, serves.1.0, serves.2, serves.3)
 

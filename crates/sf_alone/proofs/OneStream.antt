@@ -1,4 +1,4 @@
--- A stream has one reading: its bodies, what each asks for, and how it ends.
+-- A stream has one parse: its bodies, what each requires, and how it ends.
 use Rattle.std.proofs.Common.{◌≡◌, ℕ, List, [], ◌∷◌, ◌++◌, Bool, true, length, refl, ap, sym, ◌∙◌, subst, inl, inr, append_assoc, map}
 use Rattle.std.specs.List.{AllByRecursion, flat_map}
 use Rattle.sf_field.specs.Fields.{AreBytes, packet}
@@ -17,12 +17,12 @@ use Rattle.sf_session.specs.Responses.{Response, Version, ask_behind, AreAsked}
 use Rattle.sf_session.proofs.Laws.{begun_after, begun_stays, whole_bytes, rest_bytes}
 use Rattle.sf_serving.specs.Ends.{IsEnd}
 
--- ---- one front
+-- ---- one first packet
 
 begins_cut : (bytes body rest : List ℕ) → Begins bytes body rest → IsCut bytes (cut.Whole (length (packet body)))
 begins_cut bytes body rest b = (body, rest, b.is_body, b.whole, refl)
 
--- less than a packet begins with no packet, nor with a wrong length
+-- an incomplete packet begins with neither a packet nor a wrong length
 more_begins : (bytes body rest : List ℕ) → IsCut bytes cut.More → Begins bytes body rest → ⊥
 more_begins bytes body rest more b = let no : cut.More ≡ cut.Whole (length (packet body)) = one_cut bytes cut.More (cut.Whole (length (packet body))) more (begins_cut bytes body rest b) in cc
 
@@ -40,12 +40,12 @@ one_wrong bytes a b (inr x) (inr y) = x.1 ∙ sym y.1
 one_wrong bytes a b (inl x) (inr y) = let no : cut.Bad bad.ZeroLength ≡ cut.Bad bad.TooLong = one_cut bytes (cut.Bad bad.ZeroLength) (cut.Bad bad.TooLong) x.0 y.0 in absurd cc
 one_wrong bytes a b (inr x) (inl y) = let no : cut.Bad bad.TooLong ≡ cut.Bad bad.ZeroLength = one_cut bytes (cut.Bad bad.TooLong) (cut.Bad bad.ZeroLength) x.0 y.0 in absurd cc
 
--- ---- one question of a body
+-- ---- one meaning of a body
 
 one_ask : (begun : Bool) (body : List ℕ) (a b : Ask) → AreBytes body → AsksFor begun body a → AsksFor begun body b → a ≡ b
 one_ask begun body a b bytes h k = h.2 ∙ ap (λ (z : Asked). ask_in begun z) (one_question body h.0 k.0 bytes h.1 k.1) ∙ sym k.2
 
--- the same question, of a body that begins the bytes
+-- the same meaning, of a body that begins the bytes
 same_ask : (begun : Bool) {bytes body rest body' rest' : List ℕ} (a b : Ask) → AreBytes bytes → Begins bytes body rest → Begins bytes body' rest' → AsksFor begun body a → AsksFor begun body' b
     → (body ≡ body') × (rest ≡ rest') × (a ≡ b)
 same_ask begun {body = body} {rest = rest} {body' = body'} {rest' = rest'} a b are x y h k =
@@ -53,7 +53,7 @@ same_ask begun {body = body} {rest = rest} {body' = body'} {rest' = rest'} a b a
     let of_body : AreBytes body' = whole_bytes body' rest' (subst AreBytes y.whole are) in
     (same.0, same.1, one_ask begun body' a b of_body (subst (λ (z : List ℕ). AsksFor begun z a) same.0 h) k)
 
--- what was answered was no end
+-- an answer is not an end
 no_end : (a : Response) (cause : Cause) → ask_behind a ≡ ask.End cause → ⊥
 no_end Version cause e = absurd cc
 no_end a cause e = absurd cc
@@ -80,15 +80,15 @@ module _ (begun : Bool) (bytes : List ℕ) (are : AreBytes bytes) where
   one_end a b (inr x) (inl y) = absurd (more_ends a y.1 x)
   one_end a b (inr x) (inr y) = one_end_by a b x y
 
-  -- no end stands where a body was answered
+  -- a body that was answered doesn't end the session
   end_begins : (cause : Cause) (body rest : List ℕ) (a : Response) → IsEnd begun bytes cause → Begins bytes body rest → AsksFor begun body (ask_behind a) → ⊥
   end_begins cause body rest a (inl x) b k = more_begins bytes body rest x.1 b
   end_begins cause body rest a (inr (inl x)) b k = wrong_begins bytes body rest cause x b
   end_begins cause body rest a (inr (inr x)) b k = no_end a cause (sym (same_ask begun (ask.End cause) (ask_behind a) are x.2 b x.3 k).2)
 
--- ---- one reading
+-- ---- one parse
 
--- The bytes are the packets of these bodies, each answered as it asks for, and an end.
+-- The bytes are the packets of these bodies, each answered as it requires, and an end.
 pub record Reads (begun : Bool) (bytes : List ℕ) (bodies : List (List ℕ)) (answers : List Response) (cause : Cause) : Type 0 where
   pub rest : List ℕ
   pub are_bodies : AllByRecursion IsBody bodies
@@ -96,7 +96,7 @@ pub record Reads (begun : Bool) (bytes : List ℕ) (bodies : List (List ℕ)) (a
   pub end : IsEnd (begun_after begun bodies) rest cause
   pub asked : AreAsked begun bodies (map ask_behind answers)
 
--- the first body of a reading, and the reading after it
+-- the first body of a parse, and the parse after it
 record First (begun : Bool) (bytes body : List ℕ) (bodies : List (List ℕ)) (answers : List Response) (cause : Cause) : Type 0 where
   pub rest : List ℕ
   pub begins : Begins bytes body rest
@@ -125,7 +125,7 @@ first_of {body = body} {bodies = bodies} {answers = a ∷ answers} {cause = caus
   };
 }
 
--- a reading of nothing but an end
+-- a parse of only an end
 end_of : {begun : Bool} {bytes : List ℕ} {answers : List Response} {cause : Cause} → Reads begun bytes [] answers cause → IsEnd begun bytes cause × (answers ≡ [])
 unfolding AreAsked
 end_of {begun = begun} {answers = []} {cause = cause} r = (subst (λ (b : List ℕ). IsEnd begun b cause) (sym r.stream) r.end, refl)

@@ -1,4 +1,4 @@
--- What a session alone is answered, from where it opens.
+-- The answers to a single session, since it opened.
 use Rattle.std.proofs.Common.{◌≡◌, ℕ, List, [], ◌∷◌, ◌++◌, Some, Result, Ok, Err, refl, ap, sym, ◌∙◌, subst, ◌⊎◌, inl, inr, append-nil, append_assoc, map}
 use Rattle.std.specs.List.{AllByRecursion}
 use Rattle.sf_call.specs.declared.record.Record.{Record}
@@ -20,14 +20,14 @@ all_front : {A : Type 0} (P : A → Type 0) (xs ys : List A) → AllByRecursion 
 all_front P [] ys h = (tt, h)
 all_front P (x ∷ xs) ys h = let rest = all_front P xs ys h.1 in ((h.0, rest.0), rest.1)
 
--- from there session 1 alone goes on by these entries, lawfully, and with memory for all of them
+-- from there session 1 alone continues with these entries, legally and with sufficient memory
 record GoesAlone (s : LoneSession) (t : SessionState) (entries : List TraceEntry) (w' : World) : Type 0 where
   pub runs : RunsTo (lone s.records s.begun t) entries w'
   pub own : AllByRecursion (IsEntryOf 1) entries
   pub legal : IsLegal (s.records ++ order entries)
   pub heard : AllByRecursion HadMemoryFor (order entries)
 
--- where the session is there, one tree answers it to the end
+-- while the session exists, one sequential file system answers it
 reaches : (entries : List TraceEntry) {s : LoneSession} {t : SessionState} {w' : World} {t' : SessionState} → Stands t.phase s t.answers → GoesAlone s t entries w' → IsSession w' 1 t' → AllByRecursion HadMemoryAt t'.answers
     → t'.answers ≡ answers_alone (s.moments ++ moments_begun entries) (map ask_behind t'.answers)
 unfolding RunsTo
@@ -80,7 +80,7 @@ first : (s : ℕ) (w' : World) (added : List Record) (ev : Event) (result : Resu
 first s w' added ev (Ok r) own g = inr (opens s w' added ev r own g)
 first s w' added ev (Err fault) own g = inl (g.2, g.1, refl)
 
--- what is so of a session alone at the end
+-- what holds of a single session at the end
 abbrev pub Comes : ℕ → List ℕ → SessionState → Type 0
 Comes s moments t = (s ≡ 1) × (t.answers ≡ answers_alone moments (map ask_behind t.answers))
 
@@ -109,7 +109,7 @@ module _ (s : ℕ) (w' : World) (t' : SessionState) (is : IsSession w' s t') (ha
     | inr f ↦ opened runs.0 e.added entries (moment_begun e.event e.result) f runs.2 own.1 legal heard
   ]
 
--- the session that is alone is the first, and one tree answers it
+-- a single session is the first, and one sequential file system answers it
 pub one_session : (trace : List TraceEntry) (w : World) (s : ℕ) (t : SessionState) → ReachesWorld trace w → IsLegal (order trace) → AllByRecursion (IsEntryOf s) trace → IsSession w s t → HadMemoryThroughout trace t
     → Comes s (moments_begun trace) t
 one_session trace w s t tells legal own is had = comes s w t is had.1 trace tells own legal had.0

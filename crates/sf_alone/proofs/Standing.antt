@@ -1,4 +1,4 @@
--- How a session stands that is alone: one tree answers it, event by event.
+-- The invariant of a single session: one sequential file system answers it, event by event.
 use Rattle.std.proofs.Common.{◌≡◌, ℕ, zero, suc, ◌+◌, ◌-◌, ◌<◌, ◌≤◌, ◌⊎◌, nat_eq, List, [], ◌∷◌, ◌++◌, Some, Bool, true, false, Result, Ok, Err, slice_get, refl, ap, sym, ◌∙◌, subst, arith, inl, inr, append-nil, append_assoc, map}
 use Rattle.std.specs.List.{AllByRecursion}
 use Rattle.std.proofs.lemmas.Bool.{eq-eqb}
@@ -29,9 +29,9 @@ use Rattle.sf_engine.specs.Traces.{Turn, Walking, IsSession, IsHelpedRecord, IsA
 use Rattle.sf_alone.specs.OnEngine.{IsOf}
 use Rattle.sf_alone.specs.Alone.{answers_from, answers_alone, moment_begun, HadMemoryFor, HadMemoryAt}
 
--- ---- what one tree answers
+-- ---- the answers of one file system
 
--- a tree, when so many calls have begun
+-- a file system after `begun` calls
 pub record TreeAt : Type 0 where
   pub tree : Tree
   pub begun : ℕ
@@ -47,7 +47,8 @@ at_first = tree_at empty_tree 0
 abbrev call_at : TreeAt → ℕ → Request → Applied
 call_at x m q = apply x.tree 1 (x.begun + 1) m q
 
--- From the one tree these are the answers while calls begin at these moments; and they leave the other. Or memory was wanting for a call.
+-- Starting from the first tree these are the answers while calls begin at these timestamps, and
+-- they leave the other tree; unless memory ran out.
 unfoldable pub Follows : TreeAt → List ℕ → List Response → TreeAt → Type 0
 Follows x moments [] x' = (moments ≡ []) × (x' ≡ x)
 Follows x moments (Version ∷ more) x' = Follows x moments more x'
@@ -71,7 +72,7 @@ from_call : (tree : Tree) (begun m : ℕ) (moments : List ℕ) (id : ℕ) (q : R
 unfolding answers_from
 from_call tree begun m moments id q asks h = let room : nat_eq begun last_number ≡ false = below_not begun last_number h in rw room
 
--- so the first of them are what the law tells
+-- so the first of them are those of `answers_from`
 follows_answers : (x : TreeAt) (moments later : List ℕ) (answers rest : List Response) (x' : TreeAt) → AllByRecursion HadMemoryAt answers → Follows x moments (answers ++ rest) x'
     → answers ≡ answers_from x.tree x.begun (moments ++ later) (map ask_behind answers)
 unfolding answers_from Follows
@@ -92,7 +93,7 @@ follows_answers x moments later (ByCall id n q given ∷ more) rest x' had (m, a
     ∙ sym (from_call x.tree x.begun m (after ++ later) id q (map ask_behind more) room)
     ∙ ap (λ (ms : List ℕ). answers_from x.tree x.begun (ms ++ later) (ask.Call id q ∷ map ask_behind more)) (sym is)
 
--- one answer more
+-- one more answer
 follows_push : (x : TreeAt) (moments : List ℕ) (answers : List Response) (mid : TreeAt) (now : List ℕ) (a : Response) (x' : TreeAt) → Follows x moments answers mid → Follows mid now (a ∷ []) x' → Follows x (moments ++ now) (answers ++ a ∷ []) x'
 unfolding Follows
 follows_push x moments [] mid now a x' h one =
@@ -131,7 +132,7 @@ no_helped h begun t [] k = refl
 no_helped h begun t (Did n s m q given ∷ helped) k = absurd (k.0.other (only_one h begun s t k.0.known k.0.is_session))
 no_helped h begun t (Left s ∷ helped) k = absurd k.0
 
--- all calls that are recorded have lower numbers
+-- all recorded calls have lower numbers
 abbrev IsBelow : ℕ → Record → Type 0
 IsBelow limit (Did number session moment request given) = number < limit
 IsBelow limit (Left session) = Unit {0}
@@ -158,7 +159,7 @@ is_last limit r r' [] high b (inr k) = absurd k
 is_last limit r r' (x ∷ h) high b (inl e) = absurd (high (subst (λ (y : Record). IsBelow limit y) e b.0))
 is_last limit r r' (x ∷ h) high b (inr k) = is_last limit r r' h high b.1 k
 
--- the record of a number that is new isn't there
+-- the record of a new number is not in the list
 not_last : (n s m : ℕ) (q : Request) (given : Reply) (h : List Record) → IsNewNumber n (h ++ Did n s m q given ∷ []) → ⊥
 not_last n s m q given [] new = absurd (new.0 refl)
 not_last n s m q given (x ∷ h) new = not_last n s m q given h new.1
@@ -172,9 +173,9 @@ next_legal : (h rs : List Record) (r : Record) → IsLegal (h ++ r ∷ rs) → M
 unfolding IsLegal
 next_legal h rs r legal = may_follow [] h rs r legal
 
--- ---- how it stands
+-- ---- the invariant
 
--- the records so far, how many calls began, and at which moments
+-- the records so far, the number of calls begun, and their timestamps
 pub record LoneSession : Type 0 where
   pub records : List Record
   pub begun : ℕ
@@ -184,11 +185,11 @@ pub record LoneSession : Type 0 where
 abbrev pub tree_of : LoneSession → TreeAt
 tree_of s = tree_at (replay s.records) s.begun
 
--- after an event that added these records, and at which so many calls began at these moments
+-- after an event that added these records and began `more` calls at these timestamps
 abbrev pub onward : LoneSession → List Record → ℕ → List ℕ → LoneSession
 onward s added more now = record { records = s.records ++ added; begun = s.begun + more; moments = s.moments ++ now }
 
--- its call has no record yet: all before it was answered
+-- its call has no record yet: all earlier ones were answered
 pub record Waits (s : LoneSession) (answers : List Response) (m : ℕ) : Type 0 where
   pub before : List ℕ
   pub count : ℕ
@@ -198,7 +199,7 @@ pub record Waits (s : LoneSession) (answers : List Response) (m : ℕ) : Type 0 
   pub below : AreBelow s.begun s.records
   pub follows : Follows at_first before answers (tree_at (replay s.records) count)
 
--- its call has its record, the last one
+-- its call has a record, the last one
 pub record IsTold (s : LoneSession) (answers : List Response) (id n m : ℕ) (q : Request) : Type 0 where
   pub given : Reply
   pub before : List Record
@@ -219,7 +220,7 @@ front_of x moments answers rest had h =
 whole_of : (x : TreeAt) (moments : List ℕ) (answers : List Response) → AllByRecursion HadMemoryAt answers → Follows at_first moments answers x → answers ≡ answers_alone moments (map ask_behind answers)
 whole_of x moments answers had h = front_of x moments answers [] had (subst (λ (xs : List Response). Follows at_first moments xs x) (sym (append-nil answers)) h)
 
--- so one tree answers it
+-- so one file system answers it
 pub stands_alone : (f : Phase) (s : LoneSession) (answers : List Response) → AllByRecursion HadMemoryAt answers → Stands f s answers → answers ≡ answers_alone s.moments (map ask_behind answers)
 stands_alone Resting s answers had k = whole_of (tree_of s) s.moments answers had k.1
 stands_alone (UnderWay id n m q moves) s answers had (same, inl w) =
@@ -243,18 +244,18 @@ still f s added answers none k = subst (λ (x : LoneSession). Stands f x answers
 
 -- ---- its turns
 
--- how the session stands after an event
+-- the invariant after an event
 abbrev After : LoneSession → List Record → ℕ → List ℕ → SessionState → Type 0
 After s added more now t' = Stands t'.phase (onward s added more now) t'.answers
 
 after_by : (s : LoneSession) (added : List Record) (more : ℕ) (now : List ℕ) (t' u : SessionState) → t' ≡ u → After s added more now u → After s added more now t'
 after_by s added more now t' u e k = subst (λ (z : SessionState). After s added more now z) (sym e) k
 
--- it leaves
+-- the session ends
 gone_after : (s : LoneSession) (added : List Record) (cause : Cause) (answers : List Response) → Follows at_first s.moments answers (tree_of s) → Stands (Gone cause) (onward s added 0 []) answers
 gone_after s added cause answers h = (tree_of s, subst (λ (ms : List ℕ). Follows at_first ms answers (tree_of s)) (sym (append-nil s.moments)) h)
 
--- a turn of the session alone
+-- a turn of the single session
 abbrev turn_at : LoneSession → List Record → (t t' : SessionState) → Turn
 turn_at s added t t' = record { world = lone s.records s.begun t; session = 1; known = t; added = added; now = t' }
 
@@ -274,7 +275,7 @@ rest_goes s added m t t' happened.Begun k g =
 rest_goes s added m t t' (happened.Ended cause) k g = after_by s added 0 [] t' _ g.2 (gone_after s added cause t.answers k.1)
 rest_goes s added m t t' r k g = absurd g
 
--- what an event adds, and what is added later
+-- the records that an event adds, and those added later
 pub record Added (s : LoneSession) : Type 0 where
   pub now : List Record
   pub later : List Record
@@ -325,7 +326,7 @@ module _ (s : LoneSession) (x : Added s) (u : SessionState) (answers : List Resp
 not_below : (limit : ℕ) (call : Walking) (given : Reply) → call.number ≡ limit → IsBelow limit (Did call.number 1 call.moment call.request given) → ⊥
 not_below limit call given same low = let less : call.number < limit = low in omega (arith, same, less)
 
--- the call is decided as its record tells
+-- the call is decided as in its record
 decided_as : (s : LoneSession) (answers : List Response) (call : Walking) (given : Reply) → call.number ≡ s.begun → IsAmong (Did call.number 1 call.moment call.request given) s.records → IsTold s answers call.id call.number call.moment call.request
     → Stands (Decided call.id call.number call.request given) s answers
 decided_as s answers call given same among told =
@@ -353,7 +354,7 @@ decided_goes s x u answers call given k (inr d) =
     let among = subst (λ (xs : List Record). IsAmong (Did call.number 1 call.moment call.request given) (s.records ++ xs)) (sym (own_alone s x u answers call given k.0 d)) (among_last (Did call.number 1 call.moment call.request given) s.records) in
     decided_as (onward s x.now 0 []) answers call given (omega (arith, k.0)) among (told_now s x u answers call given k.0 d k.1)
 
--- a turn of a session whose call is under way
+-- a turn of a session with an executing call
 step_goes : (s : LoneSession) (x : Added s) (turn : ℕ) (t t' : SessionState) (call : Walking) (r : Happened) → Stands (under_way call) s t.answers → StepLeads (turn_at s x.now (with_phase t (under_way call)) t') call r
     → After s x.now (calls_begun r) (moment_begun (event.Turn 1 turn) (Ok r)) t'
 step_goes s x turn t t' call happened.Moved k (few, inl none, now) = after_by s x.now 0 [] t' _ now (still (under_way (record call { moves = call.moves + 1 })) s x.now t.answers none.0 k)
@@ -364,7 +365,7 @@ step_goes s x turn t t' call (happened.Blocked holder) k g = after_by s x.now 0 
 step_goes s x turn t t' call happened.Decided k g = after_by s x.now 0 [] t' _ g.2 (decided_goes s x (with_phase t (under_way call)) t.answers call g.0 k g.1)
 step_goes s x turn t t' call r k g = absurd g
 
--- the reply is written; a session that was closed leaves then
+-- the reply is written; a session that was closed ends then
 answer_goes : (closed : Bool) (s : LoneSession) (added : List Record) (t : SessionState) (a : Response) → Stands Resting s (t.answers ++ a ∷ []) → added ≡ leaving closed 1 → After s added 0 [] (left_if_closed closed (with_answer t a))
 answer_goes true s added t a k e = gone_after s added Closed (t.answers ++ a ∷ []) k.1
 answer_goes false s added t a k e = still Resting s added (t.answers ++ a ∷ []) e k
@@ -381,9 +382,9 @@ close_goes : (f : Phase) (s : LoneSession) (added : List Record) (t : SessionSta
 close_goes Resting s added t k e = gone_after s added Closed t.answers k.1
 close_goes f s added t k e = still f s added t.answers e k
 
--- ---- one entry more
+-- ---- one more entry
 
--- the entry leads to a world with this session, which stands so
+-- the entry leads to a world with this session, for which the invariant holds
 pub record LeadsOn (s : LoneSession) (added : List Record) (now : List ℕ) (w' : World) : Type 0 where
   pub known : SessionState
   pub more : ℕ

@@ -1,4 +1,4 @@
--- A line that was served alone has a conversation.
+-- Serving a single transport yields a conversation.
 use Rattle.std.proofs.Common.{◌≡◌, ◌⊎◌, ℕ, List, [], ◌∷◌, ◌++◌, Option, Some, None, false, map, refl, ap, sym, ◌∙◌, subst, inl, inr, append-nil, append_assoc}
 use Rattle.std.specs.List.{AllByRecursion, flat_map}
 use Rattle.std.specs.Io.KnownBytes.{Appends, Consumes}
@@ -78,20 +78,20 @@ nothing_said = record {
   fair = tt;
 }
 
--- what a line and a clock tell
+-- what a transport and a clock expose
 abbrev pub talk_of : IoState → TalkView
 talk_of x = talk_view x.line.incoming x.told x.line.outgoing
 
--- where nothing was read and written
+-- nothing was read and written
 pub says_nothing : (start now : TalkView) → now ≡ start → (read moments written : List ℕ) × Passes start now read moments written × IsConversation read moments written
 says_nothing start now e = ([], [], [], subst (λ (z : TalkView). Passes start z [] [] []) (sym e) (record { was_read = none_read start.incoming; was_told = none_written start.told; was_written = none_written start.outgoing }), nothing_said)
 
--- ---- moments
+-- ---- timestamps
 
 abbrev times_by : Event → Result Happened EngineFault → List ℕ
 times_by ev r = map (λ (b : Beginning). b.moment) (begun_by ev r)
 
--- an event at which no call began, or one at a moment that was told
+-- an event in which no call began, or one at a timestamp read from the clock
 timed_one : (ev : Event) (r : Result Happened EngineFault) (now : List ℕ) → IsTimed ev r now → (times_by ev r ≡ []) ⊎ ((m : ℕ) × (times_by ev r ≡ m ∷ []) × (now ≡ m ∷ []))
 timed_one event.Open r now is = inl refl
 timed_one (event.Feed s bytes) r now is = inl refl
@@ -120,7 +120,7 @@ part_next : (m : ℕ) (xs later : List ℕ) → IsSubsequence xs later → IsSub
 unfolding IsSubsequence
 part_next m xs later part = ([], later, refl, part)
 
--- the moments at which calls began are some of those that were told
+-- the timestamps at which calls began are a subsequence of those read
 timed_part : (entries : List TraceEntry) (moments : List ℕ) → AreTimed entries moments → IsSubsequence (begun_times entries) moments
 unfolding AreTimed
 timed_part [] moments timed = no_times moments
@@ -174,19 +174,19 @@ module _ (start now : IoState) (fits : Fits start.engine []) (session : ℕ) (p 
         ends.at_end,
       )
 
--- a line served to its end, on a new engine
+-- a transport served to its end, on a new engine
 pub talked_whole : (start now : IoState) (cause : Cause) → Fits start.engine [] → ServesLine start now cause → ConversesTo (talk_of start) (talk_of now) (Ok cause)
 talked_whole start now cause fits serves =
     let x = serves [] fits in says_whole start now fits x.0 x.1.0 x.1.1 cause x.1.2 x.1.3
 
--- and one where serving stopped
+-- and one for which serving stopped
 pub talked_some : (start now : IoState) (fault : ServeFault) → Fits start.engine [] → StopsEarly start now fault → ConversesTo (talk_of start) (talk_of now) (Err fault)
 talked_some start now fault fits stops = elim (stops [] fits) [
   | inl none ↦ says_nothing (talk_of start) (talk_of now) (ap talk_of none.0)
   | inr some ↦ says_some start now fits some.0 some.1 some.2 some.3
 ]
 
--- what serving a line came to
+-- the outcome of serving a transport
 pub talked : (start now : IoState) (outcome : Result Cause ServeFault) → Fits start.engine [] → IfOk outcome (λ cause. ServesLine start now cause) → IfErr outcome (λ fault. StopsEarly start now fault) → ConversesTo (talk_of start) (talk_of now) outcome
 talked start now (Ok cause) fits serves stops = talked_whole start now cause fits serves
 talked start now (Err fault) fits serves stops = talked_some start now fault fits stops

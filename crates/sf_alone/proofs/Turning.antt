@@ -1,4 +1,4 @@
--- Turns of a session that an engine serves.
+-- Turns of a session of an engine.
 use Rattle.std.proofs.Common.{◌≡◌, ◌≢◌, ◌<◌, ◌≤◌, ◌⊎◌, ℕ, List, [], ◌∷◌, ◌++◌, length, Option, Bool, true, false, Result, Ok, Err, zero, suc, refl, ap, sym, ◌∙◌, subst, inl, inr, ◌+◌, append_assoc, length-append, length-drop, arith}
 use Rattle.std.specs.List.{AllByRecursion}
 use Rattle.std.specs.Io.KnownBytes.{Appends}
@@ -24,9 +24,9 @@ use Rattle.sf_session.proofs.Laws.{not_closed}
 use Rattle.sf_serving.proofs.Laws.{transcript_append, front_of, front_all, all_but_last}
 use Rattle.sf_alone.proofs.Following.{Leading, Timing, IsNext, tells_on, same_told, told_now}
 
--- ---- what waits
+-- ---- the unsent output
 
--- before the last answer little waited
+-- before the last answer at most `engine_held` bytes were unsent
 abbrev pub HoldsFew : SessionState → Type 0
 HoldsFew t = (before : List Response) (last : Response) → t.answers ≡ before ++ last ∷ [] → length (transcript before) ≤ length t.sent + engine_held
 
@@ -34,7 +34,7 @@ last_of_all : {A : Type 0} (P : A → Type 0) (xs : List A) (x : A) → AllByRec
 last_of_all P [] x all = all.0
 last_of_all P (y ∷ xs) x all = last_of_all P xs x all.1
 
--- what a session at which all was sent was answered since is a batch
+-- the answers since all was sent are a batch
 pub batch_of : (t t' : SessionState) (made : List Response) → t'.answers ≡ t.answers ++ made → t'.sent ≡ t.sent → HasSent t → HoldsFew t' → AllByRecursion HasShortPacket t'.answers → IsBatch engine_held made
 batch_of t t' made more same sent few short before last e =
     let cut : t'.answers ≡ (t.answers ++ before) ++ last ∷ [] = more ∙ ap (λ (x : List Response). t.answers ++ x) e ∙ sym (append_assoc t.answers before (last ∷ [])) in
@@ -44,7 +44,7 @@ batch_of t t' made more same sent few short before last e =
       last_of_all HasShortPacket (t.answers ++ before) last (subst (λ (x : List Response). AllByRecursion HasShortPacket x) cut short),
     )
 
--- where all was sent nothing waits, and one answer more may
+-- if all was sent, nothing is unsent, and one more answer may be
 pub few_sent : (t : SessionState) → HasSent t → HoldsFew t
 few_sent t sent before last e =
     let bytes : length (transcript t.answers) ≡ length (transcript before ++ transcript (last ∷ [])) = ap (λ (x : List Response). length (transcript x)) e ∙ ap (λ (x : List ℕ). length x) (transcript_append before (last ∷ [])) in
@@ -55,9 +55,9 @@ few_more t t' a more same few before last e =
     let all : length (transcript before) ≡ length (transcript t.answers) = ap (λ (x : List Response). length (transcript x)) (all_but_last before t.answers last a (sym more ∙ e)) in
     omega (arith, few, all, ap (λ (x : List ℕ). length x) same)
 
--- ---- what turns do
+-- ---- the effect of turns
 
--- what turns may do to what is told of a session that takes bytes
+-- how turns may change the state of a session that accepts input
 pub record Turned (t t' : SessionState) : Type 0 where
   pub stream : t'.stream ≡ t.stream
   pub sent : t'.sent ≡ t.sent
@@ -77,7 +77,7 @@ turned_more t u v p q = record {
   few = λ few. q.few (p.few few);
 }
 
--- what a turn came to
+-- the state after a turn with this result
 abbrev pub ComesTo : Happened → SessionState → SessionState → Type 0
 ComesTo happened.Idle t t' = TakesBytes t' × (t'.phase ≡ Resting) × IsCut t'.unread cut.More
 ComesTo (happened.Ended cause) t t' = (t'.phase ≡ Gone cause) × EndsBy (has_begun t.bodies) t.unread cause
@@ -90,11 +90,11 @@ IsTurn r t t' = (IsLow t → Turned t t') × ComesTo r t t'
 turn_to : (r : Happened) (t t' u : SessionState) → t' ≡ u → IsTurn r t u → IsTurn r t t'
 turn_to r t t' u e h = subst (λ (z : SessionState). IsTurn r t z) (sym e) h
 
--- a body was read, or none; and it was not answered
+-- a body was processed, or none, without an answer
 read_on : (t : SessionState) (rest : List ℕ) (bodies : List (List ℕ)) (f : Phase) → Turned t (record t { unread = rest; bodies = t.bodies ++ bodies; phase = f })
 read_on t rest bodies f = record { stream = refl; sent = refl; bodies = (bodies, refl); answers = front_all t.answers; few = λ few. few }
 
--- or it was
+-- or with an answer
 answered : (t : SessionState) (rest : List ℕ) (bodies : List (List ℕ)) (a : Response) → IsLow t → Turned t (record t { unread = rest; bodies = t.bodies ++ bodies; answers = t.answers ++ a ∷ []; phase = Resting })
 answered t rest bodies a low =
     let t' = record t { unread = rest; bodies = t.bodies ++ bodies; answers = t.answers ++ a ∷ []; phase = Resting } in
@@ -104,7 +104,7 @@ answered t rest bodies a low =
 one_longer : {A : Type 0} (xs : List A) (x : A) → length xs < length (xs ++ x ∷ [])
 one_longer xs x = omega (arith, length-append xs (x ∷ []))
 
--- its phase alone is another
+-- only its phase changes
 phase_on : (t : SessionState) (f : Phase) → Turned t (with_phase t f)
 phase_on t f = record { stream = refl; sent = refl; bodies = front_all t.bodies; answers = front_all t.answers; few = λ few. few }
 
@@ -140,14 +140,14 @@ turn_by x m (Decided id n q given) r at takes g =
 turn_by x m (Gone cause) r at takes g =
     let here : is_here_in (Gone cause) ≡ true = subst (λ (f : Phase). is_here_in f ≡ true) at takes.1 in absurd (let no : false ≡ true = here in cc)
 
--- a session that doesn't rest begins no call
+-- a session that is not idle begins no call
 begins_none : (x : Turn) (m : ℕ) (f : Phase) (r : Happened) → MayBegin false f → TurnLeads m x f r → r ≢ happened.Begun
 begins_none x m Resting r busy g e = busy
 begins_none x m (UnderWay id n k q moves) r busy g e = subst (λ (z : Happened). StepLeads x (walking id n k q moves) z) e g
 begins_none x m (Decided id n q given) r busy g e = let no : happened.Wrote ≡ happened.Begun = sym g.0 ∙ e in cc
 begins_none x m (Gone cause) r busy g e = let no : happened.Ended cause ≡ happened.Begun = sym g.0 ∙ e in cc
 
--- the turn that an entry tells
+-- the turn of an entry
 turn_of : (s m : ℕ) (t : SessionState) (r : Happened) (w w' : World) (added : List Record) → IsSession w s t → Happens w (event.Turn s m) r added w'
     → (t' : SessionState) × TurnLeads m (record { world = w; session = s; known = t; added = added; now = t' }) t.phase r × IsSession w' s t'
 turn_of s m t r w w' added session leads =
@@ -155,13 +155,13 @@ turn_of s m t r w w' added session leads =
     let L : SessionState → Type 0 = λ z. TurnLeads m (record { world = w; session = s; known = z; added = added; now = leads.1 }) z.phase r in
     (leads.1, subst L same leads.3, subst (λ (z : World). IsSession z s leads.1) (sym leads.4) (told_now w s leads.0 leads.1 added (calls_begun r) leads.2))
 
--- where a session may have a turn
+-- when a session may take a turn
 pub record HasTurn (may_begin : Bool) (t : SessionState) : Type 0 where
   pub takes : TakesBytes t
   pub low : IsLow t
   pub may : MayBegin may_begin t.phase
 
--- after a turn: the session waits for bytes, has left, was answered more, or may have another one
+-- after a turn the session waits for input, has ended, has more answers, or may take another turn
 abbrev pub HasTurned : Result Happened EngineFault → SessionState → SessionState → Type 0
 HasTurned (Ok happened.Idle) t t' = TakesBytes t' × (t'.phase ≡ Resting) × IsCut t'.unread cut.More
 HasTurned (Ok (happened.Ended cause)) t t' = (t'.phase ≡ Gone cause) × (cause ≢ Closed)
@@ -182,7 +182,7 @@ turn_leads s m t begin (Ok r) has w w' added session leads =
     (x.0, x.2, (by.0 has.low, has_turned r t x.0 has.low by.1))
 turn_leads s m t begin (Err f) has w w' added session leads = (t, subst (λ (z : World). IsSession z s t) (sym leads.2) session, (turned_none t, tt))
 
--- a turn at a moment that the clock told, or where no call begins
+-- a turn at a timestamp read from the clock, or one that begins no call
 turn_timed : (s m : ℕ) (t : SessionState) (r : Result Happened EngineFault) (begin : Bool) (moments : List ℕ) → MayBegin begin t.phase → (moments ≡ m ∷ []) ⊎ ((moments ≡ []) × (begin ≡ false)) → Timing s t (event.Turn s m) r moments
 turn_timed s m t r begin moments may (inl told) w w' added session leads = inl told
 turn_timed s m t (Err f) begin moments may (inr none) w w' added session leads = inr (none.0, λ e. cc)
@@ -191,7 +191,7 @@ turn_timed s m t (Ok r) begin moments may (inr none) w w' added session leads =
     let busy : MayBegin false t.phase = subst (λ (b : Bool). MayBegin b t.phase) none.1 may in
     inr (none.0, λ e. begins_none (record { world = w; session = s; known = t; added = added; now = x.0 }) m t.phase r busy x.1 (let begun : r ≡ happened.Begun = cc in begun))
 
--- a session was told more by its turns
+-- the progress of a session by its turns
 pub record ToldOn (start : Since) (s : ℕ) (e' : EngineView) (tl' : Option (List ℕ)) (n : ℕ) (t : SessionState) (r : Result Happened EngineFault) : Type 0 where
   pub now : SessionState
   pub tells : IsTold start s e' tl' now
@@ -199,7 +199,7 @@ pub record ToldOn (start : Since) (s : ℕ) (e' : EngineView) (tl' : Option (Lis
   pub turned : Turned t now
   pub has_turned : HasTurned r t now
 
--- one turn, at a moment that the clock told, or at any where no call may begin
+-- one turn, at a timestamp read from the clock, or at any if no call may begin
 one_turn : {start : Since} {s m : ℕ} {e e' : EngineView} {tl tl' : Option (List ℕ)} {t : SessionState} {begin : Bool} {moments : List ℕ} {r : Result Happened EngineFault}
     → (T : IsTold start s e tl t) → HasTurn begin t → GoesOnTrace e (event.Turn s m) r e' → Appends tl tl' moments → (moments ≡ m ∷ []) ⊎ ((moments ≡ []) × (begin ≡ false))
     → ToldOn start s e' tl' (length T.entries) t r
@@ -213,7 +213,7 @@ one_turn {s = s} {m = m} {e' = e'} {tl' = tl'} {t = t} {begin = begin} {moments 
     let g = tells_on {e' = e'} {tl' = tl'} T goes clock next in
     record { now = g.0; tells = g.1; more = omega (arith, g.2); turned = g.3.0; has_turned = g.3.1 }
 
--- a session whose call is on its way may have its next turn
+-- a session with a pending call may take its next turn
 goes_busy : (h : Happened) (t t' : SessionState) → goes_on h ≡ true → HasTurned (Ok h) t t' → HasTurn false t'
 goes_busy happened.Begun t t' goes to = to
 goes_busy happened.Moved t t' goes to = to
@@ -223,12 +223,12 @@ goes_busy h t t' goes to = absurd cc
 pub front_short : {A : Type 0} (a b : List A) → IsFront a b → length a ≤ length b
 front_short a b f = let count : length b ≡ length (a ++ f.0) = ap (λ (l : List _). length l) f.1 in omega (arith, count, length-append a f.0)
 
--- what is said of the last turn is said of all
+-- what holds of the last turn holds of all turns
 pub since_first : (r : Result Happened EngineFault) (t u v : SessionState) → Turned t u → HasTurned r u v → HasTurned r t v
 since_first (Ok happened.Wrote) t u v p to = (to.0, to.1, omega (arith, to.2, front_short t.answers u.answers p.answers))
 since_first r t u v p to = to
 
--- so many turns that go on, and a last one: the clock told no moment after the first one's
+-- `n` turns that continue, and a last one: the clock was read only for the first
 many_turns : (n : ℕ) {start : Since} {s m : ℕ} {e e' : EngineView} {tl tl' : Option (List ℕ)} {t : SessionState} {begin : Bool} {moments : List ℕ} {r : Result Happened EngineFault}
     → (T : IsTold start s e tl t) → HasTurn begin t → HasTurns n e (event.Turn s m) r e' → Appends tl tl' moments → (moments ≡ m ∷ []) ⊎ ((moments ≡ []) × (begin ≡ false))
     → ToldOn start s e' tl' (length T.entries) t r

@@ -1,5 +1,4 @@
--- One session alone, for which memory was never wanting: it is answered by one tree, call after
--- call.
+-- A single session, if memory suffices: the answers of a sequential file system.
 use Rattle.std.specs.Prelude.{◌≡◌, ◌≢◌, ◌+◌, ℕ, nat_eq, List, [], ◌∷◌, if◌then◌else◌, Some, Result, Ok}
 use Rattle.std.specs.List.{AllByRecursion, flat_map}
 use Rattle.sf_reply.specs.declared.reply.Reply.TheVariants as reply
@@ -28,9 +27,10 @@ use Rattle.sf_serving.specs.Hosts.{IsFront}
 use Rattle.sf_serving.specs.Serving.{Progress, ServedSoFar, IsServed}
 use Rattle.sf_alone.specs.OnEngine.{IoState, moment_of, IsEntryOf, engine_held, IsTold, since_at}
 
--- What one tree answers to what session 1 asks for, when so many calls have begun. Each call takes
--- the next number and the next moment, and the tree that it leaves answers what comes after it.
--- Where no number is left, a call is refused; where no moment is left, there are no more answers.
+-- The answers of the file system `tree` to what session 1 requires, after `begun` calls. Each call
+-- takes the next number and the next timestamp; later calls see the tree that it leaves. If the
+-- numbers are exhausted, a call is refused. If the timestamps are exhausted, there are no more
+-- answers.
 unfoldable pub answers_from : Tree → (begun : ℕ) → (moments : List ℕ) → List Ask → List Response
 answers_from tree begun moments [] = []
 answers_from tree begun moments (ask.Version ∷ asks) =
@@ -47,33 +47,33 @@ answers_from tree begun (moment ∷ moments) (ask.Call id request ∷ asks) =
     else let call = apply tree 1 (begun + 1) moment request in
     ByCall id (begun + 1) request call.reply ∷ answers_from call.tree (begun + 1) moments asks
 
--- from the empty tree
+-- starting from the empty tree
 abbrev pub answers_alone : (moments : List ℕ) → List Ask → List Response
 answers_alone moments asks = answers_from empty_tree 0 moments asks
 
--- the moment of a turn at which a call began
+-- the timestamp of a turn in which a call began
 abbrev pub moment_begun : Event → Result Happened EngineFault → List ℕ
 moment_begun ev (Ok happened.Begun) = moment_of ev
 moment_begun ev _ = []
 
--- the moments at which calls began, in order
+-- the timestamps at which calls began, in order
 abbrev pub moments_begun : List TraceEntry → List ℕ
 moments_begun entries = flat_map (λ e. moment_begun e.event e.result) entries
 
--- the record doesn't tell want of memory
+-- the record's reply is not `Out of memory`
 abbrev pub HadMemoryFor : Record → Type 0
 HadMemoryFor (Did number session moment request given) = given ≢ reply.NoMemory
 HadMemoryFor (Left session) = Unit {0}
 
--- no call was refused for want of memory
+-- the call was not refused for lack of memory
 abbrev pub HadMemoryAt : Response → Type 0
 HadMemoryAt Version = Unit {0}
 HadMemoryAt (Locally id reply) = Unit {0}
 HadMemoryAt (ByCall id number request reply) = Unit {0}
 HadMemoryAt (Refused id request fault) = fault ≢ core.OutOfMemory
 
--- Memory was never wanting: no record tells it, and no call was refused for it. An event that was
--- refused for it changed nothing.
+-- Memory sufficed: no record's reply and no refusal is `Out of memory`. An event that failed for
+-- lack of memory had no effect.
 abbrev pub HadMemoryThroughout : List TraceEntry → SessionState → Type 0
 HadMemoryThroughout trace t = AllByRecursion HadMemoryFor (order trace)
     × AllByRecursion HadMemoryAt t.answers
@@ -82,7 +82,7 @@ HadMemoryThroughout trace t = AllByRecursion HadMemoryFor (order trace)
 abbrev pub IsAlone : List TraceEntry → Type 0
 IsAlone trace = AllByRecursion (IsEntryOf 1) trace
 
--- A lawful trace tells this of one session alone, for which memory was never wanting.
+-- A legal trace of a single session in this state, for which memory sufficed.
 pub record TellsAlone (trace : List TraceEntry) (w : World) (t : SessionState) : Type 0 where
   pub tells : ReachesWorld trace w
   pub legal : IsLegal (order trace)
@@ -90,7 +90,7 @@ pub record TellsAlone (trace : List TraceEntry) (w : World) (t : SessionState) :
   pub is_session : IsSession w 1 t
   pub memory : HadMemoryThroughout trace t
 
--- what a session is given: its bytes, and the moments at which its calls began
+-- what a session is given: its input, and the timestamps at which its calls began
 pub record Supply : Type 0 where
   pub input : List ℕ
   pub moments : List ℕ
@@ -98,8 +98,8 @@ pub record Supply : Type 0 where
 abbrev pub supply : List ℕ → List ℕ → Supply
 supply input moments = record { input = input; moments = moments }
 
--- Of the input so much was fed that the session has left for this cause: all of it where the
--- session was closed. Its calls began at these moments.
+-- The session has ended for this cause, after it was fed a prefix of the input: all of it if the
+-- session was closed. Its calls began at these timestamps.
 pub record EndsAlone (trace : List TraceEntry) (w : World) (t : SessionState) (s : Supply)
     (cause : Cause) : Type 0 where
   pub tells : TellsAlone trace w t
@@ -108,8 +108,8 @@ pub record EndsAlone (trace : List TraceEntry) (w : World) (t : SessionState) (s
   pub fed : IsFront t.stream s.input
   pub all : cause ≡ Closed → t.stream ≡ s.input
 
--- A new engine served a line whose bytes are this input, and nothing else, until the session left
--- for this cause. Its calls began at these moments, and memory was never wanting for them.
+-- A new engine served a transport with exactly this input until the session ended for this cause.
+-- Its calls began at these timestamps, and memory sufficed.
 pub record ServesAlone (start now : IoState) (s : Supply) (cause : Cause)
     (p : Progress) : Type 0 where
   pub fits : Fits start.engine []

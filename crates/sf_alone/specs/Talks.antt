@@ -1,4 +1,4 @@
--- What a line gave and took, and what a clock told, when one session alone was served over it.
+-- The input, output and timestamps of a single session, served over a transport.
 use Rattle.std.specs.Prelude.{◌≡◌, ℕ, List, Option, Result, Ok, Err}
 use Rattle.std.specs.Io.KnownBytes.{Appends, Consumes, IsAtEnd}
 use Rattle.sf_session.specs.declared.cause.Cause.{Cause}
@@ -6,8 +6,8 @@ use Rattle.sf_session.specs.declared.cause.Cause.TheVariants.{Closed}
 use Rattle.sf_session.specs.declared.fault.ServeFault.{ServeFault}
 use Rattle.sf_session.specs.Conversation.{IsConversation, IsWholeConversation}
 
--- what a line has still to give, the moments that a clock told, and what the line has taken, where
--- they tell them
+-- a transport's input not yet read, the timestamps read from a clock, and the transport's output,
+-- if exposed
 pub record TalkView : Type 0 where
   pub incoming : Option (List ℕ)
   pub told : Option (List ℕ)
@@ -17,14 +17,14 @@ abbrev pub talk_view : Option (List ℕ) → Option (List ℕ) → Option (List 
 talk_view incoming told outgoing =
     record { incoming = incoming; told = told; outgoing = outgoing }
 
--- so much was read, told and written
+-- these bytes were read, these timestamps read from the clock, and these bytes written
 pub record Passes (start now : TalkView) (read moments written : List ℕ) : Type 0 where
   pub was_read : Consumes start.incoming now.incoming read
   pub was_told : Appends start.told now.told moments
   pub was_written : Appends start.outgoing now.outgoing written
 
--- Serving came to its end, and all that passed is a whole conversation, which goes to the end of
--- the input where nothing else ended it; or it stopped, and what passed is a conversation.
+-- On success a complete conversation took place, up to the end of the input unless something else
+-- ended it. On an error a conversation took place.
 abbrev pub ConversesTo : TalkView → TalkView → Result Cause ServeFault → Type 0
 ConversesTo start now (Ok cause) = (read moments written : List ℕ)
     × Passes start now read moments written × IsWholeConversation read moments written cause

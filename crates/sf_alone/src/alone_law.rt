@@ -1,4 +1,4 @@
-//! The law of one session alone, which no call needs.
+//! Determinism of a single session, stated as the contract of an empty function.
 
 ghost use Rattle.std.specs.Prelude.{◌≡◌, ◌++◌, ℕ, List, [], map, Some};
 ghost use Rattle.sf_field.specs.Fields.{AreBytes};
@@ -12,11 +12,10 @@ ghost use Rattle.sf_serving.specs.Serving.{Progress};
 ghost use Rattle.sf_alone.specs.OnEngine.{IoState, IsTold, since_at, ServesLine};
 ghost use Rattle.sf_alone.specs.Alone.{answers_alone, moments_begun, HadMemoryThroughout, TellsAlone, EndsAlone, ServesAlone, supply};
 
-/// For one session alone, without want of memory, two served sessions of the same input and moments
-/// have equal output. One tree answers its calls, one after the other, however its bytes came in
-/// pieces and however its turns fell. So neither what it asked for, nor what it was answered, nor
-/// why it left, nor what was written depends on these. A line that is served by a new engine is
-/// such a session.
+/// *Determinism.* For a single session, if memory suffices, input and timestamps determine the
+/// output. One sequential file system answers its calls in order, however its bytes are fragmented
+/// and its turns are scheduled. Requests, replies, the cause of the end and the bytes written are
+/// thus independent of both. Serving a transport with a new engine yields such a session.
 pub fn one_session_alone()
     ensures answers { (trace : List TraceEntry) (w : World) (t : SessionState)
         → TellsAlone trace w t

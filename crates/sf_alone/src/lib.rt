@@ -1,12 +1,11 @@
-//! A session of an engine, served over a line.
+//! One session of an engine, served over a transport.
 //!
-//! Start with `serve_one` in `on_engine.rt`: it serves a session by an engine that may have others,
-//! with the one loop of `sf_serving`, whose host is the engine here. `specs/OnEngine.antt` says
-//! what it did to its line, its clock and its engine. `serve_alone` in `own_engine.rt` has an
-//! engine of its own, so that what it promises speaks of bytes and moments alone
-//! (`specs/Talks.antt`).
-//! `alone_law.rt` is the law of one session alone, and `specs/Alone.antt` says what one tree
-//! answers to it.
+//! `serve_one` in `on_engine.rt` serves a session of an engine that may have other sessions. It
+//! runs the serve loop of `sf_serving` with the engine as backend. `specs/OnEngine.antt` states its
+//! effect on the transport, the clock and the engine. `serve_alone` in `own_engine.rt` creates an
+//! engine for one session, so its contract is about bytes and timestamps only (`specs/Talks.antt`).
+//! `alone_law.rt` states that a single session is deterministic, and `specs/Alone.antt` defines its
+//! answers by the sequential specification.
 #![tactic(auto)]
 
 mod alone_law;

@@ -1,4 +1,4 @@
-//! A session that an engine serves.
+//! The engine as the backend of a session.
 
 ghost use Rattle.std.specs.Prelude.{◌≡◌, ◌<◌, ◌≤◌, ◌∷◌, ℕ, List, [], length, take, Bool, Option, Result, Ok, IfOk, IfErr, OnOk, OnErr, vec_len};
 ghost use Rattle.std.specs.Io.KnownBytes.{Appends};
@@ -19,10 +19,10 @@ use sf_serving::{CallObserver, Host, ObservedCall, SessionStep, new_piece, serve
 use sf_session::{Cause, Clock, ServeFault};
 use std::alloc::{AllocError, Global};
 
-/// How many bytes of replies wait, while whole packets are unread.
+/// The unsent output, in bytes, at which a batch ends although complete packets are unread.
 const BATCH: usize = 65536;
 
-/// Why no session opened.
+/// The error of serving for an engine's refusal to open a session.
 fn open_refusal(fault: EngineFault) -> ServeFault
     ensures { result ≡ open_refusal fault }
 {
@@ -33,7 +33,7 @@ fn open_refusal(fault: EngineFault) -> ServeFault
     }
 }
 
-/// A session opens for the line.
+/// Opens a session.
 fn open(engine: &mut Engine) -> Result<u64, ServeFault>
     ensures opened { IfOk result (λ session. GoesOnTrace engine.old Open
         (Ok (Opened session)) engine.new) }
@@ -50,7 +50,7 @@ fn open(engine: &mut Engine) -> Result<u64, ServeFault>
     }
 }
 
-/// The session is fed the first bytes of a piece.
+/// Feeds the first `n` bytes of `piece` to the session.
 fn feed(engine: &mut Engine, session: u64, piece: &Vec<u8>, n: usize) -> Result<(), AllocError>
     requires { n ≤ vec_len piece.now }
     ensures fed { OnOk result (Feeds engine.old session (take n piece.now.items) engine.new) }
@@ -62,8 +62,8 @@ fn feed(engine: &mut Engine, session: u64, piece: &Vec<u8>, n: usize) -> Result<
     Ok(())
 }
 
-/// Turns of the session, of which all but the last go on. Where no call may begin, their moment has
-/// no effect, and the clock isn't asked.
+/// Executes turns of the session; all but the last report that it can continue. If no call may
+/// begin, the timestamp has no effect and the clock is not read.
 fn turns<C: Clock>(
     engine: &mut Engine,
     clock: &mut C,
@@ -90,21 +90,21 @@ fn may_begin_after(happened: Happened) -> bool
     }
 }
 
-/// The session is closed.
+/// Closes the session.
 fn close(engine: &mut Engine, session: u64)
     ensures { Applies engine.old (Event.Close session) engine.new }
 {
     let _ = engine.apply(&Event::Close(session));
 }
 
-/// The engine is told how much of the session's output was sent.
+/// Records that `n` bytes of the session's output were sent.
 fn tell_sent(engine: &mut Engine, session: u64, n: usize)
     ensures { Applies engine.old (Event.Sent session n) engine.new }
 {
     let _ = engine.sent(session, n);
 }
 
-/// What waits to be sent.
+/// The session's unsent output.
 fn waiting(engine: &Engine, session: u64) -> &[u8]
     ensures { HasOutput engine.now session result.now }
 {
@@ -134,7 +134,7 @@ fn observed(record: &Record, session: u64) -> Option<ObservedCall<'_>> {
     }
 }
 
-/// The last call of the session among the records.
+/// The session's last call among the records.
 fn last_call(records: &[Record], session: u64) -> Option<ObservedCall<'_>> {
     for record in records.iter().rev() {
         let call = observed(record, session);
@@ -145,8 +145,8 @@ fn last_call(records: &[Record], session: u64) -> Option<ObservedCall<'_>> {
     None
 }
 
-/// Tells the observer of the session's last call, unless that has this number, and so it was told
-/// of it. Gives the number of the last one that it was told of.
+/// Reports the session's last call to the observer, unless its number is `told`, the last one
+/// reported. It returns the number of the last call reported.
 fn tell_call<G: CallObserver>(observer: &G, engine: &Engine, session: u64, told: u64) -> u64 {
     if !observer.hears_calls() {
         return told;
@@ -160,13 +160,13 @@ fn tell_call<G: CallObserver>(observer: &G, engine: &Engine, session: u64, told:
     }
 }
 
-/// A session of an engine, how often it was given turns, and who is told of its calls.
+/// A session of an engine, the number of its turns, and the observer of its calls.
 #[derive(Drop)]
 struct EngineHost<'a, G> {
     session: u64,
     turns: u64,
     observer: &'a G,
-    // The number of the last call that the observer was told of, 0 before the first.
+    // The number of the last call reported to the observer; 0 if there is none.
     told: u64,
 }
 
@@ -240,8 +240,8 @@ impl<G: CallObserver> Host<Engine> for EngineHost<'_, G> {
     }
 }
 
-/// Serves one session over a line, on an engine that may have others, to the end of the input or of
-/// the session. The observer is told of it, and of its calls.
+/// Serves one session over a transport until its input or the session ends, on an engine that may
+/// have other sessions. The observer receives the session's events.
 pub fn serve_one<L: Line, C: Clock, G: CallObserver>(
     alloc: Global,
     engine: &mut Engine,

@@ -1,4 +1,4 @@
-//! A session with an engine of its own.
+//! A session with its own engine.
 
 ghost use Rattle.std.specs.Prelude.{◌<◌};
 ghost use Rattle.sf_alone.specs.Talks.{talk_view, ConversesTo};
@@ -10,9 +10,9 @@ use sf_serving::NoObserver;
 use sf_session::{Cause, Clock, ServeFault};
 use std::alloc::Global;
 
-/// Serves one session over a line, on an engine of its own that keeps the last `keep` records, to
-/// the end of the input or of the session. What was read and written, at the moments that the clock
-/// told, is a conversation; where it came to its end, all was answered.
+/// Serves one session over a transport until its input or the session ends, on a new engine that
+/// retains the last `keep` records. The bytes read and written and the clock's timestamps form a
+/// conversation; it is a complete one on success.
 pub fn serve_alone<L: Line, C: Clock>(
     alloc: Global,
     keep: usize,

@@ -1,4 +1,4 @@
--- The calls of a history, of which a core keeps an end.
+-- The number of calls of a history, from the suffix that a core retains.
 use Rattle.std.proofs.Common.{◌≡◌, ◌≤◌, ◌+◌, List, take, ◌∙◌, ap, arith}
 use Rattle.std.specs.List.{count_by}
 use Rattle.sf_call.specs.declared.record.Record.{Record}

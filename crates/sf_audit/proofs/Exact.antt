@@ -1,4 +1,4 @@
--- Tests that are true exactly where two values are the same.
+-- Tests that return true exactly if two values are equal.
 use Rattle.std.proofs.Common.{◌≡◌, ◌&&◌, Bool, true, false, nat_eq, Some, None, refl, ap}
 use Rattle.std.specs.Bool.{Decides, beq}
 use Rattle.std.specs.Option.{option_eq}

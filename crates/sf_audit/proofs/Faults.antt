@@ -1,4 +1,4 @@
--- The first transcript that doesn't follow the records.
+-- The first transcript that disagrees with the records.
 use Rattle.std.proofs.Common.{◌≡◌, ◌<◌, ◌+◌, ℕ, List, [], ◌∷◌, ◌++◌, length, take, drop, get_or, sym, ◌∙◌, ap, subst}
 use Rattle.std.specs.List.{AllByRecursion}
 use Rattle.std.proofs.lemmas.List.{take-append-drop, drop_more, take_more}
@@ -29,7 +29,7 @@ first_wrong records ts i t fault lt is all wrong = record {
   wrong = wrong;
 }
 
--- a transcript that follows the records has no fault
+-- a transcript that matches the records has no fault
 not_both : (records : List Record) (t : Transcript) (fault : AuditFault) → Follows records t → IsFaultOf records t fault → ⊥
 not_both records t NotInHistory follows wrong =
     let P : List CallRecord → Type 0 = λ xs. AllByRecursion (IsIn (call_records t.session records)) xs in

@@ -1,4 +1,4 @@
--- What sessions were told, beside the records of a history.
+-- Agreement of the replies that sessions received with the records of a history.
 use Rattle.std.specs.Prelude.{◌≡◌, ◌≢◌, ◌<◌, ◌≤◌, ◌⊎◌, ℕ, Bool, not, nat_eq, List, [], ◌∷◌, ◌++◌, map, drop, Option, Some, None, if◌then◌else◌}
 use Rattle.std.specs.List.{filter_map, list_any, prefix_len, sum_by, AllByRecursion}
 use Rattle.sf_reply.specs.declared.reply.Reply.{Reply}
@@ -17,7 +17,7 @@ pub record CallRecord : Type 0 where
   pub request : Request
   pub reply : Reply
 
--- a call that a session was told, as a record
+-- an answered call as a record
 abbrev pub call_record : AnsweredCall → CallRecord
 call_record e = record { number = e.answer.number; request = e.request; reply = e.answer.reply }
 
@@ -28,51 +28,53 @@ call_record_of session (Did number s moment request given) =
     else None
 call_record_of session (Left s) = None
 
--- the session's calls among the records, in their order
+-- the session's calls among the records, in order
 abbrev pub call_records : ℕ → List Record → List CallRecord
 call_records session records = filter_map (call_record_of session) records
 
--- whether the call's number is in the records
+-- whether a record of the call is retained
 abbrev pub is_kept : List Record → AnsweredCall → Bool
 is_kept records e = list_any (is_of e.answer.number) records
 
--- how many calls come before the first whose number is in the records, and the calls from there on
+-- the number of calls before the first with a retained record, and the calls from there on
 abbrev pub front_len : List Record → Transcript → ℕ
 front_len records t = prefix_len (λ e. not (is_kept records e)) t.calls.items
 
 abbrev pub rest : List Record → Transcript → List CallRecord
 rest records t = map call_record (drop (front_len records t) t.calls.items)
 
--- what follows the front are the session's calls among the records
+-- the calls from there on equal the session's records
 abbrev pub Follows : List Record → Transcript → Type 0
 Follows records t = rest records t ≡ call_records t.session records
 
--- the calls of all fronts
+-- the number of calls before the retained records, over all transcripts
 abbrev pub fronts : List Record → List Transcript → ℕ
 fronts records ts = sum_by (front_len records) ts
 
--- each transcript follows the records, and no more calls come before them than were folded
+-- each transcript matches the records, and at most `folded` calls have no retained record
 pub record AgreesWith (records : List Record) (folded : ℕ) (ts : List Transcript) : Type 0 where
   pub each : AllByRecursion (Follows records) ts
   pub few : fronts records ts ≤ folded
 
--- the call is one of these
+-- the call is an element of the list
 abbrev pub IsIn : List CallRecord → CallRecord → Type 0
 IsIn [] d = ⊥
 IsIn (x ∷ xs) d = (x ≡ d) ⊎ IsIn xs d
 
--- the first calls are among the second, in the same order
+-- the first list is a subsequence of the second
 abbrev pub IsWithin : List CallRecord → List CallRecord → Type 0
 IsWithin [] ys = Unit {0}
 IsWithin (x ∷ xs) [] = ⊥
 IsWithin (x ∷ xs) (y ∷ ys) = ((x ≡ y) × IsWithin xs ys) ⊎ IsWithin (x ∷ xs) ys
 
--- all calls after the front are in the records as they were told
+-- all calls from the first retained one on are in the records, with equal request and reply
 abbrev pub AreInRecords : List Record → Transcript → Type 0
 AreInRecords records t = AllByRecursion (IsIn (call_records t.session records)) (rest records t)
 
--- What is wrong with a transcript: a call after the front is not in the records as it was told; or
--- all are, in another order; or the records have further calls of its session.
+-- The fault of a transcript, from its first call with a retained record on:
+-- - `NotInHistory`: a call is not in the records;
+-- - `OutOfOrder`: all are, in another order;
+-- - `Missing`: the records contain further calls of its session.
 abbrev pub IsFaultOf : List Record → Transcript → AuditFault → Type 0
 IsFaultOf records t NotInHistory = ¬ AreInRecords records t
 IsFaultOf records t OutOfOrder =
@@ -82,7 +84,7 @@ IsFaultOf records t Missing =
     × (rest records t ≢ call_records t.session records)
 IsFaultOf records t FoldedCount = ⊥
 
--- the first transcript that doesn't follow the records has this fault
+-- the first transcript that disagrees with the records has this fault
 pub record IsFirstFault (records : List Record) (ts : List Transcript)
     (fault : AuditFault) : Type 0 where
   pub before : List Transcript
@@ -92,7 +94,7 @@ pub record IsFirstFault (records : List Record) (ts : List Transcript)
   pub follow : AllByRecursion (Follows records) before
   pub wrong : IsFaultOf records faulty fault
 
--- all follow the records, and their fronts are too long
+-- all transcripts match the records, but too many calls have no retained record
 pub record AreTooMany (records : List Record) (folded : ℕ) (ts : List Transcript) : Type 0 where
   pub follow : AllByRecursion (Follows records) ts
   pub many : folded < fronts records ts

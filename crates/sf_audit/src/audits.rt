@@ -1,4 +1,4 @@
-//! What sessions were told, compared with the history.
+//! Comparison of the replies that sessions received with the history.
 
 ghost use Rattle.std.specs.Prelude.{◌≡◌, ◌↔◌, ◌∷◌, ◌≢◌, ◌≤◌, map, is_some, List, Some, length, IsTrue, IsOk, IfErr, IfSome, IfNone, not};
 ghost use Rattle.std.specs.List.{list_any, prefix_len, sum_by, AllByRecursion};
@@ -13,19 +13,19 @@ use sf_call::Record;
 use sf_core::Core;
 use thiserror::Error;
 
-/// Why transcripts don't agree with the history.
+/// Why transcripts disagree with the history.
 #[derive(Clone, Copy, Debug, PartialEq, Eq, Error)]
 pub enum AuditFault {
-    /// A session was told what no record tells.
+    /// A session received a reply that no record contains.
     #[error("an answer is not in the history")]
     NotInHistory = 1,
-    /// A session was told its calls in another order than that of the history.
+    /// A session received its replies in an order other than the history's.
     #[error("answers are out of order")]
     OutOfOrder = 2,
-    /// The history has a call that its session wasn't told of.
+    /// The history contains a call of a session that the session's transcript lacks.
     #[error("an answer is missing")]
     Missing = 3,
-    /// More calls were told than the history ever had.
+    /// Transcripts contain more calls without a record than were trimmed from the history.
     #[error("more answers than calls")]
     FoldedCount = 4,
 }
@@ -40,7 +40,7 @@ fn has_number(entry: &Record, number: u64) -> bool
     }
 }
 
-/// Whether the call's number is in the records.
+/// Whether a record of the call is retained.
 fn is_kept(records: &[Record], call: &AnsweredCall) -> bool
     ensures { result ≡ is_kept records.now call.now }
 {
@@ -48,7 +48,7 @@ fn is_kept(records: &[Record], call: &AnsweredCall) -> bool
     records.iter().any(|entry| has_number(entry, number))
 }
 
-/// How many calls come before the first whose number is in the records.
+/// The number of calls before the first with a retained record.
 fn front_len(records: &[Record], calls: &[AnsweredCall]) -> usize
     ensures count { result ≡ prefix_len (λ e. not (is_kept records.now e)) calls.now }
     ensures within { result ≤ length calls.now }
@@ -69,7 +69,7 @@ fn is_session_call(entry: &Record, session: u64) -> bool
     }
 }
 
-/// Whether the record tells of the session's call what the session was told.
+/// Whether the record is of this call by the session, with equal request and reply.
 fn tells(entry: &Record, session: u64, call: &AnsweredCall) -> bool
     ensures { IsTrue result ↔ (call_record_of session entry.now ≡ Some (call_record call.now)) }
 {
@@ -90,7 +90,7 @@ fn tells(entry: &Record, session: u64, call: &AnsweredCall) -> bool
     }
 }
 
-/// Whether a record tells of the session's call what the session was told.
+/// Whether one of the records is of this call by the session, with equal request and reply.
 fn is_told(records: &[Record], session: u64, call: &AnsweredCall) -> bool
     ensures { IsTrue result ↔ IsIn (call_records session records.now) (call_record call.now) }
 {
@@ -102,7 +102,7 @@ fn is_told(records: &[Record], session: u64, call: &AnsweredCall) -> bool
     false
 }
 
-/// Whether records tell of all of these calls.
+/// Whether the records contain all of these calls.
 fn are_told(records: &[Record], session: u64, calls: &[AnsweredCall]) -> bool
     ensures { IsTrue result
         ↔ AllByRecursion (IsIn (call_records session records.now)) (map call_record calls.now) }
@@ -115,8 +115,8 @@ fn are_told(records: &[Record], session: u64, calls: &[AnsweredCall]) -> bool
     true
 }
 
-/// The calls that are left where the record comes, if it is another session's or tells of the
-/// first.
+/// The calls that remain after this record: unchanged if it is another session's, without the first
+/// if it matches, `None` otherwise.
 fn after_record<'a>(
     entry: &Record,
     session: u64,
@@ -137,7 +137,7 @@ fn after_record<'a>(
     Some(left)
 }
 
-/// Whether the calls are those of the session's records, in their order.
+/// Whether the calls equal the session's records, in order.
 fn are_same_calls(records: &[Record], session: u64, calls: &[AnsweredCall]) -> bool
     ensures { IsTrue result ↔ (map call_record calls.now ≡ call_records session records.now) }
 {
@@ -151,7 +151,7 @@ fn are_same_calls(records: &[Record], session: u64, calls: &[AnsweredCall]) -> b
     left.is_empty()
 }
 
-/// The calls that are left where the record comes, which tells of the first or is passed over.
+/// The calls that remain after this record: without the first if it matches, otherwise unchanged.
 fn past_record<'a>(entry: &Record, session: u64, calls: &'a [AnsweredCall]) -> &'a [AnsweredCall]
     ensures { (later : List Record)
         → IsWithin (map call_record calls.now) (call_records session (entry.now ∷ later))
@@ -166,7 +166,7 @@ fn past_record<'a>(entry: &Record, session: u64, calls: &'a [AnsweredCall]) -> &
     calls
 }
 
-/// Whether the calls are among those of the session's records, in their order.
+/// Whether the calls are a subsequence of the session's records.
 fn are_in_order(records: &[Record], session: u64, calls: &[AnsweredCall]) -> bool
     ensures { IsTrue result
         ↔ IsWithin (map call_record calls.now) (call_records session records.now) }
@@ -178,7 +178,7 @@ fn are_in_order(records: &[Record], session: u64, calls: &[AnsweredCall]) -> boo
     left.is_empty()
 }
 
-/// What is wrong with a transcript.
+/// The fault of a transcript, if any.
 fn fault_of(records: &[Record], transcript: &Transcript) -> Option<AuditFault>
     ensures none { IfNone result (Follows records.now transcript.now) }
     ensures some { IfSome result (λ fault. IsFaultOf records.now transcript.now fault) }
@@ -198,7 +198,7 @@ fn fault_of(records: &[Record], transcript: &Transcript) -> Option<AuditFault>
     Some(AuditFault::Missing)
 }
 
-/// What is wrong with the first transcript that doesn't follow the records.
+/// The fault of the first transcript that disagrees with the records, if any.
 fn first_fault(records: &[Record], transcripts: &[Transcript]) -> Option<AuditFault>
     ensures none { IfNone result (AllByRecursion (Follows records.now) transcripts.now) }
     ensures some { IfSome result (λ fault. IsFirstFault records.now transcripts.now fault) }
@@ -211,7 +211,7 @@ fn first_fault(records: &[Record], transcripts: &[Transcript]) -> Option<AuditFa
     None
 }
 
-/// Whether the fronts have together no more calls than this.
+/// Whether the number of calls before the retained records is at most `most`, over all transcripts.
 fn are_few(records: &[Record], most: u64, transcripts: &[Transcript]) -> bool
     ensures { IsTrue result ↔ (fronts records.now transcripts.now ≤ most) }
 {
@@ -226,7 +226,8 @@ fn are_few(records: &[Record], most: u64, transcripts: &[Transcript]) -> bool
     true
 }
 
-/// The records, of which `folded` calls' went, compared with what sessions were told.
+/// Compares transcripts with a trimmed history: `records` are retained, and those of `folded` calls
+/// are not.
 fn compare(records: &[Record], folded: u64, transcripts: &[Transcript]) -> Result<(), AuditFault>
     ensures ok { IsOk result ↔ AgreesWith records.now folded transcripts.now }
     ensures fault { IfErr result
@@ -241,10 +242,11 @@ fn compare(records: &[Record], folded: u64, transcripts: &[Transcript]) -> Resul
     Ok(())
 }
 
-/// Compares what sessions were told with the history that a core keeps. Takes no memory.
+/// Compares the replies that sessions received with the history that a core retains. It allocates
+/// nothing.
 ///
-/// A transcript begins with calls whose records went, if any did. These are counted alone; what
-/// they say isn't compared.
+/// A transcript may begin with calls that were trimmed from the history. Only their number is
+/// compared.
 pub fn audit(core: &Core, transcripts: &[Transcript]) -> Result<(), AuditFault>
     ensures ok { IsOk result ↔ AgreesWith core.now.records core.now.folded transcripts.now }
     ensures fault { IfErr result

@@ -1,4 +1,4 @@
-//! The workers' shares, compared with the count of the calls.
+//! Comparison of the workers' shares of calls with the core's count.
 
 ghost use Rattle.std.specs.Prelude.{◌≡◌, ◌≢◌, ◌+◌, ◌↔◌, ◌≤◌, ℕ, sum, List, IsTrue, IsOk, IfOk};
 ghost use Rattle.std.specs.List.{count_by, sum_by};
@@ -10,24 +10,24 @@ use sf_call::Record;
 use sf_core::{Core, Share};
 use thiserror::Error;
 
-/// How many calls a core has.
+/// The number of calls of a core.
 #[derive(Clone, Copy, Debug, PartialEq, Eq)]
 pub struct Totals {
-    /// Those that have a record, whether or not it is kept.
+    /// Calls with a record, whether or not it is retained.
     pub recorded: u64,
-    /// Those that have none yet.
+    /// Calls without a record yet.
     pub under_way: u64,
 }
 
-/// Why shares don't agree with a core.
+/// Why shares disagree with a core.
 #[derive(Clone, Copy, Debug, PartialEq, Eq, Error)]
 pub enum GatherFault {
-    /// The shares are not all of the core's calls, or are more.
+    /// The sum of the shares is not the number of the core's calls.
     #[error("the shares are not all of the calls")]
     NotAll = 1,
 }
 
-/// Whether the shares are together just so many calls.
+/// Whether the shares add up to `calls`.
 fn are_all(calls: u64, shares: &[Share]) -> bool
     ensures { IsTrue result ↔ (sum shares.now ≡ calls) }
 {
@@ -48,7 +48,7 @@ fn is_of_call(entry: &Record) -> bool
     matches!(entry, Record::Did { .. })
 }
 
-/// How many of the records are of calls.
+/// The number of records of calls.
 fn call_count(records: &[Record]) -> usize
     ensures { result ≡ count_by is_call records.now }
 {
@@ -61,7 +61,7 @@ fn call_count(records: &[Record]) -> usize
     count
 }
 
-/// How many calls of a core have records, whether or not these are kept.
+/// The number of calls with a record, whether or not it is retained.
 fn recorded(core: &Core, calls: u64) -> u64
     requires { calls ≡ core.now.drawn }
     ensures all { (h : List Record) → IsHistory core.now h → result ≡ count_by is_call h }
@@ -72,7 +72,7 @@ fn recorded(core: &Core, calls: u64) -> u64
 }
 
 impl Totals {
-    /// The calls of a core.
+    /// Counts the calls of a core.
     pub fn of(core: &Core) -> Totals
         ensures recorded { (h : List Record) → IsHistory core.now h
             → result.recorded ≡ count_by is_call h }
@@ -87,7 +87,7 @@ impl Totals {
     }
 }
 
-/// The calls of a core, if the shares are all of them.
+/// The call counts of a core, if the shares add up to its calls.
 pub fn gather(core: Core, shares: Vec<Share>) -> Result<Totals, GatherFault>
     ensures ok { IsOk result ↔ (sum shares.items ≡ core.drawn) }
     ensures recorded { IfOk result (λ totals. (h : List Record) → IsHistory core h

@@ -1,8 +1,8 @@
-//! What sessions were told, compared with the history of the core that they shared.
+//! A run-time check of a server: do the replies that sessions received match the core's history?
 //!
-//! Start with `audit` in `audits.rt`: a `Transcript` has what one session was told, and `audit`
-//! compares transcripts with the history that a core keeps (`specs/Audits.antt`). `gather` compares
-//! the workers' shares of the calls with the core's count.
+//! Start with `audit` in `audits.rt`. A `Transcript` contains the calls of one session and their
+//! replies, and `audit` compares transcripts with the retained history (`specs/Audits.antt`).
+//! `gather` compares the workers' shares of calls with the core's count.
 #![tactic(auto)]
 
 mod audits;

@@ -1,4 +1,4 @@
-//! Whether two values are the same.
+//! Equality of requests and replies.
 
 ghost use Rattle.std.specs.Prelude.{◌≡◌, ◌↔◌, IsTrue};
 
@@ -37,7 +37,7 @@ fn same_listing(a: &Listing, b: &Listing) -> bool
     a.as_slice() == b.as_slice()
 }
 
-/// Whether two calls ask the same.
+/// Whether two requests are equal.
 pub(crate) fn same_request(a: &Request, b: &Request) -> bool
     ensures { IsTrue result ↔ (a.now ≡ b.now) }
 {
@@ -88,7 +88,7 @@ pub(crate) fn same_request(a: &Request, b: &Request) -> bool
     }
 }
 
-/// Whether two replies tell the same.
+/// Whether two replies are equal.
 pub(crate) fn same_reply(a: &Reply, b: &Reply) -> bool
     ensures { IsTrue result ↔ (a.now ≡ b.now) }
 {

@@ -1,19 +1,19 @@
-//! What a session was told.
+//! The calls of a session and their replies.
 
 use sf_call::{Answer, Request};
 
-/// A call's request, and its answer.
+/// A request and its answer.
 #[derive(Debug, Drop)]
 pub struct AnsweredCall {
     pub request: Request,
     pub answer: Answer,
 }
 
-/// What a session asked of a core, and was told.
+/// The calls of a session, with the replies that it received.
 #[derive(Debug, Drop)]
 pub struct Transcript {
-    /// 0 where it never joined.
+    /// 0 if the session never joined.
     pub session: u64,
-    /// In the order in which they were made.
+    /// In call order.
     pub calls: Vec<AnsweredCall>,
 }

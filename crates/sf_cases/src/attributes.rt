@@ -1,10 +1,10 @@
-//! Attributes that requests carry, and that replies tell.
+//! Attributes for requests and expected replies.
 
 ghost use Rattle.std.specs.Prelude.{◌≡◌, Some, None};
 
 use sf_field::{Attrs, NO_ATTRS, Owner, Times};
 
-/// A size alone.
+/// Only a size.
 pub fn sized(size: u64) -> Attrs
     ensures { result ≡ record { size = Some size; owner = None; permissions = None; times = None } }
 {
@@ -14,7 +14,7 @@ pub fn sized(size: u64) -> Attrs
     }
 }
 
-/// All four parts, of user 0 and group 0.
+/// All attributes, of user 0 and group 0.
 pub fn whole(size: u64, permissions: u32, atime: u32, mtime: u32) -> Attrs
     ensures size { result.size ≡ Some size }
     ensures owner { result.owner ≡ Some (record { uid = 0; gid = 0 }) }

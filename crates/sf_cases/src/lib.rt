@@ -1,22 +1,15 @@
-//! What tests of several crates share: requests made by name, the attributes that they carry, bytes
-//! from hexadecimal, clocks, a line that fails, and numbers that look drawn. The program uses none
-//! of it.
+//! Helpers for the tests of several crates: requests, attributes, bytes from hexadecimal, and
+//! pseudorandom numbers. The program uses none of it.
 //!
-//! Start with `requests`: a function for each request, whose contract says which request it makes
-//! of the path that a text stands for. `sized` and `whole` make attributes, `StillClock` tells the
-//! moment 100 and `RisingClock` moments that rise, a `FailingLine` fails where it is told to,
-//! `Numbers` gives the same numbers each time, and `hex_bytes` and `hex_packets` the bytes that
-//! texts stand for.
+//! Start with `requests`: a function for each request. Its contract gives the request for the path
+//! of a text. `sized` and `whole` make attributes, `Numbers` generates the same numbers for the same
+//! seed, and `hex_bytes` and `hex_packets` parse hexadecimal.
 #![tactic(auto)]
 
 mod attributes;
-mod clock;
-mod failing;
 mod numbers;
 pub mod requests;
 
 pub use attributes::{sized, whole};
-pub use clock::{RisingClock, StillClock};
-pub use failing::FailingLine;
 pub use numbers::Numbers;
 pub use sf_hex::{hex_bytes, hex_packets};

@@ -1,23 +1,23 @@
-//! Numbers that look drawn.
+//! Pseudorandom numbers.
 
 ghost use Rattle.std.specs.Prelude.{◌≡◌};
 ghost use Rattle.sf_cases.specs.Numbers.{state_after, drawn};
 
-/// Numbers that look drawn, the same ones each time.
+/// A pseudorandom number generator: the same seed gives the same numbers.
 #[derive(Clone, Copy, Debug)]
 pub struct Numbers {
     state: u64,
 }
 
 impl Numbers {
-    /// The numbers that a seed leads to.
+    /// A generator with this seed.
     pub fn new(seed: u64) -> Numbers
         ensures { result ≡ record { state = seed } }
     {
         Numbers { state: seed }
     }
 
-    /// The next number, below the limit, or 0.
+    /// The next number, below `limit`; 0 if `limit` is 0.
     pub fn below(&mut self, limit: u64) -> u64
         ensures state { self.new.state ≡ state_after self.old.state }
         ensures number { result ≡ drawn self.new.state limit }

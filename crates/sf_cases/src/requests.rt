@@ -1,4 +1,4 @@
-//! Requests by name, of the paths that texts stand for. A faulty text is an error.
+//! Requests by name, with paths as texts. An invalid path is an error.
 
 ghost use Rattle.std.specs.Prelude.{◌≡◌, IfOk};
 ghost use Rattle.sf_path.specs.Normal.{norm};
@@ -12,7 +12,7 @@ use sf_path::Path;
 use std::alloc::Global;
 use std::test::Fail;
 
-/// The path that a text stands for.
+/// The path of a text.
 pub fn path(alloc: Global, text: &[u8]) -> Result<Path, Fail>
     ensures { IfOk result (λ path. path ≡ norm text.now) }
 {
@@ -20,7 +20,8 @@ pub fn path(alloc: Global, text: &[u8]) -> Result<Path, Fail>
     Ok(path)
 }
 
-/// The flags of these letters: `r` READ, `w` WRITE, `a` APPEND, `c` CREAT, `t` TRUNC, `x` EXCL.
+/// The open flags of these letters: `r` READ, `w` WRITE, `a` APPEND, `c` CREAT, `t` TRUNC, `x`
+/// EXCL.
 pub fn flags(letters: &[u8]) -> OpenFlags
     ensures { result ≡ flags_by_letters letters.now }
 {
@@ -50,7 +51,7 @@ pub fn set_stat(alloc: Global, text: &[u8], attrs: Attrs) -> Result<Request, Fai
     Ok(Request::SetStat(path, attrs))
 }
 
-/// MKDIR, with no attributes.
+/// MKDIR, without attributes.
 pub fn mkdir(alloc: Global, text: &[u8]) -> Result<Request, Fail>
     ensures { IfOk result (λ made. made ≡ request.Mkdir (norm text.now) no_attrs) }
 {
@@ -82,7 +83,7 @@ pub fn open_dir(alloc: Global, text: &[u8]) -> Result<Request, Fail>
     Ok(Request::OpenDir(path))
 }
 
-/// OPEN, with the flags of these letters and no attributes.
+/// OPEN, with the flags of these letters and without attributes.
 pub fn open(alloc: Global, text: &[u8], letters: &[u8]) -> Result<Request, Fail>
     ensures { IfOk result (λ made. made
         ≡ request.Open (norm text.now) (flags_by_letters letters.now) no_attrs) }

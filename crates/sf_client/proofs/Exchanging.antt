@@ -1,4 +1,4 @@
--- Exchanges one after the other, and requests that are sent ahead.
+-- Sequences of exchanges, and pipelined requests.
 use Rattle.std.proofs.Common.{◌≡◌, ℕ, List, [], ◌∷◌, ◌++◌, Option, true, false, refl, sym, ap, subst, ◌∙◌, append_assoc, append-nil, arith}
 use Rattle.std.specs.List.{AllByRecursion}
 use Rattle.std.specs.Io.KnownBytes.{Appends, Consumes}
@@ -44,7 +44,7 @@ pub all-map : {X : Type 0} (P Q : X → Type 0) (xs : List X) → ((x : X) → P
 all-map P Q [] f p = tt
 all-map P Q (x ∷ xs) f p = (f x p.0, all-map P Q xs f p.1)
 
--- the first request that is due is now answered
+-- the oldest request in flight is answered
 pub requests-shift : (xs : List Exchange) (q : WireRequest) (r : Reply) (qs : List WireRequest) → requests_of (xs ++ asked q r ∷ []) ++ qs ≡ requests_of xs ++ q ∷ qs
 requests-shift xs q r qs = ap (λ (t : List WireRequest). t ++ qs) (map-append (λ (x : Exchange). x.request) xs (asked q r ∷ [])) ∙ append_assoc (requests_of xs) (q ∷ []) qs
 
@@ -54,7 +54,7 @@ pub exchanged_none : (v : ClientView) → v.failed ≡ false → Exchanged v [] 
 unfolding last_id requests_from replies_from
 exchanged_none v going = record { began = going; going = going; next = refl; wrote = Appends-nil v.outgoing; read = Consumes-nil v.incoming; due = tt; failures = omega arith }
 
--- the packets of what was sent in two parts
+-- the packets of requests sent in two parts
 requests_in_parts : (id : ℕ) (xs ys : List Exchange) (later : List WireRequest) → requests_from id (requests_of (xs ++ ys) ++ later) ≡ requests_from id (requests_of xs ++ []) ++ requests_from (last_id id xs) (requests_of ys ++ later)
 requests_in_parts id xs ys later =
     let parts : requests_of (xs ++ ys) ++ later ≡ requests_of xs ++ (requests_of ys ++ later) =
@@ -82,9 +82,9 @@ exchanged_then u v w xs ys p q = ahead_then u v w xs ys [] p q
 pub unanswered_then : (u v w : ClientView) (xs ys : List Exchange) (q : WireRequest) (later : List WireRequest) → Exchanged u xs v → Unanswered v ys q later w → Unanswered u (xs ++ ys) q later w
 unanswered_then u v w xs ys q later p h = (h.0, ahead_then u v h.0 xs ys (q ∷ later) p h.1, h.2)
 
--- ---- one request more, and one reply more
+-- ---- one more request, and one more reply
 
--- one more request was sent, under the next id
+-- one more request was sent, with the next id
 pub sent_more : {v u w : ClientView} {xs : List Exchange} {qs : List WireRequest} (id : ℕ) (q : WireRequest) → SentAhead v xs qs u → id ≡ last_id v.next (requests_of xs ++ qs) → Sent u (packet (request_body id q)) w
     → SentAhead v xs (qs ++ q ∷ []) w
 unfolding requests_from
@@ -106,7 +106,7 @@ sent_more {v} {u} {w} {xs} {qs} id q ahead is sent =
       failures = omega (arith, ahead.failures, sent.failures);
     }
 
--- the first of the replies that are due was taken
+-- the oldest pending reply was received
 pub took_one : {v u w : ClientView} {xs : List Exchange} {q : WireRequest} {qs : List WireRequest} {r : Reply} → SentAhead v xs (q ∷ qs) u → is_due (due_of q) r ≡ true → Took u r w → SentAhead v (xs ++ asked q r ∷ []) qs w
 unfolding replies_from last_id
 took_one {v} {u} {w} {xs} {q} {qs} {r} ahead due took =

@@ -1,4 +1,4 @@
--- Filling a buffer from a line.
+-- Filling a buffer from a transport.
 use Rattle.std.proofs.Common.{◌≡◌, ℕ, ◌+◌, ◌^◌, ◌<◌, ◌≤◌, List, ◌++◌, length, take, drop, Option, Some, None, refl, sym, ap, subst, ◌∙◌, append_assoc, arith}
 use Rattle.std.specs.Int.{w32, from_be_bytes}
 use Rattle.std.specs.Io.KnownBytes.{Consumes, IsAtEnd}
@@ -10,24 +10,24 @@ use borrow.Rule.Slice.PartMut.{put_mid, post_of}
 use Rattle.sf_field.specs.Fields.{be32, packet}
 use Rattle.sf_client.specs.Packets.{RunsOut, HasNoPacket}
 
--- at its end, fewer bytes were there than the buffer holds
+-- at its end the input had fewer bytes than the buffer
 pub ends : (a b : Option (List ℕ)) (bytes : List ℕ) (n : ℕ) → Consumes a b bytes → IsAtEnd b → length bytes < n → RunsOut a n
 ends None b bytes n read end lt = tt
 ends (Some input) None bytes n read end lt = absurd read
 ends (Some input) (Some left) bytes n read end lt = let all : input ≡ bytes = read ∙ ap (λ (t : List ℕ). bytes ++ t) end ∙ append-nil bytes in omega (arith, ap length all)
 
--- what was read after what was there
+-- the bytes read follow those read before
 pub taken_more : (a k n : ℕ) (xs ys : List ℕ) → a ≤ length xs → n ≤ length ys → take (a + n) (put_mid a k xs ys) ≡ take a xs ++ take n ys
 taken_more a k n xs ys within fits =
     let len = length-take-le a xs within in
     ap (λ (m : ℕ). take (m + n) (put_mid a k xs ys)) (sym len) ∙ take-append-add (take a xs) (ys ++ post_of a k xs) n ∙ ap (λ (l : List ℕ). take a xs ++ l) (take-append-le n ys (post_of a k xs) fits)
 
--- ---- packets at the front
+-- ---- the first packet
 
 pub same_number : (n m : ℕ) → n < 2 ^ 32 → m < 2 ^ 32 → be32 n ≡ be32 m → n ≡ m
 same_number n m p q e = sym (from_be_bytes-to_be_bytes_4 n p) ∙ ap (from_be_bytes w32) e ∙ from_be_bytes-to_be_bytes_4 m q
 
--- the header of a packet is its body's length, and its body is after it
+-- the header of a packet is its body's length, and its body follows
 pub header_is : (body rest header left : List ℕ) → length header ≡ 4 → packet body ++ rest ≡ header ++ left → (header ≡ be32 (length body)) × (left ≡ body ++ rest)
 header_is body rest header left len e =
     let whole : be32 (length body) ++ (body ++ rest) ≡ header ++ left = sym (append_assoc (be32 (length body)) body rest) ∙ e in
@@ -38,7 +38,7 @@ pub ends_in_header : (a : Option (List ℕ)) (n : ℕ) → n ≡ 4 → RunsOut a
 ends_in_header None n four h = tt
 ends_in_header (Some input) n four h = λ body rest is e. omega (arith, h, ap length e, length-append (packet body) rest, length-append (be32 (length body)) body)
 
--- the header is no body's length
+-- the header is not the length of a body
 pub wrong_header : (a b : Option (List ℕ)) (header : List ℕ) → Consumes a b header → length header ≡ 4 → ((n : ℕ) → 0 < n → n ≤ 262144 → header ≡ be32 n → ⊥) → HasNoPacket a
 wrong_header None b header read len wrong = tt
 wrong_header (Some input) None header read len wrong = absurd read
@@ -46,7 +46,7 @@ wrong_header (Some input) (Some left) header read len wrong = λ body rest is_bo
     let parts = header_is body rest header left len (sym e ∙ read) in
     wrong (length body) is_body.some is_body.short parts.0
 
--- A header was read, which tells a body of this length.
+-- A header was read, and it is the length of a body.
 pub record HeaderRead (a b : Option (List ℕ)) (header : List ℕ) (n : ℕ) : Type 0 where
   pub read : Consumes a b header
   pub short : n ≤ 262144

@@ -1,4 +1,4 @@
--- Listing a directory, sent ahead.
+-- Listing a directory, pipelined.
 use Rattle.std.proofs.Common.{◌≡◌, ◌≢◌, ◌<◌, ℕ, List, [], ◌∷◌, ◌++◌, Bool, false, None, Some, Ok, inl, inr, refl, sym, ap, subst, ◌∙◌, append_assoc, append-nil}
 use Rattle.std.specs.List.{AllByRecursion}
 use Rattle.sf_field.specs.Fields.{be64}
@@ -39,7 +39,7 @@ pub record Parts (n : ℕ) (entries : List Entry) (made : List Exchange) : Type 
   pub entries_are : entries ≡ all_entries parts
   pub made_are : made ≡ listings n parts
 
--- After some parts this fault ended it, and the replies after that were dropped.
+-- After some parts this error ended the listing, and later replies were discarded.
 pub record ListEndedBy (f : ClientFault) (n : ℕ) (entries : List Entry) (made : List Exchange) : Type 0 where
   pub parts : List (List Entry)
   pub last : List Exchange
@@ -49,7 +49,7 @@ pub record ListEndedBy (f : ClientFault) (n : ℕ) (entries : List Entry) (made 
   pub after_are : AllByRecursion (IsListing n) after
   pub made_are : made ≡ (listings n parts ++ last) ++ after
 
--- no reply is dropped but after a fault
+-- replies are discarded only after an error
 abbrev pub GathersEntries : ℕ → List Entry → PipelinePhase → List Exchange → List WireRequest → Type 0
 GathersEntries n entries Going made coming = Parts n entries made
 GathersEntries n entries Skipping made coming = ⊥
@@ -91,7 +91,7 @@ list_drops n entries (Stopped f) made coming e drops one h = record {
   made_are = ap (λ (t : List Exchange). t ++ e ∷ []) h.made_are ∙ append_assoc (listings n h.parts ++ h.last) h.after (e ∷ []);
 }
 
--- READDIRs of a handle, and the entries that they gave
+-- READDIRs of a handle, and their entries
 abbrev pub listing : ℕ → Pipeline
 listing n = record {
   IsOne = AsksNames n;
@@ -121,7 +121,7 @@ part_more n entries part now made is = λ q others one g. record {
   made_are = ap (λ (t : List Exchange). t ++ asked q (reply.Names part) ∷ []) g.made_are ∙ ap (λ (x : WireRequest). listings n g.parts ++ asked x (reply.Names part) ∷ []) one ∙ sym (listings_more n g.parts part);
 }
 
--- the entries that were gathered don't count any more
+-- the entries collected so far no longer count
 part_lost : (n : ℕ) (entries part now : List Entry) (made : List Exchange) → GathersWith (listing n) entries made (reply.Names part) now (Stopped fault.OutOfMemory)
 part_lost n entries part now made = λ q others one g.
     let h = list_stops n entries made others (asked q (reply.Names part)) fault.OutOfMemory one tt g in

@@ -1,5 +1,4 @@
--- Requests that are sent ahead, and the replies that come for them, whatever a call gathers from
--- these.
+-- Pipelined requests and their replies, for any items that a call collects from these.
 use Rattle.std.proofs.Common.{◌≡◌, ◌≢◌, ◌+◌, ◌-◌, ◌*◌, ◌^◌, ◌<◌, ◌≤◌, ℕ, zero, suc, List, [], ◌∷◌, ◌++◌, length, Bool, true, false, Option, Some, None, Result, Ok, Err, inl, inr, refl, sym, ap, subst, ◌∙◌, append_assoc, arith}
 use Rattle.std.specs.List.{AllByRecursion}
 use Rattle.std.proofs.lemmas.List.{length-append}
@@ -18,10 +17,10 @@ use Rattle.sf_client.proofs.Exchanging.{exchanged_none, sent_more, took_one, las
 use Rattle.sf_client.proofs.Steps.{broke_since, answer_due}
 use Rattle.sf_client.proofs.Runs.{CallEnded, ended_does}
 
--- ---- a pipeline, and where it stands
+-- ---- a pipeline and its state
 
--- A call gathers from the replies that come; or it drops those on their way, and goes on after
--- them; or this fault stopped it, and it drops them.
+-- A call collects items from arriving replies; it discards those in flight and continues after
+-- them; or this error stopped it, and it discards them.
 pub data PipelinePhase : Type 0 where
   Going : PipelinePhase
   Skipping : PipelinePhase
@@ -37,25 +36,26 @@ Drops Going = ⊥
 Drops Skipping = Unit {0}
 Drops (Stopped f) = Unit {0}
 
--- What a call that sends requests ahead asks and gathers. `Gathers x phase made coming`: these
--- exchanges gave x, while these requests are on their way.
+-- What a pipelined call requests and collects. `Gathers x phase made coming`: these exchanges
+-- yielded x, while these requests are in flight.
 pub record Pipeline : Type 1 where
   pub IsOne : WireRequest → Type 0
   pub due : Due
   pub dues : (q : WireRequest) → IsOne q → due_of q ≡ due
   pub Gathered : Type 0
   pub Gathers : Gathered → PipelinePhase → List Exchange → List WireRequest → Type 0
-  -- nothing more is dropped
+  -- nothing more is discarded
   pub skipped : (x : Gathered) (made : List Exchange) → Gathers x Skipping made [] → Gathers x Going made []
-  -- there is no memory to send one more
+  -- memory runs out for sending another request
   pub short : (x : Gathered) (made : List Exchange) (coming : List WireRequest) → Gathers x Going made coming → Gathers x (Stopped fault.OutOfMemory) made coming
-  -- the reply of the oldest one ends it
+  -- the reply to the oldest request ends it
   pub stops : (x : Gathered) (made : List Exchange) (coming : List WireRequest) (e : Exchange) (f : ClientFault) → IsOne e.request → EndsCallBy e.reply f → Gathers x Going made (e.request ∷ coming)
       → Gathers x (Stopped f) (made ++ e ∷ []) coming
-  -- the reply of the oldest one is dropped
+  -- the reply to the oldest request is discarded
   pub drops : (x : Gathered) (phase : PipelinePhase) (made : List Exchange) (coming : List WireRequest) (e : Exchange) → Drops phase → IsOne e.request → Gathers x phase made (e.request ∷ coming) → Gathers x phase (made ++ e ∷ []) coming
 
--- Where a pipeline stands that a client began: what was made and gathered, and what is on its way.
+-- The state of a pipeline that a client began: the exchanges so far, the items collected, and the
+-- requests in flight.
 pub record Position (p : Pipeline) (began : ClientView) (x : p.Gathered) (now : ClientAhead) : Type 0 where
   pub phase : PipelinePhase
   pub made : List Exchange
@@ -84,11 +84,11 @@ something : (qs : List WireRequest) (n : ℕ) → n ≡ length qs → 0 < n → 
 something [] n is some = absurd (omega arith)
 something (q ∷ qs) n is some = (q, qs, refl)
 
--- nothing is on its way
+-- no request is in flight
 pub nothing_coming : {p : Pipeline} {v : ClientView} {x : p.Gathered} {y : ClientAhead} (at : Position p v x y) → y.ahead.waiting ≡ 0 → at.coming ≡ []
 nothing_coming {y = y} at none = nothing at.coming y.ahead.waiting at.waiting none
 
--- it goes on where nothing stopped it and no reply is dropped
+-- it continues unless it was stopped or replies are to be discarded
 pub goes_on : {p : Pipeline} {v : ClientView} {x : p.Gathered} {y : ClientAhead} (at : Position p v x y) → y.ahead.stopped ≡ None → y.ahead.dropped ≡ 0 → p.Gathers x Going at.made at.coming
 goes_on {p} {v} {x} {y} at none kept =
     (elim at.phase as (λ (s : PipelinePhase). IsIn s y.ahead → p.Gathers x s at.made at.coming → p.Gathers x Going at.made at.coming) [
@@ -98,7 +98,7 @@ goes_on {p} {v} {x} {y} at none kept =
       | Stopped f ↦ λ is h. let stopped = is.0 in absurd cc
     ]) at.is_in at.gathers
 
--- the next reply counts where it isn't dropped
+-- the next reply counts unless it is to be discarded
 counts : {p : Pipeline} {v : ClientView} {x : p.Gathered} {y : ClientAhead} (at : Position p v x y) → 0 < y.ahead.waiting → y.ahead.dropped ≡ 0 → (y.ahead.stopped ≡ None) × p.Gathers x Going at.made at.coming
 counts {p} {v} {x} {y} at some kept =
     (elim at.phase as (λ (s : PipelinePhase). IsIn s y.ahead → p.Gathers x s at.made at.coming → (y.ahead.stopped ≡ None) × p.Gathers x Going at.made at.coming) [
@@ -107,7 +107,7 @@ counts {p} {v} {x} {y} at some kept =
       | Stopped f ↦ λ is h. absurd (omega (arith, some, kept, is.1))
     ]) at.is_in at.gathers
 
--- one reply less is dropped
+-- one reply fewer is to be discarded
 drops_one : {p : Pipeline} {v : ClientView} {x : p.Gathered} {y : ClientAhead} (at : Position p v x y) → 0 < y.ahead.dropped
     → Drops at.phase × IsIn at.phase (record y.ahead { waiting = y.ahead.waiting - 1; dropped = y.ahead.dropped - 1 })
 drops_one {p} {v} {x} {y} at more =
@@ -117,7 +117,7 @@ drops_one {p} {v} {x} {y} at more =
       | Stopped f ↦ λ is. (tt, (is.0, ap (λ (n : ℕ). n - 1) is.1))
     ]) at.is_in
 
--- nothing is dropped where nothing is due
+-- nothing is discarded if no reply is pending
 pub none_dropped : {p : Pipeline} {v : ClientView} {x : p.Gathered} {y : ClientAhead} (at : Position p v x y) → y.ahead.waiting ≡ 0 → y.ahead.dropped ≡ 0
 none_dropped {p} {v} {x} {y} at none =
     (elim at.phase as (λ (s : PipelinePhase). IsIn s y.ahead → y.ahead.dropped ≡ 0) [ Going ↦ λ is. is.1 | Skipping ↦ λ is. is.1 ∙ none | Stopped f ↦ λ is. is.1 ∙ none ]) at.is_in
@@ -131,13 +131,13 @@ stopped_by {p} {v} {x} {y} at f stopped none =
       | Stopped g ↦ λ is h. let by = is.0 in let same : g ≡ f = cc in subst (λ (k : ClientFault). p.Gathers x (Stopped k) at.made at.coming) same h
     ]) at.is_in at.gathers)
 
--- all replies were taken
+-- all replies were received
 pub all_taken : {p : Pipeline} {v : ClientView} {x : p.Gathered} {y : ClientAhead} (at : Position p v x y) → y.ahead.waiting ≡ 0 → Exchanged v at.made y.client
 all_taken {p} {v} {x} {y} at none = subst (λ (t : List WireRequest). SentAhead v at.made t y.client) (nothing_coming at none) at.sent
 
--- ---- one request more
+-- ---- one more request
 
--- one more request may be sent
+-- another request may be sent
 pub record HasRoom (a : Ahead) : Type 0 where
   pub room : a.waiting < 64
   pub kept : a.dropped ≡ 0
@@ -159,7 +159,7 @@ sends {p} {v} {x} {y} {z} at q now room one h gathers = record {
   gathers = gathers (goes_on at room.going room.kept);
 }
 
--- there was no memory to send it
+-- memory ran out for sending it
 pub unsent : {p : Pipeline} {v : ClientView} {x : p.Gathered} {y z : ClientAhead} (at : Position p v x y) → HasRoom y.ahead → (z.client ≡ y.client) × RunsShort y.ahead z.ahead → Position p v x z
 unsent {p} {v} {x} {y} {z} at room h =
     subst (λ (u : ClientView). Position p v x (sender u z.ahead)) (sym h.0)
@@ -177,15 +177,15 @@ unsent {p} {v} {x} {y} {z} at room h =
       gathers = p.short x at.made at.coming (goes_on at room.going room.kept);
     }))
 
--- one more was sent, or there was no memory for it
+-- another request was sent, or memory ran out for it
 pub sends_on : {p : Pipeline} {v : ClientView} {x : p.Gathered} {y z : ClientAhead} (at : Position p v x y) (q : WireRequest) (sent : Bool) → HasRoom y.ahead → p.IsOne q → SendsOn y q (Ok sent) z
     → (p.Gathers x Going at.made at.coming → p.Gathers x Going at.made (at.coming ++ q ∷ [])) → Position p v x z
 sends_on {p} {v} {x} at q true room one h gathers = sends at q x room one h gathers
 sends_on at q false room one h gathers = unsent at room h
 
--- ---- one reply more
+-- ---- one more reply
 
--- A reply came for the oldest request.
+-- A reply to the oldest request arrived.
 pub record ReplyCame (y : ClientAhead) (d : Due) (r : Reply) (z : ClientAhead) : Type 0 where
   pub some : 0 < y.ahead.waiting
   pub due : is_due d r ≡ true
@@ -211,7 +211,7 @@ replied {p} {v} {x} {y} {z} {r} at phase now c is_in gathers =
       gathers = gathers old.0 old.1 ones.0 (subst (p.Gathers x at.phase at.made) old.2 at.gathers);
     }
 
--- the same, where the reply counts
+-- the same, if the reply counts
 counted : {p : Pipeline} {v : ClientView} {x : p.Gathered} {y z : ClientAhead} {r : Reply} (at : Position p v x y) (phase : PipelinePhase) (now : p.Gathered) → ReplyCame y p.due r z → y.ahead.dropped ≡ 0
     → (y.ahead.stopped ≡ None → IsIn phase z.ahead) → ((q : WireRequest) (others : List WireRequest) → p.IsOne q → p.Gathers x Going at.made (q ∷ others) → p.Gathers now phase (at.made ++ asked q r ∷ []) others) → Position p v now z
 counted {p} {v} {x} {y} {z} {r} at phase now c kept is_in gathers =
@@ -228,30 +228,30 @@ answered {d} {y} {z} {a} r some h id waiting = record {
   waiting = waiting ∙ ap (λ (b : Ahead). b.waiting) h.3;
 }
 
--- what was gathered with this reply
+-- the items with those of this reply
 abbrev pub GathersWith : (p : Pipeline) → p.Gathered → List Exchange → Reply → p.Gathered → PipelinePhase → Type 0
 GathersWith p x made r now phase =
     (q : WireRequest) (others : List WireRequest) → p.IsOne q → p.Gathers x Going made (q ∷ others) → p.Gathers now phase (made ++ asked q r ∷ []) others
 
--- a reply came that counts
+-- a reply arrived that counts
 pub took_on : {p : Pipeline} {v : ClientView} {x : p.Gathered} {y z : ClientAhead} (at : Position p v x y) (r : Reply) (now : p.Gathered) → 0 < y.ahead.waiting → TakesOn y p.due (Ok (Some r)) z → GathersWith p x at.made r now Going → Position p v now z
 took_on at r now some h gathers = counted at Going now (answered r some h refl refl) h.1 (λ going. (ap (λ (b : Ahead). b.stopped) h.3 ∙ going, ap (λ (b : Ahead). b.dropped) h.3 ∙ h.1)) gathers
 
--- after it the replies on their way are dropped
+-- after it the replies in flight are discarded
 pub took_short : {p : Pipeline} {v : ClientView} {x : p.Gathered} {y z : ClientAhead} {a : Ahead} (at : Position p v x y) (r : Reply) (now : p.Gathered) → 0 < y.ahead.waiting → TakesOn y p.due (Ok (Some r)) z
     → a ≡ record z.ahead { dropped = z.ahead.waiting } → GathersWith p x at.made r now Skipping → Position p v now (sender z.client a)
 took_short {p} {v} {x} {y} {z} at r now some h is gathers =
     subst (λ (b : Ahead). Position p v now (sender z.client b)) (sym is)
     (counted at Skipping now (answered r some h refl refl) h.1 (λ going. (ap (λ (b : Ahead). b.stopped) h.3 ∙ going, refl)) gathers)
 
--- there was no memory for it
+-- memory ran out for it
 pub took_no_room : {p : Pipeline} {v : ClientView} {x : p.Gathered} {y z : ClientAhead} {a : Ahead} (at : Position p v x y) (r : Reply) (now : p.Gathered) → 0 < y.ahead.waiting → TakesOn y p.due (Ok (Some r)) z
     → RunsShort z.ahead a → GathersWith p x at.made r now (Stopped fault.OutOfMemory) → Position p v now (sender z.client a)
 took_no_room {p} {v} {x} {y} {z} at r now some h is gathers =
     subst (λ (b : Ahead). Position p v now (sender z.client b)) (sym is)
     (counted at (Stopped fault.OutOfMemory) now (answered r some h refl refl) h.1 (λ going. (refl, refl)) gathers)
 
--- a reply was dropped, or stopped the sending
+-- a reply was discarded, or stopped the sending
 pub missed : {p : Pipeline} {v : ClientView} {x : p.Gathered} {y z : ClientAhead} (at : Position p v x y) → 0 < y.ahead.waiting → TakesOn y p.due (Ok None) z → Position p v x z
 missed {p} {v} {x} {y} {z} at some h =
     elim h.5 [
@@ -264,7 +264,7 @@ missed {p} {v} {x} {y} {z} at some h =
 
 -- ---- its end
 
--- no due reply came for the oldest one
+-- the expected reply to the oldest request didn't arrive
 spoilt : {p : Pipeline} {v : ClientView} {x : p.Gathered} {y : ClientAhead} {X : Type 0} (S : List Exchange → Result X ClientFault → Type 0) (at : Position p v x y) (w : ClientView) → 0 < y.ahead.waiting
     → (w.failed ≡ true) × (w.outgoing ≡ y.client.outgoing) × HasNoReply y.client.incoming y.client.next p.due → DoesCall S v (Err fault.Protocol) w
 spoilt {p} {v} {x} {y} S at w some h =
@@ -289,14 +289,15 @@ failed S at fault.OutOfMemory z some h = absurd h
 failed S at (fault.TooLarge size) z some h = absurd h
 failed S at fault.Failed z some h = absurd h
 
--- a fault stopped it, and all replies were taken
+-- an error stopped it, and all replies were received
 pub ended : {p : Pipeline} {v : ClientView} {x : p.Gathered} {y : ClientAhead} (S : List Exchange → Result p.Gathered ClientFault → Type 0) (at : Position p v x y) → y.ahead.waiting ≡ 0 → y.ahead.stopped ≢ None
     → ((f : ClientFault) → p.Gathers x (Stopped f) at.made [] → CallEnded S at.made x f) → DoesCall S v (ended_by y.ahead.stopped x) y.client
 ended {p} {v} {x} {y} S at none some ends =
     (elim y.ahead.stopped as (λ (s : Option ClientFault). y.ahead.stopped ≡ s → DoesCall S v (ended_by s x) y.client) [ None ↦ λ is. absurd (some is) | Some f ↦ λ is. ended_does (ends f (stopped_by at f is none)) (all_taken at none) ]) refl
 
--- While nothing stopped it, each reply that counts gathers something, and 64 are on their way at
--- most; those that are dropped come one after the other. After that only replies come.
+-- A bound on the remaining steps. Until it is stopped, each reply that counts adds an item, and at
+-- most 64 requests are in flight. Replies to be discarded arrive one after the other. After the
+-- stop only replies arrive.
 abbrev pub measure : Option ClientFault → ℕ → ℕ → ℕ → ℕ
 measure None len zero waiting = 300 * (2 ^ 63 - len) + (192 - waiting)
 measure None len (suc dropped) waiting = 300 * (2 ^ 63 - len) + (192 + waiting)

@@ -1,4 +1,4 @@
--- Reading a file, sent ahead.
+-- Reading a file, pipelined.
 use Rattle.std.proofs.Common.{◌≡◌, ◌≢◌, ◌+◌, ◌*◌, ◌<◌, ◌≤◌, ◌⊎◌, ℕ, List, [], ◌∷◌, ◌++◌, length, Bool, true, false, None, Some, Result, Ok, Err, rules, inl, inr, refl, sym, ap, subst, ◌∙◌, append_assoc, append-nil, arith}
 use Rattle.std.specs.List.{concat}
 use Rattle.std.proofs.lemmas.List.{length-append}
@@ -23,7 +23,7 @@ use Rattle.sf_client.proofs.Steps.{broke_since}
 use Rattle.sf_client.proofs.Runs.{CallEnded, eof_is}
 use Rattle.sf_client.proofs.Pipelines.{PipelinePhase, Going, Skipping, Stopped, Drops, Pipeline, Position, starts, HasRoom, sends_on, GathersWith, took_on, took_short, took_no_room, ended}
 
--- a refusal tells no size
+-- an error status has no size
 pub no_size : (r : Reply) (code : StatusCode) → Refuses r code → 0 ≡ size_of r
 no_size (reply.Status given) code h = refl
 no_size reply.NoMemory code h = refl
@@ -32,7 +32,7 @@ no_size (reply.Data bytes) code h = absurd h
 no_size (reply.Names entries) code h = absurd h
 no_size (reply.Attrs attrs) code h = absurd h
 
--- ---- pieces
+-- ---- chunks
 
 concat_more : (pieces : List (List ℕ)) (piece : List ℕ) → concat (pieces ++ piece ∷ []) ≡ concat pieces ++ piece
 concat_more [] piece = append-nil piece
@@ -45,23 +45,23 @@ reads_more n offset (x ∷ pieces) piece =
     let sum : offset + length x + length (concat pieces) ≡ offset + length (x ++ concat pieces) = omega (arith, length-append x (concat pieces)) in
     ap (λ (t : List Exchange). asked (read_from n offset) (reply.Data x) ∷ t) (reads_more n (offset + length x) pieces piece ∙ ap (λ (k : ℕ). reads n (offset + length x) pieces ++ asked (read_from n k) (reply.Data piece) ∷ []) sum)
 
--- one exchange more, which is kept
+-- one more exchange, which is kept
 keeps_more : (n : ℕ) (xs kept : List Exchange) (x : Exchange) → IsReadOf n x.request → KeepsSome n xs kept → KeepsSome n (xs ++ x ∷ []) (kept ++ x ∷ [])
 unfolding KeepsSome
 keeps_more n [] kept x is h = (is, inl ([], ap (λ (t : List Exchange). t ++ x ∷ []) h, refl))
 keeps_more n (y ∷ xs) kept x is (asks, inl h) = (asks, inl (h.0 ++ x ∷ [], ap (λ (t : List Exchange). t ++ x ∷ []) h.1, keeps_more n xs h.0 x is h.2))
 keeps_more n (y ∷ xs) kept x is (asks, inr h) = (asks, inr (keeps_more n xs kept x is h))
 
--- one exchange more, whose reply was dropped
+-- one more exchange, with its reply discarded
 drops_more : (n : ℕ) (xs kept : List Exchange) (x : Exchange) → IsReadOf n x.request → KeepsSome n xs kept → KeepsSome n (xs ++ x ∷ []) kept
 unfolding KeepsSome
 drops_more n [] kept x is h = (is, inr h)
 drops_more n (y ∷ xs) kept x is (asks, inl h) = (asks, inl (h.0, h.1, drops_more n xs h.0 x is h.2))
 drops_more n (y ∷ xs) kept x is (asks, inr h) = (asks, inr (drops_more n xs kept x is h))
 
--- ---- READs on their way
+-- ---- READs in flight
 
--- each goes on from where the one before ends, if its piece is whole
+-- each continues at the end of the one before, if its chunk is complete
 unfoldable pub Follows : ℕ → ℕ → List WireRequest → Type 0
 Follows n offset [] = Unit {0}
 Follows n offset (q ∷ qs) = (q ≡ read_from n offset) × Follows n (offset + 32768) qs
@@ -73,13 +73,13 @@ follows_more n offset (q ∷ qs) next is h = (h.0, follows_more n (offset + 3276
 
 -- ---- what was read
 
--- These exchanges read these bytes, piece by piece.
+-- These exchanges read these bytes, chunk by chunk.
 pub record Pieces (n : ℕ) (bytes : List ℕ) (kept : List Exchange) : Type 0 where
   pub pieces : List (List ℕ)
   pub bytes_are : bytes ≡ concat pieces
   pub kept_are : kept ≡ reads n 0 pieces
 
--- After some pieces this fault ended it.
+-- After some chunks this error ended the reading.
 pub record ReadEndedBy (f : ClientFault) (n : ℕ) (bytes : List ℕ) (kept : List Exchange) : Type 0 where
   pub pieces : List (List ℕ)
   pub last : List Exchange
@@ -92,7 +92,7 @@ KeptIn Going n bytes kept coming = Follows n (length bytes) coming × Pieces n b
 KeptIn Skipping n bytes kept coming = Pieces n bytes kept
 KeptIn (Stopped f) n bytes kept coming = ReadEndedBy f n bytes kept
 
--- of the replies that were taken these were kept
+-- of the replies received these were kept
 abbrev pub GathersBytes : ℕ → List ℕ → PipelinePhase → List Exchange → List WireRequest → Type 0
 GathersBytes n bytes phase made coming = (kept : List Exchange) × KeepsSome n made kept × KeptIn phase n bytes kept coming
 
@@ -128,7 +128,7 @@ pub read_skipped : (n : ℕ) (bytes : List ℕ) (made : List Exchange) → Gathe
 unfolding Follows
 read_skipped n bytes made h = (h.0, h.1, (tt, h.2))
 
--- READs of a handle, and the bytes that they gave
+-- READs of a handle, and their bytes
 abbrev pub reading : ℕ → Pipeline
 reading n = record {
   IsOne = IsReadOf n;
@@ -152,7 +152,7 @@ pub read_asked : {v : ClientView} {y z : ClientAhead} (n : ℕ) (bytes : List �
     → Position (reading n) v bytes z
 read_asked n bytes offset sent at room is h = sends_on at (read_from n offset) sent room (offset, refl) h (λ g. (g.0, g.1, (follows_more n (length bytes) at.coming offset (omega (arith, is, at.waiting)) g.2.0, g.2.1)))
 
--- one piece more
+-- one more chunk
 piece_more : {n : ℕ} {bytes : List ℕ} {kept : List Exchange} (piece now : List ℕ) (q : WireRequest) → Pieces n bytes kept → now ≡ bytes ++ piece → q ≡ read_from n (length bytes) → Pieces n now (kept ++ asked q (reply.Data piece) ∷ [])
 piece_more {n} {bytes} {kept} piece now q so_far is asks =
     let at : length bytes ≡ 0 + length (concat so_far.pieces) = omega (arith, ap length so_far.bytes_are) in
@@ -163,11 +163,11 @@ piece_more {n} {bytes} {kept} piece now q so_far is asks =
           ∙ sym (reads_more n 0 so_far.pieces piece);
     }
 
--- no more than was asked for
+-- at most the number requested
 data_most : (piece : List ℕ) → is_answer (due.Data 32768) (reply.Data piece) ≡ true → length piece ≤ 32768
 data_most piece h = search rules
 
--- a whole piece came: the next one goes on from its end
+-- a complete chunk arrived: the next READ continues at its end
 piece_whole : (n : ℕ) (bytes piece now : List ℕ) (made : List Exchange) → now ≡ bytes ++ piece → length piece ≡ 32768 → GathersWith (reading n) bytes made (reply.Data piece) now Going
 unfolding Follows
 piece_whole n bytes piece now made is whole = λ q others one g.
@@ -178,7 +178,7 @@ piece_short : (n : ℕ) (bytes piece now : List ℕ) (made : List Exchange) → 
 unfolding Follows
 piece_short n bytes piece now made is = λ q others one g. (g.0 ++ asked q (reply.Data piece) ∷ [], keeps_more n made g.0 (asked q (reply.Data piece)) one g.1, piece_more piece now q g.2.1 is g.2.0.0)
 
--- the bytes that were gathered don't count any more
+-- the bytes collected so far no longer count
 piece_lost : (n : ℕ) (bytes piece now : List ℕ) (made : List Exchange) → GathersWith (reading n) bytes made (reply.Data piece) now (Stopped fault.OutOfMemory)
 piece_lost n bytes piece now made = λ q others one g.
     let h = read_stops n bytes made others (asked q (reply.Data piece)) fault.OutOfMemory one tt g in
@@ -216,7 +216,7 @@ read_ends n bytes f made h =
 pub read_ended : {v : ClientView} {y : ClientAhead} (n : ℕ) (bytes : List ℕ) → Position (reading n) v bytes y → y.ahead.waiting ≡ 0 → y.ahead.stopped ≢ None → DoesCall (Reads n) v (ended_by y.ahead.stopped bytes) y.client
 read_ended n bytes at none some = ended (Reads n) at none some (λ f. read_ends n bytes f at.made)
 
--- ---- with the size before it
+-- ---- with FSTAT before
 
 pub sized : (n : ℕ) (v u w : ClientView) (size : ℕ) (result : Result (List ℕ) ClientFault) → AsksSize n v (Ok size) u → size ≤ most_gathered → DoesCall (Reads n) u result w → DoesCall (ReadsAll n) v result w
 sized n v u w size (Ok bytes) h small used = (_, (h.0, used.0, subst (λ (k : ℕ). k ≤ most_gathered) h.1 small, used.1, refl), exchanged_then v u w (asked (request.FStat (be64 n)) h.0 ∷ []) used.0 h.2 used.2)

@@ -1,4 +1,4 @@
--- Whole calls by a handle.
+-- Whole calls with a handle.
 use Rattle.std.proofs.Common.{◌≡◌, ◌≢◌, ◌⊎◌, ℕ, List, [], ◌∷◌, ◌++◌, false, Some, Result, Ok, Err, is_ok, is_err, cond, inl, inr, refl, sym, ap, subst, ◌∙◌, arith}
 use Rattle.sf_field.specs.Fields.{be64}
 use Rattle.sf_request.specs.declared.request.WireRequest.{WireRequest}
@@ -25,13 +25,13 @@ told_ends n first v w (Err fault.OutOfMemory) h = inl (refl, (h.0, h.2))
 told_ends n first v w (Err (fault.TooLarge size)) h = absurd h
 told_ends n first v w (Err fault.Failed) h = absurd h
 
--- ---- what a call's result says
+-- ---- the result of a call
 
 pub appended : {X E : Type 0} (r : Result (Unit {0}) E) (now more kept : List X) → is_err r ≡ false → now ≡ cond (is_ok r) more kept → now ≡ more
 appended (Ok x) now more kept ok e = e
 appended (Err x) now more kept ok e = absurd cc
 
--- ---- a call by a handle
+-- ---- a call with a handle
 
 unopened : {X : Type 0} (S : ℕ → List Exchange → Result X ClientFault → Type 0) (opening : WireRequest) (v w : ClientView) → v.failed ≡ false → (w ≡ v) ⊎ ((r : Reply) × TakesMemory r × Exchanged v (asked opening r ∷ []) w)
     → DoesCall (ByHandle opening S) v (Err fault.OutOfMemory) w
@@ -52,13 +52,13 @@ pub record HandleOpened (opening : WireRequest) (v : ClientView) : Type 0 where
   pub client : ClientView
   pub exchanged : Exchanged v (asked opening (reply.Handle number) ∷ []) client
 
--- By these exchanges the client came to what a script says.
+-- The client made exchanges that the script allows.
 pub record ByScript {X : Type 0} (Script : List Exchange → Result X ClientFault → Type 0) (v : ClientView) (r : Result X ClientFault) (w : ClientView) : Type 0 where
   pub made : List Exchange
   pub script : Script made r
   pub exchanged : Exchanged v made w
 
--- all the exchanges of a call by a handle
+-- all exchanges of a call with a handle
 whole_call : {opening : WireRequest} {v m w : ClientView} {ys : List Exchange} (h : HandleOpened opening v) (r : Reply) → Exchanged h.client ys m → Exchanged m (asked (request.Close (be64 h.number)) r ∷ []) w
     → Exchanged v (asked opening (reply.Handle h.number) ∷ (ys ++ asked (request.Close (be64 h.number)) r ∷ [])) w
 whole_call {opening} {v} {m} {w} {ys} h r used closed = exchanged_then v h.client w (asked opening (reply.Handle h.number) ∷ []) (ys ++ asked (request.Close (be64 h.number)) r ∷ []) h.exchanged (exchanged_then h.client m w ys _ used closed)
@@ -79,7 +79,7 @@ spoilt_by : {X : Type 0} {v m : ClientView} {xs : List Exchange} (S : List Excha
 spoilt_by {v = v} {m = m} S q f w ex (inl h) = subst (λ (g : ClientFault). DoesCall S v (Err g) w) (sym h.0) (broke_since v m w ex.failures h.1)
 spoilt_by {v = v} {m = m} {xs = xs} S q f w ex (inr h) = subst (λ (g : ClientFault). DoesCall S v (Err g) w) (sym h.0) (_, q, [], unanswered_then v m w xs [] q [] ex h.1)
 
--- CLOSE after a fault that leaves the client in step
+-- CLOSE after an error that leaves the client usable
 fault_then : {X : Type 0} {opening : WireRequest} {v m : ClientView} {first : ClientFault} (S : ℕ → List Exchange → Result X ClientFault → Type 0) (h : HandleOpened opening v) (f : ClientFault) (w : ClientView)
     → ByScript (S h.number) h.client (Err first) m → (ByScript (ByHandle opening S) v (Err first) w → DoesCall (ByHandle opening S) v (Err first) w) → EndsAfter h.number first m f w → DoesCall (ByHandle opening S) v (Err f) w
 fault_then {opening = opening} {v = v} S h f w used does (inl c) = subst (λ (g : ClientFault). DoesCall (ByHandle opening S) v (Err g) w) (sym c.0)
@@ -103,7 +103,7 @@ by_handle_done S h (Err fault.OutOfMemory) m (Err f) w used c = fault_then S h f
 by_handle_done S h (Err (fault.TooLarge size)) m (Err f) w used c = fault_then S h f w (record { made = used.0; script = used.1; exchanged = used.2 }) (λ k. (k.made, k.script, k.exchanged)) c
 by_handle_done S h (Err fault.Failed) m (Err f) w used c = let going = h.exchanged.going in let failed = used.0 in absurd cc
 
--- ---- what is read to its end
+-- ---- reading to the end
 
 eof_reply : (r : Reply) → Refuses r EndOfFile → r ≡ reply.Status EndOfFile
 eof_reply (reply.Status given) h = ap reply.Status (sym h.1)
@@ -117,7 +117,7 @@ eof_last : (q : WireRequest) (last : List Exchange) → EndsAtLast q last (fault
 eof_last q last (inl h) = let e = h.1 in absurd cc
 eof_last q last (inr h) = h.1 ∙ ap (λ (r : Reply). asked q r ∷ []) (eof_reply h.0 h.2)
 
--- the reply that ended it well is STATUS EOF
+-- the reply that ended it successfully is STATUS EOF
 pub eof_is : (q : WireRequest) (last : List Exchange) (f : ClientFault) → f ≡ fault.Status EndOfFile → EndsAtLast q last f → last ≡ asked q (reply.Status EndOfFile) ∷ []
 eof_is q last f is h = eof_last q last (subst (EndsAtLast q last) is h)
 
@@ -125,7 +125,7 @@ no_last : (q : WireRequest) (last : List Exchange) (f : ClientFault) → ((r : R
 no_last q last f ends other (inl h) = other h.1
 no_last q last f ends other (inr h) = ends h.0 h.2
 
--- How this fault ended a call, by the last of its requests that counts: EOF is a good end.
+-- How this error ended a call, by the last of its requests that counts; EOF is a success.
 pub record CallEnded {X : Type 0} (S : List Exchange → Result X ClientFault → Type 0) (xs : List Exchange) (x : X) (f : ClientFault) : Type 0 where
   pub request : WireRequest
   pub last : List Exchange

@@ -25,19 +25,19 @@ use Rattle.sf_client.proofs.Filling.{header_is, same_number}
 
 -- ---- no reply
 
--- where no packet stands, no reply does
+-- if the input doesn't begin with a packet, it doesn't begin with a reply
 pub no_packet : (a : Option (List ℕ)) (id : ℕ) (d : Due) → HasNoPacket a → HasNoReply a id d
 no_packet None id d h = tt
 no_packet (Some input) id d h = λ r rest fits due short e. h (reply_body id r) rest (record { some = omega arith; short = short }) e
 
--- the body of the packet at the front
+-- the body of the first packet
 same_body : (a b x y : List ℕ) → length a ≤ 262144 → length b ≤ 262144 → packet a ++ x ≡ packet b ++ y → a ≡ b
 same_body a b x y short_a short_b e =
     let parts = header_is a x (be32 (length b)) (b ++ y) refl (e ∙ append_assoc (be32 (length b)) b y) in
     let len : length a ≡ length b = same_number (length a) (length b) (omega arith) (omega arith) (sym parts.0) in
     sym (take_at a x (length b) len) ∙ ap (take (length b)) (sym parts.1) ∙ take_at b y (length b) refl
 
--- where the packet's body spells no due reply, none stands
+-- if the packet's body encodes no expected reply, the input doesn't begin with one
 pub no_due : (a b : Option (List ℕ)) (id : ℕ) (d : Due) (body : List ℕ) → Consumes a b (packet body) → length body ≤ 262144 → id < 2 ^ 32 → ((r : Reply) → IsReply body id r → is_due d r ≡ true → ⊥)
     → HasNoReply a id d
 no_due None b id d body read short fits none = tt
@@ -46,13 +46,13 @@ no_due (Some input) (Some left) id d body read short fits none = λ r rest reply
     let same : body ≡ reply_body id r = same_body body (reply_body id r) left rest short small (sym read ∙ e) in
     none r (record { id_fits = fits; fits = reply_fits; parts = same }) due
 
--- the packet's body spells a reply
+-- the packet's body encodes a reply
 pub a_reply : (a b : Option (List ℕ)) (id : ℕ) (body : List ℕ) (r : Reply) → Consumes a b (packet body) → IsReply body id r → Consumes a b (packet (reply_body id r))
 a_reply a b id body r read is = subst (λ (t : List ℕ). Consumes a b (packet t)) is.parts read
 
 -- ---- one exchange
 
--- The packet of one request was sent, and nothing else is on its way.
+-- The packet of one request was sent, and no other is in flight.
 pub record OneSent (v : ClientView) (bytes : List ℕ) (u : ClientView) : Type 0 where
   pub began : v.failed ≡ false
   pub sent : Sent v bytes u
@@ -72,7 +72,7 @@ rose_since a b c le grew (inr end) = elim (cases_lt a c) [ inl lt ↦ inl lt | i
 pub broke_since : (u v w : ClientView) → u.failures ≤ v.failures → Broke v w → Broke u w
 broke_since u v w le broke = record { failed = broke.failed; grew = omega (arith, broke.grew); rose = rose_since u.failures v.failures w.failures le broke.grew broke.rose }
 
--- the reply didn't come, or found no memory
+-- the reply didn't arrive, or memory ran out for it
 pub settled_err : {v u : ClientView} {bytes : List ℕ} (w : ClientView) (d : Due) (f : ClientFault) → OneSent v bytes u → TakesReply u d (Err f) w
     → (q : WireRequest) → bytes ≡ packet (request_body v.next q) → d ≡ due_of q → SettlesRequest {X = Reply} (λ r. r) v q (Err f) w
 settled_err {v} {u} w d fault.Stream one takes q is due = broke_since v u w one.sent.failures takes
@@ -103,7 +103,7 @@ success_is (reply.Data bytes) e = absurd cc
 success_is (reply.Names entries) e = absurd cc
 success_is (reply.Attrs attrs) e = absurd cc
 
--- a fault says the same whatever was to be told
+-- an error's effect doesn't depend on the kind of result
 pub same_fault : {X Y : Type 0} (as_reply : X → Reply) (other : Y → Reply) (v w : ClientView) (q : WireRequest) (f : ClientFault) → SettlesRequest as_reply v q (Err f) w → SettlesRequest other v q (Err f) w
 same_fault as_reply other v w q fault.Stream h = h
 same_fault as_reply other v w q fault.Protocol h = h

@@ -1,4 +1,4 @@
--- Requests that are sent before the replies of earlier ones are taken.
+-- Pipelining: requests are sent before the replies to earlier ones arrive.
 use Rattle.std.specs.Prelude.{◌≡◌, ◌<◌, ◌+◌, ◌-◌, ◌≤◌, ◌⊎◌, ℕ, List, ◌++◌, length, Bool, true, false, Option, Some, None, Result, Ok, Err}
 use Rattle.sf_field.specs.Fields.{packet}
 use Rattle.sf_request.specs.declared.request.WireRequest.{WireRequest}
@@ -13,11 +13,11 @@ use Rattle.sf_client.specs.Dues.{is_answer, is_refusal, is_due, Refuses, TakesMe
 use Rattle.sf_client.specs.Exchanges.{ClientView, Sent, Took, HasNoReply, id_after}
 use Rattle.sf_client.specs.Outcomes.{Broke}
 
--- how many requests are on their way at most
+-- the maximum number of requests in flight
 abbrev pub most_ahead : ℕ
 most_ahead = 64
 
--- the reply ends its call by this fault: it refuses by the code, or there was no memory for it
+-- the reply ends its call with this error: it is an error status, or memory ran out for it
 abbrev pub EndsCallBy : Reply → ClientFault → Type 0
 EndsCallBy r fault.Stream = ⊥
 EndsCallBy r fault.Protocol = ⊥
@@ -26,7 +26,7 @@ EndsCallBy r fault.OutOfMemory = TakesMemory r
 EndsCallBy r (fault.TooLarge size) = ⊥
 EndsCallBy r fault.Failed = ⊥
 
--- A reply came and was dropped; or nothing was to be dropped, and this fault stops the sending.
+-- A reply was discarded; or none was to be discarded, and this error stops the sending.
 abbrev pub Misses : ClientFault → Ahead → Ahead → Type 0
 Misses f a b =
     ((0 < a.dropped) × (b ≡ record a { waiting = a.waiting - 1; dropped = a.dropped - 1 }))
@@ -36,13 +36,13 @@ Misses f a b =
       stopped = Some f;
     }))
 
--- what is made of a reply that came
+-- how a reply is handled
 abbrev pub KeepsReply : Ahead → Reply → Option Reply → Ahead → Type 0
 KeepsReply a r (Some x) b =
     (x ≡ r) × (is_refusal r ≡ false) × (a.dropped ≡ 0) × (b ≡ record a { waiting = a.waiting - 1 })
 KeepsReply a r None b = (f : ClientFault) × ((a.dropped ≡ 0) → EndsCallBy r f) × Misses f a b
 
--- A client, and what it has sent ahead.
+-- A client and its requests in flight.
 pub record ClientAhead : Type 0 where
   pub client : ClientView
   pub ahead : Ahead
@@ -50,7 +50,7 @@ pub record ClientAhead : Type 0 where
 abbrev pub sender : ClientView → Ahead → ClientAhead
 sender client ahead = record { client = client; ahead = ahead }
 
--- what came of sending one more request; none was sent where there was no memory
+-- the effect of sending another request; if memory ran out none was sent
 abbrev pub SendsOn : ClientAhead → WireRequest → Result Bool ClientFault → ClientAhead → Type 0
 SendsOn x q (Ok true) y = Sent x.client (packet (request_body x.ahead.id q)) y.client
     × (y.ahead ≡ record x.ahead { id = id_after x.ahead.id; waiting = x.ahead.waiting + 1 })
@@ -58,7 +58,7 @@ SendsOn x q (Ok false) y = (y.client ≡ x.client)
     × (y.ahead ≡ record x.ahead { dropped = x.ahead.waiting; stopped = Some fault.OutOfMemory })
 SendsOn x q (Err f) y = (f ≡ fault.Stream) × Broke x.client y.client
 
--- what came of taking the first of the replies that are due
+-- the effect of receiving the oldest pending reply
 abbrev pub TakesOn : ClientAhead → Due → Result (Option Reply) ClientFault → ClientAhead → Type 0
 TakesOn x d (Ok (Some r)) y =
     (is_answer d r ≡ true) × (x.ahead.dropped ≡ 0) × Took x.client r y.client
@@ -75,11 +75,11 @@ TakesOn x d (Err fault.OutOfMemory) y = ⊥
 TakesOn x d (Err (fault.TooLarge size)) y = ⊥
 TakesOn x d (Err fault.Failed) y = ⊥
 
--- there was no memory for what came: nothing more is sent
+-- memory ran out for a reply: nothing more is sent
 abbrev pub RunsShort : Ahead → Ahead → Type 0
 RunsShort a b = b ≡ record a { dropped = a.waiting; stopped = Some fault.OutOfMemory }
 
--- A piece was gathered. After a short one the replies that are still due are dropped.
+-- A chunk was appended. After a short one the pending replies are discarded.
 abbrev pub GathersPiece : List ℕ → List ℕ → List ℕ → Ahead → Ahead → Type 0
 GathersPiece old piece now a b = ((now ≡ old ++ piece)
     × (((length piece < 32768) × (b ≡ record a { dropped = a.waiting }))

@@ -18,8 +18,8 @@ use Rattle.sf_client.specs.Exchanges.{ClientView, Exchange, Exchanged, Unanswere
 use Rattle.sf_client.specs.Outcomes.{asked, Broke, Comes, SettlesRequest}
 use Rattle.sf_client.specs.Ahead.{EndsCallBy}
 
--- What came of a call whose exchanges are told by a script: it made them, in step; or the line
--- failed; or after some exchanges no due reply came for the next request.
+-- The effect of a call with the possible exchanges `Script`. It made such exchanges, and no reply
+-- is pending; or the transport failed; or after some exchanges the expected reply didn't arrive.
 abbrev pub DoesCall : {X : Type 0} → (List Exchange → Result X ClientFault → Type 0) → ClientView
     → Result X ClientFault → ClientView → Type 0
 DoesCall Script v (Ok x) w = (xs : List Exchange) × Script xs (Ok x) × Exchanged v xs w
@@ -34,13 +34,14 @@ DoesCall Script v (Err (fault.TooLarge size)) w =
     (xs : List Exchange) × Script xs (Err (fault.TooLarge size)) × Exchanged v xs w
 DoesCall Script v (Err fault.Failed) w = (v.failed ≡ true) × (w ≡ v)
 
--- The last request ended the call by this fault; or it wasn't sent, for want of memory.
+-- The last request ended the call with this error, or was not sent because memory ran out.
 abbrev pub EndsAtLast : WireRequest → List Exchange → ClientFault → Type 0
 EndsAtLast q last f =
     ((last ≡ []) × (f ≡ fault.OutOfMemory))
     ⊎ ((r : Reply) × (last ≡ asked q r ∷ []) × EndsCallBy r f)
 
--- What is done by a handle, and then CLOSE. Where that was well, CLOSE may end the call by a fault.
+-- The exchanges with a handle, followed by CLOSE. After a success CLOSE may end the call with an
+-- error.
 abbrev pub Closes : {X : Type 0} → (List Exchange → Result X ClientFault → Type 0) → ℕ
     → List Exchange → Result X ClientFault → Type 0
 Closes {X} Script n xs (Ok x) = (ys : List Exchange) × Script ys (Ok x)
@@ -49,8 +50,8 @@ Closes {X} Script n xs (Err f) = (ys : List Exchange) × (r : Reply)
     × (Script ys (Err f) ⊎ ((x : X) × Script ys (Ok x) × EndsCallBy r f))
     × (xs ≡ ys ++ asked (request.Close (be64 n)) r ∷ [])
 
--- A request that opens a handle, what is done by it, and CLOSE. There is no CLOSE only where no
--- handle was opened.
+-- A request that opens a handle, exchanges with it, and CLOSE. CLOSE is missing only if no handle
+-- was opened.
 abbrev pub ByHandle : {X : Type 0} → WireRequest → (ℕ → List Exchange → Result X ClientFault
     → Type 0) → List Exchange → Result X ClientFault → Type 0
 ByHandle opening Script xs (Ok x) = (n : ℕ) × (ys : List Exchange) × Closes (Script n) n ys (Ok x)
@@ -59,7 +60,7 @@ ByHandle opening Script xs (Err f) = EndsAtLast opening xs f
     ⊎ ((n : ℕ) × (ys : List Exchange) × Closes (Script n) n ys (Err f)
     × (xs ≡ asked opening (reply.Handle n) ∷ ys))
 
--- to read: READ alone
+-- the flag READ
 abbrev pub to_read : OpenFlags
 to_read = record {
   read = true;
@@ -70,7 +71,7 @@ to_read = record {
   exclusive = false;
 }
 
--- to write anew: WRITE, CREAT and TRUNC
+-- the flags WRITE, CREAT and TRUNC
 abbrev pub to_write : OpenFlags
 to_write = record {
   read = false;
@@ -81,7 +82,7 @@ to_write = record {
   exclusive = false;
 }
 
--- reads of 32768 bytes, each from where the one before ended
+-- READs of 32768 bytes, each from the end of the chunk before
 abbrev pub read_from : ℕ → ℕ → WireRequest
 read_from n offset = request.Read (be64 n) offset 32768
 
@@ -90,7 +91,7 @@ reads n offset [] = []
 reads n offset (piece ∷ pieces) =
     asked (read_from n offset) (reply.Data piece) ∷ reads n (offset + length piece) pieces
 
--- a file's bytes were read to the end, each READ from where the one before ended
+-- a file was read to its end, each READ from the end of the chunk before
 abbrev pub ReadsOn : ℕ → List Exchange → Result (List ℕ) ClientFault → Type 0
 ReadsOn n xs (Ok bytes) = (pieces : List (List ℕ)) × (bytes ≡ concat pieces)
     × (xs ≡ reads n 0 pieces ++ asked (read_from n (length bytes)) (reply.Status EndOfFile) ∷ [])
@@ -100,39 +101,39 @@ ReadsOn n xs (Err f) = (pieces : List (List ℕ)) × (last : List Exchange)
 abbrev pub IsReadOf : ℕ → WireRequest → Type 0
 IsReadOf n q = (offset : ℕ) × (q ≡ read_from n offset)
 
--- These are READs. Some are kept, in their order; the replies of the others were dropped.
+-- The exchanges are READs. Some are kept, in order; the replies of the others were discarded.
 unfoldable pub KeepsSome : ℕ → List Exchange → List Exchange → Type 0
 KeepsSome n [] kept = kept ≡ []
 KeepsSome n (x ∷ xs) kept = IsReadOf n x.request
     × (((others : List Exchange) × (kept ≡ x ∷ others) × KeepsSome n xs others)
     ⊎ KeepsSome n xs kept)
 
--- READs that were sent ahead: those that are kept read the file.
+-- Pipelined READs; those kept read the file.
 abbrev pub Reads : ℕ → List Exchange → Result (List ℕ) ClientFault → Type 0
 Reads n xs r = (kept : List Exchange) × KeepsSome n xs kept × ReadsOn n kept r
 
--- the size that a reply to FSTAT tells, or 0
+-- the size in a reply to FSTAT, or 0
 abbrev pub size_of : Reply → ℕ
 size_of (reply.Attrs attrs) = unwrap_or attrs.size 0
 size_of _ = 0
 
--- what came of FSTAT: a refusal tells 0
+-- the effect of FSTAT; an error status yields 0
 abbrev pub AsksSize : ℕ → ClientView → Result ℕ ClientFault → ClientView → Type 0
 AsksSize n v (Ok size) w =
     (r : Reply) × (size ≡ size_of r) × Exchanged v (asked (request.FStat (be64 n)) r ∷ []) w
 AsksSize n v (Err f) w = ((code : StatusCode) → f ≢ fault.Status code)
     × Comes reply.Attrs v (request.FStat (be64 n)) (Err f) w
 
--- how many bytes of a file are gathered at most
+-- the maximum size in bytes of a file to get
 abbrev pub most_gathered : ℕ
 most_gathered = 2 ^ 30
 
--- FSTAT told more bytes than are gathered.
+-- FSTAT returned a larger size.
 abbrev pub IsTooLarge : ℕ → List Exchange → ClientFault → Type 0
 IsTooLarge n xs f = (r : Reply) × (most_gathered < size_of r) × (f ≡ fault.TooLarge (size_of r))
     × (xs ≡ asked (request.FStat (be64 n)) r ∷ [])
 
--- FSTAT, and the file's READs, unless that told too many bytes
+-- FSTAT and the file's READs; no READs if the size is too large
 abbrev pub ReadsAll : ℕ → List Exchange → Result (List ℕ) ClientFault → Type 0
 ReadsAll n xs (Ok bytes) = (r : Reply) × (ys : List Exchange) × (size_of r ≤ most_gathered)
     × Reads n ys (Ok bytes) × (xs ≡ asked (request.FStat (be64 n)) r ∷ ys)
@@ -140,14 +141,14 @@ ReadsAll n xs (Err f) = (EndsAtLast (request.FStat (be64 n)) xs f × (f ≡ faul
     ⊎ (IsTooLarge n xs f ⊎ ((r : Reply) × (ys : List Exchange) × (size_of r ≤ most_gathered)
     × Reads n ys (Err f) × (xs ≡ asked (request.FStat (be64 n)) r ∷ ys)))
 
--- the bytes in pieces of 32768, the last one shorter: how many, and the k-th
+-- chunks of 32768 bytes, the last one shorter: their number, and the WRITE of the k-th
 abbrev pub count_of_pieces : List ℕ → ℕ
 count_of_pieces bytes = (length bytes + 32767) / 32768
 
 abbrev pub write_piece : ℕ → List ℕ → ℕ → WireRequest
 write_piece n bytes k = request.Write (be64 n) (k * 32768) (take 32768 (drop (k * 32768) bytes))
 
--- the WRITEs of the first k pieces, each where it stands
+-- the WRITEs of the first k chunks, each at its offset
 unfoldable pub writes : ℕ → List ℕ → ℕ → List WireRequest
 writes n bytes zero = []
 writes n bytes (suc k) = writes n bytes k ++ write_piece n bytes k ∷ []
@@ -155,7 +156,7 @@ writes n bytes (suc k) = writes n bytes k ++ write_piece n bytes k ∷ []
 abbrev pub IsSuccess : Exchange → Type 0
 IsSuccess x = x.reply ≡ reply.Status Success
 
--- The first refusal refused by this code; or memory was wanting.
+-- The first error status has this code, or memory ran out.
 abbrev pub EndsAtRefusal : List Exchange → ClientFault → Type 0
 EndsAtRefusal xs fault.Stream = ⊥
 EndsAtRefusal xs fault.Protocol = ⊥
@@ -166,14 +167,15 @@ EndsAtRefusal xs fault.OutOfMemory = Unit {0}
 EndsAtRefusal xs (fault.TooLarge size) = ⊥
 EndsAtRefusal xs fault.Failed = ⊥
 
--- All pieces were written, in order; or only some, where a WRITE was refused or memory was wanting.
+-- All chunks were written, in order; or only the first k, if a WRITE returned an error status or
+-- memory ran out.
 abbrev pub WritesAll : List ℕ → ℕ → List Exchange → Result (Unit {0}) ClientFault → Type 0
 WritesAll bytes n xs (Ok x) =
     (requests_of xs ≡ writes n bytes (count_of_pieces bytes)) × AllByRecursion IsSuccess xs
 WritesAll bytes n xs (Err f) =
     (k : ℕ) × (k ≤ count_of_pieces bytes) × (requests_of xs ≡ writes n bytes k) × EndsAtRefusal xs f
 
--- a directory's names were listed to the end
+-- a directory was listed to its end
 unfoldable pub listings : ℕ → List (List Entry) → List Exchange
 listings n [] = []
 listings n (entries ∷ others) =
@@ -191,25 +193,25 @@ ListsOn n xs (Err f) = (parts : List (List Entry)) × (last : List Exchange)
 abbrev pub IsListing : ℕ → Exchange → Type 0
 IsListing n x = x.request ≡ request.ReadDir (be64 n)
 
--- READDIRs that were sent ahead: the replies after the last that counts were dropped.
+-- Pipelined READDIRs; the replies after the last that counts were discarded.
 abbrev pub ListsAll : ℕ → List Exchange → Result (List Entry) ClientFault → Type 0
 ListsAll n xs r = (kept : List Exchange) × (after : List Exchange) × ListsOn n kept r
     × AllByRecursion (IsListing n) after × (xs ≡ kept ++ after)
 
--- a vector's items, where there is one
+-- a vector's items, on success
 abbrev pub items_of : {X : Type 0} → Result (Vec X) ClientFault → Result (List X) ClientFault
 items_of (Ok v) = Ok v.items
 items_of (Err f) = Err f
 
--- CLOSE was sent after a fault, which is told unless the client fails here.
+-- CLOSE was sent after an error. The call returns that error, unless the client fails in CLOSE.
 abbrev pub EndsAfter : ℕ → ClientFault → ClientView → ClientFault → ClientView → Type 0
 EndsAfter n first v f w =
     ((f ≡ first) × ((r : Reply) × Exchanged v (asked (request.Close (be64 n)) r ∷ []) w))
     ⊎ (((f ≡ fault.Stream) × Broke v w) ⊎ ((f ≡ fault.Protocol)
     × Unanswered v [] (request.Close (be64 n)) [] w))
 
--- What CLOSE did to what came of a call by a handle. After a fault of the line or of the protocol
--- it isn't sent.
+-- The effect of CLOSE on the result of a call with a handle. After a transport or protocol error it
+-- is not sent.
 abbrev pub ClosesAfter : {X : Type 0} → ℕ → Result X ClientFault → ClientView → Result X ClientFault
     → ClientView → Type 0
 ClosesAfter n (Ok x) v (Ok y) w =
@@ -224,7 +226,7 @@ ClosesAfter n (Err fault.OutOfMemory) v (Err f) w = EndsAfter n fault.OutOfMemor
 ClosesAfter n (Err (fault.TooLarge size)) v (Err f) w = EndsAfter n (fault.TooLarge size) v f w
 ClosesAfter n (Err fault.Failed) v (Err f) w = (f ≡ fault.Failed) × (w ≡ v)
 
--- after a success, a refusal, a want of memory and a file that is too large the client goes on
+-- the client remains usable after a success, an error status, out of memory and a too large file
 abbrev pub KeepsInStep : {X : Type 0} → Result X ClientFault → ClientView → Type 0
 KeepsInStep (Ok x) v = v.failed ≡ false
 KeepsInStep (Err fault.Stream) v = Unit {0}
@@ -234,7 +236,7 @@ KeepsInStep (Err fault.OutOfMemory) v = v.failed ≡ false
 KeepsInStep (Err (fault.TooLarge size)) v = v.failed ≡ false
 KeepsInStep (Err fault.Failed) v = Unit {0}
 
--- the fault that is told after a first one and a CLOSE
+-- the error of a call after a first error and CLOSE
 abbrev pub first_fault : ClientFault → Result (Unit {0}) ClientFault → ClientFault
 first_fault first (Ok x) = first
 first_fault first (Err fault.Stream) = fault.Stream
@@ -244,13 +246,13 @@ first_fault first (Err fault.OutOfMemory) = first
 first_fault first (Err (fault.TooLarge size)) = first
 first_fault first (Err fault.Failed) = first
 
--- EOF is no fault here: it says that there is nothing more
+-- EOF is not an error here: it ends the data
 abbrev pub ended_by : {X : Type 0} → Option ClientFault → X → Result X ClientFault
 ended_by (Some (fault.Status EndOfFile)) x = Ok x
 ended_by (Some f) x = Err f
 ended_by None x = Ok x
 
--- the replies that have data, and names
+-- the replies with data or names
 abbrev pub reply_by : {X : Type 0} → (X → Reply) → Result (Option X) ClientFault
     → Result (Option Reply) ClientFault
 reply_by as_reply (Ok (Some x)) = Ok (Some (as_reply x))

@@ -1,4 +1,4 @@
--- What a request's reply has to be.
+-- The reply that a request expects.
 use Rattle.std.specs.Prelude.{◌≡◌, ◌≢◌, length, Bool, true, false, nat_lt, nat_le, ◌&&◌, ◌||◌}
 use Rattle.sf_request.specs.declared.request.WireRequest.{WireRequest}
 use Rattle.sf_request.specs.declared.request.WireRequest.TheVariants as request
@@ -9,7 +9,7 @@ use Rattle.sf_reply.specs.declared.reply.StatusCode.TheVariants.{Success, Failur
 use Rattle.sf_client.specs.declared.due.Due.{Due}
 use Rattle.sf_client.specs.declared.due.Due.TheVariants as due
 
--- what answers a request that succeeds
+-- the kind of reply to a successful request
 abbrev pub due_of : WireRequest → Due
 due_of (request.Open filename flags attrs) = due.Handle
 due_of (request.Close handle) = due.Success
@@ -30,8 +30,8 @@ due_of (request.Rename old new) = due.Success
 due_of (request.PosixRename old new) = due.Success
 due_of (request.Link old new) = due.Success
 
--- Whether the reply is the due one: STATUS OK, a handle, one byte at least and no more than were
--- asked for, one name at least, or attributes.
+-- Whether the reply is of the expected kind: `SSH_FX_OK`, a handle, at least one and at most `most`
+-- bytes, at least one name, or attributes.
 abbrev pub is_answer : Due → Reply → Bool
 is_answer due.Success (reply.Status Success) = true
 is_answer due.Handle (reply.Handle number) = true
@@ -40,7 +40,7 @@ is_answer due.Names (reply.Names entries) = nat_lt 0 (length entries)
 is_answer due.Attrs (reply.Attrs attrs) = true
 is_answer _ _ = false
 
--- whether the reply refuses, whatever was due
+-- whether the reply is an error status
 abbrev pub is_refusal : Reply → Bool
 is_refusal (reply.Status Success) = false
 is_refusal (reply.Status _) = true
@@ -53,7 +53,7 @@ is_refusal (reply.Attrs attrs) = false
 abbrev pub is_due : Due → Reply → Bool
 is_due d r = is_answer d r || is_refusal r
 
--- the reply refuses by this code
+-- the reply is an error status with this code
 abbrev pub Refuses : Reply → StatusCode → Type 0
 Refuses (reply.Status code) given = (code ≢ Success) × (given ≡ code)
 Refuses reply.NoMemory given = given ≡ Failure
@@ -62,7 +62,7 @@ Refuses (reply.Data bytes) given = ⊥
 Refuses (reply.Names entries) given = ⊥
 Refuses (reply.Attrs attrs) given = ⊥
 
--- memory is taken for a file's bytes and for names alone
+-- only file data and names allocate
 abbrev pub TakesMemory : Reply → Type 0
 TakesMemory (reply.Data bytes) = Unit {0}
 TakesMemory (reply.Names entries) = Unit {0}

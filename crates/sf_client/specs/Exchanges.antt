@@ -1,4 +1,4 @@
--- Requests that were sent, and the replies that were taken for them.
+-- Requests that were sent, and the replies received for them.
 use Rattle.std.specs.Prelude.{◌≡◌, ◌≤◌, ◌+◌, ◌-◌, ◌^◌, ℕ, List, [], ◌∷◌, ◌++◌, length, Bool, true, false, Option, IfSome, map, ◌==◌, if◌then◌else◌}
 use Rattle.std.specs.List.{AllByRecursion}
 use Rattle.std.specs.Io.KnownBytes.{Appends, Consumes}
@@ -10,9 +10,12 @@ use Rattle.sf_field.specs.Fields.{packet, max_body}
 use Rattle.sf_client.specs.declared.due.Due.{Due}
 use Rattle.sf_client.specs.Dues.{due_of, is_due}
 
--- What can be seen of a client: the id of the next reply, and in step of the next request, whether
--- it has failed, what its line has still to give and has taken where it tells that, and how many
--- calls of its line failed.
+-- The observable state of a client:
+-- - `next`: the id of the oldest pending reply; if none is pending, of the next request;
+-- - `failed`: whether it has failed;
+-- - `incoming`, `outgoing`: the input not yet read and the output so far, if the transport exposes
+--   them;
+-- - `failures`: the number of failed calls of the transport.
 pub record ClientView : Type 0 where
   pub next : ℕ
   pub failed : Bool
@@ -35,7 +38,7 @@ last_id id (x ∷ xs) = last_id (id_after id) xs
 abbrev pub requests_of : List Exchange → List WireRequest
 requests_of xs = map (λ (x : Exchange). x.request) xs
 
--- the packets of the requests, and of the replies, which have the same ids
+-- the packets of the requests, and of the replies with the same ids
 unfoldable pub requests_from : ℕ → List WireRequest → List ℕ
 requests_from id [] = []
 requests_from id (q ∷ qs) = packet (request_body id q) ++ requests_from (id_after id) qs
@@ -44,12 +47,12 @@ unfoldable pub replies_from : ℕ → List Exchange → List ℕ
 replies_from id [] = []
 replies_from id (x ∷ xs) = packet (reply_body id x.reply) ++ replies_from (id_after id) xs
 
--- the reply is one that its request may have
+-- the reply is of the expected kind or an error status
 abbrev pub IsDueReply : Exchange → Type 0
 IsDueReply x = is_due (due_of x.request) x.reply ≡ true
 
--- The client sent these requests, in order, and took their replies. It has sent some later requests
--- too, whose replies are due.
+-- The client sent these requests in order and received their replies. It also sent `later`
+-- requests; their replies are pending.
 pub record SentAhead (v : ClientView) (xs : List Exchange) (later : List WireRequest)
     (w : ClientView) : Type 0 where
   pub began : v.failed ≡ false
@@ -60,23 +63,24 @@ pub record SentAhead (v : ClientView) (xs : List Exchange) (later : List WireReq
   pub due : AllByRecursion IsDueReply xs
   pub failures : v.failures ≤ w.failures
 
--- Nothing more was sent: the client is in step.
+-- No reply is pending.
 abbrev pub Exchanged : ClientView → List Exchange → ClientView → Type 0
 Exchanged v xs w = SentAhead v xs [] w
 
--- No due reply under this id stands at the front of the input.
+-- The input doesn't begin with an expected reply with this id.
 abbrev pub HasNoReply : Option (List ℕ) → ℕ → Due → Type 0
 HasNoReply incoming id d = IfSome incoming (λ input. (r : Reply) (rest : List ℕ) → ReplyFits r
     → is_due d r ≡ true → length (reply_body id r) ≤ max_body
     → input ≡ packet (reply_body id r) ++ rest → ⊥)
 
--- No due reply to a request that was sent stood where it had to. The client has failed.
+-- The expected reply to a request didn't arrive. The client has failed.
 pub record Spoilt (v : ClientView) (q : WireRequest) (w : ClientView) : Type 0 where
   pub failed : w.failed ≡ true
   pub outgoing : w.outgoing ≡ v.outgoing
   pub none : HasNoReply v.incoming v.next (due_of q)
 
--- After these exchanges a request was sent, and maybe later ones, and no due reply came for it.
+-- After these exchanges a request, and possibly later ones, was sent, and the expected reply didn't
+-- arrive.
 abbrev pub Unanswered : ClientView → List Exchange → WireRequest → List WireRequest → ClientView
     → Type 0
 Unanswered v xs q later w = (u : ClientView) × SentAhead v xs (q ∷ later) u × Spoilt u q w
@@ -87,7 +91,7 @@ pub record Sent (v : ClientView) (bytes : List ℕ) (w : ClientView) : Type 0 wh
   pub client : w ≡ record v { outgoing = w.outgoing; failures = w.failures }
   pub failures : v.failures ≤ w.failures
 
--- A reply was taken, under the id of the first request whose reply was due.
+-- A reply was received, with the id of the oldest request in flight.
 pub record Took (v : ClientView) (r : Reply) (w : ClientView) : Type 0 where
   pub same : w.failed ≡ v.failed
   pub next : w.next ≡ id_after v.next
@@ -95,18 +99,18 @@ pub record Took (v : ClientView) (r : Reply) (w : ClientView) : Type 0 where
   pub read : Consumes v.incoming w.incoming (packet (reply_body v.next r))
   pub failures : v.failures ≤ w.failures
 
--- INIT was sent, and VERSION was taken.
+-- INIT was sent, and VERSION was received.
 pub record IsGreeted (incoming outgoing incoming' outgoing' : Option (List ℕ)) : Type 0 where
   pub wrote : Appends outgoing outgoing' (packet init_body)
   pub read : Consumes incoming incoming' (packet version_body)
 
--- a client whose session was opened over a line
+-- a client that has opened its session
 pub record IsStarted (incoming outgoing : Option (List ℕ)) (v : ClientView) : Type 0 where
   pub next : v.next ≡ 1
   pub going : v.failed ≡ false
   pub greeted : IsGreeted incoming outgoing v.incoming v.outgoing
 
--- VERSION doesn't stand at the front of the input
+-- the input doesn't begin with VERSION
 abbrev pub HasNoVersion : Option (List ℕ) → Type 0
 HasNoVersion incoming =
     IfSome incoming (λ input. (rest : List ℕ) → input ≡ packet version_body ++ rest → ⊥)

@@ -1,4 +1,4 @@
--- What came of a call.
+-- The effects of a call.
 use Rattle.std.specs.Prelude.{◌≡◌, ◌≤◌, ◌⊎◌, ℕ, List, [], ◌∷◌, true, false, Option, Result, Ok, Err}
 use Rattle.std.specs.Io.KnownBytes.{Consumes}
 use Rattle.sf_line.specs.Lines.{Rose}
@@ -16,15 +16,18 @@ use Rattle.sf_client.specs.Exchanges.{ClientView, Exchange, Exchanged, Unanswere
 abbrev pub asked : WireRequest → Reply → Exchange
 asked q r = record { request = q; reply = r }
 
--- The line's failures rose, and the client has failed.
+-- The transport's error count rose, and the client has failed.
 pub record Broke (v w : ClientView) : Type 0 where
   pub failed : w.failed ≡ true
   pub grew : v.failures ≤ w.failures
   pub rose : Rose v.failures w.failures
 
--- What came of one request: its one reply was taken, which told this, or refused it; the line
--- failed; no due reply came; or memory was wanting, before anything was sent, or for the bytes or
--- the names of the reply that was taken. A client that failed before does nothing.
+-- The effect of a call of one request:
+-- - its reply was received, with this result or an error status;
+-- - the transport failed;
+-- - the expected reply didn't arrive;
+-- - memory ran out, before anything was sent or for the data or names of the reply;
+-- - the client had failed before, and does nothing.
 abbrev pub Comes : {X : Type 0} → (X → Reply) → ClientView → WireRequest → Result X ClientFault
     → ClientView → Type 0
 Comes as_reply v q (Ok x) w = Exchanged v (asked q (as_reply x) ∷ []) w
@@ -37,7 +40,7 @@ Comes as_reply v q (Err fault.OutOfMemory) w = (v.failed ≡ false)
 Comes as_reply v q (Err (fault.TooLarge size)) w = ⊥
 Comes as_reply v q (Err fault.Failed) w = (v.failed ≡ true) × (w ≡ v)
 
--- The same of a request that was sent without memory: its one reply was taken in any case.
+-- The same for a request that is sent without allocation: its reply was received in any case.
 abbrev pub SettlesRequest : {X : Type 0} → (X → Reply) → ClientView → WireRequest
     → Result X ClientFault
     → ClientView → Type 0
@@ -51,7 +54,7 @@ SettlesRequest as_reply v q (Err fault.OutOfMemory) w =
 SettlesRequest as_reply v q (Err (fault.TooLarge size)) w = ⊥
 SettlesRequest as_reply v q (Err fault.Failed) w = ⊥
 
--- what came of taking a reply
+-- the effect of receiving a reply
 abbrev pub TakesReply : ClientView → Due → Result Reply ClientFault → ClientView → Type 0
 TakesReply v d (Ok r) w = (is_due d r ≡ true) × Took v r w
 TakesReply v d (Err fault.Stream) w = Broke v w
@@ -63,7 +66,7 @@ TakesReply v d (Err fault.OutOfMemory) w =
 TakesReply v d (Err (fault.TooLarge size)) w = ⊥
 TakesReply v d (Err fault.Failed) w = ⊥
 
--- what came of sending a request under an id, with no wait for its reply
+-- the effect of sending a request with an id, without waiting for its reply
 abbrev pub Sends : ClientView → ℕ → WireRequest → Result (Unit {0}) ClientFault → ClientView
     → Type 0
 Sends v id q (Ok x) w = Sent v (packet (request_body id q)) w
@@ -74,7 +77,7 @@ Sends v id q (Err fault.OutOfMemory) w = w ≡ v
 Sends v id q (Err (fault.TooLarge size)) w = ⊥
 Sends v id q (Err fault.Failed) w = ⊥
 
--- what came of reading a reply, under an id
+-- the effect of reading a reply with an id
 abbrev pub ReadsDue : Option (List ℕ) → Option (List ℕ) → ℕ → Due → Result Reply ClientFault
     → Type 0
 ReadsDue incoming incoming' id d (Ok r) =
@@ -88,7 +91,8 @@ ReadsDue incoming incoming' id d (Err fault.OutOfMemory) =
 ReadsDue incoming incoming' id d (Err (fault.TooLarge size)) = ⊥
 ReadsDue incoming incoming' id d (Err fault.Failed) = ⊥
 
--- Why no session was opened: the line's failures rose; VERSION didn't come; or memory was wanting.
+-- Why no session was opened: the transport's error count rose, VERSION didn't arrive, or memory ran
+-- out.
 abbrev pub MayNotStart : ClientFault → ℕ → ℕ → Type 0
 MayNotStart fault.Stream failed failed' = Rose failed failed'
 MayNotStart fault.Protocol failed failed' = Unit {0}

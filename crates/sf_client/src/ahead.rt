@@ -1,4 +1,4 @@
-//! Requests on their way: they are sent before the replies of earlier ones are taken.
+//! Pipelining: requests are sent before the replies to earlier ones arrive.
 
 ghost use Rattle.std.specs.Prelude.{◌≡◌, ◌≢◌, ◌+◌, ◌-◌, ◌<◌, ◌≤◌, ◌^◌, length, true, false, Some, None};
 ghost use Rattle.sf_request.specs.Requests.{request_body};
@@ -13,24 +13,24 @@ use sf_line::Line;
 use sf_reply::Reply;
 use sf_request::WireRequest;
 
-/// How many requests are on their way at most.
+/// The maximum number of requests in flight.
 const MOST: u32 = 64;
 
-/// Requests that were sent and whose replies are due, the oldest one first.
+/// The requests in flight, oldest first.
 #[derive(Clone, Copy, Debug, PartialEq, Eq)]
 pub(crate) struct Ahead {
     /// The id of the next request.
     pub(crate) id: u32,
-    /// How many replies are due.
+    /// The number of pending replies.
     pub(crate) waiting: u32,
-    /// How many of them, the first ones, are dropped when they come.
+    /// The number of these, oldest first, that are discarded on arrival.
     pub(crate) dropped: u32,
-    /// The fault after which nothing more is sent.
+    /// The error after which no more requests are sent.
     pub(crate) stopped: Option<ClientFault>,
 }
 
 impl Ahead {
-    /// Nothing is on its way.
+    /// No request is in flight.
     pub(crate) fn from_id(id: u32) -> Ahead
         ensures { result ≡ record { id = id; waiting = 0; dropped = 0; stopped = None } }
     {
@@ -42,7 +42,7 @@ impl Ahead {
         }
     }
 
-    /// Whether one more request may be sent.
+    /// Whether another request may be sent.
     pub(crate) fn has_room(&self) -> bool
         ensures room { result ≡ true → self.now.waiting < most_ahead }
         ensures kept { result ≡ true → self.now.dropped ≡ 0 }
@@ -53,7 +53,8 @@ impl Ahead {
         self.waiting < MOST && self.dropped == 0 && self.stopped.is_none()
     }
 
-    /// Whether one more READ may be sent at this offset: beyond the expected size one at a time.
+    /// Whether another READ may be sent at this offset. Beyond the expected size only one is in
+    /// flight.
     pub(crate) fn has_room_at(&self, offset: u64, expected: u64) -> bool
         ensures room { result ≡ true → self.now.waiting < most_ahead }
         ensures kept { result ≡ true → self.now.dropped ≡ 0 }
@@ -64,14 +65,14 @@ impl Ahead {
         self.has_room() && (self.waiting == 0 || offset <= expected)
     }
 
-    /// Drops the replies that are still due.
+    /// Discards the replies that are still pending.
     pub(crate) fn drop_waiting(&mut self)
         ensures { self.new ≡ record self.old { dropped = self.old.waiting } }
     {
         self.dropped = self.waiting;
     }
 
-    /// Nothing more is sent, and the replies that are still due are dropped.
+    /// Stops sending, and discards the replies that are still pending.
     pub(crate) fn stop(&mut self, fault: ClientFault)
         ensures { self.new ≡ record self.old { dropped = self.old.waiting; stopped = Some fault } }
     {
@@ -79,7 +80,7 @@ impl Ahead {
         self.stopped = Some(fault);
     }
 
-    /// One more request is on its way.
+    /// Counts another request in flight.
     fn add(&mut self)
         requires { self.old.waiting < most_ahead }
         ensures { self.new
@@ -89,7 +90,7 @@ impl Ahead {
         self.waiting += 1;
     }
 
-    /// A reply came: nothing where it is dropped, or refuses.
+    /// Handles a reply. It returns `None` if the reply is discarded or is an error status.
     fn kept(&mut self, reply: Reply) -> Option<Reply>
         requires { 0 < self.old.waiting }
         ensures { KeepsReply self.old reply result self.new }
@@ -108,7 +109,7 @@ impl Ahead {
         }
     }
 
-    /// A reply came for which there was no memory.
+    /// Handles a reply that could not be copied because memory ran out.
     fn missed(&mut self)
         requires { 0 < self.old.waiting }
         ensures { Misses fault.OutOfMemory self.old self.new }
@@ -123,7 +124,7 @@ impl Ahead {
 }
 
 impl<L: Line + Drop> Client<L> {
-    /// Sends a request, and waits for nothing; whether there was memory for it.
+    /// Sends a request without waiting for its reply. It returns `false` if memory ran out.
     pub(crate) fn send_on(
         &mut self,
         ahead: &mut Ahead,
@@ -147,8 +148,8 @@ impl<L: Line + Drop> Client<L> {
         }
     }
 
-    /// Takes the first of the replies that are due. Nothing where it is dropped, refuses, or finds
-    /// no memory.
+    /// Receives the oldest pending reply. It returns `None` if the reply is discarded, is an error
+    /// status, or could not be copied because memory ran out.
     pub(crate) fn take_on(
         &mut self,
         ahead: &mut Ahead,

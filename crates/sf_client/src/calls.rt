@@ -1,4 +1,4 @@
-//! The calls of one request each.
+//! Calls of a single request each.
 
 ghost use Rattle.std.specs.Prelude.{◌≡◌, ◌+◌, ◌<◌, ◌^◌, length, Ok, Err};
 ghost use Rattle.sf_field.specs.Attributes.{no_attrs};
@@ -18,7 +18,7 @@ use sf_reply::Reply;
 use sf_request::{ByteStr, WireRequest};
 
 impl<L: Line + Drop> Client<L> {
-    /// Sends a request that STATUS OK answers.
+    /// Sends a request that expects `SSH_FX_OK`.
     pub(crate) fn done(&mut self, request: &WireRequest) -> Result<(), ClientFault>
         requires short { length (request_body self.old.next request.now) < 2 ^ 32 }
         requires due { due_of request.now ≡ Due.Success }
@@ -30,7 +30,7 @@ impl<L: Line + Drop> Client<L> {
         }
     }
 
-    /// The attributes of what the path names.
+    /// Returns the attributes of the file or directory at `path`.
     pub fn stat(&mut self, path: &[u8]) -> Result<Attrs, ClientFault>
         requires { length path.now < 2 ^ 31 }
         ensures { Comes reply.Attrs self.old (request.Stat path.now) result self.new }
@@ -43,7 +43,7 @@ impl<L: Line + Drop> Client<L> {
         }
     }
 
-    /// Makes a directory.
+    /// Creates a directory.
     pub fn mkdir(&mut self, path: &[u8]) -> Result<(), ClientFault>
         requires { length path.now < 2 ^ 31 }
         ensures { Comes (λ _. reply.Status Success) self.old
@@ -76,7 +76,7 @@ impl<L: Line + Drop> Client<L> {
         self.done(&WireRequest::Remove { path })
     }
 
-    /// Renames, which fails where `new` is there.
+    /// Renames `old` to `new`. It fails if `new` exists.
     pub fn rename(&mut self, old: &[u8], new: &[u8]) -> Result<(), ClientFault>
         requires { length old.now + length new.now < 2 ^ 31 }
         ensures { Comes (λ _. reply.Status Success) self.old
@@ -87,7 +87,7 @@ impl<L: Line + Drop> Client<L> {
         self.done(&WireRequest::Rename { old, new })
     }
 
-    /// Renames, in the place of what `new` names, as POSIX's `rename`.
+    /// Renames `old` to `new` and replaces `new` if it exists, as POSIX's `rename`.
     pub fn posix_rename(&mut self, old: &[u8], new: &[u8]) -> Result<(), ClientFault>
         requires { length old.now + length new.now < 2 ^ 31 }
         ensures { Comes (λ _. reply.Status Success) self.old
@@ -98,7 +98,7 @@ impl<L: Line + Drop> Client<L> {
         self.done(&WireRequest::PosixRename { old, new })
     }
 
-    /// Makes `new` a further name of the file at `old`, which fails where `new` is there.
+    /// Creates the hard link `new` to the file `old`. It fails if `new` exists.
     pub fn hardlink(&mut self, old: &[u8], new: &[u8]) -> Result<(), ClientFault>
         requires { length old.now + length new.now < 2 ^ 31 }
         ensures { Comes (λ _. reply.Status Success) self.old

@@ -1,4 +1,4 @@
-//! A client, and one request with its reply.
+//! The client, and the exchange of one request and its reply.
 
 ghost use Rattle.std.specs.Prelude.{◌≡◌, ◌≢◌, ◌+◌, ◌<◌, ◌≤◌, ◌^◌, ℕ, length, true, false, Ok, Err, IfOk, IfErr, OnOk, OnErr, vec_len, ◌⊎◌, None};
 ghost use Rattle.std.specs.Io.KnownBytes.{Appends, Consumes};
@@ -42,7 +42,7 @@ fn packet_of(alloc: Global, id: u32, request: &WireRequest) -> Result<BytesMut, 
     Ok(out)
 }
 
-/// Reads the due reply under this id.
+/// Reads the expected reply with this id.
 fn read_due<L: Line>(
     alloc: Global,
     line: &mut L,
@@ -76,7 +76,7 @@ fn zeros(alloc: Global, len: usize) -> Result<Vec<u8>, AllocError>
     vec![in alloc; 0u8; len]
 }
 
-/// Sends INIT, and takes VERSION.
+/// Sends INIT and receives VERSION.
 fn greet<L: Line>(line: &mut L, buffer: &mut [u8]) -> Result<(), ClientFault>
     requires { length buffer.old ≡ MAX_BODY }
     ensures ok { OnOk result (IsGreeted (L.incoming line.old) (L.outgoing line.old)
@@ -101,24 +101,25 @@ fn greet<L: Line>(line: &mut L, buffer: &mut [u8]) -> Result<(), ClientFault>
     }
 }
 
-/// Why no session was opened, and the line, at whatever it was left.
+/// Why no session was opened, and the transport, in whatever state it is.
 #[derive(Drop)]
 pub struct NotStarted<L> {
     pub fault: ClientFault,
     pub line: L,
 }
 
-/// A client of one session. The calls of one request send it and take its reply; those by a handle
-/// send requests ahead, and take every reply before they return.
+/// A client of one session. Calls of a single request send it and wait for its reply. Calls with a
+/// handle (`get`, `put`, `list`) pipeline their requests, and receive all replies before they
+/// return.
 #[derive(Drop)]
 pub struct Client<L: Line + Drop> {
     alloc: Global,
     line: L,
-    /// The id of the next reply; where none is due, of the next request.
+    /// The id of the oldest pending reply; if none is pending, of the next request.
     next: u32,
-    /// The line failed, or gave another reply than the due one.
+    /// The transport failed, or a reply was not the expected one.
     failed: bool,
-    /// Room for the longest reply.
+    /// A buffer for the longest reply.
     body: Vec<u8>,
 }
 
@@ -141,8 +142,8 @@ impl<L: Line + Drop> Model for Client<L> {
 }
 
 impl<L: Line + Drop> Client<L> {
-    /// Opens the session: sends INIT with version 3, and takes VERSION. Where that fails, the line
-    /// comes back.
+    /// Opens a session: sends INIT with version 3 and receives VERSION. An error returns the
+    /// transport.
     pub fn start(alloc: Global, line: L) -> Result<Client<L>, NotStarted<L>>
         ensures ok { IfOk result (λ client. IsStarted (L.incoming line) (L.outgoing line) client) }
         ensures refused { IfErr result (λ no. no.fault ≡ ClientFault.Protocol
@@ -167,7 +168,7 @@ impl<L: Line + Drop> Client<L> {
         }
     }
 
-    /// The line, at whatever the client left it.
+    /// Returns the transport, in whatever state it is.
     pub fn into_line(self) -> L
         ensures incoming { L.incoming result ≡ self.incoming }
         ensures outgoing { L.outgoing result ≡ self.outgoing }
@@ -183,19 +184,19 @@ impl<L: Line + Drop> Client<L> {
         line
     }
 
-    /// The allocator that the client was made with.
+    /// The client's allocator.
     pub(crate) fn alloc(&self) -> Global {
         self.alloc
     }
 
-    /// Nothing is on its way yet.
+    /// A pipeline without requests in flight.
     pub(crate) fn ahead(&self) -> Ahead
         ensures { result ≡ record { id = self.now.next; waiting = 0; dropped = 0; stopped = None } }
     {
         Ahead::from_id(self.next)
     }
 
-    /// Nothing is sent any more.
+    /// Marks the client as failed, so that nothing more is sent.
     fn fail(&mut self, fault: ClientFault) -> ClientFault
         ensures fault { result ≡ fault }
         ensures client { self.new ≡ record self.old { failed = true } }
@@ -219,7 +220,8 @@ impl<L: Line + Drop> Client<L> {
         }
     }
 
-    /// Sends a request under this id, and waits for nothing. Want of memory sends nothing.
+    /// Sends a request with this id, without waiting for its reply. If memory runs out nothing is
+    /// sent.
     pub(crate) fn send_request(&mut self, id: u32, request: &WireRequest) -> Result<(), ClientFault>
         requires { length (request_body id request.now) < 2 ^ 32 }
         ensures { Sends self.old id request.now result self.new }
@@ -230,7 +232,7 @@ impl<L: Line + Drop> Client<L> {
         self.send(packet.as_slice())
     }
 
-    /// The reply of the first request whose reply is due.
+    /// Receives the oldest pending reply.
     pub(crate) fn take_reply(&mut self, due: Due) -> Result<Reply, ClientFault>
         ensures { TakesReply self.old due result self.new }
     {
@@ -247,7 +249,7 @@ impl<L: Line + Drop> Client<L> {
         }
     }
 
-    /// Sends the packet of a request, and takes its reply.
+    /// Sends the packet of a request and receives its reply.
     fn settle(&mut self, bytes: &[u8], due: Due) -> Result<Reply, ClientFault>
         requires { self.old.failed ≡ false }
         ensures comes { (q : WireRequest) → bytes.now ≡ packet (request_body self.old.next q)
@@ -266,7 +268,7 @@ impl<L: Line + Drop> Client<L> {
         }
     }
 
-    /// Sends a request, and takes its reply.
+    /// Sends a request and receives its reply.
     pub(crate) fn exchange(&mut self, request: &WireRequest) -> Result<Reply, ClientFault>
         requires { length (request_body self.old.next request.now) < 2 ^ 32 }
         ensures comes { Comes (λ r. r) self.old request.now result self.new }
@@ -281,7 +283,7 @@ impl<L: Line + Drop> Client<L> {
         self.settle(packet.as_slice(), Due::of(request))
     }
 
-    /// Closes a handle. It takes no memory to send CLOSE.
+    /// Closes a handle. Sending CLOSE doesn't allocate.
     pub(crate) fn close(&mut self, handle: u64) -> Result<(), ClientFault>
         requires { self.old.failed ≡ false }
         ensures { SettlesRequest (λ _. Status Success) self.old (Close (be64 handle))

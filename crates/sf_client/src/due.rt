@@ -1,4 +1,4 @@
-//! What a request's reply has to be.
+//! The reply that a request expects.
 
 ghost use Rattle.std.specs.Prelude.{◌≡◌, IfSome, IfNone, IfOk, OnErr, MatchOption, true, false};
 ghost use Rattle.sf_reply.specs.declared.reply.Reply.{Reply};
@@ -9,21 +9,21 @@ use sf_reply::{FoundReply, Reply, StatusCode, find_reply};
 use sf_request::WireRequest;
 use std::alloc::{AllocError, Global};
 
-/// What answers a request that succeeds.
+/// The kind of reply to a successful request.
 #[derive(Clone, Copy, Debug, PartialEq, Eq)]
 pub(crate) enum Due {
-    /// STATUS OK.
+    /// `SSH_FX_OK`.
     Success,
     Handle,
-    /// One byte at least, and at most so many.
+    /// At least one byte, and at most this number.
     Data(u32),
-    /// One name at least.
+    /// At least one name.
     Names,
     Attrs,
 }
 
 impl Due {
-    /// What answers this request where it succeeds.
+    /// The kind of reply to this request if it succeeds.
     pub(crate) fn of(request: &WireRequest) -> Due
         ensures { result ≡ due_of request.now }
     {
@@ -38,7 +38,7 @@ impl Due {
         }
     }
 
-    /// Whether a reply is the due one.
+    /// Whether the reply is of the expected kind.
     fn is_answered(self, found: &FoundReply<'_>) -> bool
         requires { HasCountedNames found.now }
         ensures { result ≡ is_answer self (reply_of found.now) }
@@ -55,7 +55,7 @@ impl Due {
         }
     }
 
-    /// Whether a reply is the due one, or refuses.
+    /// Whether the reply is of the expected kind or an error status.
     pub(crate) fn allows(self, found: &FoundReply<'_>) -> bool
         requires { HasCountedNames found.now }
         ensures { result ≡ is_due self (reply_of found.now) }
@@ -74,7 +74,7 @@ fn is_refused(found: &FoundReply<'_>) -> bool
     }
 }
 
-/// The code by which a reply refuses.
+/// The status code of an error reply.
 pub(crate) fn refusal(reply: &Reply) -> Option<StatusCode>
     ensures { MatchOption result (is_refusal reply.now ≡ false) (Refuses reply.now) }
 {
@@ -86,8 +86,7 @@ pub(crate) fn refusal(reply: &Reply) -> Option<StatusCode>
     }
 }
 
-/// The reply that was found, with bytes of its own. Memory is taken for a file's bytes and for
-/// names alone.
+/// Copies the reply. Only file data and names allocate.
 pub(crate) fn made(alloc: Global, found: FoundReply<'_>) -> Result<Reply, AllocError>
     ensures reply { IfOk result (λ reply. reply ≡ reply_of found.entry) }
     ensures err { OnErr result (TakesMemory (reply_of found.entry)) }
@@ -101,7 +100,7 @@ pub(crate) fn made(alloc: Global, found: FoundReply<'_>) -> Result<Reply, AllocE
     }
 }
 
-/// The due reply that a body spells under this id.
+/// The expected reply with this id, if the body encodes one.
 pub(crate) fn find_due(body: &[u8], id: u32, due: Due) -> Option<FoundReply<'_>>
     ensures found { IfSome result (λ found. IsReply body.now id (reply_of found)
         × (is_due due (reply_of found) ≡ true)) }

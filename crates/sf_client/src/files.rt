@@ -1,4 +1,4 @@
-//! The calls by a handle: it is opened, used and closed in one call.
+//! Calls with a handle: each opens it, uses it and closes it.
 
 ghost use Rattle.std.specs.Prelude.{◌≡◌, ◌≢◌, ◌+◌, ◌<◌, ◌≤◌, ◌^◌, length, false, Ok, Err, IfOk, IfSome, None, nat_lt};
 ghost use Rattle.sf_field.specs.Fields.{be64};
@@ -22,16 +22,16 @@ use sf_line::Line;
 use sf_reply::{Entry, Listing, Reply, StatusCode};
 use sf_request::{ByteStr, WireRequest};
 
-/// How many bytes a READ asks for, and a WRITE sends at most.
+/// The length of a READ, and the maximum length of a WRITE, in bytes.
 const PIECE: usize = 32768;
 
-/// How many bytes of a file are gathered at most, by the size that FSTAT tells.
+/// The maximum size of a file to get, in bytes, by its size from FSTAT.
 const MOST_GATHERED: u64 = 1 << 30;
 
-/// How many READDIRs are on their way at most.
+/// The maximum number of READDIRs in flight.
 const LISTINGS: u32 = 2;
 
-/// READ alone.
+/// The flag READ.
 const TO_READ: OpenFlags = OpenFlags {
     read: true,
     write: false,
@@ -41,7 +41,7 @@ const TO_READ: OpenFlags = OpenFlags {
     exclusive: false,
 };
 
-/// WRITE, CREAT and TRUNC.
+/// The flags WRITE, CREAT and TRUNC.
 const TO_WRITE: OpenFlags = OpenFlags {
     read: false,
     write: true,
@@ -51,8 +51,8 @@ const TO_WRITE: OpenFlags = OpenFlags {
     exclusive: false,
 };
 
-/// The fault that a call tells after a fault and its CLOSE: the first one, unless the client
-/// failed.
+/// The error that a call returns after an error and its CLOSE: the first one, unless the client
+/// failed in CLOSE.
 fn fault_after(first: ClientFault, closing: Result<(), ClientFault>) -> ClientFault
     ensures { result ≡ first_fault first closing }
 {
@@ -63,8 +63,8 @@ fn fault_after(first: ClientFault, closing: Result<(), ClientFault>) -> ClientFa
     }
 }
 
-/// Gathers a piece of a file, and answers whether it is a short one: those that follow it on their
-/// way are then dropped. Where there is no memory for it, nothing more is read.
+/// Appends a chunk of a file, and returns whether it is a short one, after which the chunks in
+/// flight are discarded. If memory runs out, reading stops.
 fn gather_piece(ahead: &mut Ahead, bytes: &mut Vec<u8>, piece: ByteString) -> bool
     ensures short { result ≡ nat_lt (length piece) PIECE }
     ensures gathers { GathersPiece bytes.old.items piece bytes.new.items ahead.old ahead.new }
@@ -78,7 +78,7 @@ fn gather_piece(ahead: &mut Ahead, bytes: &mut Vec<u8>, piece: ByteString) -> bo
     short
 }
 
-/// Gathers some names. Where there is no memory for them, nothing more is listed.
+/// Appends names. If memory runs out, listing stops.
 fn gather_names(ahead: &mut Ahead, entries: &mut Vec<Entry>, names: Listing)
     ensures { GathersNames entries.old.items names entries.new.items ahead.old ahead.new }
 {
@@ -87,7 +87,7 @@ fn gather_names(ahead: &mut Ahead, entries: &mut Vec<Entry>, names: Listing)
     }
 }
 
-/// What was gathered, where EOF ended it.
+/// The collected items, if EOF ended the call.
 fn ended<T: Drop>(
     stopped: Option<ClientFault>,
     gathered: Gathered<T>,
@@ -116,7 +116,7 @@ impl<L: Line + Drop> Client<L> {
         }
     }
 
-    /// Closes the handle, unless the client has failed, and answers what came of the call.
+    /// Closes the handle, unless the client has failed, and returns the result of the call.
     fn closed<T: Drop>(
         &mut self,
         handle: u64,
@@ -146,7 +146,7 @@ impl<L: Line + Drop> Client<L> {
         }
     }
 
-    /// Closes the handle after a fault, and answers the fault that is told.
+    /// Closes the handle after an error, and returns the error of the call.
     fn close_after(&mut self, handle: u64, first: ClientFault) -> ClientFault
         requires { self.old.failed ≡ false }
         ensures { EndsAfter handle first self.old result self.new }
@@ -155,7 +155,7 @@ impl<L: Line + Drop> Client<L> {
         fault_after(first, closing)
     }
 
-    /// The size that FSTAT tells, for what it is worth: 0 where it is refused, or tells none.
+    /// The file's size from FSTAT; 0 if FSTAT returned an error status or no size.
     fn stated_size(&mut self, handle: u64) -> Result<u64, ClientFault>
         requires { self.old.failed ≡ false }
         ensures { AsksSize handle self.old result self.new }
@@ -192,7 +192,7 @@ impl<L: Line + Drop> Client<L> {
         self.send_on(ahead, &request)
     }
 
-    /// Takes the bytes of a READ.
+    /// Receives the data of a READ.
     fn take_piece(&mut self, ahead: &mut Ahead) -> Result<Option<ByteString>, ClientFault>
         requires { 0 < ahead.old.waiting }
         ensures { TakesOn (sender self.old ahead.old) (Due.Data 32768) (reply_by reply.Data result)
@@ -206,8 +206,8 @@ impl<L: Line + Drop> Client<L> {
         }
     }
 
-    /// The bytes of the file, read to its end. READs go ahead up to the size that was told; after a
-    /// short piece those on their way are of no use, and the reading goes on one READ at a time.
+    /// Reads the file to its end. READs are pipelined up to the size from FSTAT. After a short
+    /// chunk the READs in flight are useless, and reading continues with one READ at a time.
     fn read_pieces(&mut self, handle: u64, size: u64) -> Result<Gathered<u8>, ClientFault>
         requires { self.old.failed ≡ false }
         ensures { DoesCall (Reads handle) self.old result self.new }
@@ -238,7 +238,7 @@ impl<L: Line + Drop> Client<L> {
         }
     }
 
-    /// The bytes of the file.
+    /// Reads the file, if its size is within the limit.
     fn read_all(&mut self, handle: u64) -> Result<Gathered<u8>, ClientFault>
         requires { self.old.failed ≡ false }
         ensures { DoesCall (ReadsAll handle) self.old result self.new }
@@ -275,7 +275,7 @@ impl<L: Line + Drop> Client<L> {
         self.send_on(ahead, &request)
     }
 
-    /// Takes the STATUS OK of a WRITE.
+    /// Receives the `SSH_FX_OK` of a WRITE.
     fn take_success(&mut self, ahead: &mut Ahead) -> Result<Option<()>, ClientFault>
         requires { 0 < ahead.old.waiting }
         ensures { TakesOn (sender self.old ahead.old) Due.Success
@@ -288,7 +288,7 @@ impl<L: Line + Drop> Client<L> {
         }
     }
 
-    /// Writes the bytes from the file's beginning on, in pieces that are sent ahead.
+    /// Writes the bytes from offset 0 on, with pipelined chunks.
     fn write_pieces(&mut self, handle: u64, bytes: &[u8]) -> Result<(), ClientFault>
         requires { self.old.failed ≡ false }
         ensures { DoesCall (WritesAll bytes.now handle) self.old result self.new }
@@ -332,7 +332,7 @@ impl<L: Line + Drop> Client<L> {
         self.send_on(ahead, &WireRequest::ReadDir { handle })
     }
 
-    /// Takes the names of a READDIR.
+    /// Receives the names of a READDIR.
     fn take_names(&mut self, ahead: &mut Ahead) -> Result<Option<Listing>, ClientFault>
         requires { 0 < ahead.old.waiting }
         ensures { TakesOn (sender self.old ahead.old) Due.Names (reply_by reply.Names result)
@@ -346,7 +346,7 @@ impl<L: Line + Drop> Client<L> {
         }
     }
 
-    /// The names of the directory, listed to its end, with one READDIR ahead.
+    /// Lists the directory to its end, with at most two READDIRs in flight.
     fn list_all(&mut self, handle: u64) -> Result<Gathered<Entry>, ClientFault>
         requires { self.old.failed ≡ false }
         ensures { DoesCall (ListsAll handle) self.old result self.new }
@@ -419,7 +419,7 @@ impl<L: Line + Drop> Client<L> {
         self.closed(handle, entries)
     }
 
-    /// The bytes of a file: of 2^30 at most, as its size was told.
+    /// Reads a whole file. It returns `TooLarge` if the server reports a size above 2^30 bytes.
     pub fn get(&mut self, path: &[u8]) -> Result<Vec<u8>, ClientFault>
         requires { length path.now < 2 ^ 31 }
         ensures { DoesCall (ByHandle (request.Open path.now to_read no_attrs) ReadsAll) self.old
@@ -431,7 +431,7 @@ impl<L: Line + Drop> Client<L> {
         }
     }
 
-    /// Makes a file of these bytes, or empties the one that is there and writes them.
+    /// Creates a file with these bytes, or truncates an existing file and writes them.
     pub fn put(&mut self, path: &[u8], bytes: &[u8]) -> Result<(), ClientFault>
         requires { length path.now < 2 ^ 31 }
         ensures { DoesCall
@@ -446,7 +446,7 @@ impl<L: Line + Drop> Client<L> {
         self.closed(handle, written)
     }
 
-    /// The names of a directory.
+    /// Lists a directory.
     pub fn list(&mut self, path: &[u8]) -> Result<Vec<Entry>, ClientFault>
         requires { length path.now < 2 ^ 31 }
         ensures { DoesCall (ByHandle (request.OpenDir path.now) ListsAll) self.old

@@ -1,10 +1,10 @@
-//! What several replies gave.
+//! Items collected from several replies.
 
 ghost use Rattle.std.specs.Prelude.{◌≡◌};
 
 use std::marker::Model;
 
-/// Items in their order, which contracts see as a list.
+/// A list of items, in order. Contracts see it as a list.
 #[derive(Drop)]
 pub(crate) struct Gathered<T> {
     items: Vec<T>,
@@ -19,14 +19,14 @@ impl<T> Model for Gathered<T> {
 }
 
 impl<T> Gathered<T> {
-    /// Takes no memory.
+    /// Wraps the items; it allocates nothing.
     pub(crate) fn from_vec(items: Vec<T>) -> Gathered<T>
         ensures { result ≡ items.items }
     {
         Gathered { items }
     }
 
-    /// Takes no memory.
+    /// Returns the items; it allocates nothing.
     pub(crate) fn into_vec(self) -> Vec<T>
         ensures { result.items ≡ self }
     {

@@ -1,12 +1,12 @@
-//! A client of the SSH File Transfer Protocol, version 3, over a line.
+//! A client of SFTP version 3, over a blocking transport.
 //!
-//! Start with `Client::start` in `client.rt`, which opens the session, and with the calls of one
-//! request in `calls.rt`: `Comes` in `specs/Outcomes.antt` says what came of one. `get`, `put` and
-//! `list` in `files.rt` send requests ahead: `DoesCall` in `specs/Calls.antt` says what came of
-//! them, and `ByHandle` there which exchanges they made. An exchange is a request with the reply
-//! that was taken for it (`specs/Exchanges.antt`); `specs/Dues.antt` says which reply is due. A
-//! client whose line failed, or gave another reply, does nothing from then on. Inside, `Ahead`
-//! counts the requests whose replies are to come.
+//! Start with `Client::start` in `client.rt`, which opens a session, and the calls of a single
+//! request in `calls.rt`. `Comes` in `specs/Outcomes.antt` defines their outcome. `get`, `put` and
+//! `list` in `files.rt` pipeline their requests: `DoesCall` in `specs/Calls.antt` defines their
+//! outcome, and `ByHandle` their exchanges. An exchange is a request and the reply received for it
+//! (`specs/Exchanges.antt`). `specs/Dues.antt` defines the expected replies. After a transport
+//! error or an unexpected reply every call returns `Failed`. Internally, `Ahead` counts the
+//! requests in flight.
 #![tactic(auto)]
 
 mod ahead;

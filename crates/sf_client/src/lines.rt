@@ -1,4 +1,4 @@
-//! Whole packets on a line.
+//! Reading whole packets from a transport.
 
 ghost use Rattle.std.specs.Prelude.{◌≡◌, ◌<◌, ◌≤◌, ℕ, List, ◌++◌, length, take, true, false, OnErr, IfOk, IfSome, IfNone, MatchOption};
 ghost use Rattle.std.specs.Io.KnownBytes.{Consumes};
@@ -9,7 +9,7 @@ ghost use Rattle.sf_client.specs.Packets.{RunsOut, HasNoPacket};
 use sf_field::MAX_BODY;
 use sf_line::{Line, LineFault};
 
-/// Fills the buffer; false where the input ends before it is full.
+/// Fills the buffer. It returns `false` if the input ends before it is full.
 fn fill<L: Line>(line: &mut L, buffer: &mut [u8]) -> Result<bool, LineFault>
     ensures full { IfOk result (λ full. full ≡ true
         → Consumes (L.incoming line.old) (L.incoming line.new) buffer.new) }
@@ -30,7 +30,7 @@ fn fill<L: Line>(line: &mut L, buffer: &mut [u8]) -> Result<bool, LineFault>
     Ok(true)
 }
 
-/// The length of a body that four bytes tell.
+/// The length of a body by its length field, if it is valid.
 fn body_len(header: &[u8; 4]) -> Option<usize>
     ensures some { IfSome result (λ n. (0 < n) × (n ≤ MAX_BODY) × (header.now ≡ be32 n)) }
     ensures none { IfNone result ((n : ℕ) → 0 < n → n ≤ MAX_BODY → header.now ≡ be32 n → ⊥) }
@@ -42,8 +42,8 @@ fn body_len(header: &[u8; 4]) -> Option<usize>
     Some(len)
 }
 
-/// Reads one packet, its body to the front of the buffer, and answers the body's length; `None`
-/// where no packet stands at the front of the input.
+/// Reads one packet and stores its body as a prefix of the buffer. It returns the body's length, or
+/// `None` if the input doesn't begin with a packet.
 pub(crate) fn read_packet<L: Line>(
     line: &mut L,
     buffer: &mut [u8],

@@ -1,4 +1,4 @@
-//! The clock of the system, as the moments of sessions.
+//! The system clock, as a source of timestamps for sessions.
 #![tactic(auto)]
 
 ghost use Rattle.std.specs.Prelude.{◌≡◌, ◌-◌, ◌/◌, ◌^◌, min, IfSome, IfNone, None};
@@ -7,7 +7,7 @@ ghost use Rattle.std.specs.Duration.{as_nanos};
 use sf_session::Clock;
 use std::time::Duration;
 
-/// The clock of the system that the program runs on. It keeps no moments.
+/// The system's real-time clock. It doesn't record its timestamps.
 #[derive(Debug, Drop)]
 pub struct SystemClock<'a, R> {
     runtime: &'a R,
@@ -28,8 +28,8 @@ impl<R: std::rt::Clock> Clock for SystemClock<'_, R> {
     }
 }
 
-/// The moment that lies so long after the beginning of 1970, in whole seconds: 0 where the clock
-/// stands before it, and 4294967295 where the seconds don't fit.
+/// Whole seconds since 1970-01-01 UTC: 0 if the clock is before that, and 4294967295 if the number
+/// exceeds a `u32`.
 pub fn moment(since_1970: Option<Duration>) -> u32
     ensures before { IfNone since_1970 (result ≡ 0) }
     ensures after { IfSome since_1970 (λ duration. result

@@ -1,31 +1,22 @@
-//! Cases for the engine and all below it.
+//! Tests of the engine's crates, for what no contract says.
 //!
-//! In `wire.rt` is what crosses the wire: lines, the texts of paths, and the fields, requests,
-//! replies and packets of bytes; `wire/packets.rt` has what is sent and what is answered, byte by
-//! byte, as the draft has it. `call.rt` has calls and their values, `inode.rt` the store and the
-//! contents of files, and `session.rt` sessions by their calls, with the bytes that each must send.
-//! In `walk.rt` the slow tree and the store are asked the same, and in `cores.rt` and `engine.rt`
-//! eight sessions have drawn events, which the slow tree answers too; `cores.rt` also has which
-//! records are kept, the book that keeps them, and the tree whole, with `leaves.rt` to compare two.
-//! `trees.rt` has trees that are made by requests. Cases whose events are known are rows of
-//! `interop/engine_rows`, which `replay` replays.
+//! Contracts allow most calls to run out of memory, so a test calls each function once that no
+//! program calls: `promised.rt` uses an engine by the trait `Sftp` alone, and `plain.rt` the slow
+//! tree. `capacity.rt` bounds the room of the history, `streams.rt` has streams that fail,
+//! `words.rt` the texts of errors, and `threads.rt` the types that may cross threads. The engine's
+//! known cases are rows of data, which the program `replay` replays, and drawn events come from
+//! scripts.
 #![tactic(auto)]
 
 #[cfg(test)]
-mod call;
+mod capacity;
 #[cfg(test)]
-mod cores;
+mod plain;
 #[cfg(test)]
-mod engine;
+mod promised;
 #[cfg(test)]
-mod inode;
+mod streams;
 #[cfg(test)]
-mod leaves;
+mod threads;
 #[cfg(test)]
-mod session;
-#[cfg(test)]
-mod trees;
-#[cfg(test)]
-mod walk;
-#[cfg(test)]
-mod wire;
+mod words;

@@ -1,4 +1,4 @@
--- The bits of flags say the flags, found by trying all of them.
+-- Decoding the bits of flags yields the flags, by trying all of them.
 use Rattle.std.proofs.Common.{◌≡◌, ◌<◌, ◌^◌, Bool, true, false, refl, arith}
 use Rattle.std.specs.Prelude.{◌&&◌, nat_lt}
 use Rattle.std.proofs.lemmas.Bool.{ltb-true}
@@ -22,7 +22,7 @@ both true true e = (refl, refl)
 both true false e = absurd cc
 both false b e = absurd cc
 
--- whether a test holds of true and of false
+-- whether a test holds for both true and false
 each : (Bool → Bool) → Bool
 each test = test true && test false
 

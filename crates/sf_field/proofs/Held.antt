@@ -1,5 +1,5 @@
--- What a value of a type is, since it is held by that type: numbers are within their widths, and the
--- items of a string are bytes.
+-- What a type guarantees of its values: numbers are within their widths, and the items of a string
+-- are bytes.
 use denote.Builtin.{u32, u64}
 use denote.Laws.{Is}
 use denote.RattleType.{RattleType}

@@ -1,4 +1,4 @@
--- Attributes that are sent are in the grammar.
+-- Attributes that are sent are a valid encoding.
 use Rattle.std.proofs.Common.{◌≡◌, ℕ, ◌+◌, ◌<◌, ◌^◌, true, List, [], ◌++◌, Option, Some, None, refl, append_assoc, lit<}
 use Rattle.std.specs.Prelude.{is_none}
 use Rattle.std.proofs.lemmas.List.{append-nil}
@@ -8,7 +8,7 @@ use Rattle.sf_field.specs.declared.attrs.Times.{Times}
 use Rattle.sf_field.specs.Fields.{be32, be64, optional}
 use Rattle.sf_field.specs.Attributes.{lacks, flag_of, flags_of, attrs_text, owner_text, times_text, AttrsFit, SpellsAttrs}
 
--- what the flags of four parts say
+-- flags of exactly the parts present
 record Flags (s : Option ℕ) (o : Option Owner) (p : Option ℕ) (t : Option Times) (flags : ℕ) : Type 0 where
   pub size : lacks flags 0x1 ≡ is_none s
   pub owner : lacks flags 0x2 ≡ is_none o

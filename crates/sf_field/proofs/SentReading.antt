@@ -1,4 +1,4 @@
--- Attributes as they are sent are read where they are spelled, and only there.
+-- The reader of attributes as they are sent accepts exactly their encodings.
 use Rattle.std.proofs.Common.{◌≡◌, ℕ, zero, suc, ◌+◌, ◌<◌, ◌≤◌, Bool, true, false, cond, ltb, eqb, List, [], ◌++◌, Option, Some, None, refl, sym, ap, subst, ◌∙◌, append_assoc, append-nil, arith, inl, inr}
 use Rattle.std.specs.Prelude.{◌&&◌, is_none}
 use Rattle.std.proofs.lemmas.Option.{some_pair_parts}
@@ -13,7 +13,7 @@ use Rattle.sf_field.proofs.AttributeLaws.{attrs_take, attrs_again}
 use Rattle.sf_field.proofs.SentAttributes.{sent_is_spelled}
 use Rattle.sf_field.proofs.FlagBits.{both}
 
--- what a flag adds to the flags
+-- what a clear or set flag contributes to the flags
 bit : ℕ → Bool → ℕ
 bit flag true = 0
 bit flag false = flag
@@ -50,7 +50,7 @@ all_sums : each_below is_sum 16 ≡ true
 unfolding each_below is_sum sum_of bit
 all_sums = refl
 
--- the flags below 16 are the sum of the four
+-- flags below 16 are the sum of the four
 flags_sum : (n : ℕ) → n < 16 → (sum_of n ≡ n) × (lacks n 0x80000000 ≡ true)
 unfolding is_sum
 flags_sum n lt =
@@ -64,7 +64,7 @@ no_pairs (Some pairs) e = absurd cc
 regroup : (a b c d e : List ℕ) → a ++ (b ++ (c ++ (d ++ (e ++ [])))) ≡ (((a ++ b) ++ c) ++ d) ++ e
 regroup a b c d e = simp append_assoc (simp append-nil)
 
--- a text with small flags is the text that is sent
+-- a text with such flags is the text that is sent
 sent_text : (text : List ℕ) (attrs : Attrs) (s : SpellsAttrs text attrs) → s.flags < 16 → text ≡ attrs_text attrs
 unfolding sum_of
 sent_text text attrs s lt =
@@ -81,7 +81,7 @@ small : (b : Bool) (o : Option (Attrs × List ℕ)) (x : Attrs × List ℕ) → 
 small true o x e = (refl, e)
 small false o x e = absurd cc
 
--- the flags of a text are those at the front
+-- the flags of a text are those of its prefix
 front_flags : (text rest bytes : List ℕ) (attrs : Attrs) (n : ℕ) (after : List ℕ) (s : SpellsAttrs text attrs) → bytes ≡ text ++ rest → number_at w32 bytes ≡ Some (n, after) → s.flags ≡ n
 front_flags text rest bytes attrs n after s parts e =
     let tail = optional be64 attrs.size ++ (optional owner_text attrs.owner ++ (optional be32 attrs.permissions ++ (optional times_text attrs.times ++ optional pairs_text s.pairs))) in

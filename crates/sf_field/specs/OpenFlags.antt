@@ -1,4 +1,4 @@
--- How a file is to be opened, by the bits of a number.
+-- Open flags, decoded from and encoded as `pflags`.
 use Rattle.std.specs.Prelude.{ℕ, ◌+◌, Bool, true, false, not}
 use Rattle.sf_field.specs.declared.open_flags.OpenFlags.{OpenFlags}
 use Rattle.sf_field.specs.Attributes.{lacks}
@@ -16,7 +16,7 @@ open_flags bits = record {
   exclusive = has bits 0x20;
 }
 
--- the bits of the flags that are set, which are sent
+-- encoding: the sum of the bits of the set flags
 abbrev pub bit_of : ℕ → Bool → ℕ
 bit_of flag true = flag
 bit_of flag false = 0

@@ -1,4 +1,4 @@
--- Reading single fields.
+-- Decoding of single fields.
 use Rattle.std.specs.Prelude.{◌≡◌, ℕ, zero, suc, List, length, take, drop, Bool, true, false, Option, Some, None, nat_lt, if◌then◌else◌}
 use Rattle.std.specs.Int.{Width, w32, w64, byte_len, from_be_bytes}
 use Rattle.sf_field.specs.declared.attrs.Attrs.{Attrs}
@@ -13,12 +13,12 @@ abbrev pub ◌>>=◌ : {A B : Type 0} → Option A → (A → Option B) → Opti
 (Some x) >>= f = f x
 None >>= f = None
 
--- What a function returned, seen by view, is what reading gives.
+-- The function's result, mapped by `view`, equals the decoder's.
 abbrev pub Gives : {X Y : Type 0} → (X → Y) → Option X → Option Y → Type 0
 Gives view (Some x) read = read ≡ Some (view x)
 Gives view None read = read ≡ None
 
--- A field is a value and the bytes after it.
+-- A decoder returns a value and the remaining bytes, or None if the bytes end too soon.
 unfoldable pub number_at : Width → List ℕ → Option (ℕ × List ℕ)
 number_at w bytes =
     if nat_lt (length bytes) (byte_len w) then None
@@ -41,7 +41,7 @@ times_at bytes = do
   mtime ← number_at w32 atime.1
   Some (record { atime = atime.0; mtime = mtime.0 }, mtime.1)
 
--- a part that may be missing
+-- an optional part
 abbrev pub part_at : {A : Type 0} → Bool → (List ℕ → Option (A × List ℕ)) → List ℕ
     → Option (Option A × List ℕ)
 part_at true read bytes = Some (None, bytes)
@@ -84,7 +84,7 @@ attrs_at bytes = do
 unfoldable pub flags_at : List ℕ → Option (OpenFlags × List ℕ)
 flags_at bytes = number_at w32 bytes >>= λ bits. Some (open_flags bits.0, bits.1)
 
--- attributes as they are sent: without other flags, and without pairs
+-- attributes in the form that is sent: without other flags and without extended pairs
 unfoldable pub sent_attrs_at : List ℕ → Option (Attrs × List ℕ)
 sent_attrs_at bytes = do
   flags ← number_at w32 bytes

@@ -1,4 +1,4 @@
-//! Room for a string of bytes.
+//! A buffer that becomes a `ByteString` without a copy.
 
 ghost use Rattle.std.specs.Prelude.{◌≡◌, ◌++◌, [], if◌then◌else◌, IfOk, IsTrue, ◌↔◌};
 
@@ -7,11 +7,10 @@ use std::alloc::{AllocError, Global};
 use std::marker::Model;
 use std::sync::Arc;
 
-/// Bytes that are appended one behind another, and then become a string. All memory that this takes
-/// is taken with the room for them.
+/// An append-only byte buffer of fixed capacity. Only `with_capacity` allocates.
 #[derive(Debug)]
 pub struct ByteBuffer {
-    /// None, where there is no room.
+    /// `None` in a buffer without capacity.
     whole: Option<Arc<Vec<u8>>>,
 }
 
@@ -28,21 +27,22 @@ impl Model for ByteBuffer {
 }
 
 impl Drop for ByteBuffer {
-    // By hand: where a buffer is dropped, a proof then sees one call and not the buffer's parts.
+    // Explicit, so that a proof sees one call per dropped buffer and not its fields.
     fn drop(self) {
         let Self { whole: _whole } = self;
     }
 }
 
 impl ByteBuffer {
-    /// No bytes, and room for none, which takes no memory.
+    /// An empty buffer of capacity 0. It allocates nothing.
     pub fn new() -> ByteBuffer
         ensures { result ≡ [] }
     {
         Self { whole: None }
     }
 
-    /// No bytes, and room for so many. It takes memory for the count of the string's owners too.
+    /// An empty buffer with capacity for `most` bytes. It also allocates the string's reference
+    /// count.
     pub fn with_capacity(alloc: Global, most: usize) -> Result<ByteBuffer, AllocError>
         ensures { IfOk result (λ buffer. buffer ≡ []) }
     {
@@ -52,7 +52,7 @@ impl ByteBuffer {
         })
     }
 
-    /// Whether there is no byte.
+    /// Whether the buffer is empty.
     pub fn is_empty(&self) -> bool
         ensures { IsTrue result ↔ (self.now ≡ []) }
     {
@@ -62,7 +62,8 @@ impl ByteBuffer {
         }
     }
 
-    /// Appends bytes if there is room for them, and tells whether it did. It takes no memory.
+    /// Appends all of `bytes` if they fit into the capacity, and returns whether they did. It
+    /// allocates nothing.
     pub fn append(&mut self, bytes: &[u8]) -> bool
         ensures { self.new ≡ (if result then self.old ++ bytes.now else self.old) }
     {
@@ -77,7 +78,7 @@ impl ByteBuffer {
         }
     }
 
-    /// The bytes as a string. It takes no memory, and copies no byte.
+    /// The bytes as a string, without a copy or an allocation.
     pub fn into_string(self) -> ByteString
         ensures { result ≡ self }
     {

@@ -1,4 +1,4 @@
-//! Laws of single fields, which no call needs.
+//! Laws of field encodings, stated as contracts of empty functions.
 
 ghost use Rattle.std.specs.Prelude.{◌≡◌, ℕ, ◌<◌, ◌^◌, List, ◌++◌, length, Some};
 ghost use Rattle.std.specs.Int.{w32, w64};
@@ -9,7 +9,7 @@ ghost use Rattle.sf_field.specs.Fields.{AreBytes, be32, be64, string};
 ghost use Rattle.sf_field.specs.OpenFlags.{open_flags, bits_of};
 ghost use Rattle.sf_field.specs.Reading.{number_at, string_at, attrs_at};
 
-/// A field at the front of bytes is read as what was written there.
+/// Decoding inverts encoding: a prefix that encodes a field is read as that field.
 pub fn field_is_read()
     ensures number { (n : ℕ) (rest : List ℕ) → n < 2 ^ 32
         → number_at w32 (be32 n ++ rest) ≡ Some (n, rest) }
@@ -21,7 +21,7 @@ pub fn field_is_read()
         → attrs_at (text ++ rest) ≡ Some (attrs, rest) }
 {}
 
-/// What is read at the front of bytes is written there.
+/// Encoding inverts decoding: the field read is encoded in the prefix consumed.
 pub fn read_field_is_there()
     ensures number { (bytes rest : List ℕ) (n : ℕ) → AreBytes bytes
         → number_at w32 bytes ≡ Some (n, rest) → (bytes ≡ be32 n ++ rest) × (n < 2 ^ 32) }
@@ -35,12 +35,12 @@ pub fn read_field_is_there()
         × SpellsAttrs text attrs }
 {}
 
-/// Attributes that are sent are in the grammar of those that are read.
+/// Attributes as the server sends them are a valid encoding of these attributes.
 pub fn sent_is_spelled()
     ensures { (attrs : Attrs) → AttrsFit attrs → SpellsAttrs (attrs_text attrs) attrs }
 {}
 
-/// The bits that are sent say the flags.
+/// Encoded open flags decode to the same flags.
 pub fn bits_say_flags()
     ensures say { (flags : OpenFlags) → open_flags (bits_of flags) ≡ flags }
     ensures fit { (flags : OpenFlags) → bits_of flags < 2 ^ 32 }

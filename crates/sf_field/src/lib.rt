@@ -1,15 +1,13 @@
-//! Values and single fields of packets, version 3 of the SSH File Transfer Protocol: read and
-//! written.
+//! Encoding and decoding of the fields of SFTP version 3 packets.
 //!
-//! Start with `specs/Fields.antt` and `specs/Attributes.antt`: how a number, a string and
-//! attributes are spelled. `fields.rt` reads them from the front of bytes (`u32_at`, `bytes_at`,
-//! `attrs_of`), as `specs/Reading.antt` says; `writing.rt` writes them, by `put_..` into room that
-//! was reserved and by `write_..` where room is still to be got. That a field which is written is
-//! read again, and the other way round, are the laws of `field_laws.rt`; what crates above cite of
-//! proofs is in `proofs/Laws.antt`.
+//! Start with `specs/Fields.antt` and `specs/Attributes.antt`: the encodings of numbers, strings
+//! and attributes. `fields.rt` decodes them (`u32_at`, `bytes_at`, `attrs_of`) as specified in
+//! `specs/Reading.antt`. `writing.rt` encodes them: `put_..` into reserved capacity, `write_..`
+//! with allocation if needed. `field_laws.rt` states that decoding inverts encoding and the
+//! converse. `proofs/Laws.antt` exports proofs to dependent crates.
 #![tactic(auto)]
 
-/// The most bytes of a packet's body, the project's own choice.
+/// The maximum length of a packet's body, in bytes. The draft sets no limit.
 pub const MAX_BODY: usize = 262144;
 
 mod attrs;

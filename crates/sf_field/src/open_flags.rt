@@ -1,4 +1,4 @@
-//! How a file is to be opened, section 6.3 of draft-ietf-secsh-filexfer-02.
+//! Flags of `SSH_FXP_OPEN` (draft-ietf-secsh-filexfer-02, section 6.3).
 
 ghost use Rattle.std.specs.Prelude.{◌≡◌};
 ghost use Rattle.sf_field.specs.OpenFlags.{open_flags, bit_of, bits_of};
@@ -15,7 +15,7 @@ const TRUNCATE: u32 = 0x10;
 
 const EXCLUSIVE: u32 = 0x20;
 
-/// The bits of a request's `pflags`. Other bits are ignored.
+/// The bits of a request's `pflags`. Unknown bits are ignored.
 #[derive(Clone, Copy, Debug, PartialEq, Eq)]
 pub struct OpenFlags {
     pub read: bool,
@@ -27,7 +27,7 @@ pub struct OpenFlags {
 }
 
 impl OpenFlags {
-    /// The flags whose bit is set.
+    /// Decodes `pflags`.
     pub fn from_bits(bits: u32) -> OpenFlags
         ensures { result ≡ open_flags bits }
     {
@@ -40,7 +40,7 @@ impl OpenFlags {
             exclusive: bits & EXCLUSIVE != 0,
         }
     }
-    /// The bits of the flags that are set.
+    /// Encodes the flags.
     pub fn bits(self) -> u32
         ensures { result ≡ bits_of self }
     {

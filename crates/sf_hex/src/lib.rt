@@ -1,8 +1,8 @@
-//! Bytes from hexadecimal, for the tests of all crates. The program uses none of it.
+//! Hexadecimal decoding for the tests of all crates. The program doesn't use it.
 //!
-//! Start with `hex_bytes`: the bytes of one text, whose spaces only group them. `hex_packets` gives
-//! those of several texts, one after the other, as a session gets packets. `specs/Digits.antt` says
-//! which bytes a text spells; a text that spells none is refused.
+//! Start with `hex_bytes`, which decodes one text; spaces are ignored. `hex_packets` decodes
+//! several texts and concatenates the bytes, as a session receives packets. `specs/Digits.antt`
+//! defines which bytes a text encodes; other texts are rejected.
 #![tactic(auto)]
 
 ghost use Rattle.std.specs.Prelude.{List, ℕ, IfOk, IsOkUnless};
@@ -12,8 +12,8 @@ ghost use Rattle.sf_hex.specs.Digits.{Spells};
 use hex::FromHexError;
 use std::alloc::Global;
 
-/// The bytes of a text in hexadecimal, whose spaces only group them. It fails where the text spells
-/// none, or for want of memory.
+/// Decodes hexadecimal; spaces are ignored. It fails if the text is not valid hexadecimal or if
+/// memory runs out.
 pub fn hex_bytes(alloc: Global, text: &str) -> Result<Vec<u8>, FromHexError>
     ensures ok { IfOk result (λ bytes. Spells text.now bytes.items) }
     ensures good { (bytes : List ℕ) → Spells text.now bytes
@@ -23,7 +23,7 @@ pub fn hex_bytes(alloc: Global, text: &str) -> Result<Vec<u8>, FromHexError>
     hex::decode(alloc, digits.as_slice())
 }
 
-/// The bytes of packets in hexadecimal, one after the other. It fails as for one text.
+/// Decodes the concatenation of texts, one per packet, with the errors of `hex_bytes`.
 pub fn hex_packets(alloc: Global, texts: &[&str]) -> Result<Vec<u8>, FromHexError>
     ensures ok { IfOk result (λ bytes. Spells (flat_map (λ text. text.now) texts.now) bytes.items) }
     ensures good { (bytes : List ℕ) → Spells (flat_map (λ text. text.now) texts.now) bytes

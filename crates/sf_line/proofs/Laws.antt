@@ -1,4 +1,4 @@
--- For the crates above: what lists of calls are, one after the other. It speaks of definitions alone. All other files here
+-- For dependent crates: concatenated lists of calls, about definitions only. All other files here
 -- are private to this crate.
 use Rattle.std.proofs.Common.{◌+◌, ℕ, List, [], ◌∷◌, ◌++◌, Option, None, Some, refl, sym, ap, ◌∙◌, append-nil, append_assoc, arith}
 use Rattle.std.specs.List.{AllByRecursion}

@@ -1,4 +1,4 @@
--- What a line over streams is made of.
+-- The parts of a transport over streams.
 use Rattle.std.specs.Prelude.{ℕ}
 use Rattle.sf_line.specs.declared.stream_line.StreamLine.{StreamLine}
 

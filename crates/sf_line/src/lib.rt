@@ -1,12 +1,11 @@
-//! Lines that bytes come in by and go out by, over memory and over streams.
+//! Byte transports: the trait `Line`, over memory and over streams.
 //!
-//! Start with the trait `Line`: its clauses say what a read gives, what a write takes, and that a
-//! fault moves no byte. A line may tell which bytes it gave and took (`incoming`, `outgoing`), and
-//! in which order its reads and writes were made (`calls`); what is said of the calls, and of the
-//! count of those that failed, is in `specs/Lines.antt`. `MemoryLine` tells all of its bytes and
-//! calls, and moves its bytes in pieces that a test chooses (`specs/MemoryLines.antt`);
-//! `StreamLine` stands over any reader and writer, tells what these tell, and keeps no list of its
-//! calls (`specs/StreamLines.antt`).
+//! Start with `Line`: its clauses state what a read returns, what a write accepts, and that an
+//! error transfers no byte. An implementation may expose its input and output (`incoming`,
+//! `outgoing`) and its log of calls (`calls`); `specs/Lines.antt` states properties of calls and of
+//! the error count. `MemoryLine` exposes all of these and transfers chunks of chosen sizes
+//! (`specs/MemoryLines.antt`). `StreamLine` wraps any reader and writer, exposes what they do, and
+//! logs no calls (`specs/StreamLines.antt`).
 #![tactic(auto)]
 
 mod line;

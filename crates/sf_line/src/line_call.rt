@@ -1,9 +1,9 @@
-//! The calls of a line.
+//! Logged calls of a transport.
 
-/// A call that was answered, and how many bytes it moved.
+/// A successful call and the number of bytes that it transferred.
 #[derive(Clone, Copy, Debug, PartialEq, Eq)]
 pub enum LineCall {
-    /// None only at the end of the input, or where there was no room.
+    /// 0 only at the end of input or for an empty buffer.
     Read(usize),
     Write(usize),
 }

@@ -1,4 +1,4 @@
-//! A line over memory.
+//! A transport over memory, for tests.
 
 ghost use Rattle.std.specs.Prelude.{◌≡◌, ◌<◌, []};
 
@@ -6,7 +6,7 @@ use crate::line::{Failures, Line, LineFault};
 use crate::line_call::LineCall;
 use std::alloc::Global;
 
-/// How many bytes a call moves at most: the first call, and each later one.
+/// Maximum chunk sizes: of the first call, and of each later one.
 #[derive(Clone, Copy, Debug, PartialEq, Eq)]
 pub struct Pieces {
     first: usize,
@@ -26,7 +26,7 @@ impl Pieces {
         Pieces { first, later }
     }
 
-    /// The size of the next piece.
+    /// The size of the next chunk.
     fn take(&mut self) -> usize
         ensures { 0 < result }
     {
@@ -36,8 +36,8 @@ impl Pieces {
     }
 }
 
-/// A line that gives the bytes of a slice and keeps what is written, both in pieces, so that bytes
-/// can be cut at every place. It keeps its calls too, and one fails only where there is no memory.
+/// A transport that reads from a slice and writes to memory, in chunks of chosen sizes, so a test
+/// can fragment the bytes anywhere. It logs its calls. A call fails only if memory runs out.
 #[derive(Debug, Drop)]
 pub struct MemoryLine<'a> {
     input: &'a [u8],
@@ -51,7 +51,7 @@ pub struct MemoryLine<'a> {
 impl<'a> MemoryLine<'a> {
     ghost use Rattle.sf_line.specs.MemoryLines.{input_of, output_of, reads_of, writes_of, calls_of, failures_of};
 
-    /// A line that has moved nothing yet. It takes memory only as its calls are made.
+    /// A new transport. It allocates nothing until its first call.
     pub fn new(alloc: Global, input: &'a [u8], reads: Pieces, writes: Pieces) -> MemoryLine<'a>
         ensures input { input_of result ≡ input.now }
         ensures output { output_of result ≡ [] }
@@ -70,14 +70,14 @@ impl<'a> MemoryLine<'a> {
         }
     }
 
-    /// The bytes that were written.
+    /// The bytes written.
     pub fn output(&self) -> &[u8]
         ensures { result.now ≡ output_of self.now }
     {
         self.output.as_slice()
     }
 
-    /// The calls that were answered, in order.
+    /// The successful calls, in order.
     pub fn calls(&self) -> &[LineCall]
         ensures { result.now ≡ calls_of self.now }
     {

@@ -1,4 +1,4 @@
-//! A line over streams.
+//! A transport over streams.
 
 ghost use Rattle.std.specs.Prelude.{◌≡◌, ◌<◌, ◌≤◌, length, take, IfSome, IfNone};
 ghost use Rattle.std.specs.Io.KnownBytes.{Consumes, Appends, Keeps, IsAtEnd};
@@ -6,10 +6,10 @@ ghost use Rattle.std.specs.Io.KnownBytes.{Consumes, Appends, Keeps, IsAtEnd};
 use crate::line::{Failures, Line, LineFault};
 use std::io::{ErrorKind, Read, Write};
 
-/// How often a call is made again that a signal interrupted.
+/// The maximum number of attempts if signals interrupt a call.
 const TRIES_INTERRUPTED: u32 = 1024;
 
-/// One read, made again where a signal interrupted it.
+/// One read, retried if a signal interrupts it.
 fn read_some<R: Read>(reader: &mut R, buffer: &mut [u8]) -> Option<usize>
     ensures within { IfSome result (λ n. n ≤ length buffer.new) }
     ensures taken { IfSome result (λ n. Consumes (R.remaining reader.old) (R.remaining reader.new)
@@ -28,7 +28,7 @@ fn read_some<R: Read>(reader: &mut R, buffer: &mut [u8]) -> Option<usize>
     None
 }
 
-/// One write, made again where a signal interrupted it.
+/// One write, retried if a signal interrupts it.
 fn write_some<W: Write>(writer: &mut W, bytes: &[u8]) -> Option<usize>
     ensures within { IfSome result (λ n. n ≤ length bytes.now) }
     ensures added { IfSome result (λ n. Appends (W.contents writer.old) (W.contents writer.new)
@@ -45,10 +45,10 @@ fn write_some<W: Write>(writer: &mut W, bytes: &[u8]) -> Option<usize>
     None
 }
 
-/// A line over any reader and any writer. It tells their bytes where they do, and not its calls.
+/// A transport over any reader and writer. It exposes their bytes if they do, and logs no calls.
 ///
-/// A call that a signal interrupts is made again, some thousand times. Nothing is flushed: sockets
-/// and standard output keep nothing back, and whoever gives a writer that does flushes it.
+/// A call interrupted by a signal is attempted up to 1024 times. Nothing is flushed: sockets and
+/// standard output don't buffer, and the owner of a buffering writer flushes it.
 #[derive(Debug, Drop)]
 pub struct StreamLine<R, W> {
     reader: R,
@@ -59,7 +59,7 @@ pub struct StreamLine<R, W> {
 impl<R, W> StreamLine<R, W> {
     ghost use Rattle.sf_line.specs.StreamLines.{reader_of, writer_of, failures_of};
 
-    /// A line that has moved nothing yet.
+    /// A new transport.
     pub fn new(reader: R, writer: W) -> StreamLine<R, W>
         ensures reader { reader_of result ≡ reader }
         ensures writer { writer_of result ≡ writer }

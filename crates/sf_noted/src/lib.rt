@@ -13,6 +13,3 @@ mod page;
 
 pub use noted::{NotedCore, NotedLane, Visit};
 pub use page::{Page, PageChange};
-
-#[cfg(test)]
-mod tests;

@@ -1,4 +1,4 @@
--- The text of a path stands for that path, and has no fault but that of its length.
+-- Parsing the text of a path yields that path. Its only possible fault is its length.
 use Rattle.std.proofs.Common.{◌≡◌, ◌≢◌, ℕ, Bool, true, false, ◌==◌, List, [], ◌∷◌, ◌++◌, length, Some, None, refl, sym, ap, ◌∙◌, append_assoc}
 use Rattle.std.specs.Prelude.{fold, nat_lt, All, Contains, codes, bytes_eq, if◌then◌else◌}
 use Rattle.std.specs.List.{list_any, flat_map}

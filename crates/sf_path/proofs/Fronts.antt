@@ -1,4 +1,4 @@
--- How far two paths begin alike, and when one begins with the other.
+-- The longest common prefix of two paths, and when one is a prefix of the other.
 use Rattle.std.proofs.Common.{◌≡◌, ◌≢◌, ℕ, ◌+◌, ◌<◌, ◌≤◌, Bool, true, false, not, eqb, [], ◌++◌, length, take, drop, get_or, Some, refl, sym, ap, ◌∙◌, inl, inr, arith, length-append}
 use Rattle.std.specs.Prelude.{slice_get}
 use Rattle.std.proofs.lemmas.Bool.{cases_lt, eqb-true, eq-eqb}
@@ -16,7 +16,7 @@ true_not : (b : Bool) → true ≡ not b → b ≡ false
 true_not true e = absurd cc
 true_not false e = refl
 
--- Both paths have a name at this place: these.
+-- Both paths have a name at index `i`: `a` and `b`.
 pub record HaveNames (xs ys : Path) (i : ℕ) (a b : Name) : Type 0 where
   pub mine : a ≡ get_or xs i a
   pub theirs : b ≡ get_or ys i b

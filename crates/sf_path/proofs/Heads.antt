@@ -1,4 +1,4 @@
--- Names whose heads differ stand in the order of their heads, and short ones are the same where their heads are.
+-- Names with different heads are ordered as their heads. Short names with equal heads are equal.
 use Rattle.std.proofs.Common.{◌≡◌, ◌≢◌, ℕ, zero, suc, ◌+◌, ◌*◌, ◌%◌, ◌<◌, ◌≤◌, List, [], ◌∷◌, length, get_or, refl, sym, ap, subst, ◌∙◌, inl, inr, arith}
 use Rattle.std.specs.Prelude.{All, Contains}
 use Rattle.std.specs.declared.cmp.Ordering.{Ordering}
@@ -27,7 +27,7 @@ first_of_bytes b bytes h = All-head (λ b. b < 256) b bytes h
 rest_of : (b : ℕ) (bytes : List ℕ) → Bytes (b ∷ bytes) → Bytes bytes
 rest_of b bytes h = All-tail (λ b. b < 256) b bytes h
 
--- what is smaller stays smaller, whatever bytes come behind
+-- a smaller number stays smaller, whatever bytes follow
 rises : (more n m : ℕ) (a b : List ℕ) → Bytes a → n < m → spelled more n a < spelled more m b
 rises zero n m a b h lt = lt
 rises (suc more) n m [] [] h lt = rises more (n * 256) (m * 256) [] [] none (omega arith)
@@ -39,7 +39,7 @@ rises (suc more) n m (x ∷ xs) (y ∷ ys) h lt =
     let small = first_of_bytes x xs h in
     rises more (n * 256 + x) (m * 256 + y) xs ys (rest_of x xs h) (omega arith)
 
--- zeros are the least that can come behind
+-- zeros are the least bytes that can follow
 least : (more n m : ℕ) (b : List ℕ) → n ≤ m → spelled more n [] ≤ spelled more m b
 least zero n m b le = le
 least (suc more) n m [] le = least more (n * 256) (m * 256) [] (omega arith)
@@ -51,13 +51,13 @@ below x y lt = sym (nat_cmp_is x y Less lt)
 above : (x y : ℕ) → y < x → nat_cmp x y ≡ Greater
 above x y lt = sym (nat_cmp_is x y Greater lt)
 
--- Bytes that come behind others: where their spellings differ, they stand in the order of these.
+-- Two suffixes: if their spellings differ, they are ordered as these.
 record StandsAsSpelled (more : ℕ) (xs ys : List ℕ) : Type 0 where
   one : Bytes xs
   other : Bytes ys
   onward : (m : ℕ) → spelled more m xs ≢ spelled more m ys → nat_cmp (spelled more m xs) (spelled more m ys) ≡ slice_cmp nat_cmp xs ys
 
--- where first bytes differ they decide, and else what comes behind
+-- if the first bytes differ they decide, otherwise the suffixes do
 decided : {more : ℕ} {xs ys : List ℕ} (n x y : ℕ) → StandsAsSpelled more xs ys → spelled more (n * 256 + x) xs ≢ spelled more (n * 256 + y) ys
     → (r : Ordering) → nat_cmp x y ≡ r → MatchOrdering r (x < y) (x ≡ y) (y < x)
     → nat_cmp (spelled more (n * 256 + x) xs) (spelled more (n * 256 + y) ys) ≡ ordering_then (nat_cmp x y) (slice_cmp nat_cmp xs ys)
@@ -101,7 +101,7 @@ first_of_solid b bytes h = All-head (λ b. 0 < b) b bytes h
 solid_rest : (b : ℕ) (bytes : List ℕ) → Solid (b ∷ bytes) → Solid bytes
 solid_rest b bytes h = All-tail (λ b. 0 < b) b bytes h
 
--- Bytes of which none is 0, so many at most.
+-- At most `most` bytes, none of them 0.
 record IsShortText (most : ℕ) (a : List ℕ) : Type 0 where
   bytes : Bytes a
   solid : Solid a
@@ -110,7 +110,7 @@ record IsShortText (most : ℕ) (a : List ℕ) : Type 0 where
 short_rest : (most x : ℕ) (xs : List ℕ) → IsShortText (suc most) (x ∷ xs) → IsShortText most xs
 short_rest most x xs a = record { bytes = rest_of x xs a.bytes; solid = solid_rest x xs a.solid; short = omega (arith, a.short) }
 
--- what is short and has no zeros isn't spelled as anything else
+-- a short text without zeros is determined by its spelling
 spelled_once : (more n : ℕ) (a b : List ℕ) → IsShortText more a → IsShortText more b → spelled more n a ≡ spelled more n b → a ≡ b
 spelled_once zero n [] [] g h e = refl
 spelled_once zero n [] (y ∷ ys) g h e = absurd (omega (arith, h.short))
@@ -144,7 +144,7 @@ spelled_once (suc more) n (x ∷ xs) (y ∷ ys) g h e =
 solid_name : (name : List ℕ) → ¬ Contains name 0 → Solid name
 solid_name name h = λ k d lt. elim (cases_lt 0 (get_or name k d)) [ inl some ↦ some | inr none ↦ absurd (h (k, lt, get_or_default name k 0 d lt ∙ omega arith)) ]
 
--- the last byte that is spelled is the last of the number
+-- the number's last byte is the last byte spelled
 last_byte : (more n : ℕ) (a : List ℕ) → Bytes a → Solid a → suc more ≤ length a → spelled (suc more) n a % 256 ≢ 0
 last_byte more n [] g s long e = absurd (omega (arith, long))
 last_byte zero n (x ∷ xs) g s long e =
@@ -156,7 +156,7 @@ last_byte (suc more) n (x ∷ xs) g s long e = last_byte more (n * 256 + x) xs (
 short_head : (a : List ℕ) → IsPart a → head_of a % 256 ≡ 0 → length a ≤ 8
 short_head a g e = elim (cases_lt (length a) 8) [ inl lt ↦ omega arith | inr long ↦ absurd (last_byte 7 0 a g.bytes (solid_name a g.no_zero) long e) ]
 
--- names are the same where their heads are, and end with a 0
+-- names are equal if their heads are equal and end with a 0
 pub short_names : (a b : List ℕ) → IsPart a → IsPart b → head_of a ≡ head_of b → head_of a % 256 ≡ 0 → slice_cmp nat_cmp a b ≡ Equal
 short_names a b g h e short =
     let one : IsShortText 8 a = record { bytes = g.bytes; solid = solid_name a g.no_zero; short = short_head a g short } in

@@ -1,5 +1,5 @@
--- For the crates above: what a value is since its type holds it, and how long the text of a normal
--- form is. All other files here are private to this crate.
+-- For dependent crates: what the type `Path` guarantees of its values, and how long the text of a
+-- normal form is. All other files here are private to this crate.
 use denote.Laws.{Is}
 use mathlib.Core.Path.{subst}
 use mir.Val.{Val}

@@ -1,4 +1,4 @@
--- The text of a path is at most one byte longer than a text that stands for that path.
+-- The text of a path is at most one byte longer than any text that denotes that path.
 use Rattle.std.proofs.Common.{◌≡◌, refl, ℕ, suc, ◌+◌, ◌-◌, ◌≤◌, Bool, true, false, le-ltb, cond, ◌==◌, ◌||◌, List, [], ◌∷◌, ◌++◌, length, take, zero, arith, length-append}
 use Rattle.std.specs.Prelude.{fold, codes, bytes_eq, nat_lt}
 use Rattle.std.specs.List.{onto_first, flat_map, list_any}
@@ -6,7 +6,7 @@ use Rattle.std.proofs.lemmas.List.Concat.{flat_map-append}
 use Rattle.sf_path.specs.Names.{Path, slash, slashed, text_of}
 use Rattle.sf_path.specs.Normal.{parts, with_part, norm}
 
--- the bytes of the parts, and one for each part's slash
+-- the total length of the parts, each with one slash
 abbrev slashed_len : List (List ℕ) → ℕ
 slashed_len [] = 0
 slashed_len (part ∷ more) = length part + 1 + slashed_len more
@@ -53,6 +53,6 @@ no_long_part n (p ∷ ps) h small =
     let rest : slashed_len ps ≤ n + 1 = omega arith in
     rw (le-ltb 255 (length p) (omega arith)) (no_long_part n ps rest small)
 
--- a short text has no long part
+-- a short text has no long component
 pub short_text : (text : List ℕ) → length text ≤ 255 → list_any (λ part. nat_lt 255 (length part)) (parts text) ≡ false
 short_text text small = no_long_part (length text) (parts text) (parts_len text) small

@@ -1,4 +1,4 @@
--- Two names are ordered as equal where they are the same.
+-- Two names compare as equal if and only if they are equal.
 use Rattle.std.proofs.Common.{◌≡◌, Bool, subst}
 use Rattle.std.specs.Prelude.{Decides}
 use Rattle.std.specs.Cmp.Lexicographic.{texts_ties}

@@ -1,4 +1,4 @@
--- The parts of a text without a fault, and the path that they make.
+-- The components of a text without a fault, and the path that they make.
 use Rattle.std.proofs.Common.{◌≡◌, ◌≢◌, ℕ, ◌<◌, ◌-◌, Bool, true, false, cond, ◌==◌, ◌||◌, List, [], ◌∷◌, ◌++◌, length, take, Some, None, refl, sym}
 use Rattle.std.specs.Prelude.{fold, nat_lt, All, codes, bytes_eq}
 use Rattle.std.specs.List.{onto_first, list_any}
@@ -18,7 +18,7 @@ none_passes p (x ∷ xs) e =
     let both = or_false (p x) (list_any p xs) e in
     All-cons (λ x. p x ≡ false) x xs both.0 (none_passes p xs both.1)
 
--- a byte that can stand in a part
+-- a byte that may occur in a component
 record IsPartByte (b : ℕ) : Type 0 where
   pub byte : b < 256
   pub no_slash : b ≢ slash

@@ -1,4 +1,4 @@
--- What a name and a path are, and the text of a path.
+-- Names, paths, and the text of a path.
 use Rattle.std.specs.Prelude.{◌≡◌, ◌≢◌, ℕ, ◌<◌, ◌≤◌, List, [], ◌∷◌, ◌++◌, length, codes, All, Contains}
 use Rattle.std.specs.List.{flat_map}
 
@@ -12,14 +12,14 @@ Path = List Name
 abbrev pub slash : ℕ
 slash = 47
 
--- what can stand between two slashes of a text: at most 255 bytes, none of them a slash or 0
+-- a component of a text: at most 255 bytes, without slash and byte 0
 pub record IsPart (part : List ℕ) : Type 0 where
   pub short : length part ≤ 255
   pub bytes : All (λ b. b < 256) part
   pub no_slash : ¬ Contains part slash
   pub no_zero : ¬ Contains part 0
 
--- a part of 1 byte or more that is neither `.` nor `..`
+-- a name: a component of at least 1 byte, neither `.` nor `..`
 pub record IsName (name : Name) : Type 0 where
   pub part : IsPart name
   pub not_empty : name ≢ []
@@ -29,7 +29,7 @@ pub record IsName (name : Name) : Type 0 where
 abbrev pub IsPath : Path → Type 0
 IsPath path = All IsName path
 
--- the first names of the path are all those of the front
+-- `front` is a prefix of the path
 abbrev pub BeginsWith : Path → Path → Type 0
 BeginsWith path front = (rest : Path) × (path ≡ front ++ rest)
 
@@ -37,7 +37,7 @@ BeginsWith path front = (rest : Path) × (path ≡ front ++ rest)
 abbrev pub slashed : Name → List ℕ
 slashed name = slash ∷ name
 
--- the text of a path: a slash for the root, else each name with a slash before it
+-- the text of a path: `/` for the root, else each name with a slash before it
 abbrev pub text_of : Path → List ℕ
 text_of [] = slash ∷ []
 text_of (name ∷ names) = flat_map slashed (name ∷ names)

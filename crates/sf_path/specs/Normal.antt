@@ -1,4 +1,4 @@
--- The path that a text stands for, and what is wrong with a text.
+-- The normal form of a text as a path, and the faults of a text.
 use Rattle.std.specs.Prelude.{ℕ, List, [], ◌∷◌, ◌++◌, length, fold, codes, bytes_eq, ◌||◌, Option, Some, None, nat_lt, ◌==◌, if◌then◌else◌}
 use Rattle.std.specs.List.{slice_split, list_any}
 use Rattle.sf_path.specs.declared.fault.PathFault.{PathFault}
@@ -6,24 +6,24 @@ use Rattle.sf_path.specs.declared.fault.PathFault.TheVariants.{TooLong, NameTooL
 use Rattle.sf_path.specs.Names.{Path, slash}
 use Rattle.sf_path.specs.Order.{parent}
 
--- what stands between the slashes of a text
+-- the components of a text: it is split at slashes
 abbrev pub parts : List ℕ → List (List ℕ)
 parts text = slice_split (λ b. b == slash) text
 
--- where a part leads from a path: an empty part and `.` nowhere, `..` to the parent, a name to what
--- it names
+-- the path after one more component: an empty one and `.` leave it unchanged, `..` yields the
+-- parent, a name is appended
 abbrev pub with_part : Path → List ℕ → Path
 with_part path part =
     if bytes_eq part (codes "") || bytes_eq part (codes ".") then path
     else if bytes_eq part (codes "..") then parent path
     else path ++ part ∷ []
 
--- the path that a text stands for
+-- the path that a text denotes: its components applied to the root in order
 abbrev pub norm : List ℕ → Path
 norm text = fold with_part [] (parts text)
 
--- the lowest fault of a text: its own length; the length of a part, also of one that `..` would
--- drop; a byte 0
+-- the lowest fault of a text: the text is too long; a component is too long, even if a later `..`
+-- removes it; a byte is 0
 abbrev pub fault_of : List ℕ → Option PathFault
 fault_of text =
     if nat_lt 4096 (length text) then Some TooLong

@@ -1,4 +1,4 @@
--- The order of names and of paths, and the path above a path.
+-- The order of names and of paths, and the parent of a path.
 use Rattle.std.specs.Prelude.{◌-◌, length, take, Bool}
 use Rattle.std.specs.Ordering.{nat_cmp, eq_by_cmp}
 use Rattle.std.specs.declared.cmp.Ordering.{Ordering}
@@ -6,7 +6,7 @@ use Rattle.std.specs.Cmp.{IsTotalOrder, nat_cmp_total}
 use Rattle.std.specs.Cmp.Lexicographic.{slice_cmp, lists_total}
 use Rattle.sf_path.specs.Names.{Name, Path}
 
--- names stand in the order of their bytes, and paths in the order of their names
+-- names are ordered by their bytes and paths by their names, lexicographically
 abbrev pub name_cmp : Name → Name → Ordering
 name_cmp = slice_cmp nat_cmp
 
@@ -25,6 +25,6 @@ same_name = eq_by_cmp name_cmp
 abbrev pub same_path : Path → Path → Bool
 same_path = eq_by_cmp path_cmp
 
--- the path without its last name; of the root the root
+-- the path without its last name; the parent of the root is the root
 abbrev pub parent : Path → Path
 parent path = take (length path - 1) path

@@ -1,4 +1,4 @@
-//! Why a text is no path.
+//! Errors of path parsing.
 
 ghost use Rattle.std.specs.Prelude.{◌≡◌};
 ghost use Rattle.sf_path.specs.declared.fault.PathFault.TheVariants.{OutOfMemory};
@@ -6,8 +6,8 @@ ghost use Rattle.sf_path.specs.declared.fault.PathFault.TheVariants.{OutOfMemory
 use std::alloc::AllocError;
 use thiserror::Error;
 
-/// What is wrong with a text. Of the first three, which are faults of the text itself, the lowest
-/// that holds is answered, before memory is asked for.
+/// Why a text is not a path. If several of the first three errors apply, the lowest is returned,
+/// before any allocation.
 #[derive(Clone, Copy, Debug, PartialEq, Eq, Error)]
 pub enum PathFault {
     #[error("path above 4096 bytes")]

@@ -1,11 +1,13 @@
-//! Absolute paths: lists of names, made from texts.
+//! Absolute paths, parsed from client-supplied text: lists of names.
 //!
-//! Start with `Path::parse`: a text is a path exactly if it has no fault, and then the path is the
-//! text's normal form (its clauses `path`, `faulty` and `good`). What a name and a path are, and
-//! the text of a path, stands in `specs/Names.antt`; the normal form and the faults of a text in
-//! `specs/Normal.antt`; the order of names and of paths in `specs/Order.antt`; and the number by
-//! which names are compared first in `specs/Heads.antt`. A path is a list of names in every
-//! contract, so `common` and `begins_with` are those of lists.
+//! Start with `Path::parse`. A text is a path exactly if it has no fault; the result is its normal
+//! form (clauses `path`, `faulty` and `good`). In contracts a path is a list of names, so `common`
+//! and `begins_with` are the list operations.
+//!
+//! - `specs/Names.antt`: names, paths, and a path's text.
+//! - `specs/Normal.antt`: normal form and faults of a text.
+//! - `specs/Order.antt`: order of names and of paths.
+//! - `specs/Heads.antt`: the 8-byte integer prefix by which names are compared first.
 #![tactic(auto)]
 
 mod fault;

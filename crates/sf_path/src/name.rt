@@ -1,4 +1,4 @@
-//! The name of a file or a directory.
+//! The name of a directory entry.
 
 ghost use Rattle.std.specs.Prelude.{◌≡◌, ◌↔◌, IsTrue, IfOk, Some, length, refl, slice_index_or};
 ghost use Rattle.std.specs.Cmp.{eq_by_cmp_equiv, partial_equiv_from_equiv, partial_order_from_total};
@@ -11,17 +11,16 @@ use std::alloc::{AllocError, Global};
 use std::cmp::Ordering;
 use std::marker::Model;
 
-/// How many bytes of a name need no block of memory of their own. With them a name takes 64 bytes,
-/// and the blocks of an ordered map of names are such as the C library gives back.
+/// Bytes of a name that are stored inline, without an allocation. With 40, a name takes 64 bytes,
+/// and the C library returns the freed nodes of an ordered map of names to the system.
 const SHORT_NAME: usize = 40;
 
-/// The name of a file or a directory: 1 to 255 bytes without a slash and a byte 0, and neither `.`
-/// nor `..`. It need not be UTF-8.
+/// The name of a file or a directory: 1 to 255 bytes, without `/` and byte 0, and neither `.` nor
+/// `..`. It need not be UTF-8.
 #[derive(Debug)]
 pub struct Name {
-    /// What `head_of` makes of the bytes. Names whose heads differ stand in the order of their
-    /// heads, so that a search among many names looks at one number of most of them; names of fewer
-    /// than 8 bytes are their heads.
+    /// `head_of` the bytes. Names with different heads are ordered as their heads, so a search
+    /// compares mostly integers. A name shorter than 8 bytes is determined by its head.
     head: u64,
     bytes: SmallVec<u8, SHORT_NAME>,
 }
@@ -39,7 +38,7 @@ impl Model for Name {
 }
 
 impl Drop for Name {
-    // By hand: where a name is dropped, a proof then sees one call and not the name's parts.
+    // Explicit, so that a proof sees one call per dropped name and not its fields.
     fn drop(self) {
         let Self {
             head: _,
@@ -48,7 +47,7 @@ impl Drop for Name {
     }
 }
 
-/// The first 8 bytes as a number, the first one the greatest; after fewer bytes come zeros.
+/// The first 8 bytes as a big-endian integer; shorter names are padded with zeros.
 fn head_of(bytes: &[u8]) -> u64
     ensures { result ≡ head_of bytes.now }
 {
@@ -64,7 +63,7 @@ fn head_of(bytes: &[u8]) -> u64
     ])
 }
 
-/// The byte at a place, or 0 past the end.
+/// The byte at index `i`, or 0 past the end.
 fn byte_at(bytes: &[u8], i: usize) -> u8
     ensures { result ≡ slice_index_or bytes.now i 0 }
 {
@@ -75,7 +74,7 @@ fn byte_at(bytes: &[u8], i: usize) -> u8
 }
 
 impl Name {
-    /// The name of these bytes.
+    /// The name with these bytes.
     pub(crate) fn from_slice(alloc: Global, bytes: &[u8]) -> Result<Name, AllocError>
         requires { IsName bytes.now }
         ensures { IfOk result (λ name. name ≡ bytes.now) }
@@ -86,7 +85,7 @@ impl Name {
         })
     }
 
-    /// The bytes of the name.
+    /// The name's bytes.
     pub fn as_slice(&self) -> &[u8]
         ensures bytes { result.now ≡ self.now }
         ensures name { IsName result.now }
@@ -94,14 +93,14 @@ impl Name {
         self.bytes.as_slice()
     }
 
-    /// How many bytes the name has; never 0, so there is no `is_empty`.
+    /// The length in bytes. It is never 0, so there is no `is_empty`.
     pub fn len(&self) -> usize
         ensures { result ≡ length self.now }
     {
         self.bytes.len()
     }
 
-    /// A name of the same bytes.
+    /// Copies the name.
     pub fn try_copy(&self, alloc: Global) -> Result<Name, AllocError>
         ensures { IfOk result (λ copy. copy ≡ self.now) }
     {
@@ -148,13 +147,13 @@ impl Ord for Name {
 
     ghost matches_eq = { λ a b. refl };
 
-    /// The order of the names' bytes.
+    /// Bytewise lexicographic order.
     fn cmp(&self, other: &Name) -> Ordering {
         if self.head != other.head {
             return self.head.cmp(&other.head);
         }
         if self.head % 256 == 0 {
-            // No byte of a name is 0: both have fewer than 8 bytes, and these are the head's.
+            // No byte of a name is 0: both names have fewer than 8 bytes, which the heads contain.
             return Ordering::Equal;
         }
         self.bytes.cmp(&other.bytes)

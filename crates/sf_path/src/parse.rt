@@ -1,4 +1,4 @@
-//! From a text to the names of its path.
+//! Parses a text into the names of a path.
 
 ghost use Rattle.std.specs.Prelude.{◌≡◌, IfOk, OnOk, nat_lt, length, None};
 ghost use Rattle.std.specs.List.{list_any};
@@ -8,7 +8,7 @@ ghost use Rattle.sf_path.specs.Normal.{parts, with_part, norm, fault_of};
 use crate::name::Name;
 use std::alloc::{AllocError, Global};
 
-/// Whether a part between two slashes is above 255 bytes.
+/// Whether a component of the text is longer than 255 bytes.
 pub fn has_long_part(text: &[u8]) -> bool
     ensures { result ≡ list_any (λ part. nat_lt 255 (length part)) (parts text.now) }
 {
@@ -18,7 +18,7 @@ pub fn has_long_part(text: &[u8]) -> bool
     text.split(|b| *b == b'/').any(|part| part.len() > 255)
 }
 
-/// The names of the path that a text without a fault stands for.
+/// The names of the normal form of a text without a fault.
 pub fn names_of(alloc: Global, text: &[u8]) -> Result<Vec<Name>, AllocError>
     requires { fault_of text.now ≡ None }
     ensures { IfOk result (λ names. names.items ≡ norm text.now) }
@@ -30,7 +30,7 @@ pub fn names_of(alloc: Global, text: &[u8]) -> Result<Vec<Name>, AllocError>
     Ok(names)
 }
 
-/// Goes from the path of these names to where a part leads.
+/// Applies one component to a path: `..` removes the last name, and a name is appended.
 fn add_part(alloc: Global, names: &mut Vec<Name>, part: &[u8]) -> Result<(), AllocError>
     requires { IsPart part.now }
     ensures { OnOk result (names.new.items ≡ with_part names.old.items part.now) }

@@ -1,4 +1,4 @@
-//! Paths.
+//! Absolute paths in normal form.
 
 ghost use Rattle.std.specs.Prelude.{◌≡◌, ◌≢◌, ℕ, ◌+◌, ◌<◌, ◌≤◌, ◌↔◌, [], ◌∷◌, ◌++◌, length, take, drop, slice_get, refl, IsTrue, IfOk, IsOkUnless, Some, None, Err};
 ghost use Rattle.std.specs.Cmp.{eq_by_cmp_equiv, partial_equiv_from_equiv, partial_order_from_total};
@@ -15,11 +15,11 @@ use std::cmp::Ordering;
 use std::marker::Model;
 use std::sync::ArcSlice;
 
-/// The names from the root to a file or a directory. The root has none. They have counted owners,
-/// so that a path is shared and not copied.
+/// An absolute path: the names from the root to a file or a directory. The root has no names. The
+/// names are reference-counted, so paths are shared without copying.
 #[derive(Debug)]
 pub struct Path {
-    // None for the root, which takes no memory.
+    // `None` for the root, which allocates nothing.
     names: Option<ArcSlice<Name>>,
 }
 
@@ -37,21 +37,21 @@ impl Model for Path {
 }
 
 impl Drop for Path {
-    // By hand: where a path is dropped, a proof then sees one call and not the path's parts.
+    // Explicit, so that a proof sees one call per dropped path and not its fields.
     fn drop(self) {
         let Self { names: _names } = self;
     }
 }
 
 impl Path {
-    /// The path of the root, which takes no memory.
+    /// The root. It allocates nothing.
     pub fn root() -> Path
         ensures { result ≡ [] }
     {
         Path { names: None }
     }
 
-    /// The path of these names. It takes memory for the count of owners.
+    /// The path with these names. It allocates the reference count.
     fn of(names: Vec<Name>) -> Result<Path, AllocError>
         requires { IsPath names.items }
         ensures { IfOk result (λ path. path ≡ names.items) }
@@ -74,11 +74,10 @@ impl Path {
         }
     }
 
-    /// The path that a text stands for: its parts between slashes, without the empty ones and `.`,
-    /// and without each `..` and the name before it (draft-ietf-secsh-filexfer-02, section 6.2,
-    /// with the root as the default directory). Nothing is looked up. Of the text's own faults the
-    /// lowest is answered, before memory is asked for. Time and memory are in proportion to the
-    /// text.
+    /// Parses a text into a path. Empty components and `.` are dropped; each `..` removes the name
+    /// before it (draft-ietf-secsh-filexfer-02, section 6.2; the default directory is `/`). Nothing
+    /// is looked up. If several faults apply, the lowest is returned, before any allocation. Time
+    /// and memory are linear in the length of the text.
     pub fn parse(alloc: Global, text: &[u8]) -> Result<Path, PathFault>
         ensures path { IfOk result (λ path. path ≡ norm text.now) }
         ensures names { IfOk result IsPath }
@@ -98,21 +97,21 @@ impl Path {
         Ok(Path::of(names_of(alloc, text)?)?)
     }
 
-    /// How many names the path has.
+    /// The number of names.
     pub fn len(&self) -> usize
         ensures { result ≡ length self.now }
     {
         self.as_slice().len()
     }
 
-    /// Whether the path has no name.
+    /// Whether the path is the root.
     pub fn is_root(&self) -> bool
         ensures { IsTrue result ↔ (self.now ≡ []) }
     {
         self.as_slice().is_empty()
     }
 
-    /// The name at a place, from the root on.
+    /// The name at index `i`, counted from the root.
     pub fn name(&self, i: usize) -> &Name
         requires { i < length self.now }
         ensures { slice_get self.now i ≡ Some result.now }
@@ -120,7 +119,7 @@ impl Path {
         &self.as_slice()[i]
     }
 
-    /// How many names the two paths begin with alike.
+    /// The number of names in the longest common prefix.
     pub fn common(&self, other: &Path) -> usize
         ensures alike { take result self.now ≡ take result other.now }
         ensures within { result ≤ length self.now }
@@ -138,14 +137,14 @@ impl Path {
         most
     }
 
-    /// Whether the first names of the path are all those of another.
+    /// Whether `front` is a prefix of the path.
     pub fn begins_with(&self, front: &Path) -> bool
         ensures { IsTrue result ↔ BeginsWith self.now front.now }
     {
         self.common(front) == front.len()
     }
 
-    /// The path of the first `n` names.
+    /// The prefix of `n` names.
     pub fn front(&self, alloc: Global, n: usize) -> Result<Path, AllocError>
         requires { n ≤ length self.now }
         ensures { IfOk result (λ path. path ≡ take n self.now) }
@@ -153,7 +152,7 @@ impl Path {
         Path::of(self.front_names(alloc, n, 0)?)
     }
 
-    /// The first `n` names, with room for so many more.
+    /// The first `n` names, with capacity for `more` further names.
     fn front_names(&self, alloc: Global, n: usize, more: usize) -> Result<Vec<Name>, AllocError>
         requires { n ≤ length self.now }
         ensures same { IfOk result (λ names. names.items ≡ take n self.now) }
@@ -166,15 +165,15 @@ impl Path {
         Ok(names)
     }
 
-    /// The path without its last name; of the root the root.
+    /// The parent: the path without its last name. The parent of the root is the root.
     pub fn parent(&self, alloc: Global) -> Result<Path, AllocError>
         ensures { IfOk result (λ path. path ≡ parent self.now) }
     {
         self.front(alloc, self.len().saturating_sub(1))
     }
 
-    /// One more owner of the same names, which takes no memory. It fails where the owners can't be
-    /// counted: at 2^63 of them.
+    /// Another reference to the same path, without allocation. It fails if the reference count
+    /// would overflow, at 2^63.
     pub fn share(&self) -> Result<Path, AllocError>
         ensures { IfOk result (λ copy. copy ≡ self.now) }
     {
@@ -186,7 +185,7 @@ impl Path {
         }
     }
 
-    /// The path with the names of another behind its own, from the `n`th on.
+    /// The path followed by the names of `other` from index `n` on.
     pub fn joined(&self, alloc: Global, other: &Path, n: usize) -> Result<Path, AllocError>
         requires { n ≤ length other.now }
         ensures { IfOk result (λ path. path ≡ self.now ++ drop n other.now) }
@@ -198,7 +197,7 @@ impl Path {
         Path::of(names)
     }
 
-    /// The path with one name more behind its own.
+    /// The path with one name appended.
     pub fn below(&self, alloc: Global, name: &Name) -> Result<Path, AllocError>
         ensures { IfOk result (λ path. path ≡ self.now ++ name.now ∷ []) }
     {
@@ -207,7 +206,7 @@ impl Path {
         Path::of(names)
     }
 
-    /// The text of the path: a slash for the root, else each name with a slash before it.
+    /// The path's text: `/` for the root, else each name preceded by a slash.
     pub fn text(&self, alloc: Global) -> Result<Vec<u8>, AllocError>
         ensures text { IfOk result (λ text. text.items ≡ text_of self.now) }
         ensures again { IfOk result (λ text. norm text.items ≡ self.now) }
@@ -260,7 +259,7 @@ impl Ord for Path {
 
     ghost matches_eq = { λ a b. refl };
 
-    /// The order of the paths' names; a path stands before all that begin with it.
+    /// Lexicographic order of the names: a prefix precedes the longer path.
     fn cmp(&self, other: &Path) -> Ordering {
         self.as_slice().cmp(other.as_slice())
     }

@@ -24,6 +24,3 @@ pub use session_lane::{Begin, SessionLane, StepResult};
 pub use shared_lane::SharedLane;
 pub use transcript_lane::{EndedLane, NotJoined, Stepped, TranscriptLane};
 pub use wait_queue::WaitQueue;
-
-#[cfg(test)]
-mod tests;

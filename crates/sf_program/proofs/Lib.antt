@@ -1,4 +1,3 @@
-mod Connections
 mod Carrying
 pub mod Lines
 mod Talks

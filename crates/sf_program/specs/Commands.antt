@@ -1,4 +1,4 @@
--- What the client's commands ask of a server, and print.
+-- The requests of the client's commands, and what they print.
 use Rattle.std.specs.Prelude.{◌≡◌, ℕ, List, [], ◌∷◌, ◌++◌, false, Option, Ok, unwrap_or}
 use Rattle.std.specs.List.{flat_map}
 use Rattle.std.specs.Fmt.{decimal, digits}
@@ -17,7 +17,7 @@ use Rattle.sf_client.specs.Outcomes.{asked}
 use Rattle.sf_words.specs.declared.command.ClientCommand.{ClientCommand}
 use Rattle.sf_words.specs.declared.command.ClientCommand.TheVariants as command
 
--- the number, or 0 where the part wasn't sent
+-- the number, or 0 if it was not sent
 abbrev pub or_zero : Option ℕ → ℕ
 or_zero part = unwrap_or part 0
 
@@ -42,11 +42,11 @@ stat_text attrs =
 abbrev pub lines_of : List Entry → List ℕ
 lines_of entries = flat_map (λ (e : Entry). e.longname ++ 10 ∷ []) entries
 
--- one request, which STATUS OK answered
+-- one request, answered by STATUS OK
 abbrev pub Succeeds : ClientView → WireRequest → ClientView → Type 0
 Succeeds v q w = Exchanged v (asked q (reply.Status Success) ∷ []) w
 
--- the attributes of what the path names were told, and printed
+-- STAT of the path was answered by attributes, which were printed
 abbrev pub PrintsAttrs : List ℕ → List ℕ → ClientView → ClientView → Type 0
 PrintsAttrs path printed v w = (attrs : Attrs)
     × Exchanged v (asked (request.Stat path) (reply.Attrs attrs) ∷ []) w

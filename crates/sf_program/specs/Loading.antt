@@ -1,4 +1,4 @@
--- An engine whose tree was made of a folder.
+-- An engine with the contents of a folder.
 use Rattle.std.specs.Prelude.{◌≡◌, ℕ, List, [], Option, Some, Ok}
 use Rattle.sf_engine.specs.Views.{EngineView}
 use Rattle.sf_engine.specs.Fits.{Fits}
@@ -11,7 +11,7 @@ use Rattle.sf_loading.specs.Loading.{Loads}
 abbrev pub asked_at : ℕ → EngineView → AskerView
 asked_at moment e = record { engine = e; moment = moment }
 
--- On a new engine, which keeps so many records, all was made that a folder gave, by one session.
+-- A new engine that keeps `keep` records, on which one session created all that a folder has.
 pub record IsLoaded (keep moment : ℕ) (old new : Option (List Item)) (e : EngineView) : Type 0 where
   pub first : EngineView
   pub fits : Fits first []

@@ -36,24 +36,24 @@ line_of_cause ZeroLength = ending_line ZeroLength
 line_of_cause TooLong = ending_line TooLong
 line_of_cause NoId = ending_line NoId
 
--- the line that the end of a session is told by: none at the end of the input
+-- the message of the end of a session: none at the end of the input
 abbrev pub status_line : Result Cause ServeFault → List ℕ
 status_line (Ok cause) = line_of_cause cause
 status_line (Err fault.OutOfMemory) = codes "sftpd: out of memory" ++ 10 ∷ []
-status_line (Err fault.Line) = codes "sftpd: stream" ++ 10 ∷ []
+status_line (Err fault.Line) = codes "sftpd: stream: standard input or output failed" ++ 10 ∷ []
 status_line (Err fault.Sessions) = codes "sftpd: stream" ++ 10 ∷ []
 status_line (Err fault.Stranger) = codes "sftpd: stream" ++ 10 ∷ []
 status_line (Err fault.NumbersSpent) = codes "sftpd: stream" ++ 10 ∷ []
 
--- serving a line on an engine came to this
+-- the outcome of serving a line on an engine
 abbrev pub ServingComesTo : (start now : IoState) → (failed failed' : ℕ) → Result Cause ServeFault
     → Type 0
 ServingComesTo start now failed failed' (Ok cause) = ServesLine start now cause
 ServingComesTo start now failed failed' (Err fault) =
     StopsEarly start now fault × IsServeFault fault failed failed'
 
--- No engine could be made, and nothing was read or written; or a line was served on a new one,
--- which keeps so many records, and that came to this.
+-- Memory ran out for an engine, and nothing was read or written; or a line was served on a new engine
+-- that keeps `keep` records, with this outcome.
 abbrev pub SessionEnds : (keep : ℕ) → (start now : EngineView → IoState) → (failed failed' : ℕ)
     → Result Cause ServeFault → Type 0
 SessionEnds keep start now failed failed' outcome =

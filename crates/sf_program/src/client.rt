@@ -7,15 +7,15 @@ ghost use Rattle.sf_program.specs.Commands.{lines_of, stat_text, PrintsAttrs, Li
 
 use sf_client::{Client, ClientFault};
 use sf_field::{Attrs, Owner, Times};
+use sf_folder::shown;
 use sf_line::Line;
-use sf_reply::Entry;
+use sf_reply::{Entry, StatusCode};
 use sf_words::ClientCommand;
 use std::alloc::{AllocError, Global};
 use std::io::{self, Write};
 
-/// Does the command over a line to a server, with `bytes` as what `put` sends, writes what it
-/// prints to `output` and the one line of a fault to `errors`, and answers the exit status: 0 where
-/// it was done, else 1.
+/// Runs the command on the server behind `line`. `put` sends `bytes`. Results are written to
+/// `output`, and the message of a fault to `errors`. Returns the exit status, 0 or 1.
 pub fn run_client<L: Line + Drop, O: Write, E: Write>(
     alloc: Global,
     line: L,
@@ -34,14 +34,14 @@ pub fn run_client<L: Line + Drop, O: Write, E: Write>(
     match do_over(alloc, line, command, bytes, output) {
         Ok(()) => 0,
         Err(fault) => {
-            // What can't be told on standard error is still told by the status.
-            let _ = report(errors, fault);
+            // If the message can't be written, the exit status still reports the failure.
+            let _ = report(alloc, errors, command, fault);
             1
         }
     }
 }
 
-/// Opens a session, does the command and prints what it prints.
+/// Opens a session, runs the command, and writes its result.
 fn do_over<L: Line + Drop, O: Write>(
     alloc: Global,
     line: L,
@@ -68,7 +68,7 @@ fn do_over<L: Line + Drop, O: Write>(
     Ok(())
 }
 
-/// Does the command, and answers what it prints.
+/// Runs the command, and returns what it prints.
 fn printed<L: Line + Drop>(
     alloc: Global,
     client: &mut Client<L>,
@@ -117,7 +117,7 @@ fn printed<L: Line + Drop>(
     }
 }
 
-/// The line of what a path names.
+/// The attributes of a path, as a line.
 fn stat<L: Line + Drop>(
     alloc: Global,
     client: &mut Client<L>,
@@ -133,7 +133,7 @@ fn stat<L: Line + Drop>(
     }
 }
 
-/// The lines of a directory.
+/// The listing of a directory.
 fn list<L: Line + Drop>(
     alloc: Global,
     client: &mut Client<L>,
@@ -149,7 +149,7 @@ fn list<L: Line + Drop>(
     }
 }
 
-/// Size, uid, gid, permissions in octal, atime and mtime. A part that wasn't sent is 0.
+/// Size, uid, gid, permissions in octal, atime and mtime. An attribute that was not sent is 0.
 fn stat_line(alloc: Global, attrs: &Attrs) -> Result<Vec<u8>, AllocError>
     ensures { IfOk result (λ bytes. bytes.items ≡ stat_text attrs.now) }
 {
@@ -161,7 +161,7 @@ fn stat_line(alloc: Global, attrs: &Attrs) -> Result<Vec<u8>, AllocError>
     Ok(line.into_bytes())
 }
 
-/// Each longname and a newline.
+/// Each longname, followed by a newline.
 fn list_lines(alloc: Global, entries: &[Entry]) -> Result<Vec<u8>, AllocError>
     ensures { IfOk result (λ bytes. bytes.items ≡ lines_of entries.now) }
 {
@@ -173,13 +173,67 @@ fn list_lines(alloc: Global, entries: &[Entry]) -> Result<Vec<u8>, AllocError>
     Ok(lines)
 }
 
-/// Writes the line of a fault.
-fn report<W: Write>(errors: &mut W, fault: ClientFault) -> io::Result<()> {
+/// Writes the message of a fault. If the server refused the command, that is the status' number and
+/// message, and the paths.
+fn report<W: Write>(
+    alloc: Global,
+    errors: &mut W,
+    command: ClientCommand<'_>,
+    fault: ClientFault,
+) -> io::Result<()> {
     match fault {
-        ClientFault::Stream | ClientFault::Failed => writeln!(errors, "sftpd: stream"),
-        ClientFault::Protocol => writeln!(errors, "sftpd: protocol"),
-        ClientFault::Status(code) => writeln!(errors, "sftpd: status {}", code.number()),
+        ClientFault::Stream | ClientFault::Failed => {
+            writeln!(
+                errors,
+                "sftpd: stream: the connection or standard output failed"
+            )
+        }
+        ClientFault::Protocol => {
+            writeln!(
+                errors,
+                "sftpd: protocol: the server's reply is not one to the request"
+            )
+        }
+        ClientFault::Status(code) => match status_line(alloc, command, code) {
+            Ok(line) => writeln!(errors, "{line}"),
+            Err(_) => writeln!(errors, "sftpd: out of memory"),
+        },
         ClientFault::OutOfMemory => writeln!(errors, "sftpd: out of memory"),
         ClientFault::TooLarge(size) => writeln!(errors, "sftpd: too large to get: {size} bytes"),
+    }
+}
+
+/// The status' number and message, and the paths.
+fn status_line(
+    alloc: Global,
+    command: ClientCommand<'_>,
+    code: StatusCode,
+) -> Result<String, AllocError> {
+    let (path, second) = paths_of(command);
+    let number = code.number();
+    let message = shown(alloc, code.message())?;
+    let path = shown(alloc, path)?;
+    match second {
+        None => format!(in alloc; "sftpd: status {number}: {message}: {path}"),
+        Some(second) => {
+            let second = shown(alloc, second)?;
+            format!(in alloc; "sftpd: status {number}: {message}: {path} {second}")
+        }
+    }
+}
+
+/// The command's path, and the second one of a command that has two.
+fn paths_of<'a>(command: ClientCommand<'a>) -> (&'a [u8], Option<&'a [u8]>) {
+    match command {
+        ClientCommand::Stat(path)
+        | ClientCommand::List(path)
+        | ClientCommand::Get(path)
+        | ClientCommand::Put(path)
+        | ClientCommand::Mkdir(path)
+        | ClientCommand::Rmdir(path)
+        | ClientCommand::Remove(path) => (path, None),
+        ClientCommand::Rename(old, new)
+        | ClientCommand::PosixRename(old, new)
+        | ClientCommand::Link(old, new) => (old, Some(new)),
     }
 }

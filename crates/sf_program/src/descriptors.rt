@@ -1,4 +1,4 @@
-//! Standard streams and sockets, which can be asked whether they would wait.
+//! Standard streams and sockets, read and written without blocking if `poll` says so.
 
 ghost use Rattle.std.specs.Prelude.{◌≡◌, ℕ, ◌<◌, ◌≤◌, List, length, take, Option, IfOk, OnErr};
 ghost use Rattle.std.specs.Io.KnownBytes.{IsAtEnd, prepend_known, append_known};
@@ -11,19 +11,19 @@ use std::io::{self, ErrorKind, Read, Stdin};
 use std::os::fd::{AsRawFd, RawFd};
 use std::os::unix::net::UnixStream;
 
-/// How often a call is made again that a signal interrupted.
+/// How often a call that a signal interrupts is retried.
 const TRIES_INTERRUPTED: u32 = 1024;
 
-/// How long a client may take to read before more is read from it. Most read at once, and reading
-/// on costs more than to wait.
+/// How long the server waits for the client to read before it reads ahead. Most clients read at
+/// once, and waiting costs less than reading ahead.
 const PATIENCE_MILLISECONDS: i32 = 10;
 
-/// What is read from, by one call of the system each.
+/// A source of bytes, one system call per read.
 pub trait Inlet {
-    /// The bytes that are still to be read, where they are told.
+    /// The bytes that are still to be read, if they are known.
     ghost incoming: { Self → Option (List ℕ) };
 
-    /// One read, which waits for bytes, and which a signal may interrupt.
+    /// One read. It blocks until there are bytes, and a signal may interrupt it.
     fn read_once(&mut self, buffer: &mut [u8]) -> io::Result<usize>
         ensures within { IfOk result (λ n. n ≤ length buffer.new) }
         ensures taken { IfOk result (λ n. incoming self.old
@@ -32,30 +32,30 @@ pub trait Inlet {
             → IsAtEnd (incoming self.new)) }
         ensures err { OnErr result (incoming self.new ≡ incoming self.old) };
 
-    /// What can be asked whether a read would wait.
+    /// The descriptor to poll for reading.
     fn fd(&self) -> RawFd;
 }
 
-/// What is written to, by one call of the system each.
+/// A destination of bytes, one system call per write.
 pub trait Outlet {
-    /// The bytes that were written, where they are told.
+    /// The bytes that were written, if they are known.
     ghost outgoing: { Self → Option (List ℕ) };
 
-    /// One write of some of the bytes, which doesn't wait, and which a signal may interrupt.
+    /// Writes some of the bytes. It does not block, and a signal may interrupt it.
     fn write_once(&mut self, bytes: &[u8]) -> io::Result<usize>
         ensures within { IfOk result (λ n. n ≤ length bytes.now) }
         ensures added { IfOk result (λ n. outgoing self.new
             ≡ append_known (outgoing self.old) (take n bytes.now)) }
         ensures err { OnErr result (outgoing self.new ≡ outgoing self.old) };
 
-    /// What can be asked whether a write would wait.
+    /// The descriptor to poll for writing.
     fn fd(&self) -> RawFd;
 }
 
 impl Inlet for Stdin {
     ghost use Rattle.std.specs.Prelude.{None};
 
-    // A descriptor tells no bytes.
+    // A descriptor's bytes are not known.
     ghost incoming = { λ _. None };
 
     fn read_once(&mut self, buffer: &mut [u8]) -> io::Result<usize> {
@@ -70,7 +70,7 @@ impl Inlet for Stdin {
 impl Inlet for UnixStream {
     ghost use Rattle.std.specs.Prelude.{None};
 
-    // A descriptor tells no bytes.
+    // A descriptor's bytes are not known.
     ghost incoming = { λ _. None };
 
     fn read_once(&mut self, buffer: &mut [u8]) -> io::Result<usize> {
@@ -82,21 +82,21 @@ impl Inlet for UnixStream {
     }
 }
 
-/// What is read from, and what is written to. It tells the bytes that they tell.
+/// A source and a destination of bytes.
 #[derive(Drop)]
 pub struct Descriptors<I, O> {
     input: I,
     output: O,
-    /// The output took a part of what it was given last, or showed that it takes nothing.
+    /// The output accepted only a part of the last write, or was not ready.
     is_full: bool,
-    /// It hasn't waited for the output alone since something was written.
+    /// It has not waited for the output alone since the last write.
     is_patient: bool,
 }
 
 impl<I, O> Descriptors<I, O> {
     ghost use Rattle.sf_program.specs.Descriptors.{input_of, output_of};
 
-    /// Both ends, of which none was asked for anything.
+    /// Both ends, unused so far.
     pub fn new(input: I, output: O) -> Descriptors<I, O>
         ensures input { input_of result ≡ input }
         ensures output { output_of result ≡ output }
@@ -119,7 +119,7 @@ impl Descriptors<Stdin, Output> {
 
 impl Descriptors<UnixStream, Output> {
     /// Both halves of a socket.
-    pub(crate) fn of_socket(socket: UnixStream) -> io::Result<Descriptors<UnixStream, Output>> {
+    pub fn of_socket(socket: UnixStream) -> io::Result<Descriptors<UnixStream, Output>> {
         let input = socket.try_clone()?;
         Ok(Descriptors::new(input, Output::Socket(socket)))
     }

@@ -1,4 +1,4 @@
-//! What the program writes to, which can be asked whether a write would wait.
+//! Where the program writes replies, without blocking.
 
 ghost use Rattle.std.specs.Io.{WritesAtMost};
 
@@ -11,17 +11,17 @@ use std::os::fd::{AsFd, AsRawFd, RawFd};
 use std::os::unix::fs::FileTypeExt;
 use std::os::unix::net::UnixStream;
 
-/// How many bytes a pipe takes without waiting, once it takes any (POSIX's PIPE_BUF, on Linux).
+/// How many bytes a pipe that is ready accepts without blocking (PIPE_BUF on Linux).
 const PIPE_ROOM: usize = 4096;
 
-/// Standard output as the system names it. Opening that gives a pipe anew, with modes of its own.
+/// Standard output. Opening it gives a new open file of a pipe, with flags of its own.
 const OUTPUT: &str = "/proc/self/fd/1";
 
 fn last_error() -> io::Error {
     io::Error::from_raw_os_error(os::errno())
 }
 
-/// What is asked of a descriptor; nothing where its number is below 0.
+/// An entry for `poll`. A descriptor below 0 is ignored.
 pub(crate) fn asked(fd: RawFd, events: i16) -> pollfd {
     pollfd {
         fd,
@@ -30,8 +30,7 @@ pub(crate) fn asked(fd: RawFd, events: i16) -> pollfd {
     }
 }
 
-/// What the descriptor shows, within so many milliseconds, where it is asked whether it can be
-/// written to: 0 where it would wait.
+/// The events of a descriptor that is polled for writing: 0 if it is not ready in time.
 pub(crate) fn shown(fd: RawFd, milliseconds: i32) -> i16 {
     let mut all = [asked(fd, POLLOUT)];
     if poll(&mut all, milliseconds) > 0 {
@@ -41,7 +40,7 @@ pub(crate) fn shown(fd: RawFd, milliseconds: i32) -> i16 {
     }
 }
 
-/// Sends some of the bytes, without waiting, whatever mode the socket is in.
+/// Sends some of the bytes without blocking, whatever the flags of the socket.
 fn send_now(socket: RawFd, bytes: &[u8]) -> io::Result<usize>
     ensures { WritesAtMost result bytes.now }
 {
@@ -52,30 +51,28 @@ fn send_now(socket: RawFd, bytes: &[u8]) -> io::Result<usize>
     Ok((sent as usize).min(bytes.len()))
 }
 
-/// What is written to. None of it is switched to another mode where others share it.
+/// A destination of bytes. No flag of a shared open file is changed.
 #[derive(Drop)]
 pub enum Output {
     Socket(UnixStream),
-    /// A pipe that was opened anew, so that its writes don't wait and those of its other users do.
+    /// A pipe, opened again, so that only its own writes do not block.
     Pipe(File),
-    /// Anything else: a file, a terminal, or a pipe that can't be opened. It is asked before each
-    /// write.
+    /// A file, a terminal, or a pipe that can't be opened. It is polled before each write.
     Other(Stdout),
 }
 
-/// A socket where standard output is one.
+/// Standard output, if it is a socket.
 fn socket_output(rt: &HostRuntime) -> Option<UnixStream> {
     let output = rt.stdout().as_fd().try_clone_to_owned().ok()?;
     let socket = UnixStream::from(output);
-    // Sockets alone have this option.
+    // Only sockets have this option.
     if socket.write_timeout().is_err() {
         return None;
     }
     Some(socket)
 }
 
-/// A pipe where standard output is one. One that nobody reads any more isn't opened, since that
-/// would wait for a reader.
+/// Standard output, if it is a pipe with a reader. Opening one without a reader would block.
 fn pipe_output(rt: &HostRuntime) -> Option<File> {
     let found = fs::metadata(rt, OUTPUT).ok()?;
     if !found.file_type().is_fifo() || shown(rt.stdout().as_raw_fd(), 0) & POLLERR != 0 {
@@ -104,7 +101,7 @@ impl Output {
 impl Outlet for Output {
     ghost use Rattle.std.specs.Prelude.{None};
 
-    // A descriptor tells no bytes.
+    // A descriptor's bytes are not known.
     ghost outgoing = { λ _. None };
 
     fn write_once(&mut self, bytes: &[u8]) -> io::Result<usize> {

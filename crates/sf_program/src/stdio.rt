@@ -18,9 +18,9 @@ use sf_serving::CallObserver;
 use sf_session::{Cause, Clock, ServeFault};
 use std::alloc::Global;
 
-/// Serves one session over a line, on an engine of its own that keeps the last `keep` records of
-/// its calls; writes the one line of an early end to `errors`; and answers the exit status: 0 at
-/// the end of the input, else 1. The observer is told of the session, and of its calls.
+/// Serves one session over a line, on a new engine that keeps the last `keep` records. Writes the
+/// message of an early end to `errors`. Returns the exit status: 0 at the end of the input, else 1.
+/// The observer receives the session and its calls.
 pub fn run_stdio<L: Line, C: Clock, G: CallObserver, E: Line>(
     alloc: Global,
     keep: usize,
@@ -45,13 +45,12 @@ pub fn run_stdio<L: Line, C: Clock, G: CallObserver, E: Line>(
         ⊎ Rose (E.failed errors.old) (E.failed errors.new)) }
 {
     let outcome = serve(alloc, keep, line, clock, observer);
-    // What can't be told on standard error is still told by the status.
+    // If the message can't be written, the exit status still reports the failure.
     let _ = report(errors, outcome);
     status(outcome)
 }
 
-/// Serves one session over a line, on an engine that has served others, as `run_stdio` does on a
-/// new one.
+/// `run_stdio` on an engine that has served other sessions.
 pub fn run_stdio_on<L: Line, C: Clock, G: CallObserver, E: Line>(
     alloc: Global,
     engine: &mut Engine,
@@ -72,7 +71,7 @@ pub fn run_stdio_on<L: Line, C: Clock, G: CallObserver, E: Line>(
         ⊎ Rose (E.failed errors.old) (E.failed errors.new)) }
 {
     let ended = serve_on(alloc, engine, line, clock, observer);
-    // What can't be told on standard error is still told by the status.
+    // If the message can't be written, the exit status still reports the failure.
     let _ = report(errors, ended);
     status(ended)
 }
@@ -135,7 +134,7 @@ fn status(outcome: Result<Cause, ServeFault>) -> u8
     }
 }
 
-/// Writes the line of a session that ended early.
+/// Writes the message of a session that ended early.
 fn report<E: Line>(errors: &mut E, outcome: Result<Cause, ServeFault>) -> Result<(), LineFault>
     ensures told { OnOk result (Appends (E.outgoing errors.old) (E.outgoing errors.new)
         (status_line outcome)) }
@@ -144,14 +143,14 @@ fn report<E: Line>(errors: &mut E, outcome: Result<Cause, ServeFault>) -> Result
     write_all(errors, line_bytes(outcome))
 }
 
-/// The line that the end of a session is told by.
+/// The message of the end of a session.
 fn line_bytes(outcome: Result<Cause, ServeFault>) -> &'static [u8]
     ensures { result.now ≡ status_line outcome }
 {
     match outcome {
         Ok(cause) => ending_bytes(cause),
         Err(ServeFault::OutOfMemory) => b"sftpd: out of memory\n",
-        Err(ServeFault::Line) => b"sftpd: stream\n",
+        Err(ServeFault::Line) => b"sftpd: stream: standard input or output failed\n",
         Err(ServeFault::Sessions) => b"sftpd: stream\n",
         Err(ServeFault::Stranger) => b"sftpd: stream\n",
         Err(ServeFault::NumbersSpent) => b"sftpd: stream\n",

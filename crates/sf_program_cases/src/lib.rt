@@ -1,15 +1,11 @@
-//! Cases for all that works by threads, up to the program.
+//! What no contract says of the threads that serve lines on one core.
 //!
-//! `pool.rt` compares what sessions' lanes were told with the history, right and wrong;
-//! `pool/serving.rt` serves them over lines, `pool/serving/failing.rt` over lines that fail. In
-//! `workers.rt` threads serve lines that a channel gives, on one core: two tests hold a call half
-//! way by an observer. In `program.rt` are the statuses and the clock, the client's commands, what
-//! `connect` carries, and a server at a socket.
+//! In `scenes.rt` clients and calls wait for each other, and whoever waits is woken.
+//! `scenes/script.rt` says what they wait for. `scenes/client.rt` has the clients' lines.
+//! `crossing.rt` has the types that cross threads.
 #![tactic(auto)]
 
 #[cfg(test)]
-mod pool;
+mod crossing;
 #[cfg(test)]
-mod program;
-#[cfg(test)]
-mod workers;
+mod scenes;

@@ -1,4 +1,4 @@
--- What a format writes in a column.
+-- The output of a format in a column.
 use Rattle.std.proofs.Common.{◌≡◌, ℕ, zero, suc, false, List, [], ◌∷◌, ◌++◌, refl, ap, arith}
 use Rattle.std.specs.List.{repeat}
 use Rattle.std.proofs.Math.Utf8.{encode}

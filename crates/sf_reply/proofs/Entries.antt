@@ -1,4 +1,4 @@
--- Writing entries one after the other.
+-- Encoding entries one after the other.
 use Rattle.std.proofs.Common.{◌≡◌, ℕ, zero, suc, ◌+◌, ◌<◌, ◌≤◌, List, [], ◌∷◌, ◌++◌, length, get_or, drop, sym, ap, ◌∙◌, append_assoc, arith}
 use Rattle.std.specs.List.{flat_map}
 use Rattle.std.proofs.lemmas.List.{drop_more, drop_all, length-append, append-nil}
@@ -9,7 +9,7 @@ use Rattle.sf_reply.specs.declared.reply.Reply.TheVariants.{Names}
 use Rattle.sf_field.specs.Attributes.{attrs_text, no_attrs}
 use Rattle.sf_reply.specs.Replies.{entry_text, reply_body}
 
--- what is left to write
+-- the bytes still to be written
 abbrev pub left : List Entry → ℕ → List ℕ
 left es i = flat_map entry_text (drop i es)
 

@@ -1,5 +1,5 @@
--- For the crates above: how long replies are, how a line of a listing ends, and that a body spells one reply. They
--- speak of definitions alone. All other files here are private to this crate.
+-- For dependent crates: the lengths of replies, the end of a listing line, and that a body encodes
+-- one reply. The laws are about definitions only. All other files here are private to this crate.
 use Rattle.std.proofs.Common.{◌≡◌, ℕ, ◌+◌, ◌≤◌, List, length, sym, ◌∙◌, arith}
 use Rattle.std.specs.List.{flat_map}
 use Rattle.std.proofs.lemmas.Grind.{common_steps}
@@ -13,12 +13,12 @@ use Rattle.sf_reply.specs.declared.reply.TheConstants.{MAX_PLAIN_REPLY}
 use Rattle.sf_reply.specs.Reading.{IsReply}
 use Rattle.sf_reply.specs.Replies.{reply_body, entry_text, IsPlain}
 use Rattle.sf_reply.proofs.OneReply.{one_reply}
--- an entry, the reply of REALPATH, and the line that describes a file
+-- an entry, the reply to REALPATH, and a listing line
 pub use Rattle.sf_reply.proofs.Entries.{length-entry, length-one_name}
 pub use Rattle.sf_reply.proofs.LineLengths.{longname_short}
 pub use Rattle.sf_reply.proofs.LineEnds.{longname_ends}
 
--- a reply that holds neither data nor names
+-- a plain reply
 pub plain_short : (id : ℕ) (reply : Reply) → IsPlain reply → length (packet (reply_body id reply)) ≤ MAX_PLAIN_REPLY
 plain_short id reply plain = grind (arith, common_steps)
 
@@ -28,7 +28,7 @@ length-names id es = grind (arith, common_steps)
 pub attrs_short : (attrs : Attrs) → length (attrs_text attrs) ≤ 32
 attrs_short attrs = grind (arith, common_steps)
 
--- a body spells one reply, under one id
+-- a body encodes one reply, with one id
 pub one_spelling : (body : List ℕ) (id other_id : ℕ) (reply other : Reply) → IsReply body id reply → IsReply body other_id other
     → (id ≡ other_id) × (reply ≡ other)
 one_spelling body id other_id reply other is is_other =

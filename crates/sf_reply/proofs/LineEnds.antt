@@ -1,4 +1,4 @@
--- The line that describes a file ends with the file's name.
+-- A listing line ends with the file's name.
 use Rattle.std.proofs.Common.{◌≡◌, ℕ, ◌-◌, ◌≤◌, List, ◌++◌, length, drop, Option, Some, None, ap, sym, ◌∙◌, append_assoc, arith}
 use Rattle.std.proofs.lemmas.List.{length-append}
 use Rattle.std.proofs.Math.Seq.{drop-append_seam}
@@ -7,7 +7,7 @@ use Rattle.sf_field.specs.declared.attrs.Owner.{Owner}
 use Rattle.sf_field.specs.declared.attrs.Times.{Times}
 use Rattle.sf_reply.specs.Longname.{mode_text, columns_text, longname_text}
 
--- so does a line of a front and the name
+-- so does any prefix followed by the name
 ends : (front name line : List ℕ) → front ++ name ≡ line → (length name ≤ length line) × (drop (length line - length name) line ≡ name)
 ends front name line e =
     let long : length line ≡ length (front ++ name) = ap length (sym e) in

@@ -1,4 +1,4 @@
--- The bytes of a reply tell its id and the reply.
+-- The bytes of a reply determine its id and its contents.
 use Rattle.std.proofs.Common.{◌≡◌, ℕ, ◌<◌, ◌^◌, List, [], ◌∷◌, ◌++◌, length, get_or, drop, Option, Some, refl, sym, ap, ◌∙◌, append_assoc, arith}
 use Rattle.std.specs.Prelude.{◌==◌, if◌then◌else◌}
 use Rattle.std.specs.List.{flat_map, AllByRecursion}
@@ -18,7 +18,7 @@ use Rattle.sf_field.proofs.Laws.{reads_u32, reads_u64, reads_string}
 use Rattle.sf_field.proofs.Laws.{attrs_again}
 use Rattle.sf_field.proofs.Laws.{sent_is_spelled}
 
--- what is read from the front of equal bytes is equal
+-- equal bytes have equal prefixes
 same_front : {A : Type 0} {x y : A} {s t a b : List ℕ} (read : List ℕ → Option (A × List ℕ)) → read s ≡ Some (x, a) → read t ≡ Some (y, b) → s ≡ t → (x ≡ y) × (a ≡ b)
 same_front read p q e = some_pair_parts _ _ _ _ (sym p ∙ ap read e ∙ q)
 
@@ -61,7 +61,7 @@ same_entries (e ∷ es) (f ∷ fs) p q len h =
 
 -- ---- statuses
 
--- by the code's last byte, and that of the message's length
+-- by the last byte of the code and the length of the message
 status_at : ℕ → ℕ → Reply
 status_at code len =
     if len == 13 then reply.NoMemory
@@ -103,7 +103,7 @@ same_reply (reply.Names es) (reply.Names fs) p q k e =
     let parts = same_front (number_at w32) (reads_u32.again (length es) (flat_map entry_text es) p.0) (reads_u32.again (length fs) (flat_map entry_text fs) q.0) e in
     ap reply.Names (same_entries es fs p.1 q.1 parts.0 parts.1)
 same_reply (reply.Attrs a) (reply.Attrs b) p q k e = ap reply.Attrs (same_attrs a b p q e)
--- of two kinds
+-- of different types
 same_reply _ _ p q k e = absurd (omega arith)
 
 pub one_reply : (id other_id : ℕ) (r other : Reply) → id < 2 ^ 32 → other_id < 2 ^ 32 → ReplyFits r → ReplyFits other → reply_body id r ≡ reply_body other_id other → (id ≡ other_id) × (r ≡ other)

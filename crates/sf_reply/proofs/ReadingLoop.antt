@@ -1,11 +1,11 @@
--- Entries read one after the other, as a loop does.
+-- Decoding entries one after the other, as a loop does.
 use Rattle.std.proofs.Common.{◌≡◌, ℕ, zero, suc, ◌-◌, ◌+◌, ◌≤◌, ◌<◌, List, [], ◌∷◌, ◌++◌, length, Option, Some, None, refl, sym, ap, ◌∙◌, append_assoc, append-nil, arith}
 use Rattle.std.specs.Prelude.{option_map}
 use Rattle.sf_field.specs.Reading.{◌>>=◌}
 use Rattle.sf_reply.specs.declared.reply.Entry.{Entry}
 use Rattle.sf_reply.specs.Reading.{entry_at, entries_at, after_entries, listed}
 
--- ---- passing over them
+-- ---- skipping
 
 others : (n : ℕ) (entry : Entry) (after : List ℕ) (o : Option (List Entry × List ℕ)) → option_map (λ (x : List Entry × List ℕ). x.1) (o >>= λ (x : List Entry × List ℕ). Some (entry ∷ x.0, x.1)) ≡ option_map (λ (x : List Entry × List ℕ). x.1) o
 others n entry after None = refl
@@ -34,9 +34,9 @@ is_done count i bytes total le so_far =
     let one : after_entries (count - i) bytes ≡ Some bytes = rw k refl in
     sym so_far ∙ one
 
--- ---- gathering them
+-- ---- collecting
 
--- entries before those that were read
+-- the entries read before, followed by the result
 abbrev pub after : List Entry → Option (List Entry × List ℕ) → Option (List Entry × List ℕ)
 after done None = None
 after done (Some others) = Some (done ++ others.0, others.1)
@@ -73,7 +73,7 @@ all_read count i done bytes total le so_far =
     let one : after done (entries_at (count - i) bytes) ≡ Some (done ++ [], bytes) = rw k refl in
     sym (append-nil done) ∙ ap listed (sym one ∙ so_far)
 
--- ---- counting them
+-- ---- counting
 
 counted_after : (n : ℕ) (entry : Entry) (rest : List ℕ) (o : Option (List Entry × List ℕ)) → (option_map (λ (x : List Entry × List ℕ). x.1) o ≡ Some rest → length (listed o) ≡ n)
     → option_map (λ (x : List Entry × List ℕ). x.1) (o >>= λ (x : List Entry × List ℕ). Some (entry ∷ x.0, x.1)) ≡ Some rest → length (listed (o >>= λ (x : List Entry × List ℕ). Some (entry ∷ x.0, x.1))) ≡ suc n

@@ -1,4 +1,4 @@
--- A reply is read where it is spelled, and only there.
+-- A reply is decoded exactly from its encoding.
 use Rattle.std.proofs.Common.{◌≡◌, ℕ, zero, suc, ◌<◌, ◌^◌, Bool, true, false, cond, eqb, List, [], ◌∷◌, ◌++◌, length, Option, Some, None, refl, sym, ap, subst, ◌∙◌, append_assoc, append-nil, take, drop, lit<, arith}
 use Rattle.std.specs.Prelude.{option_map, codes, ◌&&◌, IfSome, IfNone}
 use Rattle.std.specs.Int.{w32, w64}
@@ -21,9 +21,9 @@ use Rattle.sf_reply.proofs.OneReply.{entry_parts}
 use Rattle.sf_reply.specs.Replies.{number_of, message_of, status_text, handle_text, entry_text, names_text, kind_of_reply, fields_of, EntryFits, ReplyFits}
 use Rattle.sf_reply.specs.Reading.{IsReply, whole, code_of, status_with, status_of, status_at, handle_at, entry_at, entries_at, names_at, reply_fields_at, reply_at}
 
--- ---- values with nothing after them
+-- ---- values without trailing bytes
 
--- a test that did not fail
+-- a test that succeeded
 test_some : {A : Type 0} (b : Bool) (o : Option A) (x : A) → cond b o None ≡ Some x → (b ≡ true) × (o ≡ Some x)
 test_some true o x e = (refl, e)
 test_some false o x e = absurd cc
@@ -32,7 +32,7 @@ no_bytes : (bytes : List ℕ) → eqb (length bytes) 0 ≡ true → bytes ≡ []
 no_bytes [] e = refl
 no_bytes (b ∷ bytes) e = absurd (omega (arith, eqb-true (length (b ∷ bytes)) 0 e))
 
--- A reader of a value with nothing after it reads its spelling, and nothing else.
+-- A reader of a value without trailing bytes accepts exactly the encodings.
 pub record ReadsWhole {A : Type 0} (read : List ℕ → Option A) (spell : A → List ℕ) (Fit : A → Type 0) : Type 0 where
   pub takes : (bytes : List ℕ) (x : A) → IsBytes bytes → read bytes ≡ Some x → (bytes ≡ spell x) × Fit x
   pub again : (x : A) → Fit x → read (spell x) ≡ Some x
@@ -147,7 +147,7 @@ reads_names = record { takes = names_take; again = names_again }
 
 -- ---- statuses
 
--- this code has the number, or a later one has it
+-- the number is that of this code, or of a later one
 this_or_later : {later : Option StatusCode} {code : StatusCode} (n k : ℕ) (this : StatusCode) → k ≡ number_of this → (later ≡ Some code → n ≡ number_of code) → cond (eqb n k) (Some this) later ≡ Some code → n ≡ number_of code
 this_or_later {later} {code} n k this is others =
     (elim (eqb n k) as (λ (b : Bool). eqb n k ≡ b → cond b (Some this) later ≡ Some code → n ≡ number_of code) [
@@ -165,7 +165,7 @@ code_is n code e =
     (this_or_later n 5 status.BadMessage refl
     (this_or_later n 8 status.OpUnsupported refl (λ none. cc))))))) e
 
--- it is spelled so, and fits
+-- it is the encoding, and fits
 record IsSpelled (kind : ℕ) (text : List ℕ) (r : Reply) : Type 0 where
   pub kind_is : kind ≡ kind_of_reply r
   pub parts : text ≡ fields_of r
@@ -222,7 +222,7 @@ mapped_some : {X Y : Type 0} (f : X → Y) (o : Option X) (y : Y) → option_map
 mapped_some f (Some x) y e = (x, refl, some_is (f x) y e)
 mapped_some f None y e = absurd cc
 
--- Replies of a type are made of values that are read so.
+-- Replies of a type are made of the values that `read` decodes.
 record MadeOf {A : Type 0} (read : List ℕ → Option A) (spell : A → List ℕ) (Fit : A → Type 0) (make : A → Reply) (kind : ℕ) : Type 0 where
   reads : ReadsWhole read spell Fit
   of_kind : (x : A) → kind ≡ kind_of_reply (make x)
@@ -297,7 +297,7 @@ reply_again body id r is = ap reply_at is.parts ∙ rw (reads_u32.again id (fiel
 pub not_read : (body : List ℕ) (id : ℕ) (r : Reply) → reply_at body ≡ None → IsReply body id r → ⊥
 not_read body id r none is = let read = reply_again body id r is in absurd cc
 
--- what a function found is there, and where it found nothing there is none
+-- what a function found is in the body, and if it found nothing the body encodes no reply
 pub found : {X : Type 0} (body : List ℕ) (view : X → ℕ × Reply) (o : Option X) → IsBytes body → Gives view o (reply_at body) → IfSome o (λ x. IsReply body (view x).0 (view x).1)
 found body view (Some x) fits e = reply_takes body (view x).0 (view x).1 fits e
 found body view None fits e = tt

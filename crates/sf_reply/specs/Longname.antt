@@ -9,14 +9,14 @@ use Rattle.sf_field.specs.Reading.{◌>>=◌}
 abbrev pub spaces : ℕ → List ℕ
 spaces n = replicate n 32
 
--- in a column of this width, which a longer text leaves
+-- padded to the width of a column; a longer text is not truncated
 abbrev pub left_justified : ℕ → List ℕ → List ℕ
 left_justified width text = text ++ spaces (width - length text)
 
 abbrev pub right_in : ℕ → List ℕ → List ℕ
 right_in width text = spaces (width - length text) ++ text
 
--- the type above the twelve bits of the permissions: 8 is a file, 4 a directory
+-- the type, above the 12 permission bits: 8 is a regular file, 4 a directory
 abbrev pub type_of : ℕ → ℕ
 type_of permissions = permissions / 4096
 
@@ -24,7 +24,7 @@ abbrev pub HasType : Option ℕ → Type 0
 HasType None = ⊥
 HasType (Some permissions) = (type_of permissions ≡ 8) ⊎ (type_of permissions ≡ 4)
 
--- the letter, and `-` where the bit is clear
+-- the letter, or `-` if the bit is clear
 abbrev pub place : ℕ → ℕ → ℕ → ℕ
 place permissions bit letter = if lacks permissions bit then 45 else letter
 
@@ -43,7 +43,7 @@ columns_text links owner size mtime =
     ++ spaces 1 ++ left_justified 8 (decimal owner.gid)
     ++ spaces 1 ++ right_in 8 (decimal size) ++ spaces 1 ++ right_in 12 (decimal mtime) ++ spaces 1
 
--- Attributes of which a part is missing have no line.
+-- Incomplete attributes have no line.
 abbrev pub longname_text : Attrs → ℕ → List ℕ → Option (List ℕ)
 longname_text attrs links name = do
   size ← attrs.size

@@ -1,4 +1,4 @@
--- Reading a reply from left to right.
+-- Decoding of a reply, from left to right.
 use Rattle.std.specs.Prelude.{◌≡◌, ℕ, zero, suc, ◌<◌, ◌^◌, List, [], ◌∷◌, length, codes, Option, Some, None, option_map, ◌==◌, ◌&&◌, if◌then◌else◌}
 use Rattle.std.specs.Str.{bytes_eq}
 use Rattle.std.specs.Int.{w32, w64}
@@ -12,17 +12,17 @@ use Rattle.sf_reply.specs.declared.reading.FoundReply.TheVariants as found
 use Rattle.sf_field.specs.Reading.{◌>>=◌, number_at, string_at, sent_attrs_at}
 use Rattle.sf_reply.specs.Replies.{message_of, ReplyFits, reply_body}
 
--- The body is the reply's one spelling under the id, and nothing is after it.
+-- The body is exactly the encoding of the reply with this id, without trailing bytes.
 pub record IsReply (body : List ℕ) (id : ℕ) (reply : Reply) : Type 0 where
   pub id_fits : id < 2 ^ 32
   pub fits : ReplyFits reply
   pub parts : body ≡ reply_body id reply
 
--- a value with nothing after it
+-- a value without trailing bytes
 unfoldable pub whole : {A : Type 0} → (List ℕ → Option (A × List ℕ)) → List ℕ → Option A
 whole read bytes = read bytes >>= λ x. if length x.1 == 0 then Some x.0 else None
 
--- the code of a number
+-- the status code with this number
 abbrev pub code_of : ℕ → Option StatusCode
 code_of number =
     if number == 0 then Some status.Success
@@ -34,7 +34,7 @@ code_of number =
     else if number == 8 then Some status.OpUnsupported
     else None
 
--- a code and a message are those of one status
+-- the status with this code, if the message is the code's
 abbrev pub status_with : Option StatusCode → List ℕ → Option Reply
 status_with None message = None
 status_with (Some code) message =
@@ -75,7 +75,7 @@ entries_at (suc n) bytes = do
 unfoldable pub names_at : List ℕ → Option (List Entry × List ℕ)
 names_at bytes = number_at w32 bytes >>= λ n. entries_at n.0 n.1
 
--- the fields of a reply by its type
+-- the fields of a reply of this type
 unfoldable pub reply_fields_at : ℕ → List ℕ → Option Reply
 reply_fields_at kind bytes =
     if kind == 101 then status_at bytes
@@ -92,7 +92,7 @@ reply_at (kind ∷ rest) = do
   r ← reply_fields_at kind id.1
   Some (id.0, r)
 
--- the names that bytes hold
+-- the decoded entries; none on failure
 abbrev pub listed : Option (List Entry × List ℕ) → List Entry
 listed None = []
 listed (Some entries) = entries.0
@@ -106,11 +106,11 @@ reply_of (found.Data bytes) = reply.Data bytes.now
 reply_of (found.Names count entries) = reply.Names (listed (entries_at count entries.now))
 reply_of (found.Attrs attrs) = reply.Attrs attrs
 
--- what is after so many entries
+-- the bytes after `n` entries
 abbrev pub after_entries : ℕ → List ℕ → Option (List ℕ)
 after_entries n bytes = option_map (λ x. x.1) (entries_at n bytes)
 
--- as many names as were counted are there
+-- the count of names is the number of names
 abbrev pub HasCountedNames : FoundReply → Type 0
 HasCountedNames (found.Status code) = Unit {0}
 HasCountedNames found.NoMemory = Unit {0}

@@ -1,4 +1,4 @@
--- The spellings of the replies.
+-- The encodings of replies.
 use Rattle.std.specs.Prelude.{ℕ, ◌<◌, ◌^◌, List, [], ◌∷◌, ◌++◌, length, codes}
 use Rattle.std.specs.List.{flat_map, AllByRecursion}
 use Rattle.sf_reply.specs.declared.reply.StatusCode.{StatusCode}
@@ -31,7 +31,7 @@ message_of status.OpUnsupported = codes "Operation unsupported"
 abbrev pub status_text : ℕ → List ℕ → List ℕ
 status_text code message = be32 code ++ string message ++ string []
 
--- a handle's number as a string of 8 bytes
+-- a handle's number, as a string of 8 bytes
 abbrev pub handle_text : ℕ → List ℕ
 handle_text number = string (be64 number)
 
@@ -61,12 +61,12 @@ fields_of (reply.Attrs a) = attrs_text a
 abbrev pub reply_body : ℕ → Reply → List ℕ
 reply_body id r = kind_of_reply r ∷ be32 id ++ fields_of r
 
--- version 3, and two pairs of strings
+-- version 3, and two extensions as pairs of strings
 abbrev pub version_body : List ℕ
 version_body = 2 ∷ be32 3 ++ string (codes "posix-rename@openssh.com") ++ string (codes "1")
     ++ string (codes "hardlink@openssh.com") ++ string (codes "1")
 
--- A reply that holds no list: a copy of it takes no memory, and its packet is short.
+-- A plain reply contains no list: copying it allocates nothing, and its packet is short.
 abbrev pub IsPlain : Reply → Type 0
 IsPlain (reply.Status code) = Unit {0}
 IsPlain reply.NoMemory = Unit {0}
@@ -75,7 +75,7 @@ IsPlain (reply.Data bytes) = ⊥
 IsPlain (reply.Names es) = ⊥
 IsPlain (reply.Attrs a) = Unit {0}
 
--- the numbers and the strings have a spelling
+-- the numbers and the strings have an encoding
 pub record EntryFits (e : Entry) : Type 0 where
   pub filename : length e.filename < 2 ^ 32
   pub longname : length e.longname < 2 ^ 32

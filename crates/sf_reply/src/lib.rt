@@ -1,11 +1,10 @@
-//! Replies of the SSH File Transfer Protocol, version 3, written as packets and read from them.
+//! Encoding and decoding of SFTP version 3 replies.
 //!
-//! Start with `specs/Replies.antt`: the one spelling of each reply (`reply_body`, `version_body`),
-//! and then the contracts of `write_reply` and `write_version`: a packet is written whole or not at
-//! all. For the other way read `find_reply`, which takes no memory, and `read_reply`: a body is
-//! read as a reply exactly where it is that reply's spelling. The line of a listing is `longname`,
-//! by `specs/Longname.antt`. The laws of `reply_laws.rt` say that other replies have other bytes,
-//! and how long packets are.
+//! Start with `specs/Replies.antt`, the one encoding of each reply (`reply_body`, `version_body`).
+//! `write_reply` and `write_version` append a whole packet or nothing. `find_reply` decodes a body
+//! without allocating, and `read_reply` copies the result. Both accept a body exactly if it is the
+//! encoding of a reply. `longname` formats a line of a listing (`specs/Longname.antt`). The laws in
+//! `reply_laws.rt` state that encodings are unique, and the lengths of packets.
 #![tactic(auto)]
 
 mod long_names;

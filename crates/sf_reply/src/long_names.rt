@@ -1,4 +1,4 @@
-//! The line that describes a file in a listing, of this server's own layout.
+//! The `longname` of a listing entry. The draft leaves its layout to the server.
 
 ghost use Rattle.std.specs.Prelude.{◌≡◌, Some, IfOk, IsSome};
 ghost use Rattle.std.specs.String.{string_bytes};
@@ -7,13 +7,13 @@ ghost use Rattle.sf_reply.specs.Longname.{HasType, place, mode_text, columns_tex
 use sf_field::{Attrs, Owner};
 use std::alloc::{AllocError, Global};
 
-/// The type bits of a directory, above the twelve bits of its permissions.
+/// The type bits of a directory, shifted right by the 12 permission bits.
 const DIRECTORY: u32 = 4;
 
-/// How many bytes stand between the mode and the name, where no number leaves its column.
+/// The bytes between mode and name, if every number fits its column.
 const COLUMNS: usize = 45;
 
-/// How many stand before the name then.
+/// The bytes before the name, if every number fits its column.
 const FRONT: usize = 10 + COLUMNS;
 
 fn letter(permissions: u32, bit: u32, letter: u8) -> u8
@@ -59,9 +59,15 @@ fn columns(
     Ok(text)
 }
 
-/// The file's type and permissions as `ls -l` shows them, the number of links right in 3, the uid
-/// and the gid left in 8, the size right in 8, the time of the last change in seconds since 1970
-/// right in 12, and the name, with single spaces between. Wider numbers aren't cut.
+/// Formats a listing line in the style of `ls -l`. The fields are separated by single spaces:
+/// - type and permissions;
+/// - link count, right-aligned in 3 columns;
+/// - uid and gid, each left-aligned in 8;
+/// - size in bytes, right-aligned in 8;
+/// - modification time in seconds since 1970, right-aligned in 12;
+/// - name.
+///
+/// Wider numbers are not truncated.
 pub fn longname(
     alloc: Global,
     attrs: &Attrs,

@@ -1,5 +1,6 @@
-//! Reading a reply: accepted exactly where it is the one spelling of a reply, with nothing after
-//! it. What is found lies in the body, so that no memory is asked for before the whole is known.
+//! Decoding of a reply. A body is accepted exactly if it is the one encoding of a reply, without
+//! trailing bytes. The result borrows from the body, so nothing is allocated before all of it is
+//! valid.
 
 ghost use Rattle.std.specs.Prelude.{◌≡◌, ◌↔◌, ℕ, IfOk, IfSome, IfNone, OnErr, IsTrue, option_map};
 ghost use Rattle.std.specs.Int.{w64};
@@ -14,22 +15,22 @@ use crate::replying::{ATTRS, DATA, HANDLE, NAME, STATUS};
 use sf_field::{Attrs, ByteString, bytes_at, sent_attrs_of, u32_at, u64_at};
 use std::alloc::{AllocError, Global};
 
-/// A reply whose bytes lie in the body that it was found in.
+/// A decoded reply that borrows from its body.
 #[derive(Clone, Copy, Debug)]
 pub enum FoundReply<'a> {
     Status(StatusCode),
-    /// FAILURE with the message of its own.
+    /// `SSH_FX_FAILURE` with the message `Out of memory`.
     NoMemory,
-    /// The number of the call that opened the handle.
+    /// The number of the `OPEN` or `OPENDIR` call that created the handle.
     Handle(u64),
-    /// Bytes of a file.
+    /// File data.
     Data(&'a [u8]),
-    /// How many names there are, and where they are spelled.
+    /// The number of names, and their encoding.
     Names(u32, &'a [u8]),
     Attrs(Attrs),
 }
 
-/// The code of this number.
+/// The status code with this number.
 fn code(number: u32) -> Option<StatusCode>
     ensures { result ≡ code_of number }
 {
@@ -108,7 +109,7 @@ fn last_attrs(bytes: &[u8]) -> Option<Attrs>
     if rest.is_empty() { Some(attrs) } else { None }
 }
 
-/// A name, its line and its attributes, and the bytes after them.
+/// A name, its `longname`, its attributes, and the remaining bytes.
 #[tactic(auto, unfolding(crate::specs::Reading::entry_at))]
 fn entry_of(bytes: &[u8]) -> Option<(&[u8], &[u8], Attrs, &[u8])>
     ensures { Gives (λ x. (
@@ -126,7 +127,7 @@ fn entry_of(bytes: &[u8]) -> Option<(&[u8], &[u8], Attrs, &[u8])>
     Some((filename, longname, attrs, rest))
 }
 
-/// The bytes after so many entries.
+/// The bytes after `count` entries.
 fn skip_entries(count: u32, bytes: &[u8]) -> Option<&[u8]>
     ensures { Gives (λ x. x.now) result (after_entries count bytes.now) }
 {
@@ -180,18 +181,19 @@ fn reply(body: &[u8]) -> Option<(u32, FoundReply<'_>)>
     Some((id, found))
 }
 
-/// The id and the reply of a body, which is a packet without its length field. Takes no memory.
+/// Decodes a body, which is a packet without its length field: the request id and the reply. It
+/// returns `None` if the body is not the encoding of a reply. It allocates nothing.
 pub fn find_reply(body: &[u8]) -> Option<(u32, FoundReply<'_>)>
     ensures found { IfSome result (λ x. IsReply body.now x.0 (reply_of x.1)) }
-    // As many names are there as were counted.
+    // The count of names is correct.
     ensures counted { IfSome result (λ x. HasCountedNames x.1) }
-    // It spells no other reply, or none at all.
+    // On `None`, the body encodes no reply.
     ensures none { IfNone result ((id : ℕ) (r : Reply) → IsReply body.now id r → ⊥) }
 {
     reply(body)
 }
 
-/// Copies so many entries.
+/// Copies `count` entries.
 fn entries(alloc: Global, count: u32, bytes: &[u8]) -> Result<Vec<Entry>, AllocError>
     ensures { IfOk result (λ entries. entries.items ≡ listed (entries_at count bytes.now)) }
 {
@@ -214,8 +216,8 @@ fn entries(alloc: Global, count: u32, bytes: &[u8]) -> Result<Vec<Entry>, AllocE
 }
 
 impl FoundReply<'_> {
-    /// The reply with bytes of its own. It takes memory only for data and names, as their bytes are
-    /// there, and never by a count that was read.
+    /// Copies the reply. Only data and names allocate, by the bytes present and never by a count
+    /// that was read.
     pub fn to_reply(&self, alloc: Global) -> Result<Reply, AllocError>
         ensures { IfOk result (λ r. r ≡ reply_of self.now) }
     {
@@ -232,9 +234,8 @@ impl FoundReply<'_> {
     }
 }
 
-/// What a body answers, which is a packet without its length field: its id and its reply, or
-/// nothing where it is no reply's spelling. It fails only where the memory for a reply's copy is
-/// refused.
+/// Decodes and copies a reply: the request id and the reply, or `None` if the body is not the
+/// encoding of a reply. It fails only if an allocation fails.
 pub fn read_reply(alloc: Global, body: &[u8]) -> Result<Option<(u32, Reply)>, AllocError>
     ensures found { IfOk result (λ found. IfSome found (λ x. IsReply body.now x.0 x.1)) }
     ensures none { IfOk result (λ found. IfNone found ((id : ℕ) (r : Reply) → IsReply body.now id r
@@ -247,7 +248,7 @@ pub fn read_reply(alloc: Global, body: &[u8]) -> Result<Option<(u32, Reply)>, Al
     Ok(Some((id, found.to_reply(alloc)?)))
 }
 
-/// Whether a body is VERSION, as the server always sends it.
+/// Whether a body is the `SSH_FXP_VERSION` that the server sends.
 pub fn is_version(body: &[u8]) -> bool
     ensures { IsTrue result ↔ (body.now ≡ version_body) }
 {

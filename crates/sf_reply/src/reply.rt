@@ -1,4 +1,4 @@
-//! What a packet answers.
+//! The replies to requests.
 
 ghost use Rattle.std.specs.Prelude.{◌≡◌, ◌++◌, IfOk, IsOk, OnOk};
 ghost use Rattle.sf_reply.specs.Replies.{number_of, message_of, IsPlain};
@@ -8,11 +8,11 @@ use std::alloc::AllocError;
 use std::marker::Model;
 use std::sync::ArcSlice;
 
-/// The bytes of the longest packet that answers a status, want of memory, a handle or attributes,
-/// its length field counted.
+/// The maximum packet length of a plain reply (a status, out of memory, a handle or attributes), in
+/// bytes, including the length field.
 pub const MAX_PLAIN_REPLY: usize = 42;
 
-/// The status codes of the draft that are sent.
+/// The status codes that the server sends (draft-ietf-secsh-filexfer-02, section 7).
 #[derive(Clone, Copy, Debug, PartialEq, Eq)]
 pub enum StatusCode {
     Success,
@@ -40,7 +40,7 @@ impl StatusCode {
         }
     }
 
-    /// The message that is sent with it, in ASCII.
+    /// The error message sent with the code, in ASCII.
     pub fn message(self) -> &'static [u8]
         ensures { result.now ≡ message_of self }
     {
@@ -56,17 +56,17 @@ impl StatusCode {
     }
 }
 
-/// One name of a listing.
+/// One entry of a listing.
 #[derive(Debug, PartialEq, Eq, Drop)]
 pub struct Entry {
     pub filename: ByteString,
-    /// A line that describes the file, for people.
+    /// A human-readable line that describes the file.
     pub longname: ByteString,
     pub attrs: Attrs,
 }
 
 impl Entry {
-    /// Takes no memory.
+    /// Another reference to the entry. It allocates nothing.
     fn share(&self) -> Result<Entry, AllocError>
         ensures { IfOk result (λ e. e ≡ self.now) }
     {
@@ -78,8 +78,7 @@ impl Entry {
     }
 }
 
-/// Names, which contracts see as a list. They have counted owners, so that a listing is shared and
-/// not copied.
+/// A listing: reference-counted entries, shared without copying. Contracts see a list.
 #[derive(Debug, Drop)]
 pub struct Listing {
     entries: ArcSlice<Entry>,
@@ -118,7 +117,7 @@ impl Eq for Listing {
 }
 
 impl Listing {
-    /// Copies no name, and takes memory for the count of owners.
+    /// Takes the entries without copying. It allocates the reference count.
     pub fn from_vec(entries: Vec<Entry>) -> Result<Listing, AllocError>
         ensures { IfOk result (λ l. l ≡ entries.items) }
     {
@@ -127,8 +126,8 @@ impl Listing {
         })
     }
 
-    /// One more owner of the same names, which takes no memory. It fails where the owners can't be
-    /// counted: at 2^63 of them.
+    /// Another reference to the same entries, without allocation. It fails if the reference count
+    /// would overflow, at 2^63.
     fn share(&self) -> Result<Listing, AllocError>
         ensures { IfOk result (λ l. l ≡ self.now) }
     {
@@ -137,14 +136,14 @@ impl Listing {
         })
     }
 
-    /// The names in their order.
+    /// The entries in order.
     pub fn as_slice(&self) -> &[Entry]
         ensures { result.now ≡ self.now }
     {
         self.entries.as_slice()
     }
 
-    /// Appends the names to others, their strings shared.
+    /// Appends the entries to `others`; their strings are shared.
     pub fn append_to(&self, others: &mut Vec<Entry>) -> Result<(), AllocError>
         ensures { OnOk result (others.new.items ≡ others.old.items ++ self.now) }
     {
@@ -155,22 +154,23 @@ impl Listing {
     }
 }
 
-/// A reply by its fields.
+/// A reply, decoded.
 #[derive(Debug, PartialEq, Eq, Drop)]
 pub enum Reply {
     Status(StatusCode),
-    /// The memory for the request's work was refused: FAILURE with a message of its own.
+    /// Out of memory: `SSH_FX_FAILURE` with the message `Out of memory`.
     NoMemory,
     /// The number of the call that opened the handle, sent as 8 bytes.
     Handle(u64),
-    /// Bytes of a file.
+    /// File data.
     Data(ByteString),
     Names(Listing),
     Attrs(Attrs),
 }
 
 impl Reply {
-    /// The same reply once more: its data or its names are shared, which takes no memory.
+    /// The same reply again. Data and names are shared, so it allocates nothing. It fails only if a
+    /// reference count would overflow.
     pub fn share(&self) -> Result<Reply, AllocError>
         ensures equal { IfOk result (λ copy. copy ≡ self.now) }
         ensures plain { IsPlain self.now → IsOk result }

@@ -1,4 +1,4 @@
-//! Laws of replies, which no call needs.
+//! Laws of replies, stated as contracts of empty functions.
 
 ghost use Rattle.std.specs.Prelude.{◌≡◌, ℕ, ◌+◌, ◌≤◌, ◌<◌, ◌^◌, List, [], ◌∷◌, length, Some};
 ghost use Rattle.std.specs.List.{flat_map};
@@ -14,14 +14,14 @@ ghost use Rattle.sf_reply.specs.Replies.{reply_body, entry_text, IsPlain, ReplyF
 
 use crate::reply::MAX_PLAIN_REPLY;
 
-/// Replies with other ids or of other contents have other bytes.
+/// Encoding is injective: replies with different ids or contents have different bytes.
 pub fn one_reply()
     ensures { (id other_id : ℕ) (reply other : Reply) → id < 2 ^ 32 → other_id < 2 ^ 32
         → ReplyFits reply → ReplyFits other
         → reply_body id reply ≡ reply_body other_id other → (id ≡ other_id) × (reply ≡ other) }
 {}
 
-/// How long the packets of replies are.
+/// The lengths of reply packets, in bytes.
 pub fn reply_lengths()
     ensures plain { (id : ℕ) (reply : Reply) → IsPlain reply
         → length (packet (reply_body id reply)) ≤ MAX_PLAIN_REPLY }
@@ -37,7 +37,7 @@ pub fn reply_lengths()
         ≡ 4 + 1 + 4 + 4 + (4 + length e.filename) + (4 + length e.longname) + 4 }
 {}
 
-/// How long the line that describes a file is.
+/// The length of a listing line, in bytes.
 pub fn longname_lengths()
     // Ten letters, six spaces, and numbers in 20, 10, 10, 20 and 12 bytes.
     ensures { (attrs : Attrs) (links : ℕ) (name line : List ℕ) → AttrsFit attrs → links < 2 ^ 64
@@ -45,7 +45,7 @@ pub fn longname_lengths()
         → length line ≤ 10 + 6 + (20 + 10 + 10 + 20 + 12) + length name }
 {}
 
-/// The body of a reply that is sent is that reply's spelling, and no other's.
+/// The body that is sent for a reply decodes to that reply and to no other.
 pub fn sent_replies()
     ensures spelled { (id : ℕ) (reply : Reply) → id < 2 ^ 32 → ReplyFits reply
         → IsReply (reply_body id reply) id reply }

@@ -1,4 +1,4 @@
-//! Writing replies. Room for the whole packet is reserved first, so that nothing after it can fail.
+//! Encoding of replies. Capacity for the whole packet is reserved first, so no later step can fail.
 
 ghost use Rattle.std.specs.Prelude.{◌≡◌, ◌+◌, ◌<◌, ◌≤◌, ◌^◌, ◌++◌, length, OnOk, OnErr, IsOk};
 ghost use Rattle.std.specs.List.{flat_map};
@@ -55,9 +55,9 @@ fn put_entry(out: &mut BytesMut, entry: &Entry)
     put_attrs(out, &entry.attrs);
 }
 
-/// Appends the packet VERSION whole, or nothing: version 3, with the extensions
-/// `posix-rename@openssh.com` and `hardlink@openssh.com`, each of version `1`. A buffer with the
-/// packet's room takes no memory.
+/// Appends the `SSH_FXP_VERSION` packet, or nothing on error: version 3, with the extensions
+/// `posix-rename@openssh.com` and `hardlink@openssh.com`, each of version `1`. It allocates nothing
+/// if the buffer has capacity for the packet.
 pub fn write_version(out: &mut BytesMut) -> Result<(), AllocError>
     ensures ok { OnOk result (out.new.items ≡ out.old.items ++ packet version_body) }
     ensures err { OnErr result (out.new.items ≡ out.old.items) }
@@ -151,7 +151,8 @@ fn kind(reply: &Reply) -> u8
     }
 }
 
-/// Appends the reply's packet whole, or nothing. A buffer with the packet's room takes no memory.
+/// Appends the reply's packet, or nothing on error. It allocates nothing if the buffer has capacity
+/// for the packet.
 pub fn write_reply(id: u32, reply: &Reply, out: &mut BytesMut) -> Result<(), AllocError>
     requires { length (reply_body id reply.now) ≤ max_body }
     ensures ok { OnOk result (out.new.items ≡ out.old.items ++ packet (reply_body id reply.now)) }

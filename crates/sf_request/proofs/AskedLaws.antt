@@ -1,4 +1,4 @@
--- What a body asks is read, and what is read is asked.
+-- The decoder finds what a body encodes, and nothing else.
 use Rattle.std.proofs.Common.{◌≡◌, ◌≢◌, ℕ, suc, Bool, true, false, cond, eqb, not, ◌||◌, List, [], ◌∷◌, ◌++◌, Option, Some, None, refl, sym, ap, subst, ◌∙◌, append_assoc, arith, lit<, inl, inr, length, ◌<◌}
 use Rattle.std.specs.Str.{bytes_eq}
 use Rattle.std.specs.Int.{w32}
@@ -16,7 +16,7 @@ use Rattle.sf_field.proofs.Laws.{IsBytes, IsBytes-rest, reads_u32, reads_string,
 use Rattle.sf_request.proofs.SpelledFields.{as_string}
 use Rattle.sf_request.proofs.RequestLaws.{request_takes, request_again}
 
--- ---- an unknown type, or an extension of another name
+-- ---- an unknown type, or an unknown extension
 
 not_true : (b : Bool) → not b ≡ true → b ≡ false
 not_true true e = absurd cc
@@ -83,7 +83,7 @@ known : (kind : ℕ) (rest : List ℕ) → is_unknown kind rest ≡ false → is
 unfolding is_unknown
 known kind rest e = known_by (eqb kind 200) kind rest refl e
 
--- ---- what is read is asked
+-- ---- what is decoded is encoded
 
 answer_found : (body : List ℕ) (kind id : ℕ) (rest : List ℕ) (o : Option WireRequest) → request_at kind rest ≡ o → is_unknown kind rest ≡ false → HasId body kind id rest → IsBytes rest → Asks body (asked_by id o)
 answer_found body kind id rest None e not_unknown has fits = (
@@ -125,7 +125,7 @@ unfolding asked_of
 asked_found [] fits = (lit< tt, λ init. let e : [] ≡ 1 ∷ init.0 = init.1 in cc)
 asked_found (kind ∷ rest) fits = number_found kind rest (number_at w32 rest) refl (IsBytes-rest kind rest fits)
 
--- ---- what is asked is read
+-- ---- what is encoded is decoded
 
 has_call : (body : List ℕ) (kind id : ℕ) (rest : List ℕ) → HasId body kind id rest → asked_of body ≡ asked_under kind (Some (id, rest))
 unfolding asked_of

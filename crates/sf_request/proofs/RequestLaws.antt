@@ -1,4 +1,4 @@
--- The fields of a request are read as its type says.
+-- The fields of a request are decoded by its type.
 use Rattle.std.proofs.Common.{◌≡◌, ℕ, Bool, true, false, cond, eqb, List, [], ◌∷◌, ◌++◌, Option, Some, None, refl, sym, ap, subst, ◌∙◌, append_assoc}
 use Rattle.std.specs.Prelude.{option_map}
 use Rattle.std.specs.List.{AllByRecursion}
@@ -15,7 +15,7 @@ use Rattle.sf_request.specs.Reading.{both_at, fields, two_strings_at, rename_at,
 use Rattle.sf_field.proofs.Laws.{IsBytes, some_is}
 use Rattle.sf_request.proofs.SpelledFields.{ReadsAs, as_u32, as_u64, as_string, as_attrs, as_flags, Both, as_both, fields_take, fields_again}
 
--- a request that is spelled at the front of the bytes
+-- a prefix of the bytes encodes the request
 pub record Found (kind : ℕ) (bytes : List ℕ) (request : WireRequest) : Type 0 where
   pub text : List ℕ
   pub more : List ℕ
@@ -23,7 +23,7 @@ pub record Found (kind : ℕ) (bytes : List ℕ) (request : WireRequest) : Type 
   pub spelled : SpellsFields text request
   pub kind_is : kind_of request ≡ kind
 
--- what reads the fields of a type finds requests of that type
+-- the decoder of a type finds requests of that type
 record IsSound (reader : ℕ × (List ℕ → Option WireRequest)) : Type 0 where
   pub finds : (bytes : List ℕ) (r : WireRequest) → IsBytes bytes → reader.1 bytes ≡ Some r → Found reader.0 bytes r
 
@@ -31,7 +31,7 @@ mapped_some : {X Y : Type 0} (f : X → Y) (o : Option X) (y : Y) → option_map
 mapped_some f (Some x) y e = (x, refl, some_is (f x) y e)
 mapped_some f None y e = absurd cc
 
--- Requests of a type are made of fields that are read so.
+-- Requests of a type are made of the fields that `read` decodes.
 record MadeOf {X : Type 0} (read : List ℕ → Option (X × List ℕ)) (Is : X → List ℕ → Type 0) (make : X → WireRequest) (kind : ℕ) : Type 0 where
   reads : ReadsAs read Is
   of_kind : (x : X) → kind_of (make x) ≡ kind
@@ -74,12 +74,12 @@ two_strings make kind of_kind spells =
 
 -- ---- the extensions
 
--- An extension has this name, and makes requests of two strings.
+-- An extension with this name; its requests have two strings.
 record IsExtension (known : List ℕ) (make : List ℕ → List ℕ → WireRequest) : Type 0 where
   of_kind : (s t : List ℕ) → kind_of (make s t) ≡ 200
   spells : (text s t : List ℕ) → (IsString known ⨾ IsString s ⨾ IsString t) text → SpellsFields text (make s t)
 
--- A name stands at the front of the bytes.
+-- The bytes begin with a name.
 record NameRead (bytes name more : List ℕ) : Type 0 where
   fits : IsBytes bytes
   read : string_at bytes ≡ Some (name, more)
@@ -181,7 +181,7 @@ pub request_takes : (kind : ℕ) (bytes : List ℕ) (r : WireRequest) → IsByte
 unfolding request_at
 request_takes kind bytes r fits e = picked readers all_sound kind bytes r fits e
 
--- ---- and back
+-- ---- the converse
 
 string_back : (make : List ℕ → WireRequest) (s text more : List ℕ) → IsString s text → string_request_at make (text ++ more) ≡ Some (make s)
 string_back make s text more h = ap (option_map make) (fields_again string_at IsString as_string s text more h)

@@ -1,4 +1,4 @@
--- The spelling that is sent is in the grammar.
+-- The encoding that is sent is in the grammar.
 use Rattle.std.proofs.Common.{ℕ, ◌<◌, ◌^◌, List, [], ◌∷◌, ◌++◌, refl, append_assoc, append-nil, ap, sym, lit<}
 use Rattle.sf_field.specs.declared.open_flags.OpenFlags.{OpenFlags}
 use Rattle.sf_field.specs.Fields.{be32, be64, string}

@@ -1,4 +1,4 @@
--- Fields that are read are spelled at the front of the bytes, and spelled ones are read.
+-- Decoding a field inverts its encoding, and the converse.
 use Rattle.std.proofs.Common.{◌≡◌, ℕ, List, ◌++◌, Option, Some, refl, ap, subst, ◌∙◌, append_assoc}
 use Rattle.std.specs.Int.{w32, w64}
 use Rattle.sf_field.specs.declared.open_flags.OpenFlags.{OpenFlags}
@@ -72,7 +72,7 @@ pub as_both : {A B : Type 0} {first : List ℕ → Option (A × List ℕ)} {seco
     → ReadsAs (both_at first second) (Both IsA IsB)
 as_both p q = record { takes = both_take p q; again = both_again p q }
 
--- ---- with what follows them left out
+-- ---- without the bytes after them
 
 pub fields_take : {A : Type 0} (read : List ℕ → Option (A × List ℕ)) (Is : A → List ℕ → Type 0) → ReadsAs read Is → (bytes : List ℕ) (x : A) → IsBytes bytes → fields read bytes ≡ Some x
     → (text more : List ℕ) × (bytes ≡ text ++ more) × Is x text

@@ -1,5 +1,5 @@
 -- No public clause cites this module.
--- Reading a body from left to right.
+-- Decoding of a body, from left to right.
 use Rattle.std.specs.Prelude.{ℕ, List, [], ◌∷◌, Bool, false, Option, Some, None, option_map, not, ◌==◌, ◌||◌, if◌then◌else◌}
 use Rattle.std.specs.Str.{bytes_eq}
 use Rattle.std.specs.Int.{w32, w64}
@@ -11,7 +11,7 @@ use Rattle.sf_request.specs.declared.request.Asked.TheVariants.{Init, Request, B
 use Rattle.sf_request.specs.Requests.{is_request, posix_rename_extension, hardlink}
 use Rattle.sf_field.specs.Reading.{◌>>=◌, number_at, string_at, attrs_at, flags_at}
 
--- one field after another
+-- two fields in sequence
 abbrev pub both_at : {A B : Type 0} → (List ℕ → Option (A × List ℕ))
     → (List ℕ → Option (B × List ℕ)) → List ℕ → Option ((A × B) × List ℕ)
 both_at first second bytes = do
@@ -19,7 +19,7 @@ both_at first second bytes = do
   b ← second a.1
   Some ((a.0, b.0), b.1)
 
--- fields, and what follows them left out
+-- fields, without the bytes after them
 unfoldable pub fields : {A : Type 0} → (List ℕ → Option (A × List ℕ)) → List ℕ → Option A
 fields read bytes = read bytes >>= λ x. Some x.0
 
@@ -62,7 +62,7 @@ extended_by (Some name) =
 abbrev pub extended_at : List ℕ → Option WireRequest
 extended_at bytes = extended_by (string_at bytes)
 
--- the types, and how the fields of each are read
+-- the request types, each with the decoder of its fields
 abbrev pub readers : List (ℕ × (List ℕ → Option WireRequest))
 readers =
     (3, open_at) ∷ (4, string_request_at request.Close) ∷ (5, read_at) ∷ (6, write_at)
@@ -81,7 +81,7 @@ by_kind (r ∷ rs) kind bytes = if kind == r.0 then r.1 bytes else by_kind rs ki
 unfoldable pub request_at : ℕ → List ℕ → Option WireRequest
 request_at kind bytes = by_kind readers kind bytes
 
--- what the bytes after a type and an id ask
+-- a request by its decoded fields
 abbrev pub asked_by : ℕ → Option WireRequest → Asked
 asked_by id None = BadFields id
 asked_by id (Some request) = Request id request

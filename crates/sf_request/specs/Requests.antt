@@ -1,4 +1,4 @@
--- What a body asks: the grammar of the requests.
+-- The grammar of requests: what a body encodes.
 use Rattle.std.specs.Prelude.{◌≡◌, ◌≢◌, ℕ, ◌<◌, ◌^◌, ◌⊎◌, List, ◌∷◌, ◌++◌, length, codes, Bool, true, false, nat_lt, ◌==◌, ◌&&◌, ◌||◌}
 use Rattle.sf_field.specs.declared.attrs.Attrs.{Attrs}
 use Rattle.sf_field.specs.declared.open_flags.OpenFlags.{OpenFlags}
@@ -31,7 +31,7 @@ kind_of (request.Rename old new) = 18
 kind_of (request.PosixRename old new) = 200
 kind_of (request.Link old new) = 200
 
--- 3 to 18, and the extensions
+-- 3 to 18, and extended requests
 abbrev pub is_request : ℕ → Bool
 is_request kind = nat_lt 2 kind && nat_lt kind 19 || kind == 200
 
@@ -41,7 +41,7 @@ posix_rename_extension = codes "posix-rename@openssh.com"
 abbrev pub hardlink : List ℕ
 hardlink = codes "hardlink@openssh.com"
 
--- the texts that spell one field
+-- the encodings of one field
 pub record IsU32 (n : ℕ) (text : List ℕ) : Type 0 where
   pub fits : n < 2 ^ 32
   pub is : text ≡ be32 n
@@ -57,13 +57,13 @@ pub record IsString (bytes text : List ℕ) : Type 0 where
 abbrev pub IsAttrs : Attrs → List ℕ → Type 0
 IsAttrs attrs text = SpellsAttrs text attrs
 
--- Bits that no flag has are ignored.
+-- Unknown bits are ignored.
 pub record IsFlags (flags : OpenFlags) (text : List ℕ) : Type 0 where
   pub bits : ℕ
   pub spelled : IsU32 bits text
   pub say : open_flags bits ≡ flags
 
--- one field after another
+-- two fields in sequence
 infixr 10 ◌⨾◌
 pub record ◌⨾◌ (First Second : List ℕ → Type 0) (text : List ℕ) : Type 0 where
   pub front : List ℕ
@@ -72,7 +72,7 @@ pub record ◌⨾◌ (First Second : List ℕ → Type 0) (text : List ℕ) : Ty
   pub second : Second back
   pub parts : text ≡ front ++ back
 
--- the fields after the id
+-- the encoding of the fields after the id
 abbrev pub SpellsFields : List ℕ → WireRequest → Type 0
 SpellsFields text (request.Open filename flags attrs) =
     (IsString filename ⨾ IsFlags flags ⨾ IsAttrs attrs) text
@@ -97,12 +97,12 @@ SpellsFields text (request.PosixRename old new) =
     (IsString posix_rename_extension ⨾ IsString old ⨾ IsString new) text
 SpellsFields text (request.Link old new) = (IsString hardlink ⨾ IsString old ⨾ IsString new) text
 
--- the body of a packet, with its type and its id
+-- a body: its type, its id, and the remaining bytes
 pub record HasId (body : List ℕ) (kind id : ℕ) (rest : List ℕ) : Type 0 where
   pub fits : id < 2 ^ 32
   pub parts : body ≡ kind ∷ be32 id ++ rest
 
--- the name of an extension that isn't known
+-- an extended request with an unknown name
 pub record HasOtherName (rest : List ℕ) : Type 0 where
   pub name : List ℕ
   pub more : List ℕ
@@ -117,7 +117,7 @@ IsUnknown kind rest = ((is_request kind ≡ false) × (kind ≢ 1)) ⊎ ((kind �
 abbrev pub BeginsInit : List ℕ → Type 0
 BeginsInit body = (rest : List ℕ) × (body ≡ 1 ∷ rest)
 
--- What a body asks. Bytes may follow the fields.
+-- What a body encodes. Bytes after the fields are ignored.
 abbrev pub Asks : List ℕ → Asked → Type 0
 Asks body (Init version) = (more : List ℕ) × HasId body 1 version more
 Asks body (Request id request) = (text more : List ℕ)
@@ -131,8 +131,8 @@ Asks body (Unknown id) =
 Asks body NoVersion = (length body < 5) × BeginsInit body
 Asks body NoId = (length body < 5) × (BeginsInit body → ⊥)
 
--- The spelling that is sent: the bits of the flags that are set, and no other; attributes without
--- other flags and pairs.
+-- The encoding that a client sends: only the bits of known flags, and attributes without unknown
+-- flags and extended pairs.
 abbrev pub fields_text : WireRequest → List ℕ
 fields_text (request.Open filename flags attrs) =
     string filename ++ be32 (bits_of flags) ++ attrs_text attrs
@@ -159,11 +159,11 @@ fields_text (request.Link old new) = string hardlink ++ string old ++ string new
 abbrev pub request_body : ℕ → WireRequest → List ℕ
 request_body id r = kind_of r ∷ be32 id ++ fields_text r
 
--- the body of the first packet, with the version 3
+-- the body of the client's first packet: INIT with version 3
 abbrev pub init_body : List ℕ
 init_body = 1 ∷ be32 3
 
--- the numbers and the strings have a spelling
+-- the numbers and the strings have an encoding
 abbrev pub IsShort : List ℕ → Type 0
 IsShort bytes = length bytes < 2 ^ 32
 

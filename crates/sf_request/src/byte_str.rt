@@ -1,4 +1,4 @@
-//! A string of bytes that lie elsewhere.
+//! A borrowed byte string.
 
 ghost use Rattle.std.specs.Prelude.{◌≡◌, ℕ, List, length, nat_eq};
 ghost use Rattle.std.specs.Cmp.{partial_equiv_from_equiv};
@@ -6,8 +6,8 @@ ghost use Rattle.std.specs.Cmp.Lexicographic.{nat_list_eq_equiv, pointwise};
 
 use std::marker::Model;
 
-/// Bytes where they lie, as in a packet's body: to `ByteString` what `&str` is to `String`.
-/// Contracts see them as the same list.
+/// A borrowed byte string, such as a field of a packet's body: to `ByteString` what `&str` is to
+/// `String`. Contracts see both as the same list.
 #[derive(Debug, Drop)]
 pub struct ByteStr<'a> {
     bytes: &'a [u8],
@@ -34,7 +34,7 @@ impl<'a> Eq for ByteStr<'a> {
 }
 
 impl<'a> ByteStr<'a> {
-    /// Copies nothing.
+    /// Wraps the slice without copying.
     pub fn new(bytes: &'a [u8]) -> ByteStr<'a>
         ensures { result ≡ bytes.now }
     {
@@ -48,7 +48,7 @@ impl<'a> ByteStr<'a> {
         self.bytes
     }
 
-    /// How many bytes there are.
+    /// The length in bytes.
     pub fn len(&self) -> usize
         ensures { result ≡ length self.now }
     {

@@ -1,12 +1,11 @@
-//! Requests of the SSH File Transfer Protocol, version 3: what a packet's body asks, and requests
-//! written as packets.
+//! Decoding and encoding of SFTP version 3 requests.
 //!
-//! Start with `specs/Requests.antt`, the grammar: `Asks` says what a body asks, and `SpellsFields`
-//! how the fields of each request are spelled. Then read the contract of `read_request`, which
-//! finds exactly that and takes no memory: a `WireRequest` borrows its strings from the body.
-//! `specs/Reading.antt` is the same from left to right, for proofs. `write_request` writes what a
-//! client sends; `request_laws.rt` says that a body asks one thing, and that what is written is
-//! read.
+//! Start with the grammar in `specs/Requests.antt`: `Asks` relates a body to the request that it
+//! encodes, and `SpellsFields` defines the encoding of each request's fields. `read_request`
+//! decodes exactly this grammar and allocates nothing: a `WireRequest` borrows its strings from the
+//! body. `specs/Reading.antt` is the same decoder as a definition, for proofs. `write_request`
+//! encodes a client's requests. The laws in `request_laws.rt` state that a body encodes one
+//! request, and that decoding inverts encoding.
 #![tactic(auto)]
 
 mod byte_str;

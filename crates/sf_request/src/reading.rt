@@ -1,4 +1,4 @@
-//! Reading a request. Its strings stay where they lie.
+//! Decoding of a request. Its strings are borrowed from the body.
 
 ghost use Rattle.std.specs.Prelude.{◌≡◌, ◌≤◌, Some};
 ghost use Rattle.sf_request.specs.declared.request.Asked.{Asked};
@@ -47,7 +47,7 @@ pub(crate) const RENAME: u8 = 18;
 
 pub(crate) const EXTENDED: u8 = 200;
 
-// The names of the extensions that are known, of OpenSSH.
+// The names of the supported extensions, by OpenSSH.
 pub(crate) const POSIX_RENAME: &[u8] = b"posix-rename@openssh.com";
 
 pub(crate) const HARDLINK: &[u8] = b"hardlink@openssh.com";
@@ -151,7 +151,7 @@ fn request(kind: u8, bytes: &[u8]) -> Option<WireRequest<'_>>
     }
 }
 
-/// Its name first: what follows another name isn't read.
+/// Decodes the extension's name first. The fields of an unknown extension are not read.
 #[tactic(auto, unfolding(crate::specs::Reading::asked_under, crate::specs::Reading::is_unknown, crate::specs::Reading::request_at))]
 fn extended(id: u32, bytes: &[u8]) -> Asked<'_>
     ensures { result ≡ asked_under 200 (Some (id, bytes.now)) }
@@ -203,10 +203,10 @@ fn asked(body: &[u8]) -> Asked<'_>
     }
 }
 
-/// What a body asks, which is a packet without its length field.
+/// Decodes a body, which is a packet without its length field. It allocates nothing.
 pub fn read_request(body: &[u8]) -> Asked<'_>
     ensures found { Asks body.now result }
-    // It asks nothing else.
+    // The result is unique.
     ensures only { (other : Asked) → Asks body.now other → result ≡ other }
 {
     asked(body)

@@ -1,5 +1,4 @@
-//! Laws of requests. No call needs them at run time; a proof takes them from a call, which does
-//! nothing.
+//! Laws of requests, stated as contracts of empty functions.
 
 ghost use Rattle.std.specs.Prelude.{◌≡◌, ℕ, ◌<◌, ◌^◌, List};
 ghost use Rattle.sf_field.specs.Fields.{AreBytes};
@@ -8,14 +7,14 @@ ghost use Rattle.sf_request.specs.declared.request.Asked.TheVariants.{Init, Requ
 ghost use Rattle.sf_request.specs.declared.request.WireRequest.{WireRequest};
 ghost use Rattle.sf_request.specs.Requests.{Asks, RequestFits, request_body, init_body};
 
-/// A body asks exactly one thing.
+/// Every body encodes exactly one thing.
 pub fn one_question()
     ensures exists { (body : List ℕ) → AreBytes body → (asked : Asked) × Asks body asked }
     ensures unique { (body : List ℕ) (asked other : Asked) → AreBytes body → Asks body asked
         → Asks body other → asked ≡ other }
 {}
 
-/// The body of a request that is sent asks that request, and the body of INIT for the version 3.
+/// A request that a client sends decodes to itself, and its INIT decodes to version 3.
 pub fn sent_requests()
     ensures request { (id : ℕ) (r : WireRequest) → id < 2 ^ 32 → RequestFits r
         → Asks (request_body id r) (Request id r) }

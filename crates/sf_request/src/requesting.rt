@@ -1,4 +1,4 @@
-//! Writing requests. Room for the whole packet is reserved first, so that nothing after it can
+//! Encoding of requests. Capacity for the whole packet is reserved first, so no later step can
 //! fail.
 
 ghost use Rattle.std.specs.Prelude.{◌≡◌, ◌+◌, ◌<◌, ◌≤◌, ◌^◌, ◌++◌, length, OnOk, OnErr, IsOk};
@@ -18,7 +18,7 @@ use bytes::BytesMut;
 use sf_field::{Attrs, attrs_len, put_attrs, put_string, put_u32, put_u64};
 use std::alloc::AllocError;
 
-/// How many bytes the request's fields take.
+/// The length of the encoded fields, in bytes.
 fn fields_len(request: &WireRequest) -> usize
     requires { length (fields_text request.now) < 2 ^ 32 }
     ensures { result ≡ length (fields_text request.now) }
@@ -49,7 +49,7 @@ fn fields_len(request: &WireRequest) -> usize
     }
 }
 
-/// A path or a handle, and attributes.
+/// Appends a path or a handle, and attributes.
 fn put_with_attrs(out: &mut BytesMut, text: &ByteStr, attrs: &Attrs)
     requires room { length (string text.now ++ attrs_text attrs.now) ≤ out.old.spare }
     requires short { length text.now < 2 ^ 32 }
@@ -61,7 +61,7 @@ fn put_with_attrs(out: &mut BytesMut, text: &ByteStr, attrs: &Attrs)
     put_attrs(out, attrs);
 }
 
-/// Two paths.
+/// Appends two paths.
 fn put_both(out: &mut BytesMut, old: &ByteStr, new: &ByteStr)
     requires room { length (string old.now ++ string new.now) ≤ out.old.spare }
     requires short { (length old.now < 2 ^ 32) × (length new.now < 2 ^ 32) }
@@ -72,7 +72,7 @@ fn put_both(out: &mut BytesMut, old: &ByteStr, new: &ByteStr)
     put_string(out, new.as_slice());
 }
 
-/// A handle, and a place in its file.
+/// Appends a handle and an offset in its file.
 fn put_place(out: &mut BytesMut, handle: &ByteStr, offset: u64)
     requires room { length (string handle.now ++ be64 offset) ≤ out.old.spare }
     requires short { length handle.now < 2 ^ 32 }
@@ -163,7 +163,8 @@ fn kind(request: &WireRequest) -> u8
     }
 }
 
-/// Appends the request's packet whole, or nothing. A buffer with the packet's room takes no memory.
+/// Appends the request's packet, or nothing on error. It allocates nothing if the buffer has
+/// capacity for the packet.
 pub fn write_request(id: u32, request: &WireRequest, out: &mut BytesMut) -> Result<(), AllocError>
     requires { length (request_body id request.now) < 2 ^ 32 }
     ensures ok { OnOk result (out.new.items
@@ -182,7 +183,7 @@ pub fn write_request(id: u32, request: &WireRequest, out: &mut BytesMut) -> Resu
     Ok(())
 }
 
-/// The packet CLOSE by the 8 bytes of a handle's number. It takes no memory.
+/// The packet `SSH_FXP_CLOSE` for a handle of this server, which is 8 bytes. It allocates nothing.
 pub fn close_packet(id: u32, handle: u64) -> [u8; 21]
     ensures { result ≡ packet (request_body id (Close (be64 handle))) }
 {
@@ -194,7 +195,7 @@ pub fn close_packet(id: u32, handle: u64) -> [u8; 21]
     ]
 }
 
-/// The packet INIT with the version 3.
+/// The packet `SSH_FXP_INIT` with version 3.
 pub fn init_packet() -> [u8; 9]
     ensures { result ≡ packet init_body }
 {

@@ -14,6 +14,3 @@ mod rule;
 
 pub use keeper::{Keeper, NewRoll, Ticket};
 pub use rule::{EntryChange, RollEntry, RollName};
-
-#[cfg(test)]
-mod tests;

@@ -1,4 +1,4 @@
--- What begins with what, and what stays prompt as a session goes further.
+-- Prefixes, and the promptness of a session as it progresses.
 use Rattle.std.proofs.Common.{◌≡◌, ◌<◌, ◌≤◌, ◌⊎◌, ℕ, ◌+◌, length, length-append, List, [], ◌∷◌, ◌++◌, refl, ap, sym, ◌∙◌, subst, inl, inr, append-nil, append_assoc, arith}
 use Rattle.std.specs.List.{AllByRecursion, flat_map}
 use Rattle.std.proofs.lemmas.List.Concat.{flat_map-append}
@@ -26,7 +26,7 @@ pub one_packet : (a : Response) → transcript (a ∷ []) ≡ packet_for a
 unfolding transcript
 one_packet a = append-nil (packet_for a)
 
--- a front stays one
+-- a prefix of a list is a prefix of a longer list
 pub front_more : {A : Type 0} (a b c b' : List A) → IsFront a b → b' ≡ b ++ c → IsFront a b'
 front_more a b c b' f e = (f.0 ++ c, e ∙ ap (λ (z : List _). z ++ c) f.1 ∙ append_assoc a f.0 c)
 
@@ -43,7 +43,7 @@ pub begun_more : (written : List ℕ) (answers answers' : List Response) → IsF
 begun_more written answers answers' begun more =
     front_more written (transcript answers) (transcript more.0) (transcript answers') begun (ap transcript more.1 ∙ transcript_append answers more.0)
 
--- a session goes on: more was fed, read, answered or written
+-- a session progresses: more was fed, read, answered or written
 pub record IsOnward (p p' : Progress) : Type 0 where
   pub stream : IsFront p.state.stream p'.state.stream
   pub bodies : IsFront p.state.bodies p'.state.bodies
@@ -68,9 +68,9 @@ prompt_further p p' log further prompt before later n same =
       wrote = h.wrote;
     }
 
--- ---- one call of the line more
+-- ---- one more call of the transport
 
--- where a list with one more at its end is cut before an item: within the list, or at its end
+-- a list with one more element at its end, split before an element: within the list, or at its end
 nothing_after : {A : Type 0} (before : List A) (x : A) (later : List A) → [] ≡ before ++ x ∷ later → ⊥
 nothing_after [] x later e = cc
 nothing_after (b ∷ before) x later e = cc
@@ -90,7 +90,7 @@ cut_at [] x later (z ∷ xs) y e = inr (xs, cc)
 cut_at (b ∷ before) x later [] y e = absurd (nothing_after before x later cc)
 cut_at (b ∷ before) x later (z ∷ xs) y e = one_more b before x z xs y (let same : z ≡ b = cc in same) (cut_at before x later xs y cc)
 
--- a call more: before it all was prompt, if it is a read
+-- one more call: if it is a read, all was prompt before it
 abbrev pub MayFollow : Progress → List LineCall → LineCall → Type 0
 MayFollow p log (Read n) = IsPromptAt p log
 MayFollow p log (Write n) = Unit {0}
@@ -109,7 +109,7 @@ prompt_writes p log (Read n ∷ writes) prompt w = absurd w.0
 prompt_writes p log (Write n ∷ writes) prompt w =
     subst (λ (l : List LineCall). IsPrompt p l) (append_assoc log (Write n ∷ []) writes) (prompt_writes p (log ++ Write n ∷ []) writes (prompt_push p log (Write n) prompt tt) w.1)
 
--- ---- how many bytes they moved
+-- ---- how many bytes they transferred
 
 pub given_more : (log calls : List LineCall) → given (log ++ calls) ≡ given log + given calls
 given_more log calls = sum_by-append bytes_given log calls
@@ -126,7 +126,7 @@ writes_give_none (Write n ∷ writes) w =
     let none : given (Write n ∷ []) ≡ 0 = omega arith in
     omega (arith, rec, cut, none)
 
--- ---- and in which pieces
+-- ---- in which chunks
 
 pub written_pieces : (writes : List LineCall) → AllByRecursion IsPieceWritten writes → AllByRecursion IsPiece writes
 written_pieces [] w = tt
@@ -137,26 +137,26 @@ pub all_more : {A : Type 0} (P : A → Type 0) (xs ys : List A) → AllByRecursi
 all_more P [] ys p q = q
 all_more P (x ∷ xs) ys p q = (p.0, all_more P xs ys p.1 q)
 
--- ---- and in which batches
+-- ---- in which batches
 
 none_last : {A : Type 0} (before : List A) (last : A) → [] ≡ before ++ last ∷ [] → ⊥
 none_last before last e = nothing_after before last [] e
 
--- what is before the last of a list with one more at its end
+-- what precedes the last element of a list with one more at its end
 pub all_but_last : {A : Type 0} (before xs : List A) (last x : A) → xs ++ x ∷ [] ≡ before ++ last ∷ [] → before ≡ xs
 all_but_last before xs last x e = elim (cut_at before last [] xs x e) [ inl h ↦ h.1 | inr h ↦ absurd (omega (arith, ap (λ (l : List _). length l) e, ap (λ (l : List _). length l) h.1, length-append xs (x ∷ []), length-append before (last ∷ []), length-append before (last ∷ h.0))) ]
 
 pub batch_none : {held : ℕ} → IsBatch held []
 batch_none before last e = absurd (none_last before last e)
 
--- one reply, where nothing waits
+-- one reply, if nothing is unsent
 pub batch_one : {held : ℕ} (a : Response) → HasShortPacket a → IsBatch held (a ∷ [])
 batch_one a short before last e =
     let none : before ≡ [] = all_but_last before [] last a e in
     let same : last ≡ a = let cut : a ∷ [] ≡ last ∷ [] = e ∙ ap (λ (l : List Response). l ++ last ∷ []) none in cc in
     (omega (arith, ap (λ (l : List Response). length (transcript l)) none ∙ ap (λ (b : List ℕ). length b) none_written), subst HasShortPacket (sym same) short)
 
--- what is before the last of a list that is not empty
+-- what precedes the last element of a nonempty list
 last_cut : {A : Type 0} (x : A) (xs : List A) → (before : List A) × (last : A) × (x ∷ xs ≡ before ++ last ∷ [])
 last_cut x [] = ([], x, refl)
 last_cut x (y ∷ xs) = let cut = last_cut y xs in (x ∷ cut.0, cut.1, ap (λ (l : List _). x ∷ l) cut.2)
@@ -179,7 +179,7 @@ some_packet (Locally id reply) = omega arith
 some_packet (ByCall id number request reply) = omega arith
 some_packet (Refused id request fault) = omega arith
 
--- where none waits before the last, there is one
+-- if nothing is unsent before the last reply, there is one reply
 pub batch_alone : (answers : List Response) → IsBatch 0 answers → length answers ≤ 1
 batch_alone [] batch = omega arith
 batch_alone (a ∷ []) batch = omega arith
@@ -210,7 +210,7 @@ written_whole held (b ∷ bs) each =
     let sum : length (transcript (b.answers ++ later)) ≡ length (transcript b.answers ++ transcript later) = ap (λ (x : List ℕ). length x) (transcript_append b.answers later) in
     omega (arith, taken_more b.calls (flat_map (λ (x : Batch). x.calls) bs), each.0.1, written_whole held bs each.1, sum, length-append (transcript b.answers) (transcript later))
 
--- where all was written, a next batch begins
+-- if all was written, a new batch begins
 pub batches_more : {held : ℕ} (answers made : List Response) (log : List LineCall) → AreBatched held answers log → taken log ≡ length (transcript answers) → IsBatch held made → AreBatched held (answers ++ made) log
 batches_more {held = held} answers made log b whole few =
     let calls = flat_map (λ (x : Batch). x.calls) b.written in

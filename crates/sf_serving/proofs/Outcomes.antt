@@ -1,4 +1,4 @@
--- What holds of an answer or of a fault, from what holds of others.
+-- Properties of a result or an error, from other properties.
 use Rattle.std.proofs.Common.{Result, Ok, Err}
 use Rattle.std.specs.Prelude.{◌≡◌, OnOk, OnErr, IfOk, IfErr}
 use Rattle.std.specs.Result.{is_err, IsErrAnd}
@@ -16,22 +16,22 @@ pub on_err_more : {T E : Type 0} (r : Result T E) (P Q : Type 0) → OnErr r P �
 on_err_more (Ok x) P Q p f = tt
 on_err_more (Err e) P Q p f = f p
 
--- what holds of the fault that is answered
+-- a property of the error that is returned
 pub if_err_at : {T E : Type 0} (r : Result T E) (fault : E) (P : E → Type 0) → IsErrAnd r (λ f. f ≡ fault) → P fault → IfErr r P
 if_err_at (Ok x) fault P is p = tt
 if_err_at {T} {E} (Err e) fault P is p = subst (λ (f : E). P f) (sym is) p
 
--- what holds of any fault
+-- a property of every error
 pub if_err_any : {T E : Type 0} (r : Result T E) (P : E → Type 0) → ((f : E) → P f) → IfErr r P
 if_err_any (Ok x) P p = tt
 if_err_any (Err e) P p = p e
 
--- what an event came to that was not refused
+-- the result of an event that succeeded
 pub some_ok : {T E : Type 0} (r : Result T E) → is_err r ≡ false → (x : T) × (r ≡ Ok x)
 some_ok (Ok x) e = (x, refl)
 some_ok (Err f) e = absurd (cc)
 
--- what holds of an answer, from what else holds of it
+-- a property of a result implies another
 pub if_ok_more : {T E : Type 0} (r : Result T E) (P Q : T → Type 0) → IfOk r P → ((x : T) → P x → Q x) → IfOk r Q
 if_ok_more (Ok x) P Q p f = f x p
 if_ok_more (Err e) P Q p f = tt
@@ -40,7 +40,7 @@ pub if_err_more : {T E : Type 0} (r : Result T E) (P Q : E → Type 0) → IfErr
 if_err_more (Ok x) P Q p f = tt
 if_err_more (Err e) P Q p f = f e p
 
--- what holds of the fault, from two things that hold of it
+-- two properties of the error imply a third
 pub if_err_both : {T E : Type 0} (r : Result T E) (P Q R : E → Type 0) → IfErr r P → IfErr r Q → ((e : E) → P e → Q e → R e) → IfErr r R
 if_err_both (Ok x) P Q R p q f = tt
 if_err_both (Err e) P Q R p q f = f e p q

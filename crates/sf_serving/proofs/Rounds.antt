@@ -1,4 +1,4 @@
--- From one step to a round, and from a round to the whole.
+-- From one step to a round, and from a round to the whole loop.
 use Rattle.std.proofs.Common.{◌≡◌, ◌≢◌, ◌<◌, ◌≤◌, ◌⊎◌, ℕ, ◌+◌, ◌-◌, List, [], ◌∷◌, ◌++◌, Option, Result, Ok, Err, length, take, drop, refl, ap, sym, ◌∙◌, subst, inl, inr, append-nil, append_assoc, length-append, length-take, length-drop, take-take, take-append-drop, arith}
 use Rattle.std.specs.Io.KnownBytes.{Appends, Consumes, Keeps, IsAtEnd}
 use Rattle.std.proofs.KnownBytes.{Appends-nil, Appends-trans, Appends-kept}
@@ -28,7 +28,7 @@ use Rattle.sf_serving.proofs.Sessions.{IsReadBy, newly, further_serves, fed_serv
 pub writes_none : (l : LineView) → WritesByPieces l l []
 writes_none l = record { incoming = refl; appended = Appends-nil l.outgoing; writes = []; logged = logs_none l.calls; pieces = tt; took = refl }
 
--- a piece more
+-- one more chunk
 pub writes_some : {a b b' : LineView} (n : ℕ) {sent : List ℕ} (rest : List ℕ) → WritesByPieces a b sent → b'.incoming ≡ b.incoming → Appends b.outgoing b'.outgoing (take n rest) → Logs b.calls b'.calls (Write n ∷ []) → n ≤ 65536 → n ≤ length rest
     → WritesByPieces a b' (sent ++ take n rest)
 writes_some {a = a} {b = b} {b' = b'} n {sent = sent} rest w same appends logs short within =
@@ -53,17 +53,17 @@ writes_still a b b' sent w same kept logs = record {
   took = w.took;
 }
 
--- what is left behind a piece
+-- what remains after a chunk
 pub whole_more : (bytes sent rest : List ℕ) (n : ℕ) → bytes ≡ sent ++ rest → bytes ≡ (sent ++ take n rest) ++ take (length rest - n) (drop n rest)
 whole_more bytes sent rest n whole =
     let left : take (length rest - n) (drop n rest) ≡ drop n rest = take_all _ (drop n rest) (omega (arith, length-drop n rest)) in
     whole ∙ ap (λ (b : List ℕ). sent ++ b) (sym (take-append-drop n rest)) ∙ sym (append_assoc sent (take n rest) (drop n rest)) ∙ ap (λ (b : List ℕ). (sent ++ take n rest) ++ b) (sym left)
 
--- a piece of the front
+-- a prefix of a chunk
 pub front_piece : (F : List ℕ → Type 0) (n k : ℕ) (rest : List ℕ) → n ≤ k → F (take n (take k rest)) → F (take n rest)
 front_piece F n k rest short h = subst F (take-take n k rest short) h
 
--- the front of a piece that a read has filled is what was read
+-- the prefix of a chunk that a read has filled is what was read
 pub front_read : (F : List ℕ → Type 0) (n len : ℕ) (buffer old : List ℕ) → length buffer ≡ len → F (take n (take len (buffer ++ drop (length buffer) old))) → F (take n buffer)
 front_read F n len buffer old count h = subst (λ (b : List ℕ). F (take n b)) (take_at buffer (drop (length buffer) old) len count) h
 
@@ -76,7 +76,7 @@ writes_all a b bytes sent rest whole none w =
     let same : sent ≡ bytes = sym (whole ∙ ap (λ (xs : List ℕ). sent ++ xs) (empty_of rest none) ∙ append-nil sent) in
     subst (λ (xs : List ℕ). WritesByPieces a b xs) same w
 
--- ---- faults
+-- ---- errors
 
 pub rose_since : (start old new : ℕ) → start ≤ old → old ≤ new → Rose old new → Rose start new
 rose_since start old new before more (inl rose) = inl (omega arith)
@@ -92,7 +92,7 @@ host_stop serve.Sessions work failed failed' s h = absurd h
 host_stop serve.Stranger work failed failed' s h = h
 host_stop f work failed failed' s h = tt
 
--- a fault since a later time is one since an earlier time
+-- an error since a later time is one since an earlier time
 pub stop_since : (f : ServeFault) (start old new : ℕ) (s : Type 0) → start ≤ old → old ≤ new → IsStop f old new s → IsStop f start new s
 stop_since serve.Line start old new s before more h = rose_since start old new before more h
 stop_since f start old new s before more h = h
@@ -106,7 +106,7 @@ stop_until f start old new s s' more to h = h
 pub stranger_stop : (f : ServeFault) (failed failed' : ℕ) (s : Type 0) → f ≡ serve.Stranger → s → IsStop f failed failed' s
 stranger_stop f failed failed' s is h = subst (λ (x : ServeFault). IsStop x failed failed' s) (sym is) h
 
--- ---- what is spent
+-- ---- exhausted counts
 
 spent_for : (f : ServeFault) (w w' : ℕ) (p p' : Progress) → w' ≡ w → p'.state.stream ≡ p.state.stream → IsSpentFor f w p → IsSpentFor f w' p'
 spent_for serve.NumbersSpent w w' p p' same stream (inl h) = inl (subst (λ (b : List ℕ). most_counted ≤ length b) (sym stream) h)
@@ -117,13 +117,13 @@ host_spent : (f : ServeFault) (w : ℕ) (s : Type 0) (p : Progress) → IsHostFa
 host_spent serve.NumbersSpent w s p h = inr h
 host_spent f w s p h = tt
 
--- ---- the session goes on
+-- ---- processing packets
 
--- what its host makes of what it was told, having gone on
+-- what the backend makes of the session's state by a step
 abbrev pub Goes : (held : ℕ) → (T T' : SessionState → Type 0) → Result SessionStep ServeFault → Type 0
 Goes held T T' r = (t : SessionState) → T t → IsOpen t → IsRead t → HasSent t → (t' : SessionState) × T' t' × IsFurther held t t' × IsSessionStep r t t'
 
--- so many answers were there before
+-- there were `k` answers before
 abbrev pub GoneTo : ℕ → Result SessionStep ServeFault → SessionState → Type 0
 GoneTo k (Ok step.Waits) t = Waits t
 GoneTo k (Ok step.Answered) t = IsOpen t × (k < length t.answers)
@@ -136,7 +136,7 @@ pub record HasGone (n k : ℕ) (r : Result SessionStep ServeFault) (p : Progress
   pub long : n ≤ length p.state.stream
   pub to : GoneTo k r p.state
 
--- it goes on, and has so many answers
+-- the session continues, and has at least `k` answers
 abbrev pub GoesOnBy : ℕ → ℕ → Progress → Type 0
 GoesOnBy n k p = GoesOn n p × (k ≤ length p.state.answers)
 
@@ -166,7 +166,7 @@ gone T T' from now n k r goes serves =
 pub gone_stops : {held : ℕ} (T : SessionState → Type 0) {from now : LineView} {n k : ℕ} (w : ℕ) (s : Type 0) {f : ServeFault} → IsHostFault f w s → Serves held T from now (HasGone n k (Err f)) → Serves held T from now (Stops f w)
 gone_stops T w s {f = f} why serves = (serves.0, serves.1, serves.2, ((λ no. serves.3.in_step), host_spent f w s serves.0 why))
 
--- what waited was sent
+-- the unsent output was sent
 abbrev pub SentGone : ℕ → ℕ → Option (List ℕ) → SessionStep → Progress → Type 0
 SentGone n k incoming step.Waits p = Rests n p
 SentGone n k incoming step.Answered p = GoesOnBy n (k + 1) p
@@ -189,7 +189,7 @@ sent_gone n k incoming (step.Ended cause) p h = record {
   at_end = λ e. absurd (h.to.1 e);
 }
 
--- what is so once all that waited was sent
+-- what holds once all output was sent
 pub sends_so : {held : ℕ} (T T' : SessionState → Type 0) {from old new : LineView} {P Q : Progress → Type 0} → SendsAll held T T' old new → ((p : Progress) → P p → IsInStep p × Q (all_sent p)) → Serves held T from old P → Serves held T' from new Q
 sends_so T T' {from = from} sends so serves =
     let p = serves.0 in
@@ -197,14 +197,14 @@ sends_so T T' {from = from} sends so serves =
     let s = sends from p serves.1 serves.2 h.0 in
     (all_sent p, s.0, s.1, h.1)
 
--- and where the line failed
+-- and if the transport failed
 pub fails_so : {held : ℕ} {T T' : SessionState → Type 0} {from old new : LineView} {P Q : Progress → Type 0} → ((t : SessionState) → T t → T' t) → SendsSome held T old new → ((p : Progress) → P p → IsInStep p) → ((p : Progress) → Q p) → Serves held T from old P → Serves held T' from new Q
 fails_so {from = from} to sends step so serves =
     let p = serves.0 in
     let s = sends from p serves.1 serves.2 (step p serves.3) in
     (progress p.state p.unfed s.0, to p.state serves.1, s.1, so (progress p.state p.unfed s.0))
 
--- it went on so, and all that waited was sent
+-- a step, after which all output was sent
 pub step_sent : {held : ℕ} {T M : SessionState → Type 0} (T' : SessionState → Type 0) {from old new : LineView} {n k : ℕ} (incoming : Option (List ℕ)) {r r' : SessionStep} → Goes held T M (Ok r) → SendsAll held M T' old new → r ≡ r' → Serves held T from old (GoesOnBy n k) → Serves held T' from new (SentGone n k incoming r')
 step_sent {held = held} {T = T} {M = M} T' {from = from} {old = old} {new = new} {n = n} {k = k} incoming {r = r} goes sends same serves =
     subst (λ (w : SessionStep). Serves held T' from new (SentGone n k incoming w)) same
@@ -213,7 +213,7 @@ step_sent {held = held} {T = T} {M = M} T' {from = from} {old = old} {new = new}
 pub stops_line : (p : Progress) → Stops serve.Line 0 p
 stops_line p = ((λ no. absurd (no refl)), tt)
 
--- so many answers that as many bytes were read
+-- if there are this many answers, at least as many bytes were read
 pub goes_spent : {held : ℕ} (T : SessionState → Type 0) (from now : LineView) (n k w : ℕ) → most_counted ≤ k → Serves held T from now (GoesOnBy n k) → Serves held T from now (Stops serve.NumbersSpent w)
 goes_spent T from now n k w most serves =
     let p = serves.0 in
@@ -222,7 +222,7 @@ goes_spent T from now n k w most serves =
 
 -- ---- a round
 
--- bytes were read, and are not fed yet
+-- bytes were read and are not fed yet
 pub record HasRead (n : ℕ) (bytes : List ℕ) (p : Progress) : Type 0 where
   pub is_open : IsOpen p.state
   pub unfed : p.unfed ≡ bytes
@@ -258,13 +258,13 @@ has_fed {held = held} T T' from now n bytes some feeds serves =
       },
     )
 
--- some bytes of a piece were read and fed
+-- some bytes of a chunk were read and fed
 pub was_fed : {held : ℕ} {T : SessionState → Type 0} (T' : SessionState → Type 0) {from now now' : LineView} {n k : ℕ} (buffer old : List ℕ) {len : ℕ} → Serves held T from now (Rests n) → IsReadBy now now' k (take k buffer) → length buffer ≡ len → 0 < k
     → ((t : SessionState) → T t → IsOpen t → T' (fed t (take k (take len (buffer ++ drop (length buffer) old))))) → Serves held T' from now' (GoesOn (n + 1))
 was_fed {T = T} T' {from = from} {now = now} {now' = now'} {n = n} {k = k} buffer old {len = len} serves by filled some feeds =
     has_fed T T' from now' n (take k buffer) (omega (arith, by.count, some)) (λ t tells is_open. front_read (λ (b : List ℕ). T' (fed t b)) k len buffer old filled (feeds t tells is_open)) (has_read T from now now' n k (take k buffer) serves by)
 
--- what a read of a piece gave
+-- what a read of a chunk returned
 pub read_by : (now now' : LineView) (k : ℕ) (buffer : List ℕ) → Consumes now.incoming now'.incoming (take k buffer) → k ≤ length buffer → length buffer ≡ 65536 → now'.outgoing ≡ now.outgoing → Logs now.calls now'.calls (Read k ∷ []) → IsReadBy now now' k (take k buffer)
 read_by now now' k buffer consumes within filled same logs = record { consumes = consumes; count = omega (arith, length-take k buffer, within); short = omega (arith, within, filled); same = same; logs = logs }
 
@@ -297,9 +297,9 @@ stopped_line p = ((λ no. absurd (no refl)), tt)
 pub stopped_sent : (f : ServeFault) (w w' : ℕ) (p : Progress) → f ≢ serve.Line → w' ≡ w → Stops f w p → IsInStep p × HasStopped f w' (all_sent p)
 stopped_sent f w w' p other same h = (h.0 other, ((λ no. (refl, refl)), spent_for f w w' p (all_sent p) same refl h.1))
 
--- ---- it ends
+-- ---- the session ends
 
--- that it is ended is of no matter to what was sent
+-- ending a session doesn't change what was sent
 written_ended : (p : Progress) → HasWritten p → HasWritten (progress (ended p.state) p.unfed p.written)
 written_ended p h =
     let same = ended_same p.state in
@@ -319,7 +319,7 @@ strange_for f failed failed' s p why h = inr (h (λ e. cc))
 abbrev over : Progress → Progress
 over p = progress (ended p.state) p.unfed p.written
 
--- what is so of a session that ends, from what was so before
+-- a property of a session that ends, from one before
 pub ends_so : {held : ℕ} (T T' : SessionState → Type 0) (from now : LineView) (P Q : Progress → Type 0) → ((t : SessionState) → T t → T' (ended t)) → ((p : Progress) → P p → Q (over p)) → Serves held T from now P → Serves held T' from now Q
 ends_so T T' from now P Q ends so serves =
     let p = serves.0 in (over p, ends p.state serves.1, ended_serves from now p.state p.unfed p.written serves.2, so p serves.3)
@@ -328,7 +328,7 @@ pub stopped_ended : {f : ServeFault} {failed failed' w w' : ℕ} (s : Type 0) (p
 stopped_ended {f = f} {failed = failed} {failed' = failed'} {w = w} {w' = w'} s p same why h =
     record { written = written_for f failed failed' s (over p) why (λ no. written_ended p (h.0 no)); spent = spent_for f w w' p (over p) same (ended_same p.state).stream h.1; closed = ended_none p.state }
 
--- the core doesn't know the session
+-- the shared state doesn't contain the session
 pub stopped_strange : (g : ServeFault) (failed failed' w : ℕ) (p : Progress) → g ≡ serve.Stranger → Rose failed failed' ⊎ HasWritten (over p) → IsStopped g failed failed' w (over p)
 stopped_strange g failed failed' w p is written = subst (λ (x : ServeFault). IsStopped x failed failed' w (over p)) (sym is) (record { written = written; spent = tt; closed = ended_none p.state })
 
@@ -341,7 +341,7 @@ served_over incoming cause p h = let w = written_ended p (h.sent, h.in_step) in 
 pub written_over : (incoming : Option (List ℕ)) (cause : Cause) (p : Progress) → EndsByCause incoming cause p → HasWritten (over p)
 written_over incoming cause p h = written_ended p (h.sent, h.in_step)
 
--- ---- it begins
+-- ---- the session begins
 
 waits_new : Waits new_state
 waits_new = let few : 0 < 4 = omega arith in (record { rests = refl; closed = refl }, inl few)

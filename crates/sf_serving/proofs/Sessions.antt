@@ -1,4 +1,4 @@
--- A session that is served over a line: it reads, goes on, is written to, and ends.
+-- A session over a transport: it reads, processes packets, writes and ends.
 use Rattle.std.proofs.Common.{◌≡◌, ◌≢◌, ◌≤◌, ℕ, ◌+◌, List, [], ◌∷◌, ◌++◌, Bool, false, Option, map, length, refl, ap, sym, ◌∙◌, subst, inl, inr, append-nil, append_assoc, length-append, arith}
 use Rattle.std.specs.List.{AllByRecursion, flat_map}
 use Rattle.std.specs.Io.KnownBytes.{Appends, Consumes, Keeps}
@@ -23,7 +23,7 @@ use Rattle.sf_serving.specs.Serving.{LineView, Progress, progress, IsPromptAt, A
 use Rattle.sf_serving.specs.Rounds.{WritesByPieces}
 use Rattle.sf_serving.proofs.Fronts.{none_written, front_all, front_same, begun_more, prompt_further, nothing_prompt, prompt_push, prompt_writes, given_more, taken_more, writes_give_none, written_pieces, all_more, batches_none, batches_calls, batches_more}
 
--- ---- a session at rest
+-- ---- an idle session
 
 -- nothing is pending
 settled : (bodies : List (List ℕ)) (answers : List Response) (phase : Phase) → pending phase ≡ [] → AreAsked false bodies (asks_of answers phase) → AreAsked false bodies (map ask_behind answers)
@@ -33,7 +33,7 @@ settled bodies answers phase none asked =
 pub rest_asked : (t : SessionState) → t.phase ≡ Resting → IsRead t → AreAsked false t.bodies (map ask_behind t.answers)
 rest_asked t at read = settled t.bodies t.answers t.phase (ap pending at) read.asked
 
--- its stream is the packets of its bodies and what is unread
+-- its stream is the packets of its bodies and the unread bytes
 pub rest_left : (t : SessionState) → t.phase ≡ Resting → (read : IsRead t) → t.unread ≡ read.rest
 rest_left t at read = subst (λ (f : Phase). IsRest (has_begun t.bodies) f t.unread read.rest) at read.left
 
@@ -67,7 +67,7 @@ prompt_now from now n p S rests =
       wrote = ap (λ (b : List ℕ). length b) (sym all) ∙ sym S.took;
     }
 
--- ---- what was read of it, as it goes on
+-- ---- what was read, as the session progresses
 
 pub read_new : IsRead new_state
 unfolding AreAsked
@@ -111,7 +111,7 @@ closed_same t f = record { stream = refl; bodies = refl; answers = refl; sent = 
 pub ended_same : (t : SessionState) → IsSame t (ended t)
 ended_same t = closed_same t t.phase
 
--- a session that has ended takes no more bytes
+-- a session that has ended accepts no more input
 takes_none : (t : SessionState) (f : Phase) → t.phase ≡ f → TakesNone (closed_now t f)
 takes_none t Resting at = inr refl
 takes_none t (Gone cause) at = inr (ap (λ (f : Phase). is_here (record t { phase = f })) at)
@@ -120,7 +120,7 @@ takes_none t f at = inl refl
 pub ended_none : (t : SessionState) → TakesNone (ended t)
 ended_none t = takes_none t t.phase refl
 
--- ---- how it ends
+-- ---- how a session ends
 
 -- a session that a packet or a wrong length ended
 ends_by : (begun : Bool) (phase : Phase) (unread rest : List ℕ) (cause : Cause) → phase ≡ Gone cause → cause ≢ Closed → IsRest begun phase unread rest → IsEnd begun rest cause
@@ -138,7 +138,7 @@ whole_left t cause read at other = record {
   asked = settled t.bodies t.answers t.phase (ap pending at) read.asked;
 }
 
--- a session that was closed at rest
+-- a session that was closed while idle
 whole_closed : (t : SessionState) → IsRead t → t.phase ≡ Resting → IsCut t.unread cut.More → IsWhole (left_for t Closed) Closed
 whole_closed t read at no_more = record {
   left = refl;
@@ -152,14 +152,14 @@ whole_closed t read at no_more = record {
 pub closed_whole : (t : SessionState) → IsRead t → Waits t → IsWhole (ended t) Closed
 closed_whole t read waits = subst (λ (f : Phase). IsWhole (closed_now t f) Closed) (sym waits.0.rests) (whole_closed t read waits.0.rests waits.1)
 
--- one that has left is left as it is
+-- a session that has ended is unchanged
 pub gone_whole : (t : SessionState) (cause : Cause) → IsWhole t cause → IsWhole (ended t) cause
 gone_whole t cause whole = subst (λ (f : Phase). IsWhole (closed_now t f) cause) (sym whole.left) whole
 
 pub sent_whole : (t : SessionState) (cause : Cause) → IsWhole t cause → IsWhole (with_sent t) cause
 sent_whole t cause h = record { left = h.left; rest = h.rest; are_bodies = h.are_bodies; stream = h.stream; end = h.end; asked = h.asked }
 
--- ---- each body has bytes, so no more were answered than were fed
+-- ---- each body has bytes, so there are at most as many answers as bytes fed
 
 long_bodies : (bodies : List (List ℕ)) → length bodies ≤ length (flat_map packet bodies)
 long_bodies [] = omega arith
@@ -177,7 +177,7 @@ long_answers t at read =
     let whole : length t.stream ≡ length (flat_map packet t.bodies ++ read.rest) = ap (λ (b : List ℕ). length b) read.stream in
     omega (arith, each, count, whole, length-append (flat_map packet t.bodies) read.rest, long_bodies t.bodies)
 
--- ---- one thing more that happens to it
+-- ---- one more event
 
 -- a new session
 pub newly : {held : ℕ} (l : LineView) → ServedSoFar held l l (progress new_state [] [])
@@ -195,7 +195,7 @@ newly l = record {
   batches = batches_none;
 }
 
--- more was fed, read or answered, and nothing moved on the line
+-- more was fed, read or answered, and the transport is unchanged
 retold : {held : ℕ} {from now : LineView} {t t' : SessionState} {unfed unfed' written : List ℕ} → (S : ServedSoFar held from now (progress t unfed written)) → IsRead t' → t'.stream ++ unfed' ≡ t.stream ++ unfed → IsFront t.stream t'.stream → IsFront t.bodies t'.bodies
     → IsFront t.answers t'.answers → AreBatched held t'.answers S.log → ServedSoFar held from now (progress t' unfed' written)
 retold {from = from} {now = now} {t = t} {t' = t'} {unfed = unfed} {unfed' = unfed'} {written = written} S read same stream bodies answers batches = record {
@@ -232,7 +232,7 @@ ended_serves {held = held} from now t unfed written S =
     retold S (read_closed t t.phase refl S.bodies) (ap (λ (b : List ℕ). b ++ unfed) same.stream) (front_same t.stream (ended t).stream same.stream) (front_same t.bodies (ended t).bodies same.bodies) (front_same t.answers (ended t).answers same.answers)
     (subst (λ (a : List Response). AreBatched held a S.log) (sym same.answers) S.batches)
 
--- a line gave these bytes by one read
+-- one read returned these bytes
 pub record IsReadBy (now now' : LineView) (n : ℕ) (bytes : List ℕ) : Type 0 where
   pub consumes : Consumes now.incoming now'.incoming bytes
   pub count : length bytes ≡ n
@@ -264,7 +264,7 @@ read_serves {from = from} {now = now} {now' = now'} {k = k} {n = n} {p = p} {byt
       batches = batches_calls t.answers S.log (Read n ∷ []) S.batches;
     }
 
--- a line that moved no byte and told no call
+-- no byte was transferred and no call logged
 pub still_serves : {held : ℕ} (from now now' : LineView) (p : Progress) → ServedSoFar held from now p → Keeps now.incoming now'.incoming → now'.outgoing ≡ now.outgoing → Logs now.calls now'.calls [] → ServedSoFar held from now' p
 still_serves from now now' p S kept same logs = record {
   bodies = S.bodies;
@@ -280,7 +280,7 @@ still_serves from now now' p S kept same logs = record {
   batches = S.batches;
 }
 
--- the line took a front of what waits
+-- a prefix of the unsent output was written
 pub wrote_serves : {held : ℕ} {from now now' : LineView} {p : Progress} {output sent : List ℕ} (rest : List ℕ) → ServedSoFar held from now p → IsInStep p → transcript p.state.answers ≡ p.state.sent ++ output → output ≡ sent ++ rest → WritesByPieces now now' sent
     → ServedSoFar held from now' (progress p.state p.unfed (p.written ++ sent))
 wrote_serves {from = from} {now = now} {now' = now'} {p = p} {output = output} {sent = sent} rest S step waits whole w =
@@ -303,7 +303,7 @@ wrote_serves {from = from} {now = now} {now' = now'} {p = p} {output = output} {
       batches = batches_calls p.state.answers S.log w.writes S.batches;
     }
 
--- all that waited was written, and told as sent
+-- all unsent output was written and recorded as sent
 pub sent_all_serves : {held : ℕ} (from now now' : LineView) (p : Progress) (output : List ℕ) → ServedSoFar held from now p → IsInStep p → transcript p.state.answers ≡ p.state.sent ++ output → WritesByPieces now now' output
     → ServedSoFar held from now' (progress (with_sent p.state) p.unfed (transcript p.state.answers))
 sent_all_serves {held = held} from now now' p output S step waits w =

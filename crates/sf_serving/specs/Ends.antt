@@ -1,4 +1,4 @@
--- In what a session ends: all of its stream was answered.
+-- How a session ends: all of its input was answered.
 use Rattle.std.specs.Prelude.{◌≡◌, ◌⊎◌, ℕ, List, ◌++◌, Bool, false, map}
 use Rattle.std.specs.List.{flat_map, AllByRecursion}
 use Rattle.sf_field.specs.Fields.{packet}
@@ -10,13 +10,13 @@ use Rattle.sf_session.specs.Sessions.{EndsBy}
 use Rattle.sf_session.specs.Responses.{ask_behind, has_begun, AreAsked}
 use Rattle.sf_session.specs.SessionStates.{Gone, SessionState}
 
--- The end of what was read: less than a packet is left, or what is left begins with a wrong length
--- or an ending packet.
+-- The end of the input: an incomplete packet, or bytes that begin with a wrong length or with a
+-- packet that ends the session.
 abbrev pub IsEnd : Bool → List ℕ → Cause → Type 0
 IsEnd begun rest cause = ((cause ≡ Closed) × IsCut rest cut.More) ⊎ EndsBy begun rest cause
 
--- The session has left for this cause. Its stream is packets, each answered as it asks for, and a
--- rest that is the end.
+-- The session has ended for this cause. Its stream is packets, each answered as it requires, and
+-- the end.
 pub record IsWhole (t : SessionState) (cause : Cause) : Type 0 where
   pub left : t.phase ≡ Gone cause
   pub rest : List ℕ

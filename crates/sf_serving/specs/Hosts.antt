@@ -1,4 +1,4 @@
--- What a host does to what its session was told.
+-- How a backend changes a session's state.
 use Rattle.std.specs.Prelude.{◌≡◌, ◌≢◌, ◌<◌, ◌≤◌, ◌^◌, ◌-◌, ◌⊎◌, ℕ, List, [], ◌∷◌, ◌++◌, length, false, Option, Some, None, Result, Ok, Err}
 use Rattle.sf_wire.specs.declared.cutting.Cut.TheVariants as cut
 use Rattle.sf_wire.specs.Packets.{IsCut}
@@ -18,26 +18,26 @@ IsFront {A} front whole = (rest : List A) × (whole ≡ front ++ rest)
 abbrev pub most_counted : ℕ
 most_counted = 2 ^ 64 - 1
 
--- The session rests, and takes bytes.
+-- The session is idle and accepts input.
 pub record IsOpen (t : SessionState) : Type 0 where
   pub rests : t.phase ≡ Resting
   pub closed : t.closed ≡ false
 
--- all that it was answered was sent
+-- all replies were sent
 abbrev pub HasSent : SessionState → Type 0
 HasSent t = t.sent ≡ transcript t.answers
 
--- it waits for bytes: no whole packet is unread
+-- the session waits for input: there is no complete unread packet
 abbrev pub Waits : SessionState → Type 0
 Waits t = IsOpen t × IsCut t.unread cut.More
 
--- Replies that wait together. Where the last of them came at most so many bytes waited, and its
--- packet is no longer than the longest of a reply. So no more waits than both.
+-- Replies that are unsent together. Before the last of them at most `held` bytes were unsent, and
+-- its packet is at most as long as the longest reply. Their sum bounds the unsent output.
 abbrev pub IsBatch : (held : ℕ) → List Response → Type 0
 IsBatch held answers = (before : List Response) (last : Response) → answers ≡ before ++ last ∷ []
     → (length (transcript before) ≤ held) × HasShortPacket last
 
--- More bodies were read and answered, in a batch, and nothing was fed or sent.
+-- More bodies were processed and answered, in a batch; nothing was received or sent.
 pub record IsFurther (held : ℕ) (t t' : SessionState) : Type 0 where
   pub stream : t'.stream ≡ t.stream
   pub sent : t'.sent ≡ t.sent
@@ -46,24 +46,24 @@ pub record IsFurther (held : ℕ) (t t' : SessionState) : Type 0 where
   pub batch : IsBatch held answers.0
   pub read : IsRead t'
 
--- Having gone on, the session waits for bytes; it was answered more; or it has left, and all of its
--- stream was answered.
+-- After a step the session waits for input, has more answers, or has ended with all of its stream
+-- answered.
 abbrev pub IsSessionStep : Result SessionStep ServeFault → SessionState → SessionState → Type 0
 IsSessionStep (Ok step.Waits) t t' = Waits t'
 IsSessionStep (Ok step.Answered) t t' = IsOpen t' × (length t.answers < length t'.answers)
 IsSessionStep (Ok (step.Ended cause)) t t' = IsWhole t' cause × (cause ≢ Closed)
 IsSessionStep (Err f) t t' = Unit {0}
 
--- all that waited was sent
+-- all output was sent
 abbrev pub with_sent : SessionState → SessionState
 with_sent t = record t { sent = transcript t.answers }
 
--- the session takes no more bytes
+-- the session accepts no more input
 abbrev pub ended : SessionState → SessionState
 ended t = closed_now t t.phase
 
--- Why a host stops: memory was wanting; it did so much that no number is left to count it; or what
--- it stands on does not know the session.
+-- Why a backend stops: memory ran out, its work can no longer be counted, or the shared state
+-- doesn't contain the session.
 abbrev pub IsHostFault : ServeFault → (work : ℕ) → (strange : Type 0) → Type 0
 IsHostFault fault.Line work strange = ⊥
 IsHostFault fault.OutOfMemory work strange = Unit {0}
@@ -71,6 +71,7 @@ IsHostFault fault.Sessions work strange = ⊥
 IsHostFault fault.Stranger work strange = strange
 IsHostFault fault.NumbersSpent work strange = most_counted ≤ work
 
--- how a place is left where serving stops: ending it told no fault, or this one
+-- the shared state after serving stops with this error: ending the session returned no error, or
+-- this one
 abbrev pub IsLeftFor : (Option ServeFault → Type 0) → ServeFault → Type 0
 IsLeftFor Left f = Left None ⊎ Left (Some f)

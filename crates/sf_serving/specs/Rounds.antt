@@ -1,5 +1,5 @@
 -- No public clause cites this module.
--- What the parts of serving do.
+-- The parts of the serve loop.
 use Rattle.std.specs.Prelude.{◌≡◌, ◌≢◌, ◌≤◌, ℕ, List, [], ◌++◌, length, Option, Some, None}
 use Rattle.std.specs.List.{AllByRecursion}
 use Rattle.std.specs.Io.KnownBytes.{Appends, IsAtEnd}
@@ -19,7 +19,7 @@ abbrev pub IsPieceWritten : LineCall → Type 0
 IsPieceWritten (Read n) = ⊥
 IsPieceWritten (Write n) = n ≤ 65536
 
--- The line took these bytes, by writes of pieces alone.
+-- These bytes were written, by writes of bounded chunks only.
 pub record WritesByPieces (start now : LineView) (sent : List ℕ) : Type 0 where
   pub incoming : now.incoming ≡ start.incoming
   pub appended : Appends start.outgoing now.outgoing sent
@@ -28,12 +28,12 @@ pub record WritesByPieces (start now : LineView) (sent : List ℕ) : Type 0 wher
   pub pieces : AllByRecursion IsPieceWritten writes
   pub took : taken writes ≡ length sent
 
--- it took the front of the bytes
+-- a prefix of the bytes was written
 abbrev pub WritesFront : LineView → LineView → List ℕ → Type 0
 WritesFront start now bytes =
     (sent : List ℕ) × (rest : List ℕ) × (bytes ≡ sent ++ rest) × WritesByPieces start now sent
 
--- after what waited was written, and told as sent
+-- the progress after all unsent output was written and recorded as sent
 abbrev pub all_sent : Progress → Progress
 all_sent p = progress (with_sent p.state) p.unfed (with_sent p.state).sent
 
@@ -43,13 +43,13 @@ SendsAll held Tells Tells' old new =
     (from : LineView) (p : Progress) → Tells p.state → ServedSoFar held from old p → IsInStep p
     → Tells' (with_sent p.state) × ServedSoFar held from new (all_sent p)
 
--- after a beginning of it was written, and not told
+-- a prefix of it was written, and is not recorded as sent
 abbrev pub SendsSome : (held : ℕ) → (SessionState → Type 0) → LineView → LineView → Type 0
 SendsSome held Tells old new =
     (from : LineView) (p : Progress) → Tells p.state → ServedSoFar held from old p → IsInStep p
     → (written : List ℕ) × ServedSoFar held from new (progress p.state p.unfed written)
 
--- It ends by this cause, once it ends.
+-- Once it ends, it ends for this cause.
 pub record EndsByCause (incoming : Option (List ℕ)) (cause : Cause) (p : Progress) : Type 0 where
   pub fed : p.unfed ≡ []
   pub whole : IsWhole (ended p.state) cause
@@ -57,15 +57,15 @@ pub record EndsByCause (incoming : Option (List ℕ)) (cause : Cause) (p : Progr
   pub in_step : IsInStep p
   pub at_end : cause ≡ Closed → IsAtEnd incoming
 
--- after the packets that were unread
+-- after the unread packets
 abbrev pub IsRounded : ℕ → Option (List ℕ) → Option Cause → Progress → Type 0
 IsRounded n incoming None p = Rests n p
 IsRounded n incoming (Some cause) p = EndsByCause incoming cause p
 
--- serving stops: unless the line failed, all that was written was told as sent
+-- serving stops: unless the transport failed, all that was written is recorded as sent
 abbrev pub Stops : ServeFault → (work : ℕ) → Progress → Type 0
 Stops f work p = (f ≢ fault.Line → IsInStep p) × IsSpentFor f work p
 
--- and unless it failed, all that was answered was written
+-- and unless it failed, all replies were written
 abbrev pub HasStopped : ServeFault → (work : ℕ) → Progress → Type 0
 HasStopped f work p = (f ≢ fault.Line → HasWritten p) × IsSpentFor f work p

@@ -1,4 +1,4 @@
--- How far one session on a line was served, whatever serves it.
+-- The progress of one session over a transport, with any backend.
 use Rattle.std.specs.Prelude.{◌≡◌, ◌≤◌, ◌⊎◌, ℕ, List, [], ◌∷◌, ◌++◌, length, Option}
 use Rattle.std.specs.List.{AllByRecursion, flat_map}
 use Rattle.std.specs.Io.KnownBytes.{Appends, Consumes, IsAtEnd}
@@ -15,7 +15,7 @@ use Rattle.sf_session.specs.SessionStates.{SessionState, TakesNone, IsRead}
 use Rattle.sf_serving.specs.Ends.{IsWhole}
 use Rattle.sf_serving.specs.Hosts.{IsFront, IsOpen, Waits, HasSent, IsBatch, most_counted}
 
--- what a line has still to give, what it has taken, and its calls, where it tells them
+-- a transport's input not yet read, its output so far, and its calls, if exposed
 pub record LineView : Type 0 where
   pub incoming : Option (List ℕ)
   pub outgoing : Option (List ℕ)
@@ -25,7 +25,7 @@ abbrev pub line_view : Option (List ℕ) → Option (List ℕ) → Option (List 
 line_view incoming outgoing calls =
     record { incoming = incoming; outgoing = outgoing; calls = calls }
 
--- what a session was told, what was read and has not been fed, and what was written
+-- a session's state, the bytes read but not yet fed to it, and the bytes written
 pub record Progress : Type 0 where
   pub state : SessionState
   pub unfed : List ℕ
@@ -34,8 +34,8 @@ pub record Progress : Type 0 where
 abbrev pub progress : SessionState → List ℕ → List ℕ → Progress
 progress state unfed written = record { state = state; unfed = unfed; written = written }
 
--- By these calls whole packets were read, and less than one more; the packets' replies were
--- written, and no more.
+-- These calls read complete packets, and an incomplete one. The replies to the packets were
+-- written, and nothing else.
 pub record IsPromptAt (p : Progress) (calls : List LineCall) : Type 0 where
   pub read : List ℕ
   pub rest : List ℕ
@@ -50,27 +50,27 @@ pub record IsPromptAt (p : Progress) (calls : List LineCall) : Type 0 where
   pub were_written : IsFront (transcript answers) p.written
   pub wrote : length (transcript answers) ≡ taken calls
 
--- so it is before each read
+-- this holds before each read
 abbrev pub IsPrompt : Progress → List LineCall → Type 0
 IsPrompt p calls =
     (before later : List LineCall) (n : ℕ) → calls ≡ before ++ Read n ∷ later → IsPromptAt p before
 
--- no call moves more bytes
+-- no call transfers more bytes
 abbrev pub IsPiece : LineCall → Type 0
 IsPiece (Read n) = n ≤ 65536
 IsPiece (Write n) = n ≤ 65536
 
--- replies, and calls of a line
+-- replies, and calls of a transport
 pub record Batch : Type 0 where
   pub answers : List Response
   pub calls : List LineCall
 
--- by these calls the line took the bytes of a batch of replies, and no more
+-- these calls wrote exactly the replies of a batch
 abbrev pub IsWritten : (held : ℕ) → Batch → Type 0
 IsWritten held b = IsBatch held b.answers × (taken b.calls ≡ length (transcript b.answers))
 
--- The replies came in batches, one behind the other, and the line took all of a batch before the
--- next one. The last one may wait.
+-- The replies form consecutive batches. Each batch was written before the next one; the last may be
+-- unsent.
 pub record AreBatched (held : ℕ) (answers : List Response) (log : List LineCall) : Type 0 where
   pub written : List Batch
   pub waiting : List Response
@@ -80,9 +80,9 @@ pub record AreBatched (held : ℕ) (answers : List Response) (log : List LineCal
   pub answers_are : answers ≡ flat_map (λ b. b.answers) written ++ waiting
   pub log_is : log ≡ flat_map (λ b. b.calls) written ++ since
 
--- A session was served over a line so far. Its stream, and what is not fed yet, is what was read;
--- what was written is a beginning of its transcript, and was written promptly, both in pieces of at
--- most 65536 bytes. No more waited at a time than `held` bytes and one reply.
+-- The progress of a session over a transport. The bytes read are its stream and the bytes not yet
+-- fed. The bytes written are a prefix of its transcript, written promptly. Reads and writes
+-- transfer at most 65536 bytes each. At most `held` bytes and one reply were unsent at any time.
 pub record ServedSoFar (held : ℕ) (start now : LineView) (p : Progress) : Type 0 where
   pub bodies : IsRead p.state
   pub read : Consumes start.incoming now.incoming (p.state.stream ++ p.unfed)
@@ -96,17 +96,17 @@ pub record ServedSoFar (held : ℕ) (start now : LineView) (p : Progress) : Type
   pub prompt : IsPrompt p log
   pub batches : AreBatched held p.state.answers log
 
--- a session was served so far, and was told by its host what it was told
+-- the session has progressed to `p`, and the backend has it in `p`'s state
 abbrev pub Serves : (held : ℕ) → (SessionState → Type 0) → LineView → LineView
     → (Progress → Type 0) → Type 0
 Serves held Tells start now P =
     (p : Progress) × Tells p.state × ServedSoFar held start now p × P p
 
--- all that was written was told to the host as sent
+-- the backend records all written bytes as sent
 abbrev pub IsInStep : Progress → Type 0
 IsInStep p = p.written ≡ p.state.sent
 
--- A session that takes bytes, and may have packets unread. So many bytes were fed at least.
+-- A session that accepts input and may have unread packets. At least `n` bytes were fed.
 pub record GoesOn (n : ℕ) (p : Progress) : Type 0 where
   pub is_open : IsOpen p.state
   pub fed : p.unfed ≡ []
@@ -114,11 +114,11 @@ pub record GoesOn (n : ℕ) (p : Progress) : Type 0 where
   pub in_step : IsInStep p
   pub long : n ≤ length p.state.stream
 
--- and waits for bytes
+-- it also waits for input
 abbrev pub Rests : ℕ → Progress → Type 0
 Rests n p = GoesOn n p × Waits p.state
 
--- It was served to its end: it has left for this cause, and was sent its whole transcript.
+-- It was served to its end: it ended for this cause, and its whole transcript was written.
 pub record IsServed (incoming : Option (List ℕ)) (cause : Cause) (p : Progress) : Type 0 where
   pub fed : p.unfed ≡ []
   pub whole : IsWhole p.state cause
@@ -126,11 +126,11 @@ pub record IsServed (incoming : Option (List ℕ)) (cause : Cause) (p : Progress
   pub in_step : IsInStep p
   pub at_end : cause ≡ Closed → IsAtEnd incoming
 
--- all that it was answered was written
+-- all replies were written
 abbrev pub HasWritten : Progress → Type 0
 HasWritten p = HasSent p.state × IsInStep p
 
--- what was written where serving stops: all, unless the line failed
+-- what was written if serving stops with this error: everything, unless the transport failed
 abbrev pub HasWrittenFor : ServeFault → (failed failed' : ℕ) → Progress → Type 0
 HasWrittenFor fault.Line failed failed' p = Unit {0}
 HasWrittenFor fault.OutOfMemory failed failed' p = HasWritten p
@@ -138,19 +138,19 @@ HasWrittenFor fault.Sessions failed failed' p = HasWritten p
 HasWrittenFor fault.Stranger failed failed' p = Rose failed failed' ⊎ HasWritten p
 HasWrittenFor fault.NumbersSpent failed failed' p = HasWritten p
 
--- numbers are spent only where so many bytes were read, or its host did so much
+-- `NumbersSpent` occurs only if this many bytes were read, or the backend did as much work
 abbrev pub IsSpentFor : ServeFault → (work : ℕ) → Progress → Type 0
 IsSpentFor fault.NumbersSpent work p =
     (most_counted ≤ length p.state.stream) ⊎ (most_counted ≤ work)
 IsSpentFor _ work p = Unit {0}
 
--- Serving has stopped: the session takes no more bytes.
+-- Serving has stopped: the session accepts no more input.
 pub record IsStopped (f : ServeFault) (failed failed' work : ℕ) (p : Progress) : Type 0 where
   pub written : HasWrittenFor f failed failed' p
   pub spent : IsSpentFor f work p
   pub closed : TakesNone p.state
 
--- why serving stops: the line's failures rose, or it is its host's fault
+-- why serving stops: the transport failed, or the backend returned the error
 abbrev pub IsStop : ServeFault → (failed failed' : ℕ) → (strange : Type 0) → Type 0
 IsStop fault.Line failed failed' strange = Rose failed failed'
 IsStop fault.OutOfMemory failed failed' strange = Unit {0}

@@ -1,4 +1,4 @@
-//! What serves a session.
+//! The backend of a session.
 
 ghost use Rattle.std.specs.Prelude.{◌≡◌, ◌<◌, ◌≤◌, ◌++◌, ◌^◌, ℕ, List, Option, Some, None, length, take, vec_len, IfOk, IfErr, OnOk, OnErr};
 ghost use Rattle.sf_session.specs.declared.fault.ServeFault.{ServeFault};
@@ -10,44 +10,44 @@ ghost use Rattle.sf_serving.specs.Hosts.{IsOpen, HasSent, IsFurther, IsSessionSt
 use sf_session::{Cause, Clock, ServeFault};
 use std::alloc::AllocError;
 
-/// What a session's going on came to.
+/// The result of `Host::go_on`.
 #[derive(Clone, Copy, Debug, PartialEq, Eq)]
 pub enum SessionStep {
-    /// No whole packet is unread.
+    /// No complete packet is unread.
     Waits,
-    /// Replies wait to be sent.
+    /// Further replies are unsent; complete packets may be unread.
     Answered,
     Ended(Cause),
 }
 
-/// What serves a session, at a place where others may be served too: it is fed bytes, goes on as
-/// far as it can, has output, is told that it was sent, and ends.
+/// The backend of one session. It receives the session's bytes, executes its requests, produces
+/// output, and ends the session. `place` is the state that it may share with other sessions.
 pub trait Host<P> {
-    /// What is known of the place when serving starts.
+    /// What is known of the shared state when serving starts.
     ghost Start: { Type 0 };
 
-    /// Since the start, after the clock's moments, the session is in this state.
+    /// The session's state since the start, given the clock's timestamps.
     ghost serves: { Start → Self → P → Option (List ℕ) → SessionState → Type 0 };
 
-    /// It answers only where at most so many bytes wait to be sent.
+    /// A reply is produced only if at most this many bytes of output are unsent.
     ghost held: { ℕ };
 
-    /// The host agrees with the place.
+    /// The invariant between the backend and the shared state.
     ghost sound: { Self → P → Type 0 };
 
-    /// How much was done for the session, counted up to 2^64 - 1.
+    /// The amount of work done for the session, saturated at 2^64 - 1.
     ghost work: { Self → P → ℕ };
 
-    /// The place doesn't know the session.
+    /// The shared state doesn't contain the session.
     ghost strange: { Self → P → Type 0 };
 
-    /// The host keeps nothing of the place that others wait for.
+    /// The backend holds nothing that other sessions wait for.
     ghost rests: { Self → P → Type 0 } = { λ _ _. Unit {0} };
 
-    /// How the place is left, where ending told this fault, or none.
+    /// The state after `end` returned this error, or none.
     ghost left: { Self → P → Option ServeFault → Type 0 };
 
-    /// The session is fed the first bytes of a piece.
+    /// Receives the first `n` bytes of `piece` as input.
     fn feed(&mut self, place: &mut P, piece: &Vec<u8>, n: usize) -> Result<(), AllocError>
         requires sound { sound self.old place.old }
         requires within { n ≤ vec_len piece.now }
@@ -59,8 +59,8 @@ pub trait Host<P> {
             → serves start self.old place.old moments t
             → serves start self.new place.new moments t) };
 
-    /// Answers packets that are unread: none, one, or as many as it likes. Where it waits for bytes
-    /// nobody else waits for it.
+    /// Processes unread packets: none, one or several. If it returns `Waits`, it holds nothing that
+    /// other sessions wait for.
     fn go_on<C: Clock>(&mut self, place: &mut P, clock: &mut C) -> Result<SessionStep, ServeFault>
         requires { sound self.old place.old }
         ensures sound { sound self.new place.new }
@@ -73,13 +73,13 @@ pub trait Host<P> {
         ensures fault { IfErr result (λ fault. IsHostFault fault (work self.new place.new)
             (strange self.new place.new)) };
 
-    /// What waits to be sent.
+    /// The unsent output.
     fn output<'a>(&'a self, place: &'a P) -> &'a [u8]
         ensures { (start : Start) (moments : Option (List ℕ)) (t : SessionState)
             → serves start self.now place.now moments t
             → transcript t.answers ≡ t.sent ++ result.now };
 
-    /// All that waits was sent.
+    /// Records that all output was sent.
     fn sent(&mut self, place: &mut P)
         requires { sound self.old place.old }
         ensures sound { sound self.new place.new }
@@ -89,7 +89,7 @@ pub trait Host<P> {
         ensures work { work self.new place.new ≡ work self.old place.old }
         ensures strange { strange self.old place.old → strange self.new place.new };
 
-    /// The session ends: it takes no more bytes, and leaves where it can.
+    /// Ends the session. It accepts no more input, and leaves unless a call is pending.
     fn end(&mut self, place: &mut P) -> Result<(), ServeFault>
         requires { sound self.old place.old }
         ensures left { OnOk result (left self.new place.new None) }

@@ -1,11 +1,11 @@
-//! One session served over a line: from its bytes to its replies.
+//! The serve loop of one session over a transport: bytes in, replies out.
 //!
-//! Start with `serve_session` in `serving.rt`, the one loop, for whatever serves a session (`Host`
-//! in `host.rt`): it reads, feeds, lets the session go on, and writes. What it promises is in
-//! `specs/Serving.antt`: what was written is the session's transcript, written promptly and in
-//! pieces. `specs/Ends.antt` says in what a session ends, and `batch_law.rt` how much waits.
-//! Whoever wants to hear of a session's calls is a `CallObserver` (`observer.rt`). The hosts stand
-//! with what they host: an engine's in `sf_alone`, a lane's in `sf_pool`.
+//! Start with `serve_session` in `serving.rt`. It reads, feeds the backend (`Host` in `host.rt`),
+//! processes packets and writes. Its guarantees are in `specs/Serving.antt`: the output is the
+//! session's transcript, written promptly and in bounded chunks. `specs/Ends.antt` defines how a
+//! session ends, and `batch_law.rt` bounds the unsent output. A `CallObserver` (`observer.rt`)
+//! receives a session's calls. The backends are in `sf_alone` (over an engine) and `sf_pool` (over
+//! a shared core).
 #![tactic(auto)]
 
 mod batch_law;

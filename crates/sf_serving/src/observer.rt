@@ -1,23 +1,23 @@
-//! Who is told of sessions, and of their calls.
+//! Observers of sessions and their calls.
 
 use sf_call::Request;
 use sf_reply::Reply;
 use sf_session::{Cause, ServeFault};
 
-/// A call that was answered.
+/// A call with its reply.
 #[derive(Clone, Copy)]
 pub struct ObservedCall<'a> {
     pub session: u64,
     pub number: u64,
-    /// When it began, in seconds since 1970.
+    /// When the call began, in seconds since 1970-01-01 UTC.
     pub moment: u32,
     pub request: &'a Request,
     pub reply: &'a Reply,
 }
 
-/// Told of each session that joins or leaves, and of each call as it is answered.
+/// Receives an event for each session that joins or leaves, and for each call that is answered.
 pub trait CallObserver {
-    /// Whether it is told of calls. Nothing that others wait for is held while it is.
+    /// Whether `called` is wanted. While it runs, nothing that other sessions wait for is held.
     fn hears_calls(&self) -> bool {
         false
     }
@@ -28,11 +28,11 @@ pub trait CallObserver {
     /// A call was answered. Its reply may not have been sent yet.
     fn called(&self, _call: ObservedCall<'_>) {}
 
-    /// A session that had joined is served no more.
+    /// A session that had joined is no longer served.
     fn left(&self, _session: u64, _outcome: Result<Cause, ServeFault>) {}
 }
 
-/// Takes no notice.
+/// An observer that ignores all events.
 #[derive(Clone, Copy, Debug)]
 pub struct NoObserver;
 

@@ -1,4 +1,4 @@
-//! One session over a line, by whatever serves it.
+//! The serve loop.
 
 ghost use Rattle.std.specs.Prelude.{◌≡◌, ◌<◌, ◌≤◌, ◌+◌, ◌∷◌, ℕ, List, [], length, take, Option, None, Result, Ok, IfOk, IfErr, OnOk, OnErr, vec_len};
 ghost use Rattle.sf_line.specs.Lines.{Rose};
@@ -12,17 +12,17 @@ use sf_line::{Line, LineFault};
 use sf_session::{Cause, Clock, ServeFault};
 use std::alloc::{AllocError, Global};
 
-/// How many bytes a read asks for, and a write gives at most.
+/// The size of the read buffer, and the maximum size of a write, in bytes.
 const PIECE: usize = 65536;
 
-/// Room for what a read gives.
+/// Allocates a read buffer.
 pub fn new_piece(alloc: Global) -> Result<Vec<u8>, AllocError>
     ensures { IfOk result (λ piece. vec_len piece ≡ 65536) }
 {
     vec![in alloc; 0u8; PIECE]
 }
 
-/// Writes all of the bytes, in pieces. A fault leaves any beginning of them written.
+/// Writes all of the bytes, in chunks. On an error an arbitrary prefix was written.
 fn write_pieces<L: Line>(line: &mut L, bytes: &[u8]) -> Result<(), LineFault>
     ensures all { OnOk result (WritesByPieces
         (line_view (L.incoming line.old) (L.outgoing line.old) (L.calls line.old))
@@ -41,7 +41,7 @@ fn write_pieces<L: Line>(line: &mut L, bytes: &[u8]) -> Result<(), LineFault>
     Ok(())
 }
 
-/// Sends what waits.
+/// Sends the unsent output.
 fn send<P, H: Host<P>, L: Line>(host: &mut H, place: &mut P, line: &mut L) -> Result<(), LineFault>
     requires { H.sound host.old place.old }
     ensures sound { H.sound host.new place.new }
@@ -66,7 +66,7 @@ fn send<P, H: Host<P>, L: Line>(host: &mut H, place: &mut P, line: &mut L) -> Re
     Ok(())
 }
 
-/// The session goes on until no whole packet is unread, or it has ended.
+/// Processes packets until none is complete or the session ends. It returns the cause of the end.
 fn drain<P, H: Host<P>, L: Line, C: Clock>(
     host: &mut H,
     place: &mut P,
@@ -103,7 +103,7 @@ fn drain<P, H: Host<P>, L: Line, C: Clock>(
     Err(ServeFault::NumbersSpent)
 }
 
-/// Reads a piece, and goes on. Tells by what cause the session ends, if it does.
+/// Reads once and processes packets. It returns the cause if the session ends.
 fn round<P, H: Host<P>, L: Line, C: Clock>(
     host: &mut H,
     place: &mut P,
@@ -139,7 +139,7 @@ fn round<P, H: Host<P>, L: Line, C: Clock>(
     drain(host, place, line, clock)
 }
 
-/// Reads, and goes on, until the session ends.
+/// Reads and processes packets until the session ends.
 fn rounds<P, H: Host<P>, L: Line, C: Clock>(
     host: &mut H,
     place: &mut P,
@@ -177,7 +177,7 @@ fn rounds<P, H: Host<P>, L: Line, C: Clock>(
     Err(ServeFault::NumbersSpent)
 }
 
-/// Sends what waits, unless the line has failed, and answers why serving stops then.
+/// Sends the unsent output, unless the transport failed. It returns why serving stops.
 fn send_last<P, H: Host<P>, L: Line>(
     host: &mut H,
     place: &mut P,
@@ -206,7 +206,7 @@ fn send_last<P, H: Host<P>, L: Line>(
     }
 }
 
-/// Ends a session whose serving stops: what waits is sent first.
+/// Ends a session early. The unsent output is sent first.
 fn stop<P, H: Host<P>, L: Line>(
     host: &mut H,
     place: &mut P,
@@ -235,10 +235,10 @@ fn stop<P, H: Host<P>, L: Line>(
     }
 }
 
-/// Serves a session over a line, to the end of the input or of the session.
+/// Serves a session over a transport until its input or the session ends.
 ///
-/// Whoever waits for a reply gets it: before each read of the line all that was asked for so far is
-/// answered.
+/// Before each read of the transport, all earlier requests are answered and the replies written. A
+/// client that waits for a reply thus receives it.
 pub fn serve_session<P, H: Host<P>, L: Line, C: Clock>(
     host: &mut H,
     place: &mut P,

@@ -1,4 +1,4 @@
--- Bodies that were read, what each asks for, and their bytes.
+-- The processed bodies, what each requires, and their bytes.
 use Rattle.std.proofs.Common.{◌≡◌, ℕ, ◌<◌, List, [], ◌∷◌, ◌++◌, Bool, true, false, length, take, drop, map, refl, ap, sym, subst, arith}
 use Rattle.std.specs.List.{AllByRecursion}
 use Rattle.std.proofs.Math.Seq.{drop-append_seam, take-append_seam}
@@ -13,7 +13,7 @@ pub all_push : {A : Type 0} (P : A → Type 0) (xs : List A) (x : A) → AllByRe
 all_push P [] x h p = (p, tt)
 all_push P (y ∷ xs) x h p = (h.0, all_push P xs x h.1 p)
 
--- whether a session has begun after these bodies
+-- whether a session has processed its first packet after these bodies
 abbrev pub begun_after : Bool → List (List ℕ) → Bool
 begun_after begun [] = begun
 begun_after begun (body ∷ bodies) = true
@@ -48,7 +48,7 @@ asked_each begun (body ∷ bodies) (a ∷ asks) h = let rec : length asks ≡ le
 asked_each begun [] (a ∷ asks) h = absurd h
 asked_each begun (body ∷ bodies) [] h = absurd h
 
--- the bytes of a body, and those behind its packet
+-- the bytes of a body, and those after its packet
 pub whole_bytes : (body rest : List ℕ) → AreBytes (packet body ++ rest) → AreBytes body
 whole_bytes body rest h =
     let P : ℕ → Type 0 = λ b. b < 256 in

@@ -1,4 +1,4 @@
--- No packet and no wrong length closes a session.
+-- No packet and no wrong length ends a session as closed.
 use Rattle.std.proofs.Common.{◌≡◌, ℕ, List, Bool, true, false, Option, Some, None, inl, inr, subst}
 use Rattle.std.specs.Prelude.{nat_lt, if◌then◌else◌}
 use Rattle.sf_path.specs.Names.{Path}

@@ -1,4 +1,4 @@
--- How long the packets are that a session sends with no call, and where it refuses one.
+-- The lengths of the packets that a session sends without a call, or to refuse one.
 use Rattle.std.proofs.Common.{◌≡◌, ℕ, ◌+◌, ◌≤◌, List, ◌++◌, length, Result, Ok, Err, OnOk, OnErr, Bool, true, false, Option, Some, None, if◌then◌else◌, nat_lt, refl, ap, sym, subst, arith, inl, inr}
 use Rattle.std.proofs.lemmas.Bool.{ltb-false}
 use Rattle.std.proofs.lemmas.List.{length-append}
@@ -44,14 +44,14 @@ refusal_short id fault.Sessions = status_short id Failure
 refusal_short id fault.NumbersSpent = status_short id Failure
 refusal_short id fault.Stranger = status_short id Failure
 
--- ---- what a body asks for
+-- ---- what a body requires
 
--- a local reply's packet is short
+-- the packet of a local reply is short
 abbrev IsShortAsk : Ask → Type 0
 IsShortAsk (ask.Local id given) = length (packet (reply_body id given)) ≤ longest_packet
 IsShortAsk _ = Unit {0}
 
--- a text without fault is short, and so is its normal text
+-- a text without a fault is short, and so is its normal form
 unless_long : (b : Bool) (others : Option PathFault) → (if b then Some TooLong else others) ≡ None → b ≡ false
 unless_long true others e = absurd cc
 unless_long false others e = refl
@@ -96,15 +96,15 @@ ask_short false a = first_short a
 asked_short : (begun : Bool) (body : List ℕ) (a : Ask) → AsksFor begun body a → IsShortAsk a
 asked_short begun body a asks = subst IsShortAsk (sym asks.2) (ask_short begun asks.0)
 
--- the reply that needs no tree, of a body that asks for one
+-- the packet of a reply without a call is short
 pub local_short : (begun : Bool) (body : List ℕ) (id : ℕ) (given : Reply) → AsksFor begun body (ask.Local id given) → length (packet (reply_body id given)) ≤ longest_packet
 local_short begun body id given asks = asked_short begun body (ask.Local id given) asks
 
--- and of the packet at the front of the bytes
+-- also for the first packet of the unread bytes
 pub front_short : (begun : Bool) (bytes : List ℕ) (id len : ℕ) (given : Reply) → Fronts begun bytes (Asks (ask.Local id given) len) → length (packet (reply_body id given)) ≤ longest_packet
 front_short begun bytes id len given (body, begins, asks, within) = local_short begun body id given asks
 
--- ---- what a session's next packet adds to what waits to be sent
+-- ---- what a session's next packet adds to its output
 
 packet_by : (a : Ask) (text : List ℕ) → IsShortAsk a → LocalPacket a text → length text ≤ longest_packet
 packet_by ask.Version text short is = subst (λ (t : List ℕ). length t ≤ longest_packet) (sym is) version_short
@@ -126,7 +126,7 @@ next_short v w (next.Call request) g = same_output v w (ap (λ (s : SessionView)
 next_short v w (next.Ended cause) (inl g) = same_output v w (ap (λ (s : SessionView). s.output) g.1)
 next_short v w (next.Ended cause) (inr g) = same_output v w (ap (λ (s : SessionView). s.output) g.2)
 
--- and what is written behind it, or isn't
+-- also if it is appended, or not
 pub written_short : {A B : Type 0} (r : Result A B) (old new text : List ℕ) → OnOk r (new ≡ old ++ text) → OnErr r (new ≡ old) → length text ≤ longest_packet → length new ≤ length old + longest_packet
 written_short (Ok x) old new text ok err short = omega (arith, ap (λ (bytes : List ℕ). length bytes) ok, length-append old text, short)
 written_short (Err e) old new text ok err short = omega (arith, ap (λ (bytes : List ℕ). length bytes) err)

@@ -1,4 +1,4 @@
--- What each body of a session asks for: the cases of the session's rules, in their order.
+-- What each body requires of a session, case by case.
 use Rattle.std.specs.Prelude.{◌≡◌, ℕ, length, List, [], ◌∷◌, Bool, Option, Some, None, option_map, option_and_then, nat_eq, nat_lt, if◌then◌else◌}
 use Rattle.std.specs.Int.{w64, from_be_bytes}
 use Rattle.sf_path.specs.declared.fault.PathFault.{PathFault}
@@ -19,18 +19,18 @@ use Rattle.sf_session.specs.declared.asking.Ask.{Ask}
 use Rattle.sf_session.specs.declared.asking.Ask.TheVariants as ask
 use Rattle.sf_session.specs.declared.cause.Cause.TheVariants.{NotInit, OldVersion, SecondInit, NoId}
 
--- the first body must be INIT with a version of 3 or above
+-- the first body must be INIT with a version of at least 3
 abbrev pub first_ask : Asked → Ask
 first_ask (asked.Init version) = if nat_lt version 3 then ask.End OldVersion else ask.Version
 first_ask asked.NoVersion = ask.End NoId
 first_ask _ = ask.End NotInit
 
--- file name and longname are the normal text, and no attributes
+-- filename and longname are the normal text, and there are no attributes
 abbrev pub real_path_reply : Path → Reply
 real_path_reply path =
     reply.Names (record { filename = text_of path; longname = text_of path; attrs = no_attrs } ∷ [])
 
--- the path that a text stands for, if it has no fault
+-- the path that a text denotes, if it has no fault
 abbrev pub path_unless : Option PathFault → Path → Option Path
 path_unless None path = Some path
 path_unless (Some fault) path = None
@@ -42,12 +42,12 @@ path_at text = path_unless (fault_of text) (norm text)
 abbrev pub handle_number : List ℕ → Option ℕ
 handle_number bytes = if nat_eq (length bytes) 8 then Some (from_be_bytes w64 bytes) else None
 
--- the paths of a rename
+-- the two paths of a rename
 abbrev pub paths_at : List ℕ → List ℕ → Option (Path × Path)
 paths_at old new =
     option_and_then (λ from. option_map (λ to. (from, to)) (path_at new)) (path_at old)
 
--- the call by a handle, if it is a number
+-- the call of a request with a handle, if the handle is valid
 abbrev pub handle_call : WireRequest → Option Request
 handle_call (wire.Close handle) = option_map call.Close (handle_number handle)
 handle_call (wire.Read handle offset len) =
@@ -60,8 +60,8 @@ handle_call (wire.FSetStat handle attrs) =
 handle_call (wire.ReadDir handle) = option_map call.ReadDir (handle_number handle)
 handle_call request = None
 
--- The call that a request asks for, if its paths have no fault and its handle is a number. LSTAT is
--- STAT: there are no symbolic links. REALPATH asks for none.
+-- The call that a request requires, if its paths and its handle are valid. LSTAT is STAT: there are
+-- no symbolic links. REALPATH requires none.
 abbrev pub call_of : WireRequest → Option Request
 call_of (wire.Open text flags attrs) =
     option_map (λ path. call.Open path flags attrs) (path_at text)
@@ -79,7 +79,7 @@ call_of (wire.PosixRename old new) =
 call_of (wire.Link old new) = option_map (λ paths. call.Link paths.0 paths.1) (paths_at old new)
 call_of request = handle_call request
 
--- a path that is refused, or a handle that is no number, is answered FAILURE
+-- an invalid path or handle is answered FAILURE
 abbrev pub call_ask : ℕ → Option Request → Ask
 call_ask id None = ask.Local id (reply.Status Failure)
 call_ask id (Some request) = ask.Call id request
@@ -107,6 +107,6 @@ later_ask (asked.Request id request) = request_ask id request
 abbrev pub ask_in : Bool → Asked → Ask
 ask_in begun a = if begun then later_ask a else first_ask a
 
--- What a body asks for; begun says that the session's first packet was answered.
+-- What a body requires; `begun` says that the session has processed its first packet.
 abbrev pub AsksFor : Bool → List ℕ → Ask → Type 0
 AsksFor begun body a = (packet : Asked) × Asks body packet × (a ≡ ask_in begun packet)

@@ -1,4 +1,4 @@
--- What is told of a session that ended.
+-- Descriptions of the causes of a session's end.
 use Rattle.std.specs.Prelude.{ℕ, List, codes}
 use Rattle.sf_session.specs.declared.cause.Cause.{Cause}
 use Rattle.sf_session.specs.declared.cause.Cause.TheVariants.{NotInit, OldVersion, SecondInit, ZeroLength, TooLong, NoId, Closed}

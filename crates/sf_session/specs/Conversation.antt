@@ -1,4 +1,4 @@
--- A conversation: what one session alone was fed and is sent, by bytes and moments alone.
+-- A conversation: the input and output of a single session, stated only by bytes and timestamps.
 use Rattle.std.specs.Prelude.{◌≡◌, ◌<◌, ◌≤◌, ◌+◌, ◌-◌, ◌⊎◌, ℕ, List, [], ◌∷◌, ◌++◌, length, map, false, Some, slice_get}
 use Rattle.std.specs.List.{AllByRecursion, flat_map}
 use Rattle.sf_field.specs.Fields.{packet}
@@ -18,7 +18,7 @@ abbrev pub IsBy : ℕ → Record → Type 0
 IsBy session (Did number s moment request reply) = s ≡ session
 IsBy session (Left s) = s ≡ session
 
--- a call is refused where memory is wanting, or so many have begun as may
+-- a call is refused only if memory ran out or the maximum number of calls has begun
 abbrev pub IsFair : (begun : ℕ) → Response → Type 0
 IsFair begun Version = Unit {0}
 IsFair begun (Locally id reply) = Unit {0}
@@ -28,22 +28,22 @@ IsFair begun (Refused id request core.NumbersSpent) = most_calls ≤ begun
 IsFair begun (Refused id request core.Sessions) = ⊥
 IsFair begun (Refused id request core.Stranger) = ⊥
 
--- the n-th call has the n-th of these moments
+-- the n-th call has the n-th of these timestamps
 abbrev pub IsAtItsTime : (times : List ℕ) → Record → Type 0
 IsAtItsTime times (Did number s moment request reply) =
     (0 < number) × (slice_get times (number - 1) ≡ Some moment)
 IsAtItsTime times (Left s) = Unit {0}
 
--- some of the numbers, in their order
+-- some of the numbers, in order
 unfoldable pub IsSubsequence : (some all : List ℕ) → Type 0
 IsSubsequence [] all = Unit {0}
 IsSubsequence (x ∷ some) all =
     (before after : List ℕ) × (all ≡ before ++ x ∷ after) × IsSubsequence some after
 
--- The input is packets and a rest. Each packet's body was answered what it asks for, in order, but
--- for one at most, whose reply is due. The output is the answers' packets, but for those that are
--- not sent. The replies to calls are those of one legal history of this session's calls, which has
--- them one for one, in order. Calls began at some of the moments, one after the other.
+-- The input is packets and a remainder. Each packet is answered in order; at most one reply is
+-- pending. The output and the bytes not yet sent are the packets of the answers. The replies to
+-- calls are those of one legal history of this session's calls, one record per call, in order. The
+-- calls' timestamps are a subsequence of `moments`.
 pub record IsConversation (input moments output : List ℕ) : Type 0 where
   pub session : ℕ
   pub history : List Record
@@ -64,8 +64,8 @@ pub record IsConversation (input moments output : List ℕ) : Type 0 where
   pub timed : AllByRecursion (IsAtItsTime times) history
   pub fair : AllByRecursion (IsFair (length (answered_in answers) + length (asked_due due))) answers
 
--- It has come to its end: nothing is due, all was sent, and what is left of the input is why. It is
--- less than a packet where the input has ended, and else begins with what ends a session.
+-- A complete conversation: no reply is pending and all output was sent. The remaining input
+-- explains the end: an incomplete packet if the input ended, otherwise bytes that end a session.
 pub record IsWholeConversation (input moments output : List ℕ) (cause : Cause) : Type 0 where
   pub talk : IsConversation input moments output
   pub none_due : talk.due ≡ NothingDue

@@ -1,4 +1,4 @@
--- How far a session is: what it was fed, answered and sent, and what it is about to do.
+-- The state of a session: what it received, answered and sent, and its current call.
 use Rattle.std.specs.Prelude.{◌≡◌, ◌≤◌, ◌⊎◌, ℕ, List, [], ◌∷◌, ◌++◌, length, take, drop, map, Bool, true, false, if◌then◌else◌}
 use Rattle.std.specs.List.{AllByRecursion, flat_map}
 use Rattle.sf_field.specs.Fields.{packet}
@@ -13,18 +13,20 @@ use Rattle.sf_session.specs.declared.cause.Cause.TheVariants.{Closed}
 use Rattle.sf_session.specs.Sessions.{EndsBy}
 use Rattle.sf_session.specs.Responses.{Response, ByCall, ask_behind, packet_for, transcript, has_begun, AreAsked}
 
--- A session rests; its call is under way, of which so many steps moved; its call is decided, and
--- the answer waits; or it has left. A call is told by the id of its request, its number, its moment
--- and its request.
+-- The phases of a session: idle; a call is executing and has made `moves` steps; a call is decided
+-- and its reply is not yet written; ended. A call has the id of its request, its number, its
+-- timestamp and its request.
 pub data Phase : Type 0 where
   Resting : Phase
   UnderWay : (id number moment : ℕ) → (request : Request) → (moves : ℕ) → Phase
   Decided : (id number : ℕ) → (request : Request) → (reply : Reply) → Phase
   Gone : (cause : Cause) → Phase
 
--- What a trace tells of a session: the bytes that it was fed, those that no body was read from, the
--- bodies that were read, what they were answered, which bytes were sent, whether it was closed
--- while its call went on, and how far it is.
+-- The state of a session after a trace:
+-- - `stream`: the bytes received; `unread`: those not yet processed;
+-- - `bodies`: the bodies processed; `answers`: their answers;
+-- - `sent`: the bytes sent;
+-- - `closed`: whether it was closed during its call.
 pub record SessionState : Type 0 where
   pub stream : List ℕ
   pub unread : List ℕ
@@ -48,11 +50,11 @@ new_state = record {
 abbrev pub with_phase : SessionState → Phase → SessionState
 with_phase t phase = record t { phase = phase }
 
--- what waits to be sent: the transcript after what was sent
+-- the bytes to be sent: the transcript after the bytes already sent
 abbrev pub unsent : SessionState → List ℕ
 unsent t = drop (length t.sent) (transcript t.answers)
 
--- whether a session is there, and has not left
+-- whether the session has not ended
 abbrev pub is_here_in : Phase → Bool
 is_here_in Resting = true
 is_here_in (UnderWay id number moment request moves) = true
@@ -62,7 +64,7 @@ is_here_in (Gone cause) = false
 abbrev pub is_here : SessionState → Bool
 is_here t = is_here_in t.phase
 
--- the session takes bytes: it wasn't closed, and hasn't left
+-- the session accepts input: it was not closed and has not ended
 abbrev pub TakesBytes : SessionState → Type 0
 TakesBytes t = (t.closed ≡ false) × (is_here t ≡ true)
 
@@ -72,20 +74,20 @@ TakesNone t = (t.closed ≡ true) ⊎ (is_here t ≡ false)
 abbrev pub fed : SessionState → List ℕ → SessionState
 fed t bytes = record t { stream = t.stream ++ bytes; unread = t.unread ++ bytes }
 
--- the reply of a decided call is written; a session that was closed leaves then
+-- the reply of a decided call is written
 abbrev pub with_answer : SessionState → Response → SessionState
 with_answer t answer = record t { answers = t.answers ++ answer ∷ []; phase = Resting }
 
--- the first bytes of what waits were sent
+-- the first `n` of the bytes to be sent were sent
 abbrev pub sent_more : SessionState → ℕ → SessionState
 sent_more t n = record t { sent = t.sent ++ take n (unsent t) }
 
--- the session leaves, and what is unread is dropped
+-- the session ends, and unread bytes are dropped
 abbrev pub left_for : SessionState → Cause → SessionState
 left_for t cause = record t { unread = []; phase = Gone cause }
 
--- closing: a session that rests leaves at once, one with a call goes on to its answer, and one that
--- has left stays as it is
+-- closing: an idle session ends at once, one with a pending call after its reply, and an ended one
+-- is unchanged
 abbrev pub closed_now : SessionState → Phase → SessionState
 closed_now t Resting = left_for t Closed
 closed_now t (UnderWay id n m q moves) = record t { closed = true }
@@ -98,27 +100,27 @@ left_if_closed closed t = if closed then left_for t Closed else t
 abbrev pub with_reply_written : SessionState → (id number : ℕ) → Request → Reply → SessionState
 with_reply_written t id n q reply = left_if_closed t.closed (with_answer t (ByCall id n q reply))
 
--- what the last body asked for that has no reply yet
+-- the pending call, which has no reply yet
 abbrev pub pending : Phase → List Ask
 pending Resting = []
 pending (UnderWay id n m q moves) = ask.Call id q ∷ []
 pending (Decided id n q reply) = ask.Call id q ∷ []
 pending (Gone cause) = []
 
--- what a session's bodies asked for
+-- what a session's bodies required
 abbrev pub asks_of : List Response → Phase → List Ask
 asks_of answers phase = map ask_behind answers ++ pending phase
 
--- What is left of a stream: the bytes that are unread; of a session that has left, which keeps none
--- of them, all from the body or the wrong length that ended it, or from where it was closed.
+-- The remainder of a stream: the unread bytes. An ended session has none; its remainder begins with
+-- the body or the wrong length that ended it, or is arbitrary if it was closed.
 abbrev pub IsRest : Bool → Phase → (unread rest : List ℕ) → Type 0
 IsRest begun Resting unread rest = unread ≡ rest
 IsRest begun (UnderWay id n m q moves) unread rest = unread ≡ rest
 IsRest begun (Decided id n q reply) unread rest = unread ≡ rest
 IsRest begun (Gone cause) unread rest = (unread ≡ []) × ((cause ≡ Closed) ⊎ EndsBy begun rest cause)
 
--- The stream is the packets of the bodies that were read, and a rest; each body asks for what it
--- was answered.
+-- The stream is the packets of the processed bodies and a remainder. Each body requires what it was
+-- answered.
 pub record IsRead (t : SessionState) : Type 0 where
   pub rest : List ℕ
   pub are_bodies : AllByRecursion IsBody t.bodies
@@ -126,6 +128,6 @@ pub record IsRead (t : SessionState) : Type 0 where
   pub left : IsRest (has_begun t.bodies) t.phase t.unread rest
   pub asked : AreAsked false t.bodies (asks_of t.answers t.phase)
 
--- the packet that is sent for it is no longer than the longest of a reply
+-- the packet that is sent as the answer is at most as long as the longest reply
 abbrev pub HasShortPacket : Response → Type 0
 HasShortPacket answer = length (packet_for answer) ≤ longest_packet

@@ -1,4 +1,4 @@
--- What a session's calls do.
+-- The observable state of a session, and its operations.
 use Rattle.std.specs.Prelude.{◌≡◌, ℕ, ◌≤◌, ◌⊎◌, List, [], ◌++◌, length, drop, Bool, true, false, Option, Some, None}
 use Rattle.sf_wire.specs.declared.cutting.Cut.TheVariants as cut
 use Rattle.sf_wire.specs.declared.cutting.BadCut.TheVariants as bad
@@ -21,8 +21,11 @@ use Rattle.sf_session.specs.declared.session.Next.{Next}
 use Rattle.sf_session.specs.declared.session.Next.TheVariants as next
 use Rattle.sf_session.specs.Asking.{AsksFor}
 
--- What a session shows: the bytes that were fed and not yet asked for, those to be sent, whether
--- its first packet was answered, the id of the request that it waits for, and why it ended.
+-- The observable state of a session:
+-- - `unread`: the bytes not yet processed; `output`: the bytes to be sent;
+-- - `begun`: whether its first packet was processed;
+-- - `waiting`: the id of the pending request;
+-- - `ended`: why it ended.
 pub record SessionView : Type 0 where
   pub unread : List ℕ
   pub output : List ℕ
@@ -30,38 +33,38 @@ pub record SessionView : Type 0 where
   pub waiting : Option ℕ
   pub ended : Option Cause
 
--- the room for its reply that a call has from its beginning, in bytes
+-- the capacity in bytes that is reserved for a call's reply before the call executes
 abbrev pub reply_room : ℕ
 reply_room = 1088
 
 abbrev pub new_session : SessionView
 new_session = record { unread = []; output = []; begun = false; waiting = None; ended = None }
 
--- the bytes begin with the body's packet, and go on so
+-- the bytes begin with the body's packet; `rest` follows it
 pub record Begins (bytes body rest : List ℕ) : Type 0 where
   pub is_body : IsBody body
   pub whole : bytes ≡ packet body ++ rest
 
--- a wrong length stands at the front
+-- the bytes begin with a wrong length
 abbrev pub BeginsWrong : List ℕ → Cause → Type 0
 BeginsWrong bytes cause =
     (IsCut bytes (cut.Bad bad.ZeroLength) × (cause ≡ ZeroLength))
     ⊎ (IsCut bytes (cut.Bad bad.TooLong) × (cause ≡ TooLong))
 
--- what stands at the front of the unread bytes, and of how many bytes its packet is
+-- what the unread bytes begin with, and the length of the first packet
 abbrev pub Fronts : Bool → List ℕ → Front → Type 0
 Fronts begun bytes front.More = IsCut bytes cut.More
 Fronts begun bytes (front.Wrong cause) = BeginsWrong bytes cause
 Fronts begun bytes (front.Asks a len) = (body : List ℕ) × Begins bytes body (drop len bytes)
     × AsksFor begun body a × (len ≤ length bytes)
 
--- the packet that answers a body with no call
+-- the packet that answers a body without a call
 abbrev pub LocalPacket : Ask → List ℕ → Type 0
 LocalPacket ask.Version text = text ≡ packet version_body
 LocalPacket (ask.Local id reply) text = text ≡ packet (reply_body id reply)
 LocalPacket _ text = ⊥
 
--- a body was answered with no call
+-- a body was answered without a call
 pub record AnswersLocally (v w : SessionView) : Type 0 where
   pub body : List ℕ
   pub rest : List ℕ
@@ -78,7 +81,7 @@ pub record AnswersLocally (v w : SessionView) : Type 0 where
     ended = None;
   }
 
--- a body asked for a call
+-- a body requires a call
 pub record AsksCall (v : SessionView) (request : Request) (w : SessionView) : Type 0 where
   pub body : List ℕ
   pub rest : List ℕ
@@ -93,13 +96,13 @@ pub record AsksCall (v : SessionView) (request : Request) (w : SessionView) : Ty
     ended = None;
   }
 
--- a wrong length or an ending body stands at the front
+-- the bytes begin with a wrong length, or with a body that ends the session
 abbrev pub EndsBy : Bool → List ℕ → Cause → Type 0
 EndsBy begun bytes cause = BeginsWrong bytes cause
     ⊎ ((body : List ℕ) × (rest : List ℕ) × Begins bytes body rest
     × AsksFor begun body (ask.End cause))
 
--- an ended session answers its cause again
+-- after its end, a session returns its cause again
 abbrev pub NextGives : SessionView → Next → SessionView → Type 0
 NextGives v next.More w = (v.ended ≡ None) × IsCut v.unread cut.More × (w ≡ v)
 NextGives v next.Local w = (v.ended ≡ None) × AnswersLocally v w
@@ -114,7 +117,7 @@ NextGives v (next.Ended cause) w = ((v.ended ≡ Some cause) × (w ≡ v))
       ended = Some cause;
     }))
 
--- the reply of a call that could not be made
+-- the reply to a call that could not start
 abbrev pub refusal_of : CoreFault → Reply
 refusal_of fault.OutOfMemory = reply.NoMemory
 refusal_of fault.Sessions = reply.Status Failure

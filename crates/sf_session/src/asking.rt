@@ -1,4 +1,4 @@
-//! What a body asks of a session.
+//! What a packet's body requires of its session.
 
 ghost use Rattle.std.specs.Prelude.{◌≡◌, IfOk};
 ghost use Rattle.sf_session.specs.Asking.{AsksFor, first_ask, later_ask, request_ask, call_ask, real_path_ask, real_path_reply};
@@ -12,22 +12,23 @@ use sf_reply::{Entry, Listing, Reply, StatusCode};
 use sf_request::{Asked, WireRequest, read_request};
 use std::alloc::{AllocError, Global};
 
-/// What a packet asks for.
+/// What the session must do for a packet.
 #[derive(Debug, Drop)]
 pub enum Ask {
-    /// The packet VERSION, as the answer to INIT.
+    /// Reply to INIT with VERSION.
     Version,
-    /// A reply that needs no tree, under the request's id.
+    /// Send a reply that needs no file-system call, with the request's id.
     Local(u32, Reply),
-    /// A call on the tree, under the request's id.
+    /// Execute a file-system call and reply with the request's id.
     Call(u32, Request),
-    /// The session's end, with no reply.
+    /// End the session without a reply.
     End(Cause),
 }
 
-/// What a body asks of a session, whose first packet was answered if it has begun.
+/// What the session must do for a body. `begun` says whether the session has processed its first
+/// packet.
 ///
-/// A path that is refused is answered FAILURE, whatever the request.
+/// Any request with an invalid path is answered `SSH_FX_FAILURE`.
 pub(crate) fn ask_of(alloc: Global, begun: bool, body: &[u8]) -> Result<Ask, AllocError>
     ensures { IfOk result (λ ask. AsksFor begun body.now ask) }
 {
@@ -71,7 +72,7 @@ fn request_ask(alloc: Global, id: u32, request: WireRequest<'_>) -> Result<Ask, 
     }
 }
 
-/// A request whose path is refused, or whose handle is no number, is answered FAILURE.
+/// A request with an invalid path or handle is answered `SSH_FX_FAILURE`.
 fn call_ask(id: u32, call: Option<Request>) -> Ask
     ensures { result ≡ call_ask id call }
 {
@@ -81,14 +82,14 @@ fn call_ask(id: u32, call: Option<Request>) -> Ask
     }
 }
 
-/// A status that needs no tree.
+/// A status reply without a file-system call.
 fn status(id: u32, code: StatusCode) -> Ask
     ensures { result ≡ Ask.Local id (Reply.Status code) }
 {
     Ask::Local(id, Reply::Status(code))
 }
 
-/// REALPATH: the tree isn't asked.
+/// REALPATH: normalizes the path without a file-system call.
 fn real_path(alloc: Global, id: u32, text: &[u8]) -> Result<Ask, AllocError>
     ensures { IfOk result (λ ask. ask ≡ real_path_ask id text.now) }
 {

@@ -1,4 +1,4 @@
-//! The calls that requests ask for.
+//! The file-system calls of requests.
 
 ghost use Rattle.std.specs.Prelude.{◌≡◌, IfOk};
 ghost use Rattle.sf_request.specs.declared.request.WireRequest.TheVariants.{Write};
@@ -10,7 +10,7 @@ use sf_path::{Path, PathFault};
 use sf_request::WireRequest;
 use std::alloc::{AllocError, Global};
 
-/// The path that a text stands for, if it has no fault.
+/// The path that a text denotes, if it has no fault.
 pub(crate) fn path_of(alloc: Global, text: &[u8]) -> Result<Option<Path>, AllocError>
     ensures { IfOk result (λ found. found ≡ path_at text.now) }
 {
@@ -21,7 +21,7 @@ pub(crate) fn path_of(alloc: Global, text: &[u8]) -> Result<Option<Path>, AllocE
     }
 }
 
-/// The number of a handle, if it has the 8 bytes of one.
+/// The number of a handle, if it has 8 bytes.
 fn handle_of(bytes: &[u8]) -> Option<u64>
     ensures { result ≡ handle_number bytes.now }
 {
@@ -29,7 +29,7 @@ fn handle_of(bytes: &[u8]) -> Option<u64>
     Some(u64::from_be_bytes(bytes))
 }
 
-/// The call, if the request's paths have no fault and its handle is a number. REALPATH is none.
+/// The request's call, if its paths and its handle are valid. REALPATH has none.
 pub(crate) fn call_of(
     alloc: Global,
     request: WireRequest<'_>,
@@ -72,7 +72,7 @@ pub(crate) fn call_of(
     }
 }
 
-/// The call by a handle, if it is a number. A request that names a path is none.
+/// The call of a request with a handle, if the handle is valid; none for other requests.
 fn handle_call(alloc: Global, request: WireRequest<'_>) -> Result<Option<Request>, AllocError>
     ensures { IfOk result (λ call. call ≡ handle_call request.entry) }
 {
@@ -103,7 +103,7 @@ fn handle_call(alloc: Global, request: WireRequest<'_>) -> Result<Option<Request
     }
 }
 
-/// The data is copied here, once.
+/// Copies the data, the only copy of it.
 fn write_call(
     alloc: Global,
     handle: &[u8],
@@ -123,7 +123,7 @@ fn write_call(
     }))
 }
 
-/// The paths of a rename.
+/// The two paths of a rename, if both are valid.
 fn paths_of(alloc: Global, old: &[u8], new: &[u8]) -> Result<Option<(Path, Path)>, AllocError>
     ensures { IfOk result (λ found. found ≡ paths_at old.now new.now) }
 {

@@ -1,11 +1,11 @@
-//! Why a session ends.
+//! Causes of a session's end.
 
 ghost use Rattle.std.specs.Prelude.{◌≡◌};
 ghost use Rattle.sf_session.specs.Causes.{words_of};
 
 use std::fmt;
 
-/// Why a session ended, found when the packet's turn came.
+/// Why a session ended. A packet's fault takes effect after all earlier packets are processed.
 #[derive(Clone, Copy, Debug, PartialEq, Eq)]
 pub enum Cause {
     NotInit = 1,
@@ -13,14 +13,14 @@ pub enum Cause {
     SecondInit = 3,
     ZeroLength = 4,
     TooLong = 5,
-    /// The packet ends before its id, or INIT before its version.
+    /// A packet without a complete id, or INIT without a complete version.
     NoId = 6,
     /// The input ended, or the session was closed.
     Closed = 7,
 }
 
 impl Cause {
-    /// What is told of a session that ended so.
+    /// A description of the cause, for logs.
     pub fn words(self) -> &'static str
         ensures { result.now ≡ words_of self }
     {

@@ -3,12 +3,12 @@
 ghost use Rattle.std.specs.Prelude.{List, ℕ, [], ◌∷◌, Option};
 ghost use Rattle.std.specs.Io.KnownBytes.{Appends};
 
-/// Tells moments, in seconds since 1970.
+/// A source of timestamps, in seconds since 1970-01-01 UTC.
 pub trait Clock {
-    /// The moments that it gave, where it keeps them. A clock that keeps them goes on keeping them.
+    /// The timestamps returned so far, if the clock records them; recording never stops.
     ghost moments: { Self → Option (List ℕ) };
 
-    /// The moment now.
+    /// The current time.
     fn now(&mut self) -> u32
         ensures { Appends (moments self.old) (moments self.new) (result ∷ []) };
 }

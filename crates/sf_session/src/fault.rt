@@ -1,4 +1,4 @@
-//! Why serving stops early.
+//! Errors that stop serving.
 
 ghost use Rattle.std.specs.Prelude.{◌≡◌};
 ghost use Rattle.sf_session.specs.declared.fault.ServeFault.TheVariants.{Line, OutOfMemory};

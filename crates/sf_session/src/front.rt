@@ -1,4 +1,4 @@
-//! What stands at the front of the bytes that a session was fed.
+//! The first packet of a session's unread bytes.
 
 ghost use Rattle.std.specs.Prelude.{◌≡◌, ◌≤◌, length, IfOk};
 ghost use Rattle.sf_session.specs.Sessions.{Fronts};
@@ -9,18 +9,19 @@ use crate::unread::Unread;
 use sf_wire::{BadCut, Cut};
 use std::alloc::{AllocError, Global};
 
-/// What the bytes begin with.
+/// What the unread bytes begin with.
 #[derive(Debug, Drop)]
 pub(crate) enum Front {
-    /// Less than a packet.
+    /// An incomplete packet.
     More,
     /// A wrong length, which ends the session.
     Wrong(Cause),
-    /// A packet of that many bytes, its length field counted, and what it asks for.
+    /// What a packet requires, and its length in bytes, including its length field.
     Asks(Ask, usize),
 }
 
-/// What the bytes begin with, of a session whose first packet was answered if it has begun.
+/// What the unread bytes begin with. `begun` says whether the session has processed its first
+/// packet.
 pub(crate) fn front_of(alloc: Global, begun: bool, unread: &Unread) -> Result<Front, AllocError>
     ensures { IfOk result (λ front. Fronts begun unread.now front) }
 {

@@ -1,15 +1,15 @@
-//! Sessions: the bytes that a client sends become calls, and their answers become bytes.
+//! SFTP sessions: a client's bytes become calls, and the calls' replies become bytes.
 //!
-//! Start with `specs/Asking.antt`: what each body asks of a session (`AsksFor`), case by case, and
-//! then `specs/Sessions.antt`: what a session shows, and what its call `next` does (`NextGives`).
-//! `Session` is used in turns: `feed` bytes, ask for the `next` packet, and where it asks for a
-//! call, make that call and `answer` it, or `refuse` it. `asking.rt` decides what a body asks for,
-//! and `calling.rt` makes the paths and the data of a call, copied out of what was sent. A session
-//! knows no tree and no clock; `Clock` stands here for those who number the calls.
+//! Start with `specs/Asking.antt`: what each body requires of its session (`AsksFor`), case by
+//! case. `specs/Sessions.antt` defines a session's observable state and its operation `next`
+//! (`NextGives`). Use a `Session` in turns: `feed` bytes and take the `next` packet. If it requires
+//! a call, execute the call and `answer` it, or `refuse` it. `asking.rt` decodes a body, and
+//! `calling.rt` copies the paths and data of a call. A session has no file system and no clock;
+//! `Clock` is defined here for the callers that number the calls.
 //!
-//! The words of those who serve sessions stand here too: what a body was answered
-//! (`specs/Responses.antt`), how far a session is (`SessionState`, `specs/SessionStates.antt`), and
-//! what one session alone was fed and is sent (`specs/Conversation.antt`).
+//! This crate also defines what servers of sessions state: replies (`specs/Responses.antt`),
+//! progress (`SessionState`, `specs/SessionStates.antt`), and the input and output of a single
+//! session (`specs/Conversation.antt`).
 #![tactic(auto)]
 
 mod asking;

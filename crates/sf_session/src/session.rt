@@ -1,4 +1,4 @@
-//! One session: the bytes of its packets to requests, replies to bytes.
+//! One session: bytes to requests, and replies to bytes.
 
 ghost use Rattle.std.specs.Prelude.{◌≡◌, ◌≢◌, ◌≤◌, ◌+◌, ◌++◌, ◌↔◌, IsTrue, [], length, drop, true, Err, Some, None, IsSome, IfSome, IsOk, IfOk, OnOk, OnErr};
 ghost use Rattle.sf_wire.specs.declared.cutting.Cut.TheVariants.{More};
@@ -21,35 +21,36 @@ use std::marker::Model;
 use std::mem;
 use thiserror::Error;
 
-/// Room for the next replies: for one of a call under way it is there. The C library
-/// keeps small blocks for reuse, wherever they lie, and gives back larger ones.
+/// Capacity of the output buffer in bytes, reserved before a call executes. Smaller freed blocks
+/// stay cached in the C library wherever they lie; larger ones it can return to the system.
 const REPLIES: usize = 1088;
 
-/// How often a buffer of that room serves a session that was sent all, before it goes.
+/// How often an idle session reuses a buffer of that capacity before freeing it.
 const USES: u32 = 16;
 
-/// Why a call of a session was refused. The session is unchanged then.
+/// Errors of a session's operations. They leave the session unchanged.
 #[derive(Clone, Copy, Debug, PartialEq, Eq, Error)]
 pub enum SessionFault {
-    /// It may be tried again.
+    /// The operation may be retried.
     #[error("out of memory")]
     OutOfMemory = 1,
     #[error("the session has ended")]
     Ended = 2,
 }
 
-/// What a session came to.
+/// The result of `Session::next`.
 #[derive(Debug, Drop)]
 pub enum Next {
-    /// No whole packet is unread.
+    /// There is no complete unread packet.
     More,
-    /// A packet was answered with no call; its reply was appended.
+    /// A packet was answered without a call; its reply was appended to the output.
     Local,
-    /// A packet asks for this call. The session waits for its answer.
+    /// A packet requires this call. The session waits for its reply.
     Call(Request),
     Ended(Cause),
 }
 
+/// An SFTP session: unread input, pending output, and at most one pending call.
 #[derive(Debug, Drop)]
 pub struct Session {
     alloc: Global,
@@ -58,7 +59,7 @@ pub struct Session {
     begun: bool,
     waiting: Option<u32>,
     ended: Option<Cause>,
-    /// How often all was sent by the buffer that `output` has.
+    /// How often the current output buffer was reused.
     uses: u32,
 }
 
@@ -80,7 +81,7 @@ impl Model for Session {
 }
 
 impl Session {
-    /// A session that was fed nothing.
+    /// A new session, without input.
     pub fn new(alloc: Global) -> Session
         ensures { result ≡ new_session }
     {
@@ -95,7 +96,8 @@ impl Session {
         }
     }
 
-    /// Appends to the bytes that are unread.
+    /// Appends input to the unread bytes. It returns `OutOfMemory`, or `Ended` after the session's
+    /// end.
     pub fn feed(&mut self, bytes: &[u8]) -> Result<(), SessionFault>
         ensures ok { OnOk result ((self.old.ended ≡ None)
             × (self.new ≡ record self.old { unread = self.old.unread ++ bytes.now })) }
@@ -111,7 +113,8 @@ impl Session {
         Ok(())
     }
 
-    /// Whether less than a packet is unread, and no wrong length. Takes no memory.
+    /// Whether the unread bytes are an incomplete packet, with a valid length as far as it is
+    /// complete. It allocates nothing.
     pub fn is_drained(&self) -> bool
         ensures { IsTrue result ↔ IsCut self.now.unread More }
     {
@@ -121,8 +124,8 @@ impl Session {
         }
     }
 
-    /// Takes the next packet that is unread and whole. What waits to be sent grows by one packet of
-    /// a reply at most.
+    /// Processes the next unread packet, if it is complete. It appends at most one reply packet to
+    /// the output. The only error is `OutOfMemory`.
     pub fn next(&mut self) -> Result<Next, SessionFault>
         requires { self.old.waiting ≡ None }
         ensures ok { IfOk result (λ next. NextGives self.old next self.new) }
@@ -154,7 +157,7 @@ impl Session {
         front_of(self.alloc, self.begun, &self.unread)
     }
 
-    /// No whole packet is unread.
+    /// There is no complete unread packet.
     fn more(&mut self) -> Next
         ensures next { result ≡ Next.More }
         ensures session { self.new ≡ self.old }
@@ -174,7 +177,7 @@ impl Session {
         Next::Ended(cause)
     }
 
-    /// Passes over the packet at the front.
+    /// Removes the first packet from the unread bytes.
     fn pass(&mut self, len: usize)
         requires { len ≤ length self.old.unread }
         ensures { self.new ≡ record self.old { unread = drop len self.old.unread; begun = true } }
@@ -246,8 +249,8 @@ impl Session {
         Ok(Next::Call(request))
     }
 
-    /// Appends the reply of the request that the session waits for: one packet. Room for a short
-    /// one was reserved.
+    /// Appends the reply to the pending call. A short reply does not allocate, since its capacity
+    /// was reserved.
     #[inline(always)]
     pub fn answer(&mut self, answer: &Answer) -> Result<(), SessionFault>
         requires { IsSome self.old.waiting }
@@ -272,8 +275,8 @@ impl Session {
         Ok(())
     }
 
-    /// Answers the request that the session waits for, where its call could not be made:
-    /// `Out of memory` for want of memory, else `Failure`. Room for it was reserved.
+    /// Replies to the pending call if it could not start: `Out of memory` if memory ran out, else
+    /// `Failure`. It does not allocate, since the reply's capacity was reserved.
     pub fn refuse(&mut self, fault: CoreFault)
         requires { IsSome self.old.waiting }
         ensures { IfSome self.old.waiting (λ id. self.new
@@ -290,7 +293,7 @@ impl Session {
         }
     }
 
-    /// Ends the session, since it was closed. What is unread is dropped.
+    /// Ends the session because it was closed. Unread bytes are dropped.
     pub fn close(&mut self)
         requires { self.old.waiting ≡ None }
         ensures { self.new ≡ record self.old { unread = []; ended = Some Cause.Closed } }
@@ -305,8 +308,8 @@ impl Session {
         self.output.as_slice()
     }
 
-    /// Drops the first bytes to be sent, since they were. Takes no memory. A session that has no
-    /// whole packet unread, waits for no answer and has sent all keeps a small buffer, or none.
+    /// Removes the first `n` bytes of the output, which were sent. It allocates nothing. An idle
+    /// session keeps a small buffer or none.
     pub fn take_front(&mut self, n: usize)
         requires { n ≤ length self.old.output }
         ensures { self.new ≡ record self.old { output = drop n self.old.output } }
@@ -315,10 +318,10 @@ impl Session {
         self.let_go();
     }
 
-    /// Where it is drained, waits for no answer and has sent all, it keeps a small buffer for a few
-    /// calls more, and no other: one that stays would lie above memory that was freed, and the C
-    /// library could give none of that back. While packets are unread it keeps it for their
-    /// replies.
+    /// Frees the output buffer of an idle session: no complete packet is unread, no call is pending
+    /// and all output was sent. A small buffer is first reused a few times. A permanent one would
+    /// lie above freed memory, which the C library could then not return. While packets are unread,
+    /// the buffer stays for their replies.
     fn let_go(&mut self)
         ensures { self.new ≡ self.old }
     {
@@ -333,7 +336,7 @@ impl Session {
         }
     }
 
-    /// Takes the bytes to be sent away.
+    /// Takes the output, leaving it empty.
     pub fn take_output(&mut self) -> BytesMut
         requires { self.old.waiting ≡ None }
         ensures output { result.items ≡ self.old.output }
@@ -343,7 +346,7 @@ impl Session {
     }
 }
 
-/// The reply of a call that could not be made.
+/// The reply to a call that could not start.
 fn refusal(fault: CoreFault) -> Reply
     ensures { result ≡ refusal_of fault }
 {

@@ -1,4 +1,4 @@
-//! The bytes that a session was fed and has not asked for.
+//! The bytes that a session has received and not processed.
 
 ghost use Rattle.std.specs.Prelude.{◌≡◌, ◌≤◌, ◌++◌, [], length, drop, OnOk, OnErr};
 ghost use Rattle.sf_wire.specs.Packets.{IsCut};
@@ -9,8 +9,8 @@ use sf_wire::{Cut, cut};
 use std::alloc::{AllocError, Global};
 use std::marker::Model;
 
-/// Bytes, and what stands at their front: it is looked for once, when they come or when the packet
-/// before goes.
+/// Unread bytes and the framing of their first packet, which is computed once: when bytes arrive or
+/// when the packet before is removed.
 #[derive(Debug, Drop)]
 pub(crate) struct Unread {
     bytes: BytesMut,
@@ -39,14 +39,14 @@ impl Unread {
         }
     }
 
-    /// The bytes that are unread.
+    /// The unread bytes.
     pub(crate) fn as_slice(&self) -> &[u8]
         ensures { result.now ≡ self.now }
     {
         self.bytes.as_slice()
     }
 
-    /// What stands at the front.
+    /// The framing of the first packet.
     pub(crate) fn front(&self) -> Cut
         ensures found { IsCut self.now result }
         ensures whole { IfWhole result (λ len. HasBody self.now len) }
@@ -54,7 +54,7 @@ impl Unread {
         self.front
     }
 
-    /// Appends bytes. A packet at the front, or a wrong length, stays there.
+    /// Appends bytes. A complete packet or a wrong length at the start stays valid.
     pub(crate) fn extend(&mut self, bytes: &[u8]) -> Result<(), AllocError>
         ensures ok { OnOk result (self.new ≡ self.old ++ bytes.now) }
         ensures err { OnErr result (self.new ≡ self.old) }
@@ -66,7 +66,7 @@ impl Unread {
         Ok(())
     }
 
-    /// Drops the first bytes.
+    /// Removes the first `len` bytes.
     pub(crate) fn pass(&mut self, len: usize)
         requires { len ≤ length self.old }
         ensures { self.new ≡ drop len self.old }

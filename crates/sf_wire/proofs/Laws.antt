@@ -1,12 +1,13 @@
--- For the crates above: the laws of cutting. They speak of definitions alone. All other files here are
+-- For dependent crates: the laws of framing, about definitions only. All other files here are
 -- private to this crate.
 
--- a stream is cut packet by packet, from its front
+-- framing proceeds packet by packet
 pub use Rattle.sf_wire.proofs.Streams.{cut_by_packets}
--- packets that were taken from the front stand before the cutting of what is left
+-- the first packets precede the framing of the remaining bytes
 pub use Rattle.sf_wire.proofs.Streams.{cut_after, cut_left}
--- one thing stands at the front; a packet or a wrong length stays there when bytes are added; a packet has a body
+-- the first packet is unique; appended bytes don't change it if it is whole or its length is wrong;
+-- a packet has a body
 pub use Rattle.sf_wire.proofs.Cuts.{one_cut}
 pub use Rattle.sf_wire.proofs.Streams.{cut_stays, whole_has_body}
--- no packet begins another
+-- no packet is a proper prefix of another
 pub use Rattle.sf_wire.proofs.OneForm.{one_packet}

@@ -1,4 +1,4 @@
--- A stream is cut in one way, packet by packet, whatever pieces it comes in.
+-- The framing of a stream is unique, and independent of how its bytes arrive.
 use Rattle.std.proofs.Common.{◌≡◌, ℕ, zero, suc, ◌+◌, ◌≤◌, List, [], ◌∷◌, ◌++◌, length, take, drop, refl, sym, ap, subst, ◌∙◌, append_assoc, arith}
 use Rattle.std.specs.Prelude.{◌↔◌}
 use Rattle.std.specs.List.{flat_map, AllByRecursion}
@@ -15,7 +15,7 @@ use Rattle.sf_field.proofs.Laws.{IsBytes, IsBytes-of}
 use Rattle.sf_wire.proofs.Cuts.{cut_found, cut_only}
 use Rattle.sf_wire.proofs.OneForm.{one_packet}
 
--- what follows a packet
+-- the bytes after a packet
 pub after_packet : (bytes body rest : List ℕ) → bytes ≡ packet body ++ rest → rest ≡ drop (length (packet body)) bytes
 after_packet bytes body rest e = sym (drop_at (packet body) rest (length (packet body)) refl) ∙ ap (drop (length (packet body))) (sym e)
 
@@ -39,7 +39,7 @@ whole_has_body bytes (cut.Bad cause) h = tt
 IsBytes-after : (bytes body rest : List ℕ) → IsBytes bytes → bytes ≡ packet body ++ rest → IsBytes rest
 IsBytes-after bytes body rest fits e = subst IsBytes (sym (after_packet bytes body rest e)) (λ i. rw get_or-drop (fits (length (packet body) + i)))
 
--- ---- there is a cutting
+-- ---- a framing exists
 
 cutting_by : (n : ℕ) (bytes : List ℕ) (found : Cut) → length bytes ≤ n → IsBytes bytes → IsCut bytes found → (bodies : List (List ℕ)) × (end : End) × Cuts bytes bodies end
 cutting_by n bytes cut.More le fits h = ([], More bytes, (refl, h))
@@ -55,12 +55,12 @@ cutting bytes all =
     let fits = IsBytes-of bytes all in
     cutting_by (length bytes) bytes (cut_of bytes) (omega arith) fits (cut_found bytes fits)
 
--- ---- and only one
+-- ---- and is unique
 
 whole_front : (body rest : List ℕ) → IsBody body → IsCut (packet body ++ rest) (cut.Whole (length (packet body)))
 whole_front body rest is = (body, rest, is, refl, refl)
 
--- two cuts of the same bytes are the same
+-- two first packets of the same bytes are equal
 same_cut : (bytes : List ℕ) (a b : Cut) → IsCut bytes a → IsCut bytes b → a ≡ b
 same_cut bytes a b p q = sym (cut_only bytes a p) ∙ cut_only bytes b q
 
@@ -114,7 +114,7 @@ one_cutting bytes (body ∷ bodies) others end other h k =
     let whole : others ≡ a.0 ∷ a.1 = a.2 in
     (cc, r.1)
 
--- ---- a cutting is a spelling
+-- ---- a framing is a decomposition
 
 spelled : (bytes : List ℕ) (bodies : List (List ℕ)) (end : End) → Cuts bytes bodies end → IsSpelled bytes bodies end
 spelled bytes [] end h = record { rest = bytes; parts = refl; are_bodies = tt; ends = h }
@@ -136,7 +136,7 @@ cut_spelling bytes rest (body ∷ bodies) end e all ends =
 pub cut_is_spelled : (bytes : List ℕ) (bodies : List (List ℕ)) (end : End) → Cuts bytes bodies end ↔ IsSpelled bytes bodies end
 cut_is_spelled bytes bodies end = (spelled bytes bodies end, λ s. cut_spelling bytes s.rest bodies end s.parts s.are_bodies s.ends)
 
--- ---- packets that were taken
+-- ---- packets that were consumed
 
 pub cut_after : (taken : List (List ℕ)) (left : List ℕ) → AllByRecursion IsBody taken → (bodies : List (List ℕ)) (end : End) → Cuts left bodies end → Cuts (flat_map packet taken ++ left) (taken ++ bodies) end
 cut_after [] left all bodies end h = h
@@ -161,7 +161,7 @@ left_at (body ∷ taken) left bytes are e all end h =
 pub cut_left : (taken : List (List ℕ)) (left : List ℕ) → AllByRecursion IsBody taken → (all : List (List ℕ)) (end : End) → Cuts (flat_map packet taken ++ left) all end → (bodies : List (List ℕ)) × (all ≡ taken ++ bodies) × Cuts left bodies end
 cut_left taken left are all end h = left_at taken left (flat_map packet taken ++ left) are refl all end h
 
--- ---- bytes that are added
+-- ---- appended bytes
 
 pub cut_stays : (bytes : List ℕ) (found : Cut) → IsCut bytes found → Stays bytes found
 cut_stays bytes (cut.Whole len) h = λ more. (h.0, h.1 ++ more, h.2, ap (λ (t : List ℕ). t ++ more) h.3 ∙ append_assoc (packet h.0) h.1 more, h.4)

@@ -1,5 +1,5 @@
 -- No public clause cites this module.
--- Cutting from left to right.
+-- Framing, computed from left to right.
 use Rattle.std.specs.Prelude.{ℕ, ◌+◌, List, length, Option, Some, None, nat_lt, ◌==◌, if◌then◌else◌}
 use Rattle.std.specs.Int.{w32}
 use Rattle.sf_field.specs.Fields.{max_body}
@@ -8,7 +8,7 @@ use Rattle.sf_wire.specs.declared.cutting.Cut.TheVariants.{Whole, More, Bad}
 use Rattle.sf_wire.specs.declared.cutting.BadCut.TheVariants.{ZeroLength, TooLong}
 use Rattle.sf_field.specs.Reading.{number_at}
 
--- what stands at the front of a stream
+-- the first packet of a stream
 abbrev pub cut_by : Option (ℕ × List ℕ) → Cut
 cut_by None = More
 cut_by (Some n) =

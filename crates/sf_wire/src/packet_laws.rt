@@ -1,4 +1,4 @@
-//! Laws of packets, which no call needs.
+//! Laws of packet framing, stated as contracts of empty functions.
 
 ghost use Rattle.std.specs.Prelude.{◌≡◌, ℕ, List, ◌++◌, ◌↔◌};
 ghost use Rattle.std.specs.List.{AllByRecursion, flat_map};
@@ -7,13 +7,13 @@ ghost use Rattle.sf_field.specs.Fields.{AreBytes, packet};
 ghost use Rattle.sf_wire.specs.Packets.{IsBody, IsCut, End, Cuts};
 ghost use Rattle.sf_wire.specs.Streams.{CutsAfter, IsSpelled, Stays, GrowsTo};
 
-/// No packet begins another.
+/// No packet is a proper prefix of another.
 pub fn one_packet()
     ensures { (a b x y : List ℕ) → IsBody a → IsBody b → packet a ++ x ≡ packet b ++ y → (a ≡ b)
         × (x ≡ y) }
 {}
 
-/// Bytes are cut in exactly one way.
+/// Every byte stream has exactly one framing.
 pub fn one_cutting()
     ensures exists { (bytes : List ℕ) → AreBytes bytes → (bodies : List (List ℕ)) × (end : End)
         × Cuts bytes bodies end }
@@ -22,20 +22,20 @@ pub fn one_cutting()
         → (bodies ≡ others) × (end ≡ other) }
 {}
 
-/// A cutting is a spelling of the stream.
+/// A framing is a decomposition of the stream into packets and an end.
 pub fn cut_is_spelled()
     ensures { (bytes : List ℕ) (bodies : List (List ℕ)) (end : End) → Cuts bytes bodies end
         ↔ IsSpelled bytes bodies end }
 {}
 
-/// A stream is cut packet by packet, from its front.
+/// Framing proceeds packet by packet, from the start of the stream.
 pub fn cut_by_packets()
     ensures { (bytes : List ℕ) (found : Cut) → IsCut bytes found
         → (bodies : List (List ℕ)) (end : End) → Cuts bytes bodies end
         ↔ CutsAfter bytes found bodies end }
 {}
 
-/// Packets that were taken from the front stand before the cutting of what is left.
+/// The framing of a stream is its first packets, followed by the framing of the remaining bytes.
 pub fn cut_after_packets()
     ensures there { (taken : List (List ℕ)) (left : List ℕ) → AllByRecursion IsBody taken
         → (bodies : List (List ℕ)) (end : End) → Cuts left bodies end
@@ -45,7 +45,7 @@ pub fn cut_after_packets()
         → (bodies : List (List ℕ)) × (all ≡ taken ++ bodies) × Cuts left bodies end }
 {}
 
-/// What bytes that are added do to a cutting.
+/// The framing of a stream to which bytes are appended.
 pub fn cut_in_pieces()
     ensures stays { (bytes : List ℕ) (found : Cut) → IsCut bytes found → Stays bytes found }
     ensures grows { (bytes more : List ℕ) (bodies others : List (List ℕ)) (end last : End)

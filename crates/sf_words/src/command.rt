@@ -3,7 +3,7 @@
 ghost use Rattle.std.specs.Prelude.{◌<◌, ◌^◌, IfSome};
 ghost use Rattle.sf_words.specs.Words.{paths_len};
 
-/// What the client is to do on the server, by the bytes of its paths.
+/// A command of the client, with its paths in bytes.
 #[derive(Clone, Copy, Debug, PartialEq, Eq)]
 pub enum ClientCommand<'a> {
     Stat(&'a [u8]),
@@ -18,12 +18,12 @@ pub enum ClientCommand<'a> {
     Link(&'a [u8], &'a [u8]),
 }
 
-/// The paths of a command, in bytes, are fewer than these.
+/// An exclusive bound on the total length of a command's paths, in bytes.
 const PATHS_END: usize = 1 << 31;
 
 impl<'a> ClientCommand<'a> {
-    /// The command of this name, with these paths; nothing where the name is no command's, or takes
-    /// another count of paths, or the paths have together 2^31 bytes or more.
+    /// Parses a command. It returns `None` if the name is unknown, the number of paths is wrong, or
+    /// the paths have 2^31 bytes or more in total.
     pub fn from_words(name: &str, paths: &[&'a str]) -> Option<ClientCommand<'a>>
         ensures { IfSome result (λ command. paths_len command < 2 ^ 31) }
     {

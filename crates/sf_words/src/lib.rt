@@ -1,6 +1,6 @@
-//! The words of the command line of `sftpd`, and what they ask for.
+//! Command-line parsing for `sftpd`.
 //!
-//! Start with `Action` in `words.rt`, and `read_words`, which `clap` helps; `command.rt` has the
+//! Start with `Action` and `read_words` in `words.rt`, which uses `clap`. `command.rt` defines the
 //! commands of `sftpd client`.
 #![tactic(auto)]
 

@@ -1,4 +1,4 @@
-//! What the words of a command line ask for.
+//! Command-line arguments and the actions that they select.
 
 ghost use Rattle.std.specs.Prelude.{◌<◌, IfOk};
 ghost use Rattle.sf_words.specs.Words.{CanBeDone};
@@ -8,53 +8,53 @@ use clap::builder::ValueParser;
 use clap::{Arg, ArgAction, ArgMatches, Command, Error};
 use std::alloc::{AllocError, Global};
 
-/// What `sftpd stdio` is asked for.
+/// Options of `sftpd stdio`.
 #[derive(Clone, Copy, Debug, PartialEq, Eq)]
 pub struct Stdio<'a> {
-    /// How many records of calls are kept.
+    /// The number of call records retained.
     pub keep: usize,
-    /// The local folder whose files and directories the tree begins with; without one it is empty.
+    /// The local folder that is copied into the file system at the start; empty without one.
     pub tree: Option<&'a str>,
-    /// The file of the log, or `-` for standard error; without one there is no log.
+    /// The log file, or `-` for standard error; no log without one.
     pub log: Option<&'a str>,
 }
 
-/// What `sftpd serve` is asked for.
+/// Options of `sftpd serve`.
 #[derive(Clone, Copy, Debug, PartialEq, Eq)]
 pub struct Serving<'a> {
     /// The path of the Unix socket.
     pub socket: &'a str,
-    /// How many sessions are served at once.
+    /// The maximum number of concurrent sessions.
     pub workers: u32,
-    /// It ends after so many sessions; without a number it goes on.
+    /// The server exits after this number of sessions; without a number it doesn't.
     pub sessions: Option<u64>,
-    /// How many records of calls are kept.
+    /// The number of call records retained.
     pub keep: usize,
-    /// The local folder whose files and directories the tree begins with; without one it is empty.
+    /// The local folder that is copied into the file system at the start; empty without one.
     pub tree: Option<&'a str>,
-    /// The file of the log, or `-` for standard error; without one there is no log.
+    /// The log file, or `-` for standard error; no log without one.
     pub log: Option<&'a str>,
 }
 
-/// What the program is to do.
+/// What the program does.
 #[derive(Clone, Copy, Debug, PartialEq, Eq)]
 pub enum Action<'a> {
-    /// One session on standard input and output.
+    /// Serves one session on standard input and output.
     Stdio(Stdio<'a>),
-    /// Sessions at a Unix socket.
+    /// Serves sessions on a Unix socket.
     Serve(Serving<'a>),
-    /// Standard input and output, carried to and from the Unix socket of this path.
+    /// Copies between standard input and output and the Unix socket at this path.
     Connect(&'a str),
-    /// One command on the server behind the Unix socket of this path.
+    /// Executes one command on the server at the Unix socket with this path.
     Client(&'a str, ClientCommand<'a>),
 }
 
-/// Words that ask for no action.
+/// Rejected command lines.
 #[derive(Debug, Drop)]
 pub enum RefusedWords {
-    /// With the text of `clap`, or for want of memory.
+    /// Rejected with `clap`'s message, or out of memory.
     Words(Error),
-    /// An unknown command, or another count of paths than it takes.
+    /// An unknown command, or a wrong number of paths.
     Usage,
 }
 
@@ -70,10 +70,10 @@ impl From<AllocError> for RefusedWords {
     }
 }
 
-/// As the file VERSION says at the top of the repository.
+/// The content of the file VERSION.
 const VERSION: &str = "0.2.0";
 
-/// How many records of calls are kept where the words don't say, and at most.
+/// The default number of retained call records. The next constant is the maximum.
 const KEEP: usize = 256;
 
 const MOST_KEPT: u64 = 1_000_000;
@@ -98,7 +98,7 @@ fn log_word<'a>(alloc: Global) -> Arg<'a> {
     )
 }
 
-/// The words of `sftpd stdio`.
+/// The arguments of `sftpd stdio`.
 fn stdio_words<'a>(alloc: Global) -> Result<Command<'a>, AllocError> {
     Command::new(alloc, "stdio")
         .about("Serves one session on standard input and output, to the end of the input")
@@ -107,7 +107,8 @@ fn stdio_words<'a>(alloc: Global) -> Result<Command<'a>, AllocError> {
         .arg(log_word(alloc))
 }
 
-/// How many workers serve sessions where the words don't say, and at most.
+/// The default number of workers. The next constants are the maximum numbers of workers and of
+/// sessions.
 const WORKERS: u32 = 64;
 
 const MOST_WORKERS: u64 = 64;
@@ -122,7 +123,7 @@ fn socket_word<'a>(alloc: Global) -> Arg<'a> {
         .help("The Unix socket of the server")
 }
 
-/// The words of `sftpd serve`.
+/// The arguments of `sftpd serve`.
 fn serve_words<'a>(alloc: Global) -> Result<Command<'a>, AllocError> {
     let workers = Arg::new(alloc, "workers")
         .long("workers")
@@ -144,14 +145,14 @@ fn serve_words<'a>(alloc: Global) -> Result<Command<'a>, AllocError> {
         .arg(log_word(alloc))
 }
 
-/// The words of `sftpd connect`.
+/// The arguments of `sftpd connect`.
 fn connect_words<'a>(alloc: Global) -> Result<Command<'a>, AllocError> {
     Command::new(alloc, "connect")
         .about("Carries standard input and output to and from a server's Unix socket")
         .arg(socket_word(alloc))
 }
 
-/// The words of `sftpd client`.
+/// The arguments of `sftpd client`.
 fn client_words<'a>(alloc: Global) -> Result<Command<'a>, AllocError> {
     let command = Arg::new(alloc, "command")
         .value_name("COMMAND")
@@ -172,7 +173,7 @@ fn client_words<'a>(alloc: Global) -> Result<Command<'a>, AllocError> {
         .arg(paths)
 }
 
-/// What the words ask for, the program's own name first. The text of an error is `clap`'s.
+/// Parses a command line, including the program's name.
 pub fn read_words<'a>(alloc: Global, words: &'a [String]) -> Result<Action<'a>, RefusedWords>
     ensures { IfOk result CanBeDone }
 {
@@ -200,7 +201,7 @@ pub fn read_words<'a>(alloc: Global, words: &'a [String]) -> Result<Action<'a>, 
     Err(RefusedWords::Usage)
 }
 
-/// What the words after `stdio` ask for.
+/// The options after `stdio`.
 fn stdio_action<'a>(matches: &ArgMatches<'a>) -> Stdio<'a>
     ensures { 0 < result.keep }
 {
@@ -211,7 +212,7 @@ fn stdio_action<'a>(matches: &ArgMatches<'a>) -> Stdio<'a>
     }
 }
 
-/// What the words after `serve` ask for.
+/// The options after `serve`.
 fn serve_action<'a>(matches: &ArgMatches<'a>) -> Serving<'a>
     ensures { 0 < result.keep }
 {
@@ -225,7 +226,7 @@ fn serve_action<'a>(matches: &ArgMatches<'a>) -> Serving<'a>
     }
 }
 
-/// What the words after `client` ask for.
+/// The command after `client`.
 fn client_action<'a>(matches: &ArgMatches<'a>) -> Result<Action<'a>, RefusedWords>
     ensures { IfOk result CanBeDone }
 {

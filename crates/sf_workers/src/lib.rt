@@ -17,6 +17,3 @@ mod workers;
 pub use conversation_laws::one_promise;
 pub use lines::{Ended, Outcome, serve_lines, serve_on_core};
 pub use workers::{Place, serve_line};
-
-#[cfg(test)]
-mod tests;

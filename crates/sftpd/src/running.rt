@@ -12,20 +12,23 @@ use sf_program::client::run_client;
 use sf_program::connection::connect;
 use sf_program::descriptors::Descriptors;
 use sf_program::loading::engine_of_folder;
-use sf_program::log::open_log;
-use sf_program::server::serve;
+use sf_program::reporting::{report, report_out_of_memory};
 use sf_program::stdio::{run_stdio, run_stdio_on};
+use sf_server::log::open_log;
+use sf_server::server::serve;
 use sf_serving::{CallObserver, NoObserver};
 use sf_words::{Action, ClientCommand, RefusedWords, Serving, Stdio, read_words};
 use std::env;
 use std::io::{self, ErrorKind, Input, Read};
+use std::os::fd::{AsFd, BorrowedFd};
 use std::os::unix::net::UnixStream;
 use std::sync::Wait;
 use std::thread::Threads;
 
-/// Does what the words of the command line ask for, and answers the exit status.
+/// Runs the command of the command line, and returns the exit status.
 pub(crate) fn run<T: Threads + Wait + Sync>(rt: &HostRuntime, threads: &T) -> u8 {
     let alloc = rt.alloc();
+    open_standard_streams(rt);
     let words = match env::args(rt) {
         Ok(words) => words,
         Err(error) => return refuse_words(rt, error.kind()),
@@ -39,11 +42,26 @@ pub(crate) fn run<T: Threads + Wait + Sync>(rt: &HostRuntime, threads: &T) -> u8
         Ok(Action::Connect(socket)) => carry(rt, threads, socket),
         Ok(Action::Client(socket, command)) => client(rt, socket, command),
         Err(RefusedWords::Words(error)) => refuse(rt, &error),
-        Err(RefusedWords::Usage) => usage(rt),
+        Err(RefusedWords::Usage) => client_usage(rt),
     }
 }
 
-/// Serves the session on standard input and output, with a log where one is asked for.
+/// Opens /dev/null in place of each standard stream that is closed, so that no file or connection
+/// gets its descriptor.
+fn open_standard_streams(rt: &HostRuntime) {
+    let is_closed = |fd: BorrowedFd<'_>| fd.try_clone_to_owned().is_err();
+    if is_closed(rt.stdin().as_fd()) {
+        os::open_update(b"/dev/null");
+    }
+    if is_closed(rt.stdout().as_fd()) {
+        os::open_update(b"/dev/null");
+    }
+    if is_closed(rt.stderr().as_fd()) {
+        os::open_update(b"/dev/null");
+    }
+}
+
+/// Serves the session on standard input and output, with a log if there is an option for it.
 fn stdio<T: Wait>(rt: &HostRuntime, threads: &T, words: Stdio<'_>) -> u8
     requires { 0 < words.keep }
 {
@@ -74,7 +92,7 @@ fn serve_stdio<G: CallObserver>(rt: &HostRuntime, words: Stdio<'_>, observer: &G
             &mut errors,
         );
     };
-    let Some(mut engine) = engine_of_folder(rt, words.keep, tree) else {
+    let Ok(mut engine) = engine_of_folder(rt, words.keep, tree) else {
         return 1;
     };
     run_stdio_on(
@@ -87,7 +105,7 @@ fn serve_stdio<G: CallObserver>(rt: &HostRuntime, words: Stdio<'_>, observer: &G
     )
 }
 
-/// Serves sessions at a socket, with a log where one is asked for.
+/// Serves sessions at a socket, with a log if there is an option for it.
 fn serve_sessions<T: Threads + Wait + Sync>(
     rt: &HostRuntime,
     threads: &T,
@@ -124,20 +142,29 @@ fn serve_socket<T: Threads + Wait + Sync, G: StepObserver + Sync>(
     }
 }
 
-/// Carries standard input and output to and from a socket.
+/// Connects to a server's socket, or reports why it can't.
+fn connected(rt: &HostRuntime, socket: &str) -> Option<UnixStream> {
+    match UnixStream::connect(rt, socket) {
+        Ok(stream) => Some(stream),
+        Err(error) => {
+            report(rt, "cannot connect", socket, &error);
+            None
+        }
+    }
+}
+
+/// Copies standard input and output to and from a socket.
 fn carry<T: Threads + Wait>(rt: &HostRuntime, threads: &T, socket: &str) -> u8 {
-    let Ok(stream) = UnixStream::connect(rt, socket) else {
-        let _ = rt.eprintln("sftpd: cannot connect");
+    let Some(stream) = connected(rt, socket) else {
         return 1;
     };
     match connect(rt, threads, &stream) {
         Ok(()) => 0,
-        Err(error) => fail(rt, error.kind()),
+        Err(error) => stream_failed(rt, socket, &error),
     }
 }
 
-/// Does a command on the server behind a socket. All of standard input is read first where it is to
-/// be put.
+/// Runs a command on the server at a socket. `put` reads all of standard input first.
 fn client(rt: &HostRuntime, socket: &str, command: ClientCommand<'_>) -> u8
     requires { paths_len command < 2 ^ 31 }
 {
@@ -145,11 +172,10 @@ fn client(rt: &HostRuntime, socket: &str, command: ClientCommand<'_>) -> u8
     let mut data = Vec::new(alloc);
     if matches!(command, ClientCommand::Put(_)) {
         if let Err(error) = rt.reader().read_to_end(&mut data) {
-            return fail(rt, error.kind());
+            return stream_failed(rt, "standard input", &error);
         }
     }
-    let Ok(stream) = UnixStream::connect(rt, socket) else {
-        let _ = rt.eprintln("sftpd: cannot connect");
+    let Some(stream) = connected(rt, socket) else {
         return 1;
     };
     let line = StreamLine::new(&stream, &stream);
@@ -163,32 +189,39 @@ fn client(rt: &HostRuntime, socket: &str, command: ClientCommand<'_>) -> u8
     )
 }
 
-/// Tells that standard input failed, or that there is no memory for it.
-fn fail(rt: &impl Eprint, kind: ErrorKind) -> u8 {
-    let _ = match kind {
-        ErrorKind::OutOfMemory => rt.eprintln("sftpd: out of memory"),
-        _ => rt.eprintln("sftpd: stream"),
-    };
+/// Reports that a stream failed, or that memory ran out.
+fn stream_failed(rt: &HostRuntime, name: &str, error: &io::Error) -> u8 {
+    if error.kind() == ErrorKind::OutOfMemory {
+        let _ = report_out_of_memory(rt);
+    } else {
+        report(rt, "stream", name, error);
+    }
     1
 }
 
-/// Tells that the words can't be used.
-fn usage(rt: &impl Eprint) -> u8 {
-    let _ = rt.eprintln("sftpd: usage");
+/// Prints the usage of `sftpd client`.
+fn client_usage(rt: &impl Eprint) -> u8 {
+    let _ = rt.eprintln(
+        "sftpd: usage: sftpd client --socket PATH COMMAND PATH [PATH]\n\
+        COMMAND: stat, list, get, put, mkdir, rmdir or remove with one path;\n\
+        rename, posix-rename or hardlink with two",
+    );
     2
 }
 
-/// Tells why the words can't be read: they are no text, or there is no memory for them.
-fn refuse_words(rt: &impl Eprint, kind: ErrorKind) -> u8 {
-    match kind {
-        ErrorKind::OutOfMemory => fail(rt, kind),
-        _ => usage(rt),
+/// Reports why the words can't be read: one is no text, or memory ran out.
+fn refuse_words(rt: &HostRuntime, kind: ErrorKind) -> u8 {
+    if kind == ErrorKind::OutOfMemory {
+        let _ = report_out_of_memory(rt);
+        return 1;
     }
+    let _ = rt.eprintln("sftpd: usage: each word must be valid UTF-8; see sftpd --help");
+    2
 }
 
-/// Prints the text of words that ask for no action: help to standard output, with status 0, else
-/// a mistake to standard error, with status 2.
-fn refuse(rt: &(impl Print + Eprint), error: &Error) -> u8 {
+/// Prints `clap`'s text: help on standard output, with status 0, or a mistake on standard error,
+/// with status 2.
+fn refuse(rt: &HostRuntime, error: &Error) -> u8 {
     if error.kind() == error::ErrorKind::OutOfMemory {
         return refuse_words(rt, ErrorKind::OutOfMemory);
     }

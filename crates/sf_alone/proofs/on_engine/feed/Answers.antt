@@ -7,7 +7,7 @@ use Rattle.sf_engine.specs.Fits.{GoesOnTrace}
 use Rattle.sf_serving.proofs.Laws.{some_ok}
 use Rattle.sf_alone.proofs.on_engine.feed.Goals as goal
 
--- a vector of the first elements of another, at its place
+-- a vector of the first elements of another, at the same address
 abbrev front : (v : Vec ℕ) (n : ℕ) → n ≤ v.len → Vec ℕ
 front v n within = record {
   ptr = v.ptr;

@@ -3,7 +3,7 @@ use Rattle.sf_serving.specs.Serving.{LineView, line_view, Serves, GoesOn}
 use Rattle.sf_serving.proofs.Rounds.{GoesOnBy}
 use Rattle.sf_serving.proofs.serving.drain.Given as goal
 
--- the session goes on, and each time it was answered more
+-- the session continues, with more answers after each turn
 abbrev pub invariant-loop-turn : goal.invariant-loop-turn
 invariant-loop-turn g l = record {
   sound : g.H.Host.sound l.host l.place;

@@ -3,7 +3,7 @@ use Rattle.std.specs.Prelude.{vec_len}
 use Rattle.sf_serving.specs.Serving.{LineView, line_view, Serves, Rests}
 use Rattle.sf_serving.proofs.serving.rounds.Given as goal
 
--- the session waits for bytes, and as many were read at least as there were rounds
+-- the session waits for input, and at least as many bytes were read as there were rounds
 abbrev pub invariant-loop-count : goal.invariant-loop-count
 invariant-loop-count g l = record {
   sound : g.H.Host.sound l.host l.place;

@@ -3,7 +3,7 @@ use Rattle.sf_ahead.specs.Ahead.{failures_of}
 use Rattle.sf_ahead.specs.Gathered.{line_of, input_of, output_of}
 use Rattle.sf_ahead.proofs.gathering_line.GatheringLine.flush.Given as goal
 
--- what is sent is gathered no more, and so none is lost
+-- each byte is either sent or buffered, so none is lost
 abbrev pub invariant-loop-self : goal.invariant-loop-self
 invariant-loop-self g l = record {
   output : output_of l.self ≡ output_of l.initial.self;

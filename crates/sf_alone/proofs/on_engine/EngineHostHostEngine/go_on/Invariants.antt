@@ -5,7 +5,7 @@ use Rattle.sf_alone.specs.OnEngine.{Since, IsToldBy}
 use Rattle.sf_alone.proofs.Turning.{Turned, HasTurn}
 use Rattle.sf_alone.proofs.on_engine.EngineHostHostEngine.go_on.Given as goal
 
--- the session may have a turn
+-- the session may take a turn
 abbrev pub invariant-loop-self : goal.invariant-loop-self
 invariant-loop-self g l = record {
   session : l.self.session ≡ l.initial.self.session;

@@ -7,7 +7,7 @@ use Rattle.sf_client.proofs.client.Client.write_pieces.Given as goal
 abbrev pub invariant-pieces : goal.invariant-pieces
 invariant-pieces g l = Writing l.handle l.bytes l.fn.self l.rest l.offset (sender l.self l.ahead)
 
--- a stop comes once
+-- a stop occurs once
 abbrev still : Option ClientFault → ℕ
 still None = 1
 still (Some f) = 0

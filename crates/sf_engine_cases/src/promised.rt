@@ -1,0 +1,76 @@
+//! An engine that is known by the trait `Sftp` alone.
+
+use sf_cases::hex_packets;
+use sf_engine::{Engine, Event, Happened, Sftp, apply_all};
+use std::alloc::Global;
+use std::process::Abort;
+use std::test::*;
+
+const INIT: &str = "00000005 01 00000003";
+
+const VERSION: &str =
+    "00000043 02 00000003 00000018 706f7369782d72656e616d65406f70656e7373682e636f6d 00000001 31 \
+    00000014 686172646c696e6b406f70656e7373682e636f6d 00000001 31";
+
+const MKDIR_A: &str = "0000000f 0e 00000007 00000002 2f61 00000000";
+
+const OK_7: &str = "00000018 65 00000007 00000000 00000007 53756363657373 00000000";
+
+/// A session opens, and makes a directory.
+fn events(alloc: Global) -> Result<Vec<Event>, Fail> {
+    let mut events = vec![in alloc; Event::Open]?;
+    events.push(Event::Feed(1, hex_packets(alloc, &[INIT, MKDIR_A])?))?;
+    for _ in 0..5 {
+        events.push(Event::Turn(1, 100))?;
+    }
+    Ok(events)
+}
+
+#[test]
+fn outcome_of_events(rt: HostRuntime) -> Result<(), Fail> {
+    let alloc = rt.alloc();
+    let outcome = apply_all::<Engine>(alloc, &events(alloc)?)?;
+    let results = [
+        Ok(Happened::Opened(1)),
+        Ok(Happened::Fed),
+        Ok(Happened::Wrote),
+        Ok(Happened::Begun),
+        Ok(Happened::Moved),
+        Ok(Happened::Decided),
+        Ok(Happened::Wrote),
+    ];
+    assert!(rt; outcome.results.as_slice() == results.as_slice());
+    assert_eq!(rt; outcome.outputs.len(), 1);
+    let sent = hex_packets(alloc, &[VERSION, OK_7])?;
+    assert!(rt; outcome.outputs.get(0) == Some(&sent));
+    Ok(())
+}
+
+/// A session is fed bytes, and has turns until it has no more to do.
+fn serves<E: Sftp>(rt: &impl Abort, engine: &mut E, bytes: &[u8]) {
+    assert!(rt; engine.feed(1, bytes) == Ok(Happened::Fed));
+    assert!(rt; !engine.wants_bytes(1));
+    assert!(rt; engine.turns(1, 100) == Ok(Happened::Wrote));
+    assert!(rt; engine.turns(1, 100) == Ok(Happened::Wrote));
+    assert!(rt; engine.wants_bytes(1));
+}
+
+/// Each method of the trait. A call that rounds decide has its reply with the next turn.
+fn serves_by_trait<E: Sftp>(rt: &impl Abort, alloc: Global, engine: &mut E) -> Result<(), Fail> {
+    assert_eq!(rt; engine.run(&[Event::Open]), 0);
+    serves(rt, engine, &hex_packets(alloc, &[INIT, MKDIR_A])?);
+    let sent = hex_packets(alloc, &[VERSION, OK_7])?;
+    assert!(rt; engine.output(1) == Some(sent.as_slice()));
+    assert!(rt; engine.feed(1, &hex_packets(alloc, &[MKDIR_A])?) == Ok(Happened::Fed));
+    assert!(rt; engine.apply(&Event::Turn(1, 100)) == Ok(Happened::Begun));
+    assert_eq!(rt; engine.run_all(), 2);
+    assert!(rt; engine.apply(&Event::Turn(1, 100)) == Ok(Happened::Wrote));
+    Ok(())
+}
+
+#[test]
+fn engine_by_its_trait(rt: HostRuntime) -> Result<(), Fail> {
+    let alloc = rt.alloc();
+    serves_by_trait(&rt, alloc, &mut <Engine as Sftp>::new(alloc)?)?;
+    serves_by_trait(&rt, alloc, &mut <Engine as Sftp>::with_keep(alloc, 1)?)
+}

@@ -1,0 +1,1 @@
+"""The pages that `scripts/generate` writes, a module each."""
