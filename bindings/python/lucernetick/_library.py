@@ -12,13 +12,8 @@ STATUS_BASE = -100
 
 
 def places() -> Iterator[pathlib.Path]:
-<<<<<<< HEAD
     """Where the library may be: at the path in the variable, in this package, or in `out/` of this
     repository."""
-=======
-    """Where the library may be: the file that the variable names, in this package, or where
-    `make library` leaves it in the repository that this file belongs to."""
->>>>>>> int
     named = os.environ.get(VARIABLE)
     if named:
         yield pathlib.Path(named)
@@ -36,11 +31,7 @@ def find() -> pathlib.Path:
             return place
     looked = ", ".join(map(str, tried))
     raise ImportError(
-<<<<<<< HEAD
         f"{NAME} not found (looked for {looked}): build it by make library, or set {VARIABLE} to its path"
-=======
-        f"{NAME} isn't there (looked for {told}); build it by make library, or name it by {VARIABLE}"
->>>>>>> int
     )
 
 
