@@ -31,7 +31,7 @@ def find() -> pathlib.Path:
             return place
     looked = ", ".join(map(str, tried))
     raise ImportError(
-        f"{NAME} not found (looked for {looked}): build it by make library, or set {VARIABLE} to its path"
+        f"{NAME} not found (looked for {looked}): build it by make library, or set {VARIABLE}"
     )
 
 
