@@ -12,9 +12,9 @@ import sys
 from typing import Any, ContextManager, Optional, Sequence, TextIO, Union
 
 from . import __version__
-from ._control import Control, SetClock
+from ._control import Control
 from ._engine import Engine
-from ._faults import Error
+from ._faults import Error, StoppedError
 from ._folders import make_empty
 from ._log import Log
 from ._server import Server
@@ -22,6 +22,8 @@ from ._ssh import SshServer, write_private
 from ._users import User
 
 ENDS = {signal.SIGINT, signal.SIGTERM, signal.SIGHUP}
+LOOK = 1.0
+"""How often it looks whether a thread has failed, in seconds."""
 KEEP = 1024
 """How many records of calls are kept without --control."""
 KEEP_CONTROLLED = 100_000
@@ -150,8 +152,7 @@ def make_engine(words: argparse.Namespace) -> Engine:
     return Engine.from_folder(words.tree, keep=keep, attributes=True, skip=skip)
 
 
-def reached(ssh: SshServer, control: Optional[Control]) -> dict[str, Any]:
-    """How to connect."""
+def how_to_connect(ssh: SshServer, control: Optional[Control]) -> dict[str, Any]:
     return {
         "host": ssh.host,
         "port": ssh.port,
@@ -169,7 +170,7 @@ def announce(words: argparse.Namespace, ssh: SshServer, control: Optional[Contro
     """Reports that it is ready, in each requested form."""
     if words.write_ssh_config:
         ssh.write_ssh_config(words.write_ssh_config)
-    line = json.dumps(reached(ssh, control))
+    line = json.dumps(how_to_connect(ssh, control))
     if words.ready_file:
         write_private(words.ready_file + ".new", line.encode() + b"\n")
         os.replace(words.ready_file + ".new", words.ready_file)
@@ -185,36 +186,39 @@ def save(engine: Engine, folder: str) -> int:
 
 
 def serve(words: argparse.Namespace) -> int:
-    """Until Ctrl-C, SIGTERM or SIGHUP. Returns the exit status."""
+    """Until Ctrl-C, SIGTERM or SIGHUP, or until a thread fails. Returns the exit status."""
     # Before there are threads, which would receive them.
     signal.pthread_sigmask(signal.SIG_BLOCK, ENDS)
     if words.save:
         make_empty(words.save)
     first, *others = [*words.user, *words.password_file] or ["user"]
-    clock = SetClock()
+    reached = {"host": words.host, "port": words.port, "user": first, "users": others}
+    keys = {"public_keys": words.key, "host_key": words.host_key}
+    status = 0
     with log_file(words.log) as file, make_engine(words) as engine:
         log = Log(file)
-        with Server(engine, clock, log) as server, contextlib.ExitStack() as stack:
-            if words.read_only:
-                server.read_only()
-            ssh = stack.enter_context(
-                SshServer(
-                    server,
-                    host=words.host,
-                    port=words.port,
-                    public_keys=words.key,
-                    host_key=words.host_key,
-                    user=first,
-                    users=others,
-                )
-            )
-            control = None
-            if words.control is not None:
-                control = stack.enter_context(Control(server, ssh, clock, words.control))
-            announce(words, ssh, control)
-            signal.sigwait(ENDS)
+        try:
+            with Server(engine, log=log) as server:
+                with SshServer(server, **reached, **keys) as ssh:
+                    run(words, server, ssh)
+        except StoppedError as fault:
+            warn(str(fault))
+            status = 1
         print(f"sessions {log.sessions} calls {log.calls}", flush=True)
-        return save(engine, words.save) if words.save else 0
+        return max(status, save(engine, words.save) if words.save else 0)
+
+
+def run(words: argparse.Namespace, server: Server, ssh: SshServer) -> None:
+    """Serves until a signal, or until a thread fails."""
+    if words.read_only:
+        server.read_only()
+    with contextlib.ExitStack() as stack:
+        control = None
+        if words.control is not None:
+            control = stack.enter_context(Control(server, ssh, words.control))
+        announce(words, ssh, control)
+        while signal.sigtimedwait(ENDS, LOOK) is None and server._fault is None:
+            pass
 
 
 def main(words: Optional[Sequence[str]] = None) -> int:

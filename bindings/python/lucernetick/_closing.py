@@ -6,7 +6,7 @@ import asyncio
 import os
 from typing import NoReturn, Optional, TypeVar
 
-from ._faults import StoppedError
+from ._faults import Error, StoppedError
 
 Entered = TypeVar("Entered", bound="Closes")
 
@@ -31,7 +31,9 @@ class Closes:
         return self._process != os.getpid()
 
     def _check(self) -> None:
-        """Raises the exception that ended one of its threads."""
+        """Raises the exception that ended one of its threads, or an error in a forked child."""
+        if self._is_forked:
+            raise Error(f"a {type(self).__name__} can't be used in a forked child process")
         if self._fault is not None:
             why = f"{type(self._fault).__name__}: {self._fault}"
             raise StoppedError(f"all connections were closed, since a thread ended by {why}") from (

@@ -72,13 +72,13 @@ class Control(Closes):
     """Listens at a port of 127.0.0.1, or at the path of a Unix socket that only this user may
     open."""
 
-    def __init__(
-        self, server: Server, ssh: SshServer, clock: SetClock, address: Union[int, str]
-    ) -> None:
+    def __init__(self, server: Server, ssh: SshServer, address: Union[int, str]) -> None:
+        """Controls the server, and its clock."""
         self._begin()
         self.server = server
         self.ssh = ssh
-        self.clock = clock
+        self.clock = SetClock()
+        server.clock = self.clock
         self._given = ssh.faults
         self._rules: dict[int, Rule] = {}
         self._after = 0

@@ -257,6 +257,8 @@ class Races(Closes, Refuses):
             for number in range(1, count + 1):
                 self._clients.append(Client(number, self.engine.open()))
         except RefusedError:
+            for client in self._clients:
+                client.session.close()
             self._drop()
             raise
         for client in self._clients:
@@ -380,6 +382,7 @@ class Races(Closes, Refuses):
     @contextlib.contextmanager
     def _quiet(self) -> Iterator[None]:
         """Waits for all replies to what the clients sent. No turn is taken meanwhile."""
+        self._check()
         with self._moved:
             self._moved.wait_for(self._is_quiet)
             self._check()

@@ -375,3 +375,14 @@ def control(tmp_path_factory: pytest.TempPathFactory) -> Iterator[Control]:
         assert path.stat().st_mode & 0o777 == 0o600
         yield found
     assert not path.exists()
+
+
+def test_a_log_that_cannot_be_written(tmp_path: Path) -> None:
+    """It ends, and reports why. The tree is saved."""
+    left = tmp_path / "left"
+    with running("--log", "/dev/full", "--save", str(left)) as (process, words):
+        with log_in(ssh_words(words)) as client, contextlib.suppress(Exception):
+            client.open_sftp().mkdir("/a")
+        _, wrong = process.communicate(timeout=LIMIT)
+    assert process.returncode == 1 and "No space left on device" in wrong
+    assert left.is_dir()

@@ -96,6 +96,9 @@ def test_a_child_that_closes_leaves_its_parent_s_connections() -> None:
         racer.settimeout(LIMIT)
 
         def child() -> None:
+            for action in (server.connect, server.snapshot, races.connect, races.snapshot):
+                with pytest.raises(Error, match="can't be used in a forked child"):
+                    action()
             races.close()
             ssh.close()
             server.close()

@@ -14,7 +14,7 @@ from typing import Callable, Union
 import paramiko
 import pytest
 
-from lucernetick import Connection, Engine, Error, Races, StrayWarning, Turn, seeds
+from lucernetick import Connection, Engine, Error, Races, RefusedError, StrayWarning, Turn, seeds
 from lucernetick._races import Drawn
 
 from packets import (
@@ -360,3 +360,13 @@ def test_where_it_is_left_its_threads_end() -> None:
     assert set(threading.enumerate()) <= before
     with pytest.raises(OSError):
         line.recv(1)
+
+
+def test_no_room_for_all_clients() -> None:
+    """Those that found room leave none of their sessions open."""
+    with Engine() as engine:
+        opened = [engine.open() for _ in range(250)]
+        with pytest.raises(RefusedError, match="256 sessions are open"):
+            Races(1, clients=7, engine=engine)
+        assert len([engine.open() for _ in range(6)]) == 6
+        assert opened[0].number == 1
