@@ -99,7 +99,6 @@ class Engine(Refuses, Watches):
         """The last calls, if their number is limited. Otherwise the library keeps all."""
         self._recorded = 0
         self._changes = 0
-        """Counts calls after which there may be a new file at a path."""
         self._opened: dict[int, Call] = {}
         """The calls that opened the handles which are open."""
         self._packets: dict[int, Packets] = {}
@@ -261,6 +260,7 @@ class Engine(Refuses, Watches):
     def _watch(self, log: Optional[Log]) -> None:
         """From now on this log has what clients do."""
         with self._lock:
+            self._catch_up()
             self._log = log
 
     def _check(self) -> None:
@@ -286,6 +286,11 @@ class Engine(Refuses, Watches):
     def _has_moved(self) -> None:
         """A session did something."""
         self._moved.notify_all()
+        if self._keep or self._log or self._hooks:
+            self._catch_up()
+
+    def _catch_up(self) -> None:
+        """Reads the new records. Until they are needed, an engine that keeps all need not."""
         records = self._records.news(self._engine)
         if self._records.missed:
             self._recorded += self._records.missed
@@ -315,6 +320,11 @@ class Engine(Refuses, Watches):
                 if hook._after:
                     hook._after(record)
 
+    def _changes_now(self) -> int:
+        """Counts the calls after which there may be a new file at a path."""
+        self._catch_up()
+        return self._changes
+
     def _is_written(self, path: str) -> bool:
         """Whether a handle for writing that was opened with this path is open."""
         return any(
@@ -325,6 +335,7 @@ class Engine(Refuses, Watches):
     def _hook(self, hook: Hook) -> Hook:
         with self._lock:
             self._check()
+            self._catch_up()
             self._hooks.append(hook)
             return hook
 
@@ -367,6 +378,7 @@ class Engine(Refuses, Watches):
     def _ruled(self, session: int, packet: bytes) -> bytes:
         """A packet, or if a rule rejects it, a REALPATH with its id to which the library replies
         with the rule's status."""
+        self._catch_up()
         request = read_request(session, packet, self._opened)
         if request is None:
             return packet

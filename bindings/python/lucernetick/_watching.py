@@ -75,9 +75,10 @@ class Watches:
         seen: list[int] = []
 
         def ready() -> Optional[Entry]:
-            if seen == [engine._changes]:
+            changes = engine._changes_now()
+            if seen == [changes]:
                 return None
-            seen[:] = [engine._changes]
+            seen[:] = [changes]
             found = self._taken().get(name)
             return None if found is None or engine._is_written(name) else found
 
