@@ -12,7 +12,7 @@ use std::test::*;
 /// READ, WRITE and CREAT.
 const FLAGS: u32 = 0xb;
 
-/// The slow tree, and the number of its next call. The calls are of session 1, at the moment 100.
+/// The slow tree, and the number of its next call. All calls are of session 1, with timestamp 100.
 #[derive(Drop)]
 struct Plain {
     tree: PlainTree,
@@ -62,7 +62,7 @@ fn attrs(size: u64, permissions: u32) -> Attrs {
     }
 }
 
-/// Makes `/d` and `/d/f`, whose handle is 2.
+/// Makes `/d`, and opens `/d/f` as handle 2.
 fn makes_a_file(rt: &impl Abort, alloc: Global, plain: &mut Plain) -> Result<(), Fail> {
     plain.succeeds(rt, Request::Mkdir(path(alloc, b"/d")?, NO_ATTRS));
     let opened = Request::Open(path(alloc, b"/d/f")?, OpenFlags::from_bits(FLAGS), NO_ATTRS);
@@ -94,7 +94,7 @@ fn resizes(rt: &impl Abort, alloc: Global, plain: &mut Plain) -> Result<(), Fail
     Ok(())
 }
 
-/// Gives the file one more name, which is removed. The handle of `/d` is 9.
+/// Opens `/d` as handle 9. The file gets one more name, and loses it.
 fn renames_and_removes(rt: &impl Abort, alloc: Global, plain: &mut Plain) -> Result<(), Fail> {
     let opened = Request::OpenDir(path(alloc, b"/d")?);
     plain.replies(rt, opened, Reply::Handle(9));
