@@ -119,7 +119,10 @@ fn play<R: Threads + Wait + Abort + Sync>(
     }
     let signs = Signs::new(script.at_once);
     let mut all = Vec::new(alloc);
-    for (client, input) in clients.iter().zip(&inputs) {
+    for (place, client) in clients.iter().enumerate() {
+        let Some(input) = inputs.get(place) else {
+            panic!(rt; "no input");
+        };
         all.push(ClientLine::new(alloc, client, input, &signs))?;
     }
     let director = Director {
@@ -206,6 +209,15 @@ fn a_sleeper_is_woken(rt: HostRuntime) -> Result<(), Fail> {
     Ok(())
 }
 
+/// Of three WRITEs the waker is held until three calls sleep, and the others until the scene is done.
+fn write_until(call: u64, waker: u64) -> Until {
+    if call == waker {
+        Until::Asleep(3)
+    } else {
+        Until::Done
+    }
+}
+
 /// Each of three calls that sleep waits for a WRITE of its own, and is woken by it. The other two
 /// WRITEs are held meanwhile. The calls fall asleep in the order 12, 11, 10.
 #[test]
@@ -219,18 +231,11 @@ fn each_of_three_sleepers_is_woken(rt: HostRuntime) -> Result<(), Fail> {
         sends(&[INIT, SIZE_C_F]),
     ];
     for (waker, woken) in [(3, 4), (6, 5), (9, 6)] {
-        let until = |call: u64| {
-            if call == waker {
-                Until::Asleep(3)
-            } else {
-                Until::Done
-            }
-        };
         let script = Script {
             holds: &[
-                (3, 1, until(3)),
-                (6, 1, until(6)),
-                (9, 1, until(9)),
+                (3, 1, write_until(3, waker)),
+                (6, 1, write_until(6, waker)),
+                (9, 1, write_until(9, waker)),
                 (10, SLEEPS, Until::Asleep(2)),
                 (11, SLEEPS, Until::Asleep(1)),
             ],
