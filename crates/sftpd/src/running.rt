@@ -131,7 +131,7 @@ fn serve_socket<T: Threads + Wait + Sync, G: StepObserver + Sync>(
 ) -> u8
     requires { 0 < serving.keep }
 {
-    match serve(rt, threads, serving, observer) {
+    match serve(rt, threads, serving, observer, &mut rt.stdout()) {
         Ok(()) => 0,
         Err(fault) => {
             if let Some(line) = fault.line() {
