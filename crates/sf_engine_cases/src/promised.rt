@@ -1,7 +1,7 @@
 //! An engine that is known by the trait `Sftp` alone.
 
-use sf_cases::hex_packets;
 use sf_engine::{Engine, Event, Happened, Sftp, apply_all};
+use sf_hex::hex_packets;
 use std::alloc::Global;
 use std::process::Abort;
 use std::test::*;

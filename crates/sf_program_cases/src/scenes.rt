@@ -106,7 +106,7 @@ fn serve<R: Threads + Wait + Sync>(
 /// Serves these clients. Each has one session, together they make this number of calls, and no wait
 /// was given up. Returns the core, and how many calls were answered before the one that the scene
 /// is about.
-fn plays<R: Threads + Wait + Abort + Sync>(
+fn play<R: Threads + Wait + Abort + Sync>(
     rt: &R,
     alloc: Global,
     script: Script<'_>,
@@ -149,7 +149,7 @@ fn gate_two_calls(rt: HostRuntime) -> Result<(), Fail> {
         ..STOPS
     };
     let clients = [sends(&[INIT, MKDIR_A, STAT_A_F]), sends(&[INIT, MKDIR_B])];
-    plays(&rt, rt.alloc(), script, &clients, 3)?;
+    play(&rt, rt.alloc(), script, &clients, 3)?;
     Ok(())
 }
 
@@ -165,7 +165,7 @@ fn a_sleeper_is_woken(rt: HostRuntime) -> Result<(), Fail> {
         ..STOPS
     };
     let clients = [sends(&[INIT, MKDIR_A]), sends(&[INIT, MKDIR_B])];
-    plays(&rt, alloc, script, &clients, 2)?;
+    play(&rt, alloc, script, &clients, 2)?;
 
     // the second step of a STAT leaves the root; the STAT is held then
     let script = Script {
@@ -174,7 +174,7 @@ fn a_sleeper_is_woken(rt: HostRuntime) -> Result<(), Fail> {
         ..STOPS
     };
     let clients = [sends(&[INIT, MKDIR_A, STAT_A_F]), sends(&[INIT, MKDIR_B])];
-    plays(&rt, alloc, script, &clients, 3)?;
+    play(&rt, alloc, script, &clients, 3)?;
 
     // the last step of a WRITE copies its last block
     let script = Script {
@@ -184,7 +184,7 @@ fn a_sleeper_is_woken(rt: HostRuntime) -> Result<(), Fail> {
         ..STOPS
     };
     let clients = [sends(&[INIT, OPEN_F, WRITE_1]), sends(&[INIT, SIZE_F])];
-    plays(&rt, alloc, script, &clients, 3)?;
+    play(&rt, alloc, script, &clients, 3)?;
 
     // a rename helps the call, and the WRITE for which that waits, which is held
     let script = Script {
@@ -202,7 +202,7 @@ fn a_sleeper_is_woken(rt: HostRuntime) -> Result<(), Fail> {
         sends(&[INIT, SIZE_A_F]),
         sends(&[INIT, RENAME_A]),
     ];
-    plays(&rt, alloc, script, &clients, 5)?;
+    play(&rt, alloc, script, &clients, 5)?;
     Ok(())
 }
 
@@ -239,7 +239,7 @@ fn each_of_three_sleepers_is_woken(rt: HostRuntime) -> Result<(), Fail> {
             woken,
             ..STOPS
         };
-        plays(&rt, rt.alloc(), script, &clients, 12)?;
+        play(&rt, rt.alloc(), script, &clients, 12)?;
     }
     Ok(())
 }
@@ -265,7 +265,7 @@ fn an_idle_client_wakes_whom_it_helped(rt: HostRuntime) -> Result<(), Fail> {
         sends(&[INIT, MKDIR_A, OPEN_A_F, WRITE_7]),
         sends(&[INIT, SIZE_A_F]),
     ];
-    plays(&rt, rt.alloc(), script, &clients, 10)?;
+    play(&rt, rt.alloc(), script, &clients, 10)?;
     Ok(())
 }
 
@@ -277,7 +277,7 @@ fn one_call_beside_a_deaf_client(rt: HostRuntime) -> Result<(), Fail> {
         room: 16384,
         ..sends(&[INIT])
     };
-    plays(
+    play(
         &rt,
         rt.alloc(),
         FREE,
@@ -304,7 +304,7 @@ fn one_call_beside_many(rt: HostRuntime) -> Result<(), Fail> {
         more: (STAT_A, 2000),
         ..sends(&[INIT])
     };
-    let (_core, before) = plays(&rt, rt.alloc(), script, &[one, many], 2001)?;
+    let (_core, before) = play(&rt, rt.alloc(), script, &[one, many], 2001)?;
     assert!(rt; before >= 20 && before < 200, "after {before} calls");
     Ok(())
 }
@@ -349,7 +349,7 @@ fn lookups_side_by_side(rt: HostRuntime) -> Result<(), Fail> {
     };
     let mut found = 0;
     for _ in 0..100 {
-        let (core, _before) = plays(&rt, rt.alloc(), script, &[deep, root], 16_004)?;
+        let (core, _before) = play(&rt, rt.alloc(), script, &[deep, root], 16_004)?;
         found = overtakings(&core);
         if found > 0 {
             break;
