@@ -38,7 +38,8 @@ class Snapshot(Dict[str, Entry]):
         written: List[str] = []
         for path, entry in self.items():
             try:
-                write_entry(top + path, entry, first)
+                if path != "/":
+                    write_entry(top + path, entry, first)
                 written.append(path)
             except OSError as fault:
                 failed.append((path, fault))
@@ -62,7 +63,7 @@ def write_entry(place: str, entry: Entry, first: dict[int, str]) -> None:
     """Writes a directory, a file, or a further name of a file. `first` has the first names of
     files."""
     if entry.file is None:
-        os.makedirs(place, exist_ok=True)
+        os.mkdir(place)
     elif entry.file in first:
         os.link(first[entry.file], place)
     else:
@@ -101,25 +102,30 @@ class Folder:
         self._folder = folder
         self._skip = skip
         self._first: Dict[Tuple[int, int], str] = {}
+        self._names: Tuple[str, ...] = ()
+        """The path of the directory that is open."""
+        self._directory = -1
 
     def read(self) -> Dict[str, Found]:
         """The entries by their paths. A directory precedes its entries."""
         found: Dict[str, Found] = {}
         waiting: List[Tuple[str, ...]] = [()]
-        while waiting:
-            names = waiting.pop()
-            directory = self._open(names)
-            try:
-                for name in sorted(os.listdir(directory)):
+        self._directory = os.open(self._folder, TO_LIST & ~os.O_NOFOLLOW)
+        try:
+            while waiting:
+                names = waiting.pop()
+                with self._naming(names):
+                    self._enter(names)
+                for name in sorted(os.listdir(self._directory)):
                     inside = (*names, name)
                     with self._naming(inside):
-                        entry = self._entry(directory, inside)
+                        entry = self._entry(self._directory, inside)
                     if entry is not None:
                         found["/" + "/".join(inside)] = entry
                         if entry.contents is None:
                             waiting.append(inside)
-            finally:
-                os.close(directory)
+        finally:
+            os.close(self._directory)
         return found
 
     def _place(self, names: Sequence[str]) -> str:
@@ -133,17 +139,19 @@ class Folder:
         except OSError as fault:
             raise OSError(fault.errno, fault.strerror, self._place(names)) from None
 
-    def _open(self, names: Sequence[str]) -> int:
-        """The descriptor of a directory, which is opened name by name."""
-        descriptor = os.open(self._folder, TO_LIST & ~os.O_NOFOLLOW)
-        for name in names:
-            try:
-                with self._naming(names):
-                    inside = os.open(name, TO_LIST, dir_fd=descriptor)
-            finally:
-                os.close(descriptor)
-            descriptor = inside
-        return descriptor
+    def _enter(self, names: Tuple[str, ...]) -> None:
+        """Opens a directory: from its parent if that is open, and name by name otherwise."""
+        rest = names[-1:]
+        if names[:-1] != self._names:
+            self._replace(os.open(self._folder, TO_LIST & ~os.O_NOFOLLOW))
+            rest = names
+        for name in rest:
+            self._replace(os.open(name, TO_LIST, dir_fd=self._directory))
+        self._names = names
+
+    def _replace(self, directory: int) -> None:
+        os.close(self._directory)
+        self._directory = directory
 
     def _entry(self, directory: int, names: Tuple[str, ...]) -> Optional[Found]:
         status = os.stat(names[-1], dir_fd=directory, follow_symlinks=False)

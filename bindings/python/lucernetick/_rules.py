@@ -237,11 +237,9 @@ def session_number(session: Any) -> int:
 
 
 def as_pattern(path: arguments.Path) -> list[str]:
-    """The names of a path, which may have wildcards."""
-    encoded = arguments.path("path", path)
-    if not encoded:
-        raise ValueError("path must not be empty: / is the root, and None matches any path")
-    return as_names(text(arguments.normal(encoded)))
+    """The names of a path, which may have wildcards. The empty path is the root, as in the
+    protocol."""
+    return as_names(text(arguments.normal(arguments.path("path", path))))
 
 
 def as_names(path: str) -> list[str]:

@@ -19,7 +19,7 @@ TOP = 26
 ROW = 54
 BAR = 24
 GAP = 30
-LETTER = 6.3
+LETTER = 6.7
 """The width of a letter on a bar, at most."""
 HUES = (212, 28, 152, 322, 52, 262, 186, 4)
 """The colours of the clients, far from each other, as degrees of the colour wheel."""
@@ -49,7 +49,7 @@ svg .name { font: 600 13px system-ui, "DejaVu Sans", sans-serif; }
 .point.helped { fill: var(--page); stroke: hsl(var(--hue) 65% var(--dark)); }
 .help { stroke: var(--text); stroke-width: 1.4; stroke-dasharray: 3 2.5; fill: none; }
 .tip { fill: var(--text); }
-.legend { display: flex; flex-wrap: wrap; gap: 6px 26px; align-items: center;
+.legend { display: flex; flex-wrap: wrap; gap: 6px 22px; align-items: center;
   color: var(--soft); font-size: 13px; }
 .legend svg { display: inline-block; margin: 0 7px 0 0; vertical-align: -6px; }
 summary { margin-top: 8px; font-weight: 600; cursor: pointer; }
@@ -58,7 +58,7 @@ th { text-align: left; font-weight: 600; color: var(--soft); }
 th, td { padding: 4px 10px; border-bottom: 1px solid var(--line); vertical-align: top; }
 tr:nth-child(even) td { background: var(--stripe); }
 td.number { text-align: right; font-variant-numeric: tabular-nums; }
-td.failed { color: var(--wrong); }
+td.failed, .wrong { color: var(--wrong); }
 """
 LEGEND = """\
 <div class="legend" style="--hue:212">
@@ -67,9 +67,10 @@ LEGEND = """\
 <span><svg width="16" height="22"><path class="point" d="M8 4l7 7-7 7-7-7z"/></svg>linearization
 point and place in the history</span>
 <span><svg width="16" height="22"><path class="point helped" d="M8 4l7 7-7 7-7-7z"/></svg>completed
-by the call at the start of the arrow</span>
+by another client's call</span>
 <span><svg width="30" height="22"><rect class="turn" x="1" y="9" width="12" height="4"/><rect
 class="turn blocked" x="16.5" y="9.5" width="11" height="3"/></svg>turn, blocked turn</span>
+<span><span class="wrong">red</span> an error reply</span>
 </div>
 """
 

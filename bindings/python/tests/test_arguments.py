@@ -128,7 +128,6 @@ def test_faults_that_are_rejected(
 @pytest.mark.parametrize(
     ("words", "error", "says"),
     [
-        ({"path": ""}, ValueError, "path must not be empty: / is the root, and None matches any"),
         ({"path": 5}, TypeError, "path must be a str, bytes or a path, not int"),
         ({"path": "/a\0"}, ValueError, "path '/a.x00' has a NUL byte"),
         ({"path": "/" + "a" * 256}, ValueError, "path .* has a name of 256 bytes"),

@@ -177,26 +177,25 @@ def test_a_folder_keeps_its_attributes(tmp_path: Path) -> None:
 
 def test_a_tree_that_cannot_be_saved_whole(tmp_path: Path) -> None:
     """By renames clients make a path that is longer than the system's. The rest is saved."""
-    deep = "/x" * 1500
+    deep = ("/" + "x" * 255) * 15
     with running("--save", str(tmp_path / "left")) as (process, words):
         sftp(words, "mkdir /precious\nmkdir /z\n")
         config = ssh_words(words)
         with log_in(config) as client:
             files = client.open_sftp()
-            for name in "abc":
+            for name in "ab":
                 make_deep(files, "/" + name, deep)
-            files.rename("/b", "/a" + deep + "/b")
-            files.rename("/c", "/a" + deep + "/b" + deep[:400] + "/c")
+            files.rename("/b", "/a" + deep[:2560] + "/b")
         process.send_signal(signal.SIGTERM)
         _, wrong = process.communicate(timeout=LIMIT)
     assert process.returncode == 1
-    assert re.match("python -m lucernetick: not saved: '/a/x.*: File name too long\n", wrong)
+    assert re.match("python -m lucernetick: not saved: '/a/xxx.*: File name too long\n", wrong)
     assert {"a", "precious", "z"} <= set(os.listdir(tmp_path / "left"))
 
 
 def make_deep(files: paramiko.SFTPClient, top: str, deep: str) -> None:
     files.mkdir(top)
-    for end in range(2, len(deep) + 1, 2):
+    for end in range(256, len(deep) + 1, 256):
         files.mkdir(top + deep[:end])
 
 
