@@ -1,12 +1,15 @@
 package lucernetick
 
-import "testing"
+import (
+	"testing"
+	"time"
+)
 
 // The code under test writes to a temporary name, and renames.
 func TestAnUploadByATemporaryName(t *testing.T) {
 	engine := newEngine(t)
 	clock := &VirtualTime{}
-	clock.Set(7)
+	clock.Set(at(7))
 	client := connect(t, engine, clock.Now)
 	file, err := client.Create("/today.csv.part")
 	must(t, err)
@@ -17,9 +20,10 @@ func TestAnUploadByATemporaryName(t *testing.T) {
 	calls, err := engine.Calls()
 	must(t, err)
 	var wrote []Call
-	for at, call := range calls {
-		same(t, []uint64{call.Number, call.Session, uint64(call.Moment)}, []uint64{uint64(at) + 1, 1, 7})
-		same(t, call.Answer.IsOK(), true)
+	for number, call := range calls {
+		same(t, []uint64{call.Number, call.Session}, []uint64{uint64(number) + 1, 1})
+		same(t, call.Moment, at(7))
+		same(t, call.Reply.IsOK(), true)
 		same(t, call.Kind == KindOpendir, false)
 		if call.Kind == KindWrite {
 			wrote = append(wrote, call)
@@ -28,7 +32,7 @@ func TestAnUploadByATemporaryName(t *testing.T) {
 	opened, renamed := calls[0], calls[len(calls)-1]
 	same(t, opened.Kind, KindOpen)
 	same(t, opened.Path, "/today.csv.part")
-	same(t, opened.Answer.Handle, uint64(1))
+	same(t, opened.Reply.Handle, uint64(1))
 	same(t, len(wrote), 1)
 	same(t, []uint64{wrote[0].Handle, wrote[0].Offset, wrote[0].Length}, []uint64{1, 0, 6})
 	same(t, string(wrote[0].Data), "1,2,3\n")
@@ -37,12 +41,12 @@ func TestAnUploadByATemporaryName(t *testing.T) {
 }
 
 func TestWhatCallsAreAnswered(t *testing.T) {
-	engine, err := FromFiles(map[string][]byte{"/d/a": []byte("1"), "/d/b": []byte("22")}, 0)
+	engine, err := FromFiles(map[string][]byte{"/d/a": []byte("1"), "/d/b": []byte("22")}, at(0))
 	must(t, err)
 	t.Cleanup(func() { engine.Close() })
 	before, err := engine.Calls()
 	must(t, err)
-	found, err := connect(t, engine, WallClock).ReadDir("/d")
+	found, err := connect(t, engine, time.Now).ReadDir("/d")
 	must(t, err)
 	same(t, len(found), 2)
 	calls, err := engine.Calls()
@@ -50,8 +54,8 @@ func TestWhatCallsAreAnswered(t *testing.T) {
 	calls = calls[len(before):]
 	same(t, calls[0].Kind, KindOpendir)
 	same(t, calls[1].Handle, calls[0].Number)
-	same(t, calls[1].Answer.Names, []string{"a", "b"})
-	same(t, calls[2].Answer.Status, uint32(1))
+	same(t, calls[1].Reply.Names, []string{"a", "b"})
+	same(t, calls[2].Reply.Status, uint32(1))
 	engine.Close()
 	_, err = engine.Calls()
 	same(t, err, ErrBadPointer)

@@ -5,6 +5,7 @@ import (
 	"os"
 	"strings"
 	"testing"
+	"time"
 
 	"github.com/pkg/sftp"
 )
@@ -19,9 +20,7 @@ func refuse(t *testing.T, engine *Engine, rule Rule) *GivenRule {
 
 func refusals(t *testing.T, rule *GivenRule) uint64 {
 	t.Helper()
-	count, err := rule.Refused()
-	must(t, err)
-	return count
+	return rule.Refused()
 }
 
 // mkdir returns a MKDIR with this id.
@@ -29,14 +28,14 @@ func mkdir(id uint32, path string) []byte {
 	return packet(14, number(id), text([]byte(path)), number(0))
 }
 
-// codes returns the status codes that a new session receives.
-func codes(t *testing.T, engine *Engine, requests ...[]byte) []byte {
+// replied returns the status codes that a new session receives.
+func replied(t *testing.T, engine *Engine, requests ...[]byte) []byte {
 	t.Helper()
 	session := open(t, engine, looks[:9])
 	for _, request := range requests {
 		must(t, session.Feed(request))
 	}
-	_, err := session.Settle(100, 1000)
+	_, err := session.Settle(at(100), 1000)
 	must(t, err)
 	var sent []byte
 	for {
@@ -58,7 +57,7 @@ func codes(t *testing.T, engine *Engine, requests ...[]byte) []byte {
 func TestARuleRefusesTheNextRequest(t *testing.T) {
 	engine := newEngine(t)
 	rule := refuse(t, engine, Rule{})
-	same(t, codes(t, engine, mkdir(1, "/a"), mkdir(2, "/b")), []byte{4, 0})
+	same(t, replied(t, engine, mkdir(1, "/a"), mkdir(2, "/b")), []byte{4, 0})
 	same(t, refusals(t, rule), uint64(1))
 }
 
@@ -69,7 +68,7 @@ func TestEachStatusHasItsCode(t *testing.T) {
 	} {
 		engine := newEngine(t)
 		refuse(t, engine, Rule{Status: status})
-		same(t, codes(t, engine, mkdir(1, "/a")), []byte{code})
+		same(t, replied(t, engine, mkdir(1, "/a")), []byte{code})
 	}
 }
 
@@ -87,7 +86,7 @@ func TestARuleForSomeRequests(t *testing.T) {
 		engine := newEngine(t)
 		refuse(t, engine, one.rule)
 		asks := [][]byte{mkdir(1, "/a"), mkdir(2, "/b"), mkdir(3, "/c"), mkdir(4, "/d")}
-		same(t, codes(t, engine, asks...), one.wanted)
+		same(t, replied(t, engine, asks...), one.wanted)
 	}
 }
 
@@ -106,18 +105,15 @@ func TestWhatNoRuleCanBe(t *testing.T) {
 			t.Fatalf("%v: %v", one.rule, err)
 		}
 	}
-	rule := refuse(t, engine, Rule{})
 	must(t, engine.Close())
-	_, err := rule.Refused()
-	same(t, err, ErrBadPointer)
-	_, err = engine.Refuse(Rule{})
+	_, err := engine.Refuse(Rule{})
 	same(t, err, ErrBadPointer)
 }
 
 func TestAClientWhoseOpenIsRefused(t *testing.T) {
 	engine := newEngine(t)
 	rule := refuse(t, engine, Rule{Kind: KindOpen, Path: "/f", Status: StatusPermissionDenied})
-	client := connect(t, engine, WallClock)
+	client := connect(t, engine, time.Now)
 	if _, err := client.Create("/f"); !errors.Is(err, os.ErrPermission) {
 		t.Fatal(err)
 	}
@@ -129,7 +125,7 @@ func TestAClientWhoseOpenIsRefused(t *testing.T) {
 func TestAClientWhoseWriteIsRefusedTwice(t *testing.T) {
 	engine := newEngine(t)
 	rule := refuse(t, engine, Rule{Kind: KindWrite, Times: 2})
-	client := connect(t, engine, WallClock)
+	client := connect(t, engine, time.Now)
 	file, err := client.Create("/f")
 	must(t, err)
 	for i := 0; i < 2; i++ {
@@ -159,7 +155,7 @@ func TestARaceWithARefusal(t *testing.T) {
 		must(t, client.Mkdir("/a"))
 		must(t, client.Close())
 		same(t, refusals(t, rule), uint64(1))
-		same(t, races.Reproducible(), true)
+		same(t, races.Stray(), "")
 		must(t, races.Close())
 	}
 }
