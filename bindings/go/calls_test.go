@@ -1,6 +1,8 @@
 package lucernetick
 
 import (
+	"errors"
+	"fmt"
 	"testing"
 	"time"
 )
@@ -59,4 +61,77 @@ func TestWhatCallsAreAnswered(t *testing.T) {
 	engine.Close()
 	_, err = engine.Calls()
 	same(t, err, ErrBadPointer)
+}
+
+// A test that asserts that something did not happen needs all calls.
+func TestAllCallsAreKept(t *testing.T) {
+	engine := NewT(t)
+	client := connect(t, engine.Engine, time.Now)
+	_, err := client.ReadDir("/")
+	must(t, err)
+	for count := 0; count < 1000; count++ {
+		_, err := client.Stat("/")
+		must(t, err)
+	}
+	calls := engine.Calls()
+	same(t, len(calls), 3+1000)
+	same(t, calls[0].Kind, KindOpendir)
+	same(t, engine.Dropped(), uint64(0))
+}
+
+// The engine keeps the last calls, and says how many are gone.
+func TestCallsThatWereDropped(t *testing.T) {
+	for _, keep := range []uint64{1, 5, 600} {
+		engine, err := NewKeeping(keep)
+		must(t, err)
+		defer engine.Close()
+		client := connect(t, engine, time.Now)
+		for count := uint64(1); count <= 1500; count++ {
+			_, err := client.Stat("/")
+			must(t, err)
+			last, err := engine.LastCalls()
+			must(t, err)
+			kept := count
+			if kept > keep {
+				kept = keep
+			}
+			same(t, []uint64{uint64(len(last)), last[0].Number, engine.Dropped()},
+				[]uint64{kept, count - kept + 1, count - kept})
+			_, err = engine.Calls()
+			same(t, errors.Is(err, ErrDropped), count > keep)
+		}
+	}
+}
+
+// WriteFiles makes more calls at once than the library retains.
+func TestManyCallsAtOnceAreDropped(t *testing.T) {
+	engine, err := NewKeeping(7)
+	must(t, err)
+	defer engine.Close()
+	files := map[string][]byte{}
+	for count := 0; count < 300; count++ {
+		files[fmt.Sprintf("/%d", count)] = []byte("1")
+	}
+	must(t, engine.WriteFiles(files, at(0)))
+	last, err := engine.LastCalls()
+	must(t, err)
+	same(t, len(last), 7)
+	same(t, last[6].Number, engine.Dropped()+7)
+	// Each file is opened, written and closed.
+	same(t, engine.Dropped() >= 3*300-7, true)
+	_, err = engine.Calls()
+	same(t, errors.Is(err, ErrDropped), true)
+}
+
+func TestACallAsText(t *testing.T) {
+	engine := NewT(t)
+	engine.WriteFiles(map[string][]byte{"/f": []byte("123")}, at(7))
+	var lines []string
+	for _, call := range engine.Calls() {
+		lines = append(lines, call.String())
+	}
+	same(t, lines[len(lines)-2:], []string{
+		`session 1 call 2 at 7: write handle 1 offset 0 length 3 -> Success`,
+		`session 1 call 3 at 7: close handle 1 -> Success`,
+	})
 }
