@@ -112,7 +112,7 @@ func TestTheTurnsOfASeed(t *testing.T) {
 	moment := string(number(1_000_000_000))
 	same(t, reply, looked[:33]+moment+moment)
 	must(t, conns[0].Close())
-	same(t, races.Reproducible(), true)
+	same(t, races.Stray(), "")
 }
 
 // The numbers of this seed are odd, even, odd, even and odd.
@@ -180,7 +180,7 @@ func race(t *testing.T, races *Races) run {
 	}
 	<-done
 	<-done
-	same(t, races.Reproducible(), true)
+	same(t, races.Stray(), "")
 	outcome.schedule = races.Schedule()
 	outcome.tree = snapshot(t, races.Engine())
 	return outcome
@@ -240,7 +240,7 @@ func TestSchedulesThatDoNotFit(t *testing.T) {
 		}
 		both.Wait()
 		same(t, len(races.Schedule()), 10)
-		same(t, races.Reproducible(), false)
+		same(t, races.Stray() != "", true)
 	}
 }
 
@@ -257,10 +257,10 @@ func TestAClientThatWaitsForAnother(t *testing.T) {
 		conns[0].Close()
 		done <- err
 	}()
-	same(t, races.Reproducible(), true)
+	same(t, races.Stray(), "")
 	ask(t, conns[1], makes)
 	told(t, conns[1], version+28)
-	same(t, races.Reproducible(), false)
+	same(t, races.Stray() != "", true)
 	close(asked)
 	must(t, conns[1].Close())
 	must(t, <-done)
@@ -276,8 +276,10 @@ func TestAClientThatDoesNotCome(t *testing.T) {
 	conn, err := races.Connect()
 	must(t, err)
 	ask(t, conn, looks)
-	told(t, conn, version)
-	same(t, races.Reproducible(), false)
+	done := make(chan string)
+	go func() { done <- told(t, conn, version) }()
+	<-done
+	same(t, races.Stray(), "before turn 1: client 2 neither sent nor closed its connection for 50ms")
 	_, err = races.Connect()
 	must(t, err)
 	_, err = races.Connect()
@@ -300,7 +302,7 @@ func TestAClientThatGoesEarly(t *testing.T) {
 	same(t, len(races.Schedule()), 9)
 	_, there := snapshot(t, races.Engine())["/a"]
 	same(t, there, true)
-	same(t, races.Reproducible(), true)
+	same(t, races.Stray(), "")
 }
 
 func TestASessionThatEndsItself(t *testing.T) {
@@ -356,13 +358,13 @@ func TestRacesThatAreClosed(t *testing.T) {
 // The race has its own clock, and may start with files.
 func TestATreeThatIsThereBefore(t *testing.T) {
 	races := NewRaces(7, 1)
-	must(t, races.Engine().WriteFiles(map[string][]byte{"/out/x": []byte("1")}, 5))
-	races.Time.Set(1_700_000_000)
+	must(t, races.Engine().WriteFiles(map[string][]byte{"/out/x": []byte("1")}, at(5)))
+	races.Time.Set(at(1_700_000_000))
 	conn := racing(t, races)[0]
 	same(t, uploader(conn, "a"), "found, renamed")
 	found := snapshot(t, races.Engine())
-	same(t, found["/done-a/x"].Mtime, uint32(5))
-	same(t, found["/done-a/a"].Mtime, uint32(1_700_000_000))
+	same(t, found["/done-a/x"].Mtime, at(5))
+	same(t, found["/done-a/a"].Mtime, at(1_700_000_000))
 	for _, client := range races.Schedule() {
 		same(t, client, 1)
 	}
