@@ -71,7 +71,8 @@ impl Kind {
     /// Whether requests of this kind change the tree. An OPEN does so by some of its flags.
     pub(crate) fn changes(self) -> bool {
         use Kind::*;
-        let changes_names = matches!(self, Remove | Rename | PosixRename | Hardlink | Mkdir | Rmdir);
+        let changes_names =
+            matches!(self, Remove | Rename | PosixRename | Hardlink | Mkdir | Rmdir);
         changes_names || matches!(self, Write | Setstat | Fsetstat)
     }
 }
@@ -265,4 +266,3 @@ fn names_of(bytes: &[u8]) -> Vec<Vec<u8>> {
 pub(crate) unsafe fn bytes_of(bytes: &sys::Bytes) -> Vec<u8> {
     slice::from_raw_parts(bytes.at, bytes.length).to_vec()
 }
-

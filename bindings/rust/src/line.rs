@@ -50,10 +50,11 @@ impl Line {
         }
     }
 
-    /// The next bytes; none at the end of the input. Meanwhile late replies are sent.
+    /// The next bytes; none at the end of the input, or if it is cut. Meanwhile late replies are
+    /// sent.
     pub(crate) fn read(&mut self, room: &mut [u8]) -> io::Result<usize> {
         let most = self.to_come.min(room.len() as u64) as usize;
-        if most == 0 {
+        if most == 0 || self.to_go == 0 {
             return Ok(0);
         }
         self.wait_for_input();
@@ -66,20 +67,14 @@ impl Line {
         Ok(count)
     }
 
-    /// Sends the bytes, or buffers them if they are late. It ends with an error if the connection
-    /// is cut.
+    /// Sends the bytes, or buffers them if they are late. Those after a cut are dropped.
     pub(crate) fn write_all(&mut self, bytes: &[u8]) -> io::Result<()> {
         let most = self.to_go.min(bytes.len() as u64) as usize;
         self.to_go -= most as u64;
         if self.faults.delay > Duration::ZERO || self.faults.bandwidth.is_some() {
-            self.add_late(&bytes[..most])?;
-        } else {
-            self.send_all(&bytes[..most])?;
+            return self.add_late(&bytes[..most]);
         }
-        if self.to_go == 0 {
-            return Err(ErrorKind::BrokenPipe.into());
-        }
-        Ok(())
+        self.send_all(&bytes[..most])
     }
 
     /// Sends the late replies, and ends the connection. What the client has sent is read, so that

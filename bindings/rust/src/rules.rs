@@ -146,8 +146,10 @@ impl Rule {
     /// The kinds that it matches, none for all. Flags are those of OPEN, and bytes those of WRITE.
     fn checked_kinds(&self) -> Result<Vec<Kind>, Error> {
         let mut kinds = self.kinds.clone();
-        let needs =
-            [("flags", self.flags.is_some(), Kind::Open), ("after_bytes", self.after_bytes.is_some(), Kind::Write)];
+        let needs = [
+            ("flags", self.flags.is_some(), Kind::Open),
+            ("after_bytes", self.after_bytes.is_some(), Kind::Write),
+        ];
         for (name, is_given, only) in needs {
             if is_given && kinds.iter().any(|kind| *kind != only) {
                 let why = format!("{} needs Kind::{:?}, or no kind", name, only);

@@ -2,8 +2,8 @@
 
 use crate::line::Line;
 use crate::lock::{Guard, Lock};
-use crate::{Call, Engine, Entry, Error, Faults, GivenRule, Hook, OnCall, Refusal, Rule, Session};
 use crate::{arguments, Snapshot, Turn};
+use crate::{Call, Engine, Entry, Error, Faults, GivenRule, Hook, OnCall, Refusal, Rule, Session};
 use std::any::Any;
 use std::collections::BTreeMap;
 use std::fmt;

@@ -64,12 +64,7 @@ impl SshServer {
         started
     }
 
-    fn start(
-        server: &Server,
-        faults: Faults,
-        script: &Path,
-        folder: &Path,
-    ) -> io::Result<Self> {
+    fn start(server: &Server, faults: Faults, script: &Path, folder: &Path) -> io::Result<Self> {
         let faults = Arc::new(Mutex::new(faults));
         let socket = folder.join("socket");
         let listener = server.listener(&socket, Arc::clone(&faults))?;

@@ -1,7 +1,9 @@
 //! Sessions packet by packet, and snapshots.
 
 use lucernetick::unix_time as at;
-use lucernetick::{Ending, Engine, Entry, Error, Races, Refusal, Server, Session, Turn, VirtualTime};
+use lucernetick::{
+    Ending, Engine, Entry, Error, Races, Refusal, Server, Session, Turn, VirtualTime,
+};
 use std::time::Duration;
 
 const STATUS: u8 = 101;
