@@ -38,12 +38,11 @@ pub(crate) fn in_range(name: &str, value: u64, least: u64, most: u64) -> Result<
     Err(Error::Argument(format!("{} must be from {} to {}, not {}", name, least, most, value)))
 }
 
-/// A path of the tree in the server's normal form: absolute, without `.`, `..` and empty names.
+/// A path of the tree in the server's normal form: absolute, without `.`, `..` and empty names. The
+/// empty path is the root, as in the protocol.
 pub(crate) fn path(name: &str, path: &[u8]) -> Result<Vec<u8>, Error> {
     let longest = path.split(|byte| *byte == b'/').map(<[u8]>::len).max().unwrap_or(0);
-    let why = if path.is_empty() {
-        "must not be empty: / is the root"
-    } else if path.contains(&0) {
+    let why = if path.contains(&0) {
         "must not have a byte 0"
     } else if path.len() > LONGEST_PATH {
         "must have at most 4096 bytes"
@@ -67,14 +66,6 @@ fn normal(path: &[u8]) -> Vec<u8> {
     [b"/", names.join(&b'/').as_slice()].concat()
 }
 
-/// As `path` for a path that a client sent.
-pub(crate) fn sent_path(sent: &[u8]) -> Option<Vec<u8>> {
-    if sent.is_empty() {
-        return Some(normal(sent));
-    }
-    path("path", sent).ok()
-}
-
 #[cfg(test)]
 mod tests {
     use super::*;
@@ -83,6 +74,7 @@ mod tests {
     fn normal_forms() {
         for (path, wanted) in [
             ("/", "/"),
+            ("", "/"),
             ("a", "/a"),
             ("/a//b/./c/", "/a/b/c"),
             ("/a/../../b", "/b"),

@@ -1,7 +1,6 @@
 //! Requests of clients: bytes are cut into packets, and a packet is read for rules and callbacks.
 
-use crate::arguments::sent_path;
-use crate::Kind;
+use crate::{arguments, Kind};
 
 /// The greatest length of a packet.
 const LONGEST: usize = 262144;
@@ -89,7 +88,7 @@ impl<'a> Fields<'a> {
 
     /// A path in normal form. The server rejects some texts itself.
     fn path(&mut self) -> Option<Vec<u8>> {
-        sent_path(self.string()?)
+        arguments::path("path", self.string()?).ok()
     }
 
     fn handle(&mut self) -> Option<u64> {

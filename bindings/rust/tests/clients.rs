@@ -307,9 +307,9 @@ fn fed(server: &Server, bytes: &[u8]) -> Session {
 
 /// Runs this number of turns with the timestamp 100; the session's call is then in progress.
 fn hold(server: &Server, session: Session, turns: u64) {
-    let mut last =
-        (0..turns).map(|_| server.with_engine(|engine| engine.turn(session, at(100)).unwrap()));
-    assert_eq!(last.next_back(), Some(Turn::Moved));
+    let turn = |_| server.with_engine(|engine| engine.turn(session, at(100)).unwrap());
+    let did: Vec<Turn> = (0..turns).map(turn).collect();
+    assert_eq!(did.last(), Some(&Turn::Moved));
 }
 
 /// Runs turns with the timestamp 100.

@@ -97,7 +97,6 @@ fn what_no_rule_can_be() {
     let mut engine = Engine::new().unwrap();
     let rule = Rule::default;
     for (rule, wanted) in [
-        (rule().path(""), "path must not be empty: / is the root"),
         (rule().path("/a\0"), "path must not have a byte 0"),
         (rule().path("/a".repeat(3000)), "path must have at most 4096 bytes"),
         (rule().path("a".repeat(256)), "path must have no name of more than 255 bytes"),
@@ -202,6 +201,17 @@ fn patterns_of_paths() {
     assert!(!server.snapshot().unwrap().contains("/out/b.part"));
     server.refuse(Rule::default().path(escape("/in/[a]")).always()).unwrap();
     client.read("/in/a").unwrap();
+}
+
+/// The empty path is the root, in a rule as in a request.
+#[test]
+fn the_empty_path() {
+    for (path, asked) in [("", "/"), ("/", ""), ("", ".")] {
+        let (_server, mut client, rule) = with_rule(Rule::default().path(path).always());
+        client.list("/in").unwrap();
+        assert!(client.list(asked).is_err());
+        assert_eq!(rule.refused(), 1);
+    }
 }
 
 #[test]
