@@ -10,6 +10,7 @@ import threading
 from typing import (
     TYPE_CHECKING,
     Callable,
+    Iterator,
     NamedTuple,
     Optional,
     Protocol,
@@ -289,10 +290,17 @@ class Server(Closes, Refuses, Watches):
 
     def _serve(self, session: Session, line: Line) -> None:
         """Serves a session until its client, it or the engine ends."""
-        try:
-            with contextlib.closing(line), contextlib.suppress(LineEnded):
-                self._pump(session, line)
+        # The fault is known before the client sees the end of its connection.
+        with contextlib.closing(line), self._reporting(), contextlib.suppress(LineEnded):
+            self._pump(session, line)
+        with self._reporting():
             self._leave(session)
+
+    @contextlib.contextmanager
+    def _reporting(self) -> Iterator[None]:
+        """An exception ends the server, unless its engine was closed."""
+        try:
+            yield
         except BaseException as fault:
             is_closed = isinstance(fault, RefusedError) and fault.refusal == Refusal.BAD_POINTER
             if not is_closed:

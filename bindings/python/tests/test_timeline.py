@@ -16,7 +16,7 @@ from lucernetick import Connection, Engine, Kind, Races, Turn
 
 from packets import INIT, RENAME, STAT, packet, string, u32
 
-LIMIT = 120
+LIMIT = 600
 CHROMIUM = shutil.which("chromium") or shutil.which("chromium-browser")
 
 
