@@ -64,7 +64,7 @@ pub(super) struct ClientLine<'a> {
 impl<'a> ClientLine<'a> {
     pub(super) fn new(
         alloc: Global,
-        client: &Client<'a>,
+        client: &Client<'_>,
         input: &'a [u8],
         signs: &'a Signs,
     ) -> ClientLine<'a> {
