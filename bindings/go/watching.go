@@ -142,6 +142,9 @@ func (engine *Engine) wait(timeout time.Duration, why string, ready func() (bool
 		if engine.pointer == nil {
 			return ErrBadPointer
 		}
+		if err := engine.stopped(); err != nil {
+			return err
+		}
 		if done, err := ready(); done || err != nil {
 			return err
 		}
@@ -152,8 +155,18 @@ func (engine *Engine) wait(timeout time.Duration, why string, ready func() (bool
 		if engine.lock.isCalling() {
 			return errWaits
 		}
-		engine.waitUntil(end)
+		engine.waitUntil(earlier(end, time.Now().Add(checkEvery)))
 	}
+}
+
+// checkEvery is how often a waiting test sees whether its server has stopped.
+const checkEvery = time.Second
+
+func earlier(one, other time.Time) time.Time {
+	if one.Before(other) {
+		return one
+	}
+	return other
 }
 
 // shown returns the last calls as text.

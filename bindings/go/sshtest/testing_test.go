@@ -173,6 +173,26 @@ func TestAServerStops(t *testing.T) {
 	}
 }
 
+// A test that waits for a client ends when the server stops.
+func TestWaitingAtAServerThatStops(t *testing.T) {
+	engine := lucernetick.NewT(t)
+	server := sshtest.NewServer(engine.Engine)
+	engine.Check(server.Err)
+	engine.OnCall(nil, func(lucernetick.Call) { panic("no time") })
+	client, err := sftp.NewClient(dial(t, server))
+	must(t, err)
+	go client.Mkdir("/a")
+	begin := time.Now()
+	_, err = engine.Engine.WaitFor("/none", time.Minute)
+	var stopped *lucernetick.StoppedError
+	if !errors.As(err, &stopped) || time.Since(begin) > 50*time.Second {
+		t.Fatal(err)
+	}
+	if server.Close() == nil {
+		t.Fatal("the server did not stop")
+	}
+}
+
 // Rules, and waiting, over a port.
 func TestAnUploadOverSSH(t *testing.T) {
 	server := sshtest.NewServerT(t)
