@@ -1,9 +1,12 @@
 //! The records of an engine's calls.
 
-use crate::{checked, sys, Engine, Refusal};
+use crate::arguments::unix_time;
+use crate::{message, sys};
+use std::fmt;
 use std::slice;
+use std::time::{SystemTime, UNIX_EPOCH};
 
-/// The request of a call, or the requests that a `Rule` matches. Records have `Stat` for LSTAT.
+/// The kind of a request or a call. The record of an LSTAT call has `Stat`.
 #[derive(Clone, Copy, Debug, PartialEq, Eq)]
 #[non_exhaustive]
 pub enum Kind {
@@ -11,7 +14,7 @@ pub enum Kind {
     Close,
     Read,
     Write,
-    /// Only in a `Rule`.
+    /// Only of requests.
     Lstat,
     Fstat,
     Setstat,
@@ -21,7 +24,7 @@ pub enum Kind {
     Remove,
     Mkdir,
     Rmdir,
-    /// Only in a `Rule`.
+    /// Only of requests: it reads nothing of the tree, so no call is recorded.
     Realpath,
     Stat,
     Rename,
@@ -31,52 +34,70 @@ pub enum Kind {
     Other(u32),
 }
 
+/// The kinds with their numbers, and their names in texts.
+const KINDS: [(Kind, u32, &str); 18] = [
+    (Kind::Open, 3, "open"),
+    (Kind::Close, 4, "close"),
+    (Kind::Read, 5, "read"),
+    (Kind::Write, 6, "write"),
+    (Kind::Lstat, 7, "lstat"),
+    (Kind::Fstat, 8, "fstat"),
+    (Kind::Setstat, 9, "setstat"),
+    (Kind::Fsetstat, 10, "fsetstat"),
+    (Kind::Opendir, 11, "opendir"),
+    (Kind::Readdir, 12, "readdir"),
+    (Kind::Remove, 13, "remove"),
+    (Kind::Mkdir, 14, "mkdir"),
+    (Kind::Rmdir, 15, "rmdir"),
+    (Kind::Realpath, 16, "realpath"),
+    (Kind::Stat, 17, "stat"),
+    (Kind::Rename, 18, "rename"),
+    (Kind::PosixRename, 201, "posix-rename"),
+    (Kind::Hardlink, 202, "hardlink"),
+];
+
 impl Kind {
-    fn of_number(number: u32) -> Self {
-        match number {
-            3 => Kind::Open,
-            4 => Kind::Close,
-            5 => Kind::Read,
-            6 => Kind::Write,
-            8 => Kind::Fstat,
-            9 => Kind::Setstat,
-            10 => Kind::Fsetstat,
-            11 => Kind::Opendir,
-            12 => Kind::Readdir,
-            13 => Kind::Remove,
-            14 => Kind::Mkdir,
-            15 => Kind::Rmdir,
-            17 => Kind::Stat,
-            18 => Kind::Rename,
-            201 => Kind::PosixRename,
-            202 => Kind::Hardlink,
-            other => Kind::Other(other),
-        }
+    pub(crate) fn of_number(number: u32) -> Self {
+        let found = KINDS.iter().find(|(_, known, _)| *known == number);
+        found.map_or(Kind::Other(number), |(kind, _, _)| *kind)
     }
 
-    pub(crate) fn number(self) -> u32 {
-        match self {
-            Kind::Open => 3,
-            Kind::Close => 4,
-            Kind::Read => 5,
-            Kind::Write => 6,
-            Kind::Lstat => 7,
-            Kind::Fstat => 8,
-            Kind::Setstat => 9,
-            Kind::Fsetstat => 10,
-            Kind::Opendir => 11,
-            Kind::Readdir => 12,
-            Kind::Remove => 13,
-            Kind::Mkdir => 14,
-            Kind::Rmdir => 15,
-            Kind::Realpath => 16,
-            Kind::Stat => 17,
-            Kind::Rename => 18,
-            Kind::PosixRename => 201,
-            Kind::Hardlink => 202,
-            Kind::Other(other) => other,
+    /// Whether requests of this kind have a handle instead of a path.
+    pub(crate) fn is_by_handle(self) -> bool {
+        use Kind::*;
+        matches!(self, Close | Read | Write | Fstat | Fsetstat | Readdir)
+    }
+
+    /// Whether requests of this kind change the tree. An OPEN does so by some of its flags.
+    pub(crate) fn changes(self) -> bool {
+        use Kind::*;
+        let changes_names =
+            matches!(self, Remove | Rename | PosixRename | Hardlink | Mkdir | Rmdir);
+        changes_names || matches!(self, Write | Setstat | Fsetstat)
+    }
+}
+
+/// As in a log, such as `posix-rename`.
+impl fmt::Display for Kind {
+    fn fmt(&self, f: &mut fmt::Formatter<'_>) -> fmt::Result {
+        match KINDS.iter().find(|(kind, _, _)| kind == self) {
+            Some((_, _, name)) => f.write_str(name),
+            None => write!(f, "{:?}", self),
         }
     }
+}
+
+/// The bits of OPEN's pflags.
+#[derive(Clone, Copy, Debug)]
+pub enum OpenFlag {}
+
+impl OpenFlag {
+    pub const READ: u32 = 1;
+    pub const WRITE: u32 = 2;
+    pub const APPEND: u32 = 4;
+    pub const CREATE: u32 = 8;
+    pub const TRUNCATE: u32 = 16;
+    pub const EXCL: u32 = 32;
 }
 
 /// The attributes of a request or a reply; `None` if not given.
@@ -88,8 +109,8 @@ pub struct Attributes {
     pub gid: Option<u32>,
     /// Type and permissions.
     pub permissions: Option<u32>,
-    pub atime: Option<u32>,
-    pub mtime: Option<u32>,
+    pub atime: Option<SystemTime>,
+    pub mtime: Option<SystemTime>,
 }
 
 impl Attributes {
@@ -100,8 +121,8 @@ impl Attributes {
             uid: given(2).then_some(found.uid),
             gid: given(2).then_some(found.gid),
             permissions: given(4).then_some(found.permissions),
-            atime: given(8).then_some(found.atime),
-            mtime: given(8).then_some(found.mtime),
+            atime: given(8).then(|| unix_time(found.atime)),
+            mtime: given(8).then(|| unix_time(found.mtime)),
         }
     }
 }
@@ -142,8 +163,8 @@ pub struct Call {
     /// 1, 2, 3 and so on, as calls begin.
     pub number: u64,
     pub session: u64,
-    /// The timestamp at which it began, in seconds since 1970.
-    pub moment: u32,
+    /// The timestamp at which it began.
+    pub moment: SystemTime,
     pub kind: Kind,
     /// Absolute, in normal form; of a rename or a link the old path.
     pub path: Vec<u8>,
@@ -153,7 +174,7 @@ pub struct Call {
     pub offset: u64,
     /// The number of bytes requested or written.
     pub length: u64,
-    /// The pflags of OPEN.
+    /// The pflags of OPEN, see `OpenFlag`.
     pub flags: u32,
     /// The bytes of WRITE.
     pub data: Vec<u8>,
@@ -163,11 +184,11 @@ pub struct Call {
 
 impl Call {
     /// SAFETY: the bytes of the record must still be valid: no other call was made on its engine.
-    unsafe fn of(told: &sys::Call) -> Self {
+    pub(crate) unsafe fn of(told: &sys::Call) -> Self {
         Call {
             number: told.number,
             session: told.session,
-            moment: told.moment,
+            moment: unix_time(told.moment),
             kind: Kind::of_number(told.kind),
             path: bytes_of(&told.path),
             new_path: bytes_of(&told.new_path),
@@ -180,6 +201,44 @@ impl Call {
             answer: answer_of(told),
         }
     }
+}
+
+/// One line: its session, number, timestamp, request and reply.
+impl fmt::Display for Call {
+    fn fmt(&self, f: &mut fmt::Formatter<'_>) -> fmt::Result {
+        let moment = self.moment.duration_since(UNIX_EPOCH).unwrap_or_default().as_secs();
+        write!(f, "session {} call {} at {}: ", self.session, self.number, moment)?;
+        write!(f, "{}", self.kind)?;
+        for path in [&self.path, &self.new_path].into_iter().filter(|path| !path.is_empty()) {
+            write!(f, " \"{}\"", path.escape_ascii())?;
+        }
+        if self.kind.is_by_handle() {
+            write!(f, " handle {}", self.handle)?;
+        }
+        if matches!(self.kind, Kind::Read | Kind::Write) {
+            write!(f, " offset {} length {}", self.offset, self.length)?;
+        }
+        write!(f, " -> {}", self.answer)
+    }
+}
+
+impl fmt::Display for Answer {
+    fn fmt(&self, f: &mut fmt::Formatter<'_>) -> fmt::Result {
+        match self {
+            Answer::Status(code) => f.write_str(status_text(*code)),
+            Answer::NoMemory => f.write_str("Out of memory"),
+            Answer::Handle(handle) => write!(f, "handle {}", handle),
+            Answer::Data(data) => write!(f, "data of length {}", data.len()),
+            Answer::Names(names) => write!(f, "names {}", names.len()),
+            Answer::Attributes(_) => f.write_str("attributes"),
+            Answer::Other(number) => write!(f, "answer {}", number),
+        }
+    }
+}
+
+/// The message of a status code.
+pub(crate) fn status_text(code: u32) -> &'static str {
+    message(sys::LT_REFUSAL_STATUS_BASE - i64::from(code))
 }
 
 /// SAFETY: as for `Call::of`.
@@ -206,54 +265,4 @@ fn names_of(bytes: &[u8]) -> Vec<Vec<u8>> {
 /// SAFETY: the bytes must be valid.
 pub(crate) unsafe fn bytes_of(bytes: &sys::Bytes) -> Vec<u8> {
     slice::from_raw_parts(bytes.at, bytes.length).to_vec()
-}
-
-/// The retained records, in the order in which the calls took effect, the oldest first. It stops
-/// after an error.
-#[derive(Debug)]
-pub struct Calls<'a> {
-    engine: &'a mut Engine,
-    at: u64,
-}
-
-impl Engine {
-    /// The retained records of calls, including those of `write_files`.
-    pub fn calls(&mut self) -> Calls<'_> {
-        Calls { engine: self, at: 0 }
-    }
-}
-
-impl Calls<'_> {
-    /// The record at the current index, which advances.
-    fn step(&mut self) -> Result<Option<sys::Call>, Refusal> {
-        let mut told = sys::Call::default();
-        // SAFETY: the pointer is an engine's, which only `drop` frees, and the other one is of a
-        // local variable.
-        let answer = unsafe { sys::lt_calls(self.engine.pointer.as_ptr(), self.at, &mut told) };
-        let count = checked(answer)?;
-        if self.at >= count {
-            return Ok(None);
-        }
-        self.at += 1;
-        Ok(Some(told))
-    }
-}
-
-impl Iterator for Calls<'_> {
-    type Item = Result<Call, Refusal>;
-
-    fn next(&mut self) -> Option<Self::Item> {
-        loop {
-            match self.step() {
-                Ok(Some(told)) if told.kind == 0 => {}
-                // SAFETY: no call was made since.
-                Ok(Some(told)) => return Some(Ok(unsafe { Call::of(&told) })),
-                Ok(None) => return None,
-                Err(refusal) => {
-                    self.at = u64::MAX;
-                    return Some(Err(refusal));
-                }
-            }
-        }
-    }
 }

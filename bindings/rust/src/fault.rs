@@ -3,7 +3,7 @@
 use crate::message;
 use std::error;
 use std::fmt;
-use std::io;
+use std::io::{self, ErrorKind};
 
 /// Why the engine rejected a call. The call has changed nothing and may be retried.
 #[derive(Clone, Copy, Debug, PartialEq, Eq)]
@@ -21,12 +21,6 @@ pub enum Refusal {
     NotSent,
     /// A path, or both of a link, do not fit in a packet: 262080 bytes.
     LongPath,
-    /// The kind of a rule is not a request's.
-    BadKind,
-    /// The path of a rule has more than 4096 bytes, a name of more than 255, or a byte 0.
-    BadPath,
-    /// The rule belongs to another engine.
-    NoSuchRule,
     /// A number of the library that this crate does not know.
     Other(i64),
 }
@@ -41,9 +35,6 @@ impl Refusal {
             -5 => Refusal::NumbersSpent,
             -6 => Refusal::NotSent,
             -10 => Refusal::LongPath,
-            -12 => Refusal::BadKind,
-            -14 => Refusal::BadPath,
-            -15 => Refusal::NoSuchRule,
             other => Refusal::Other(other),
         }
     }
@@ -57,9 +48,6 @@ impl Refusal {
             Refusal::NumbersSpent => -5,
             Refusal::NotSent => -6,
             Refusal::LongPath => -10,
-            Refusal::BadKind => -12,
-            Refusal::BadPath => -14,
-            Refusal::NoSuchRule => -15,
             Refusal::Other(other) => other,
         }
     }
@@ -75,29 +63,34 @@ impl error::Error for Refusal {}
 
 impl From<Refusal> for io::Error {
     fn from(refusal: Refusal) -> Self {
-        io::Error::new(io::ErrorKind::Other, refusal)
+        Error::from(refusal).into()
     }
 }
 
-impl From<Error> for io::Error {
-    fn from(fault: Error) -> Self {
-        io::Error::new(io::ErrorKind::Other, fault)
-    }
-}
-
-/// Why files were not written.
+/// The errors of this crate.
 #[derive(Clone, Debug, PartialEq, Eq)]
 #[non_exhaustive]
 pub enum Error {
     /// The engine rejected a call.
     Refused(Refusal),
-    /// A request returned an error status: its code and message.
-    Status(u32, String),
-    /// A call of another session, still in progress, blocks the request. The request stays in
-    /// progress, and only `run_all` advances it. It may hold a directory until then.
+    /// An argument is invalid. The text has its name and its range.
+    Argument(String),
+    /// The server replied to a request with a status other than OK.
+    #[non_exhaustive]
+    Status { code: u32, message: String, request: String },
+    /// A call of another session, still in progress, blocks a request of `write_files`. The request
+    /// stays in progress, and only `run_all` advances it. It may hold a directory until then.
     Blocked,
-    /// A reply is not the expected one.
-    Reply,
+    /// A session ended before its reply, or the reply is not the expected one.
+    Ended,
+    /// `calls()` would be incomplete: this many records were dropped. `last_calls` returns those
+    /// that are kept.
+    Dropped(u64),
+    /// A thread of a server, or the scheduler of a race, ended by this panic or error. All
+    /// connections were closed.
+    Stopped(String),
+    /// What `wait_for` or `wait_for_call` waits for did not happen within the timeout.
+    TimedOut(String),
 }
 
 impl From<Refusal> for Error {
@@ -106,13 +99,34 @@ impl From<Refusal> for Error {
     }
 }
 
+impl From<Error> for io::Error {
+    fn from(fault: Error) -> Self {
+        let kind = match &fault {
+            Error::Argument(_) => ErrorKind::InvalidInput,
+            Error::Status { code: 2, .. } => ErrorKind::NotFound,
+            Error::Status { code: 3, .. } => ErrorKind::PermissionDenied,
+            Error::Ended => ErrorKind::UnexpectedEof,
+            Error::Stopped(_) => ErrorKind::BrokenPipe,
+            Error::TimedOut(_) => ErrorKind::TimedOut,
+            _ => ErrorKind::Other,
+        };
+        io::Error::new(kind, fault)
+    }
+}
+
 impl fmt::Display for Error {
     fn fmt(&self, f: &mut fmt::Formatter<'_>) -> fmt::Result {
         match self {
             Error::Refused(refusal) => refusal.fmt(f),
-            Error::Status(code, message) => write!(f, "status {}: {}", code, message),
-            Error::Blocked => f.write_str("the call of another session is in the way"),
-            Error::Reply => f.write_str("a reply isn't what its request is answered"),
+            Error::Argument(why) => write!(f, "the argument is wrong: {}", why),
+            Error::Status { message, request, .. } => write!(f, "{}: {}", request, message),
+            Error::Blocked => f.write_str("a call of another session blocks the request"),
+            Error::Ended => f.write_str("the session ended before the expected reply"),
+            Error::Dropped(count) => {
+                write!(f, "{} calls were dropped: the engine keeps only the last ones", count)
+            }
+            Error::Stopped(why) => write!(f, "all connections were closed: {}", why),
+            Error::TimedOut(why) => f.write_str(why),
         }
     }
 }

@@ -8,6 +8,7 @@ use std::io::{self, ErrorKind};
 use std::os::unix::ffi::OsStrExt;
 use std::os::unix::fs::{DirBuilderExt, FileExt, MetadataExt, OpenOptionsExt, PermissionsExt};
 use std::path::{Path, PathBuf};
+use std::time::{SystemTime, UNIX_EPOCH};
 
 impl Snapshot {
     /// Writes the tree to a folder of the system, which it makes if necessary: names, contents,
@@ -54,7 +55,10 @@ fn set_attributes(entry: &Entry, to: &Path) -> io::Result<()> {
     fs::set_permissions(to, Permissions::from_mode(entry.mode & 0o777))?;
     let path = CString::new(to.as_os_str().as_bytes())?;
     let times = [entry.atime, entry.mtime];
-    let times = times.map(|moment| sys::Timespec { seconds: i64::from(moment), nanoseconds: 0 });
+    let times = times.map(|moment| {
+        let since = moment.duration_since(UNIX_EPOCH).unwrap_or_default();
+        sys::Timespec { seconds: since.as_secs() as i64, nanoseconds: 0 }
+    });
     // SAFETY: the path is NUL-terminated, and both times are valid.
     let answer = unsafe { sys::utimensat(sys::AT_FDCWD, path.as_ptr(), times.as_ptr(), 0) };
     if answer == 0 {
@@ -67,7 +71,7 @@ impl Engine {
     /// An engine with a copy of a folder of the system: names, contents and hard links, as by
     /// `write_files`, but no permissions or times. Anything else than files and directories is an
     /// error.
-    pub fn from_folder(folder: impl AsRef<Path>, moment: u32) -> io::Result<Self> {
+    pub fn from_folder(folder: impl AsRef<Path>, moment: SystemTime) -> io::Result<Self> {
         let mut engine = Engine::new()?;
         let mut names = BTreeMap::new();
         let mut folders = vec![(folder.as_ref().to_path_buf(), Vec::new())];
@@ -89,7 +93,7 @@ impl Engine {
         &mut self,
         entry: &DirEntry,
         path: Vec<u8>,
-        moment: u32,
+        moment: SystemTime,
         names: &mut BTreeMap<(u64, u64), Vec<u8>>,
     ) -> io::Result<()> {
         let found = entry.metadata()?;

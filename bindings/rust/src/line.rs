@@ -1,14 +1,21 @@
 //! The server's end of a connection.
 
-use crate::sys;
+use crate::{sys, Faults};
 use std::collections::VecDeque;
 use std::io::{self, ErrorKind, Read};
+use std::net::Shutdown;
+use std::os::raw::{c_int, c_short};
 use std::os::unix::io::AsRawFd;
 use std::os::unix::net::UnixStream;
+use std::thread;
+use std::time::{Duration, Instant};
 
 const PIECE: usize = 65536;
-/// How many bytes of requests are buffered at most while replies cannot be sent.
+/// How many bytes are buffered at most: of requests while replies cannot be sent, and of replies
+/// that are late.
 const MOST_AHEAD: usize = 1 << 24;
+/// How often to look in a row whether the client has received a chunk, before it pauses.
+const LOOKS: u32 = 200;
 
 /// A connection that continues to read while it cannot send, and buffers the input. So a client
 /// that sends before it reads does not deadlock.
@@ -16,15 +23,74 @@ pub(crate) struct Line {
     stream: UnixStream,
     ahead: VecDeque<u8>,
     has_ended: bool,
+    faults: Faults,
+    /// How many bytes are received, and sent, before it is cut.
+    to_come: u64,
+    to_go: u64,
+    /// Replies, and when to send them.
+    late: VecDeque<(Instant, Vec<u8>)>,
+    late_bytes: usize,
+    /// When the bandwidth allows to send further bytes.
+    free: Instant,
 }
 
 impl Line {
-    pub(crate) fn new(stream: UnixStream) -> Self {
-        Self { stream, ahead: VecDeque::new(), has_ended: false }
+    pub(crate) fn new(stream: UnixStream, faults: Faults) -> Self {
+        let left = faults.cut_after.unwrap_or(u64::MAX);
+        Self {
+            stream,
+            ahead: VecDeque::new(),
+            has_ended: false,
+            faults,
+            to_come: left,
+            to_go: left,
+            late: VecDeque::new(),
+            late_bytes: 0,
+            free: Instant::now(),
+        }
     }
 
-    /// The next bytes; none at the end of the input.
+    /// The next bytes; none at the end of the input, or if it is cut. Meanwhile late replies are
+    /// sent.
     pub(crate) fn read(&mut self, room: &mut [u8]) -> io::Result<usize> {
+        let most = self.to_come.min(room.len() as u64) as usize;
+        if most == 0 || self.to_go == 0 {
+            return Ok(0);
+        }
+        self.wait_for_input();
+        let count = self.read_some(&mut room[..most])?;
+        self.to_come -= count as u64;
+        if self.faults.bandwidth.is_some() {
+            let until = Instant::now() + self.faults.time_of(count);
+            self.send_late_or_drop(until);
+        }
+        Ok(count)
+    }
+
+    /// Sends the bytes, or buffers them if they are late. Those after a cut are dropped.
+    pub(crate) fn write_all(&mut self, bytes: &[u8]) -> io::Result<()> {
+        let most = self.to_go.min(bytes.len() as u64) as usize;
+        self.to_go -= most as u64;
+        if self.faults.delay > Duration::ZERO || self.faults.bandwidth.is_some() {
+            return self.add_late(&bytes[..most]);
+        }
+        self.send_all(&bytes[..most])
+    }
+
+    /// Sends the late replies, and ends the connection. What the client has sent is read, so that
+    /// it finds the end of the stream, and no reset.
+    pub(crate) fn end(&mut self) -> io::Result<()> {
+        while let Some((until, _)) = self.late.front() {
+            let until = *until;
+            self.send_late(until)?;
+        }
+        self.stream.shutdown(Shutdown::Both)?;
+        let mut room = [0; PIECE];
+        while self.stream.read(&mut room)? > 0 {}
+        Ok(())
+    }
+
+    fn read_some(&mut self, room: &mut [u8]) -> io::Result<usize> {
         if !self.ahead.is_empty() {
             let count = self.ahead.read(room)?;
             if self.ahead.is_empty() {
@@ -35,23 +101,35 @@ impl Line {
         if self.has_ended {
             return Ok(0);
         }
-        self.stream.read(room)
+        loop {
+            match self.stream.read(room) {
+                Err(fault) if fault.kind() == ErrorKind::Interrupted => {}
+                read => return read,
+            }
+        }
     }
 
-    pub(crate) fn write_all(&mut self, bytes: &[u8]) -> io::Result<()> {
+    fn send_all(&mut self, bytes: &[u8]) -> io::Result<()> {
+        let chunk = self.faults.chunk.map_or(bytes.len(), |chunk| chunk as usize);
+        for part in bytes.chunks(chunk.max(1)) {
+            self.send_part(part)?;
+            if self.faults.chunk.is_some() {
+                self.wait_until_received()?;
+            }
+        }
+        Ok(())
+    }
+
+    fn send_part(&mut self, bytes: &[u8]) -> io::Result<()> {
         let mut rest = bytes;
         while !rest.is_empty() {
-            let moved = match self.send(rest) {
-                Ok(count) => {
-                    rest = &rest[count..];
-                    Ok(())
+            match self.send(rest) {
+                Ok(count) => rest = &rest[count..],
+                Err(fault) if fault.kind() == ErrorKind::WouldBlock => {
+                    self.wait(sys::POLLOUT, -1)?;
                 }
-                Err(fault) if fault.kind() == ErrorKind::WouldBlock => self.wait(),
-                Err(fault) => Err(fault),
-            };
-            match moved {
-                Err(fault) if fault.kind() != ErrorKind::Interrupted => return Err(fault),
-                _ => {}
+                Err(fault) if fault.kind() == ErrorKind::Interrupted => {}
+                Err(fault) => return Err(fault),
             }
         }
         Ok(())
@@ -66,20 +144,27 @@ impl Line {
         usize::try_from(sent).map_err(|_| io::Error::last_os_error())
     }
 
-    /// Waits until it can send or receive; reads what arrives.
-    fn wait(&mut self) -> io::Result<()> {
+    /// Waits for these events, for this time in milliseconds, or until there is input, which it
+    /// reads. Returns whether the connection is closed.
+    fn wait(&mut self, events: c_short, most: c_int) -> io::Result<bool> {
         let reads = !self.has_ended && self.ahead.len() < MOST_AHEAD;
-        let events = if reads { sys::POLLIN | sys::POLLOUT } else { sys::POLLOUT };
-        let mut line = sys::PollFd { fd: self.stream.as_raw_fd(), events, revents: 0 };
-        // SAFETY: it is one element, which nothing else uses.
-        let found = unsafe { sys::poll(&mut line, 1, -1) };
-        if found < 0 {
-            return Err(io::Error::last_os_error());
-        }
-        if reads && line.revents & sys::POLLOUT == 0 {
+        let found = self.poll(if reads { events | sys::POLLIN } else { events }, most)?;
+        let is_input = found & sys::POLLIN != 0 && found & sys::POLLOUT == 0;
+        if reads && is_input {
             self.read_ahead()?;
         }
-        Ok(())
+        Ok(found & (sys::POLLHUP | sys::POLLERR) != 0)
+    }
+
+    /// The events that occurred.
+    fn poll(&self, events: c_short, most: c_int) -> io::Result<c_short> {
+        let mut line = sys::PollFd { fd: self.stream.as_raw_fd(), events, revents: 0 };
+        // SAFETY: it is one element, which nothing else uses.
+        if unsafe { sys::poll(&mut line, 1, most) } < 0 {
+            let fault = io::Error::last_os_error();
+            return if fault.kind() == ErrorKind::Interrupted { Ok(0) } else { Err(fault) };
+        }
+        Ok(line.revents)
     }
 
     fn read_ahead(&mut self) -> io::Result<()> {
@@ -89,4 +174,86 @@ impl Line {
         self.ahead.extend(&piece[..count]);
         Ok(())
     }
+
+    fn wait_until_received(&mut self) -> io::Result<()> {
+        let mut looks = 0;
+        while self.unreceived()? > 0 {
+            looks += 1;
+            if looks < LOOKS {
+                thread::yield_now();
+            } else if self.wait(0, 1)? {
+                return Err(ErrorKind::BrokenPipe.into());
+            }
+        }
+        Ok(())
+    }
+
+    /// Some number other than 0 if the client has not received all bytes that were sent.
+    fn unreceived(&self) -> io::Result<c_int> {
+        let mut count: c_int = 0;
+        // SAFETY: it writes a number, which is of a local variable.
+        if unsafe { sys::ioctl(self.stream.as_raw_fd(), sys::SIOCOUTQ, &mut count) } < 0 {
+            return Err(io::Error::last_os_error());
+        }
+        Ok(count)
+    }
+
+    fn add_late(&mut self, bytes: &[u8]) -> io::Result<()> {
+        let due = Instant::now() + self.faults.delay;
+        for part in bytes.chunks(PIECE) {
+            self.free = self.free.max(due) + self.faults.time_of(part.len());
+            self.late.push_back((self.free, part.to_vec()));
+            self.late_bytes += part.len();
+        }
+        while self.late_bytes > MOST_AHEAD {
+            self.send_late(self.late[0].0)?;
+        }
+        Ok(())
+    }
+
+    /// Sends late replies until there is something to read.
+    fn wait_for_input(&mut self) {
+        while let Some((due, _)) = self.late.front() {
+            let due = *due;
+            let has_input = !self.ahead.is_empty() || self.has_ended;
+            if has_input || matches!(self.poll(sys::POLLIN, until(due)), Ok(1..)) {
+                return;
+            }
+            self.send_late_or_drop(due);
+        }
+    }
+
+    /// If the client has closed its end, late replies are dropped. What it sent is still read.
+    fn send_late_or_drop(&mut self, until: Instant) {
+        if self.send_late(until).is_err() {
+            self.late.clear();
+            self.late_bytes = 0;
+        }
+    }
+
+    /// Sends the replies that are due until then, and returns then.
+    fn send_late(&mut self, end: Instant) -> io::Result<()> {
+        loop {
+            let now = Instant::now();
+            while matches!(self.late.front(), Some((due, _)) if *due <= now) {
+                if let Some((_, bytes)) = self.late.pop_front() {
+                    self.late_bytes -= bytes.len();
+                    self.send_all(&bytes)?;
+                }
+            }
+            if now >= end {
+                return Ok(());
+            }
+            let next = self.late.front().map_or(end, |(due, _)| end.min(*due));
+            if self.poll(0, until(next))? != 0 {
+                return Err(ErrorKind::BrokenPipe.into());
+            }
+        }
+    }
+}
+
+/// The milliseconds until then, rounded up.
+fn until(then: Instant) -> c_int {
+    let left = then.saturating_duration_since(Instant::now());
+    c_int::try_from((left.as_nanos() + 999_999) / 1_000_000).unwrap_or(c_int::MAX)
 }

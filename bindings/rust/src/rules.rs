@@ -1,6 +1,10 @@
 //! Injected errors.
 
-use crate::{checked, sys, Engine, Kind, Refusal, Session};
+use crate::arguments::in_range;
+use crate::patterns::Pattern;
+use crate::{Engine, Error, Kind, OpenFlag, Request, Session};
+use std::fmt;
+use std::sync::{Arc, Mutex, MutexGuard, PoisonError};
 
 /// The statuses of rejected requests.
 #[derive(Clone, Copy, Debug, Default, PartialEq, Eq)]
@@ -31,53 +35,87 @@ impl Status {
     }
 }
 
+type Predicate = Arc<dyn Fn(&Request) -> bool + Send + Sync>;
+
 /// Injects errors: selects requests, how many of them, and the status to return. The default
 /// rejects the next request of any kind with `Status::Failure`.
 ///
 /// ```
 /// use lucernetick::{Kind, Rule};
 ///
-/// let twice = Rule::default().kind(Kind::Write).times(2);
+/// let twice = Rule::default().kind(Kind::Write).path("/out/*.part").times(2);
 /// # let _ = twice;
 /// ```
-#[derive(Clone, Debug, PartialEq, Eq)]
-#[non_exhaustive]
+#[derive(Clone)]
+#[must_use]
 pub struct Rule {
-    /// None is any, including later ones.
-    pub session: Option<Session>,
-    /// None is any.
-    pub kind: Option<Kind>,
-    /// None is any. Otherwise a request must name this path, in any spelling. A request by handle,
-    /// such as WRITE, names none.
-    pub path: Option<Vec<u8>>,
-    /// How many matching requests to skip first.
-    pub after: u64,
-    /// How many to reject then. Later requests are skipped.
-    pub times: u64,
-    pub status: Status,
+    session: Option<Session>,
+    kinds: Vec<Kind>,
+    path: Option<Vec<u8>>,
+    flags: Option<u32>,
+    predicates: Vec<Predicate>,
+    after: u64,
+    after_bytes: Option<u64>,
+    times: Option<u64>,
+    status: Status,
 }
 
 impl Default for Rule {
     fn default() -> Self {
-        let status = Status::default();
-        Rule { session: None, kind: None, path: None, after: 0, times: 1, status }
+        Rule {
+            session: None,
+            kinds: Vec::new(),
+            path: None,
+            flags: None,
+            predicates: Vec::new(),
+            after: 0,
+            after_bytes: None,
+            times: Some(1),
+            status: Status::default(),
+        }
     }
 }
 
 impl Rule {
+    /// Simulates a full disk: WRITEs of `after` bytes in total succeed. A WRITE that does not fit
+    /// fails, until the rule ends.
+    pub fn disk_full(after: u64) -> Self {
+        Rule::default().kind(Kind::Write).after_bytes(after).always()
+    }
+
+    /// Makes the tree read-only for clients, or with `path` a part of it: requests that would change
+    /// it fail with `Status::PermissionDenied`, until the rule ends.
+    pub fn read_only() -> Self {
+        Rule::default().when(would_change).always().status(Status::PermissionDenied)
+    }
+
     /// Matches only requests of this session.
     pub fn session(self, session: Session) -> Self {
         Rule { session: Some(session), ..self }
     }
 
-    /// Matches only requests of this kind.
-    pub fn kind(self, kind: Kind) -> Self {
-        Rule { kind: Some(kind), ..self }
+    /// Matches only requests of this kind, or of another one that was given before.
+    pub fn kind(mut self, kind: Kind) -> Self {
+        self.kinds.push(kind);
+        self
     }
 
-    /// Matches only requests that name this path.
+    /// Matches only requests for this path, in any spelling. A request by handle, as WRITE, matches
+    /// by the path that the handle was opened with. A name may have the wildcards `*`, `?` and
+    /// `[abc]`, and the name `**` is any number of names. `escape` escapes them.
     pub fn path(self, path: impl AsRef<[u8]>) -> Self {
         Rule { path: Some(path.as_ref().to_vec()), ..self }
+    }
+
+    /// Matches only OPEN requests with all of these bits, see `OpenFlag`.
+    pub fn flags(self, flags: u32) -> Self {
+        Rule { flags: Some(flags), ..self }
+    }
+
+    /// Matches only requests for which this returns true.
+    pub fn when(mut self, matches: impl Fn(&Request) -> bool + Send + Sync + 'static) -> Self {
+        self.predicates.push(Arc::new(matches));
+        self
     }
 
     /// Skips this number of matching requests first.
@@ -85,47 +123,178 @@ impl Rule {
         Rule { after, ..self }
     }
 
-    /// Rejects this number of requests; `u64::MAX` is all.
+    /// Skips WRITEs of this number of bytes in total first.
+    pub fn after_bytes(self, bytes: u64) -> Self {
+        Rule { after_bytes: Some(bytes), ..self }
+    }
+
+    /// Rejects this number of requests. Later requests are skipped.
     pub fn times(self, times: u64) -> Self {
-        Rule { times, ..self }
+        Rule { times: Some(times), ..self }
+    }
+
+    /// Rejects all requests, until the rule ends.
+    pub fn always(self) -> Self {
+        Rule { times: None, ..self }
     }
 
     /// Returns this status.
     pub fn status(self, status: Status) -> Self {
         Rule { status, ..self }
     }
+
+    /// The kinds that it matches, none for all. Flags are those of OPEN, and bytes those of WRITE.
+    fn checked_kinds(&self) -> Result<Vec<Kind>, Error> {
+        let mut kinds = self.kinds.clone();
+        let needs = [
+            ("flags", self.flags.is_some(), Kind::Open),
+            ("after_bytes", self.after_bytes.is_some(), Kind::Write),
+        ];
+        for (name, is_given, only) in needs {
+            if is_given && kinds.iter().any(|kind| *kind != only) {
+                let why = format!("{} needs Kind::{:?}, or no kind", name, only);
+                return Err(Error::Argument(why));
+            }
+            if is_given {
+                kinds = vec![only];
+            }
+        }
+        match kinds.iter().find(|kind| matches!(kind, Kind::Other(_))) {
+            Some(kind) => Err(Error::Argument(format!("kind must be a request, not {:?}", kind))),
+            None => Ok(kinds),
+        }
+    }
+}
+
+impl fmt::Debug for Rule {
+    fn fmt(&self, f: &mut fmt::Formatter<'_>) -> fmt::Result {
+        f.debug_struct("Rule")
+            .field("session", &self.session)
+            .field("kinds", &self.kinds)
+            .field("path", &self.path.as_deref().map(String::from_utf8_lossy))
+            .field("flags", &self.flags)
+            .field("after", &self.after)
+            .field("after_bytes", &self.after_bytes)
+            .field("times", &self.times)
+            .field("status", &self.status)
+            .finish_non_exhaustive()
+    }
+}
+
+/// Whether a request would change the tree.
+fn would_change(request: &Request) -> bool {
+    let changing = OpenFlag::WRITE | OpenFlag::APPEND | OpenFlag::CREATE | OpenFlag::TRUNCATE;
+    request.kind.changes() || request.flags & changing != 0
+}
+
+/// A rule that `refuse` has given. It holds until its `end`. Its clones are the same rule.
+#[derive(Clone, Debug)]
+pub struct GivenRule {
+    counts: Arc<Mutex<Counts>>,
+}
+
+#[derive(Debug)]
+struct Counts {
+    after: u64,
+    bytes_left: Option<u64>,
+    times: Option<u64>,
+    refused: u64,
+    has_ended: bool,
+}
+
+impl GivenRule {
+    /// How many requests it has rejected so far.
+    pub fn refused(&self) -> u64 {
+        self.lock().refused
+    }
+
+    /// Ends the rule: it rejects no further request.
+    pub fn end(&self) {
+        self.lock().has_ended = true;
+    }
+
+    fn lock(&self) -> MutexGuard<'_, Counts> {
+        self.counts.lock().unwrap_or_else(PoisonError::into_inner)
+    }
 }
 
 /// A rule of an engine.
-#[derive(Clone, Copy, Debug, PartialEq, Eq, PartialOrd, Ord, Hash)]
-pub struct GivenRule(u64);
+pub(crate) struct ActiveRule {
+    rule: Rule,
+    kinds: Vec<Kind>,
+    path: Option<Pattern>,
+    given: GivenRule,
+}
 
-impl Engine {
-    /// Adds a rule. A rejected request gets a status in its place, never reaches the file system,
-    /// and is not recorded. If several rules match, the first that rejects the request wins. Rules
-    /// never apply to INIT, nor to requests that a turn has already read.
-    pub fn refuse(&mut self, rule: Rule) -> Result<GivenRule, Refusal> {
-        let path = match &rule.path {
-            Some(path) => sys::Bytes { at: path.as_ptr(), length: path.len() },
-            None => sys::Bytes::default(),
+impl ActiveRule {
+    fn new(rule: Rule) -> Result<Self, Error> {
+        let kinds = rule.checked_kinds()?;
+        if let Some(flags) = rule.flags {
+            in_range("flags", u64::from(flags), 1, u64::from(u32::MAX))?;
+        }
+        let path = rule.path.as_ref().map(|path| Pattern::new(path)).transpose()?;
+        let counts = Counts {
+            after: rule.after,
+            bytes_left: rule.after_bytes,
+            times: rule.times,
+            refused: 0,
+            has_ended: false,
         };
-        let given = sys::Rule {
-            session: rule.session.map_or(0, Session::number),
-            pass: rule.after,
-            refuse: rule.times,
-            path,
-            kind: rule.kind.map_or(0, Kind::number),
-            status: rule.status.code(),
-        };
-        // SAFETY: the pointer is an engine's, which only `drop` frees, and the rule's path stays
-        // until the call is done.
-        let answer = unsafe { sys::lt_refuse(self.pointer.as_ptr(), &given) };
-        checked(answer).map(GivenRule)
+        let given = GivenRule { counts: Arc::new(Mutex::new(counts)) };
+        Ok(Self { rule, kinds, path, given })
     }
 
-    /// How many requests a rule has rejected so far.
-    pub fn refused(&self, rule: GivenRule) -> Result<u64, Refusal> {
-        // SAFETY: the pointer is an engine's, which only `drop` frees.
-        checked(unsafe { sys::lt_refused(self.pointer.as_ptr(), rule.0) })
+    pub(crate) fn has_ended(&self) -> bool {
+        self.given.lock().has_ended
+    }
+
+    /// The status of a request that it rejects.
+    pub(crate) fn judge(&self, request: &Request) -> Option<Status> {
+        if self.has_ended() || !self.matches(request) {
+            return None;
+        }
+        let mut counts = self.given.lock();
+        if counts.times == Some(0) {
+            return None;
+        }
+        if counts.after > 0 {
+            counts.after -= 1;
+            return None;
+        }
+        let written = request.data.len() as u64;
+        if let Some(left) = counts.bytes_left.and_then(|left| left.checked_sub(written)) {
+            counts.bytes_left = Some(left);
+            return None;
+        }
+        counts.times = counts.times.map(|times| times - 1);
+        counts.refused += 1;
+        Some(self.rule.status)
+    }
+
+    fn matches(&self, request: &Request) -> bool {
+        let names = |pattern: &Pattern| {
+            [&request.path, &request.new_path]
+                .into_iter()
+                .any(|path| !path.is_empty() && pattern.fits(path))
+        };
+        let rule = &self.rule;
+        rule.session.map_or(true, |session| session.number() == request.session)
+            && (self.kinds.is_empty() || self.kinds.contains(&request.kind))
+            && rule.flags.map_or(true, |flags| request.flags & flags == flags)
+            && self.path.as_ref().map_or(true, names)
+            && rule.predicates.iter().all(|matches| matches(request))
+    }
+}
+
+impl Engine {
+    /// Rejects requests from now on. A rejected request gets a status in its place, never reaches
+    /// the file system, and is not recorded. If several rules match, the oldest one that rejects
+    /// the request counts it. Rules never apply to INIT, nor to requests that a turn has already
+    /// read.
+    pub fn refuse(&mut self, rule: Rule) -> Result<GivenRule, Error> {
+        let active = ActiveRule::new(rule)?;
+        let given = active.given.clone();
+        self.add_rule(active);
+        Ok(given)
     }
 }

@@ -1,4 +1,4 @@
-//! The functions of include/lucernetick.h, and three of Linux.
+//! The functions of include/lucernetick.h, and some of Linux.
 
 use std::os::raw::{c_char, c_int, c_short, c_ulong};
 
@@ -90,6 +90,7 @@ pub struct Place {
     pub kind: u32,
 }
 
+pub const LT_KIND_REALPATH: u32 = 16;
 pub const LT_REFUSAL_IS_BLOCKED: i64 = -8;
 pub const LT_REFUSAL_NO_REPLY: i64 = -11;
 pub const LT_REFUSAL_STATUS_BASE: i64 = -100;
@@ -97,7 +98,6 @@ pub const LT_REFUSAL_STATUS_BASE: i64 = -100;
 extern "C" {
     pub fn lt_version() -> *const c_char;
     pub fn lt_message(answer: i64) -> *const c_char;
-    pub fn lt_new() -> *mut Engine;
     pub fn lt_new_keeping(keep: u64) -> *mut Engine;
     pub fn lt_free(engine: *mut Engine);
     pub fn lt_open(engine: *mut Engine) -> i64;
@@ -116,7 +116,6 @@ extern "C" {
     pub fn lt_output(engine: *const Engine, session: u64, room: *mut u8, length: usize) -> i64;
     pub fn lt_sent(engine: *mut Engine, session: u64, count: usize) -> i64;
     pub fn lt_refuse(engine: *mut Engine, rule: *const Rule) -> i64;
-    pub fn lt_refused(engine: *const Engine, number: u64) -> i64;
     pub fn lt_calls(engine: *mut Engine, at: u64, call: *mut Call) -> i64;
     pub fn lt_make_directory(
         engine: *mut Engine,
@@ -161,8 +160,15 @@ pub struct PollFd {
 
 pub const POLLIN: c_short = 0x01;
 pub const POLLOUT: c_short = 0x04;
+pub const POLLERR: c_short = 0x08;
+pub const POLLHUP: c_short = 0x10;
 pub const MSG_DONTWAIT: c_int = 0x40;
 pub const MSG_NOSIGNAL: c_int = 0x4000;
+/// How many bytes were sent that the peer has not received.
+pub const SIOCOUTQ: c_ulong = 0x5411;
+
+#[cfg(feature = "ssh")]
+pub const SIGTERM: c_int = 15;
 
 /// A time, in seconds since 1970.
 #[repr(C)]
@@ -182,4 +188,7 @@ extern "C" {
     ) -> c_int;
     pub fn poll(fds: *mut PollFd, count: c_ulong, timeout: c_int) -> c_int;
     pub fn send(socket: c_int, bytes: *const u8, length: usize, flags: c_int) -> isize;
+    #[cfg(feature = "ssh")]
+    pub fn kill(process: c_int, signal: c_int) -> c_int;
+    pub fn ioctl(socket: c_int, request: c_ulong, ...) -> c_int;
 }

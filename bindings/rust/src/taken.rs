@@ -1,5 +1,6 @@
 //! Snapshots in the library.
 
+use crate::arguments::unix_time;
 use crate::calls::bytes_of;
 use crate::tree::{Entry, Piece};
 use crate::{checked, sys, Engine, Refusal};
@@ -57,8 +58,8 @@ impl Taken {
             mode: found.permissions,
             uid: found.uid,
             gid: found.gid,
-            atime: found.atime,
-            mtime: found.mtime,
+            atime: unix_time(found.atime),
+            mtime: unix_time(found.mtime),
             size: found.size,
             pieces: self.pieces(at, found.size)?,
             file: None,

@@ -1,12 +1,14 @@
 //! Writing files, and snapshots.
 
+use crate::arguments::{self, seconds};
+use crate::calls::status_text;
 use crate::taken::Taken;
-use crate::{message, sys, Engine, Error, Refusal};
+use crate::{sys, Engine, Error, Kind, Refusal};
 use std::borrow::Cow;
 use std::collections::{btree_map, BTreeMap};
 use std::iter;
 use std::ops::Index;
-use std::ptr;
+use std::time::SystemTime;
 
 const KIND: u32 = 0o170000;
 const DIRECTORY: u32 = 0o040000;
@@ -100,9 +102,8 @@ pub struct Entry {
     pub mode: u32,
     pub uid: u32,
     pub gid: u32,
-    /// Seconds since 1970, as `mtime`.
-    pub atime: u32,
-    pub mtime: u32,
+    pub atime: SystemTime,
+    pub mtime: SystemTime,
     /// 0 for a directory.
     pub size: u64,
     /// A file's bytes without its holes: all other bytes are zeros. A piece begins at a multiple of
@@ -149,7 +150,7 @@ impl Entry {
 
 impl Engine {
     /// An engine with these files, as by `write_files`.
-    pub fn from_files<P, C, I>(files: I, moment: u32) -> Result<Self, Error>
+    pub fn from_files<P, C, I>(files: I, moment: SystemTime) -> Result<Self, Error>
     where
         P: AsRef<[u8]>,
         C: AsRef<[u8]>,
@@ -162,27 +163,33 @@ impl Engine {
 
     /// Makes or replaces files, given by paths and contents, with the timestamp `moment`. It sends
     /// requests in new sessions. It makes missing parents.
-    pub fn write_files<P, C, I>(&mut self, files: I, moment: u32) -> Result<(), Error>
+    pub fn write_files<P, C, I>(&mut self, files: I, moment: SystemTime) -> Result<(), Error>
     where
         P: AsRef<[u8]>,
         C: AsRef<[u8]>,
         I: IntoIterator<Item = (P, C)>,
     {
         for (path, contents) in files {
-            let (path, contents) = (told(path.as_ref()), told(contents.as_ref()));
-            let engine = self.pointer.as_ptr();
-            // SAFETY: the pointer is an engine's, which only `drop` frees, and the bytes are of
-            // slices that outlive the call.
-            done(unsafe { sys::lt_write_file(engine, path, contents, moment, ptr::null_mut()) })?;
+            let contents = told(contents.as_ref());
+            self.place(path.as_ref(), None, moment, |engine, path, moment, place| {
+                // SAFETY: the pointer is an engine's, which only `drop` frees, the bytes are of
+                // slices that outlive the call, and the place is a local variable.
+                unsafe { sys::lt_write_file(engine, path, contents, moment, place) }
+            })?;
         }
         Ok(())
     }
 
     /// Makes a directory and its missing parents.
-    pub fn make_directories(&mut self, path: impl AsRef<[u8]>, moment: u32) -> Result<(), Error> {
-        let (engine, path) = (self.pointer.as_ptr(), told(path.as_ref()));
-        // SAFETY: as above.
-        done(unsafe { sys::lt_make_directory(engine, path, moment, ptr::null_mut()) })
+    pub fn make_directories(
+        &mut self,
+        path: impl AsRef<[u8]>,
+        moment: SystemTime,
+    ) -> Result<(), Error> {
+        self.place(path.as_ref(), None, moment, |engine, path, moment, place| {
+            // SAFETY: as above.
+            unsafe { sys::lt_make_directory(engine, path, moment, place) }
+        })
     }
 
     /// Adds the new path to the file at the old one, with the timestamp `moment`. It makes missing
@@ -191,12 +198,36 @@ impl Engine {
         &mut self,
         old: impl AsRef<[u8]>,
         new: impl AsRef<[u8]>,
-        moment: u32,
+        moment: SystemTime,
     ) -> Result<(), Error> {
-        let (old, new) = (told(old.as_ref()), told(new.as_ref()));
-        let engine = self.pointer.as_ptr();
-        // SAFETY: as above.
-        done(unsafe { sys::lt_link(engine, old, new, moment, ptr::null_mut()) })
+        let old = old.as_ref();
+        arguments::path("old", old)?;
+        self.place(new.as_ref(), Some(old), moment, |engine, new, moment, place| {
+            // SAFETY: as above.
+            unsafe { sys::lt_link(engine, told(old), new, moment, place) }
+        })
+    }
+
+    /// Writes one path. `old` is the other path of a link.
+    fn place(
+        &mut self,
+        path: &[u8],
+        old: Option<&[u8]>,
+        moment: SystemTime,
+        write: impl FnOnce(*mut sys::Engine, sys::Bytes, u32, *mut sys::Place) -> i64,
+    ) -> Result<(), Error> {
+        let moment = seconds("moment", moment)?;
+        arguments::path("path", path)?;
+        let mut place = sys::Place { length: 0, kind: 0 };
+        let answer = write(self.pointer.as_ptr(), told(path), moment, &mut place);
+        // If the records cannot be read now, they are read later.
+        let _ = self.read_news();
+        if answer >= 0 {
+            return Ok(());
+        }
+        let kind = Kind::of_number(place.kind);
+        let at = &path[..path.len().min(place.length as usize)];
+        Err(error_of(answer, kind, old.filter(|_| kind == Kind::Hardlink), at))
     }
 
     /// The whole file system. It has exactly the effects of the calls that have taken effect, and
@@ -212,21 +243,16 @@ fn told(bytes: &[u8]) -> sys::Bytes {
     sys::Bytes { at: bytes.as_ptr(), length: bytes.len() }
 }
 
-/// The error of a request, if any.
-fn done(answer: i64) -> Result<(), Error> {
-    if answer < 0 {
-        return Err(error_of(answer));
-    }
-    Ok(())
-}
-
-fn error_of(answer: i64) -> Error {
+fn error_of(answer: i64, kind: Kind, old: Option<&[u8]>, path: &[u8]) -> Error {
     match answer {
         sys::LT_REFUSAL_IS_BLOCKED => Error::Blocked,
-        sys::LT_REFUSAL_NO_REPLY => Error::Reply,
+        sys::LT_REFUSAL_NO_REPLY => Error::Ended,
         status if status <= sys::LT_REFUSAL_STATUS_BASE => {
             let code = (sys::LT_REFUSAL_STATUS_BASE - status) as u32;
-            Error::Status(code, message(answer).to_string())
+            let paths = old.into_iter().chain([path]);
+            let paths = paths.map(|path| format!(" \"{}\"", path.escape_ascii()));
+            let request = format!("{}{}", kind, paths.collect::<String>());
+            Error::Status { code, message: status_text(code).to_string(), request }
         }
         refusal => Error::Refused(Refusal::of_number(refusal)),
     }

@@ -1,6 +1,8 @@
 //! OpenSSH's `sftp` on a server. `socat` connects it to the server's socket.
 
-use lucernetick::{Engine, Kind, Refusal, Server, Session, Turn, VirtualTime};
+use lucernetick::unix_time as at;
+use lucernetick::{Call, Connection, Engine, Error, Kind, OnCall, Refusal, Rule, Server};
+use lucernetick::{Client as SmallClient, Session, Turn, VirtualTime};
 use std::collections::BTreeSet;
 use std::fs::{self, Permissions};
 use std::io::{BufRead, BufReader, ErrorKind, Read, Write};
@@ -8,6 +10,7 @@ use std::os::unix::fs::PermissionsExt;
 use std::os::unix::net::UnixStream;
 use std::path::PathBuf;
 use std::process::{self, Child, ChildStdin, ChildStdout, Command, Stdio};
+use std::sync::Arc;
 use std::thread;
 use std::time::{Duration, UNIX_EPOCH};
 
@@ -35,7 +38,7 @@ impl Listening {
     fn new(test: &str, engine: Engine) -> Self {
         let folder = std::env::temp_dir().join(format!("lucernetick-{}-{}", process::id(), test));
         fs::create_dir(&folder).unwrap();
-        let time = VirtualTime::new(1_000_000_000);
+        let time = VirtualTime::new(at(1_000_000_000)).unwrap();
         let mut server = Server::new(engine, time.clock());
         server.listen(folder.join("socket")).unwrap();
         Self { server, time, folder }
@@ -145,7 +148,7 @@ fn list() {
     let mut client = server.client();
     client.run("mkdir /d");
     client.run("mkdir /d/b");
-    server.time.set(1_700_000_000);
+    server.time.set(at(1_700_000_000)).unwrap();
     client.run("put five /d/a");
     client.run("put none /d/c");
     client.run("chmod 600 /d/c");
@@ -163,7 +166,7 @@ fn list() {
 #[test]
 fn rename() {
     let files = [("/f", "1"), ("/g", "2"), ("/d/h", "3")];
-    let server = Listening::new("rename", Engine::from_files(files, 0).unwrap());
+    let server = Listening::new("rename", Engine::from_files(files, at(0)).unwrap());
     let mut client = server.client();
     client.run("rename -l /f /d/f");
     assert_eq!(server.paths(), ["/", "/d", "/d/f", "/d/h", "/g"]);
@@ -177,7 +180,7 @@ fn rename() {
 
 #[test]
 fn link() {
-    let engine = Engine::from_files([("/f", "1"), ("/g", "1")], 100).unwrap();
+    let engine = Engine::from_files([("/f", "1"), ("/g", "1")], at(100)).unwrap();
     let server = Listening::new("link", engine);
     let mut client = server.client();
     client.run("mkdir /d");
@@ -213,9 +216,9 @@ fn times_are_virtual() {
     let server = Listening::empty("times");
     server.write("sent", b"123456");
     let mut client = server.client();
-    server.time.set(1_700_000_000);
+    server.time.set(at(1_700_000_000)).unwrap();
     client.run("put sent /f");
-    server.time.set(7);
+    server.time.set(at(7)).unwrap();
     client.run("mkdir /d");
     // By names and their own lines: 14 November 2023, 22:13:20; and the seventh second of 1970.
     let listed = client.run("ls -ln /");
@@ -230,12 +233,12 @@ fn times_are_virtual() {
     let found = fs::metadata(server.folder.join("got")).unwrap();
     let moment = UNIX_EPOCH + Duration::from_secs(1_700_000_000);
     assert_eq!((found.accessed().unwrap(), found.modified().unwrap()), (moment, moment));
-    assert_eq!(server.server.snapshot().unwrap()["/d"].mtime, 7);
+    assert_eq!(server.server.snapshot().unwrap()["/d"].mtime, at(7));
 }
 
 #[test]
 fn a_tree_that_was_there() {
-    let engine = Engine::from_files([("/a/b", "1234")], 3).unwrap();
+    let engine = Engine::from_files([("/a/b", "1234")], at(3)).unwrap();
     let server = Listening::new("tree", engine);
     let mut client = server.client();
     let wanted = ["-rw-r--r--   1 0        0               4            3 b"];
@@ -270,7 +273,7 @@ fn many_clients_at_once() {
 /// Fifty concurrent sessions, each of which makes `/dNN` and reads its attributes.
 #[test]
 fn fifty_sessions_at_once() {
-    let server = Server::new(Engine::with_keep(0).unwrap(), || 7);
+    let server = Server::new(Engine::new().unwrap(), || at(7));
     thread::scope(|scope| {
         for number in 0..50 {
             let mut line = server.connect().unwrap();
@@ -304,13 +307,14 @@ fn fed(server: &Server, bytes: &[u8]) -> Session {
 
 /// Runs this number of turns with the timestamp 100; the session's call is then in progress.
 fn hold(server: &Server, session: Session, turns: u64) {
-    let last = (0..turns).map(|_| server.with_engine(|engine| engine.turn(session, 100).unwrap()));
-    assert_eq!(last.last(), Some(Turn::Moved));
+    let turn = |_| server.with_engine(|engine| engine.turn(session, at(100)).unwrap());
+    let did: Vec<Turn> = (0..turns).map(turn).collect();
+    assert_eq!(did.last(), Some(&Turn::Moved));
 }
 
 /// Runs turns with the timestamp 100.
 fn settle(server: &Server, session: Session, most: u64) -> Turn {
-    server.with_engine(|engine| engine.settle(session, 100, most).unwrap())
+    server.with_engine(|engine| engine.settle(session, at(100), most).unwrap())
 }
 
 /// Reads this number of bytes, which arrive soon.
@@ -323,7 +327,7 @@ fn take(line: &mut UnixStream, count: usize) -> Vec<u8> {
 
 #[test]
 fn a_connection_waits_for_a_call_that_is_held() {
-    let server = Server::new(Engine::new().unwrap(), || 0);
+    let server = Server::new(Engine::new().unwrap(), || at(0));
     let held = fed(&server, MAKES);
     // VERSION, the beginning of the call, and the root acquired.
     hold(&server, held, 3);
@@ -343,7 +347,7 @@ fn a_connection_waits_for_a_call_that_is_held() {
 /// A client that a paused session blocks continues after `run_all` has completed both calls.
 #[test]
 fn rounds_carry_out_the_calls_of_connections() {
-    let server = Server::new(Engine::new().unwrap(), || 0);
+    let server = Server::new(Engine::new().unwrap(), || at(0));
     let held = fed(&server, MAKES);
     hold(&server, held, 3);
 
@@ -371,7 +375,7 @@ fn root_is_held(server: &Server, probe: Session) -> bool {
 #[test]
 fn blocked_connections_go_on_one_after_the_other() {
     for _ in 0..20 {
-        let server = Server::new(Engine::from_files([("/a/f", "1")], 0).unwrap(), || 0);
+        let server = Server::new(Engine::from_files([("/a/f", "1")], at(0)).unwrap(), || at(0));
         let probe = fed(&server, INIT);
         let held = fed(&server, &[INIT, LOOKS_BELOW].concat());
         hold(&server, held, 4);
@@ -395,7 +399,7 @@ fn blocked_connections_go_on_one_after_the_other() {
 
 #[test]
 fn a_call_is_carried_out_though_its_client_has_gone() {
-    let server = Server::new(Engine::new().unwrap(), || 5);
+    let server = Server::new(Engine::new().unwrap(), || at(5));
     let held = fed(&server, LOOKS);
     hold(&server, held, 3);
 
@@ -413,7 +417,7 @@ fn a_call_is_carried_out_though_its_client_has_gone() {
 
 #[test]
 fn clients_that_go_free_their_sessions() {
-    let server = Server::new(Engine::new().unwrap(), || 0);
+    let server = Server::new(Engine::new().unwrap(), || at(0));
     for number in 1..=600 {
         let mut line = server.connect().unwrap();
         line.write_all(INIT).unwrap();
@@ -433,8 +437,8 @@ fn reply(line: &mut UnixStream) -> Vec<u8> {
 #[test]
 fn a_client_may_send_much_before_it_reads() {
     let contents: Vec<u8> = (0..32768_u32).map(|k| (k % 251) as u8).collect();
-    let engine = Engine::from_files([("/f", contents.clone())], 0).unwrap();
-    let server = Server::new(engine, || 0);
+    let engine = Engine::from_files([("/f", contents.clone())], at(0)).unwrap();
+    let server = Server::new(engine, || at(0));
     let mut line = server.connect().unwrap();
     line.set_write_timeout(Some(LIMIT)).unwrap();
     line.write_all(INIT).unwrap();
@@ -459,32 +463,110 @@ fn a_client_may_send_much_before_it_reads() {
 
 #[test]
 fn a_session_that_ends_closes_its_connection() {
-    let server = Server::new(Engine::new().unwrap(), || 0);
+    let server = Server::new(Engine::new().unwrap(), || at(0));
     let mut line = server.connect().unwrap();
     line.write_all(&[0; 4]).unwrap();
     line.set_read_timeout(Some(LIMIT)).unwrap();
     assert_eq!(line.read(&mut [0]).unwrap(), 0);
 }
 
-#[test]
-fn a_clock_that_panics_ends_the_connection_that_asked_it() {
-    let time = VirtualTime::new(13);
-    let clock = time.clock();
-    let told = move || if clock() == 13 { panic!("an unlucky time") } else { clock() };
-    let server = Server::new(Engine::new().unwrap(), told);
-    let mut other = server.connect().unwrap();
+/// Waits for the end of a connection.
+fn has_ended(line: &mut Connection) -> bool {
+    line.set_read_timeout(Some(LIMIT)).unwrap();
+    matches!(line.read(&mut [0; 1000]), Ok(0))
+}
+
+/// A thread that dies ends all connections, and no client waits for ever. The error has the panic.
+fn stops(server: Server, wanted: &str) {
+    let mut idle = server.connect().unwrap();
     let mut unlucky = server.connect().unwrap();
-    unlucky.write_all(INIT).unwrap();
-    assert_eq!(unlucky.read(&mut [0]).unwrap(), 0);
-    time.set(14);
-    other.write_all(INIT).unwrap();
-    assert_eq!(take(&mut other, VERSION)[4], 2);
+    unlucky.write_all(MAKES).unwrap();
+    assert!(has_ended(&mut idle));
+    let fault = server.snapshot().unwrap_err();
+    assert!(matches!(&fault, Error::Stopped(why) if why.contains(wanted)), "{:?}", fault);
+    assert_eq!(server.connect().unwrap_err().kind(), ErrorKind::BrokenPipe);
+    assert_eq!(server.calls().unwrap_err(), fault);
+    assert_eq!(server.wait_for("/a", LIMIT).unwrap_err(), fault);
+    assert_eq!(server.close(), Err(fault));
+}
+
+#[test]
+fn a_clock_that_panics_stops_the_server() {
+    stops(Server::new(Engine::new().unwrap(), || panic!("an unlucky time")), "an unlucky time");
+}
+
+#[test]
+fn a_clock_out_of_range_stops_the_server() {
+    let late = at(u32::MAX) + Duration::from_secs(1);
+    stops(Server::new(Engine::new().unwrap(), move || late), "the clock's result must be from");
+}
+
+#[test]
+fn a_rule_that_panics_stops_the_server() {
+    let server = Server::new(Engine::new().unwrap(), || at(0));
+    server.refuse(Rule::default().when(|_| panic!("a broken rule"))).unwrap();
+    stops(server, "a broken rule");
+}
+
+/// It would wait for itself.
+#[test]
+fn a_callback_that_uses_its_server_stops_it() {
+    let server = Arc::new(Server::new(Engine::new().unwrap(), || at(0)));
+    let same = Arc::downgrade(&server);
+    let callback = move |_: &mut Engine, _: &Call| drop(same.upgrade().unwrap().snapshot());
+    server.on_call(OnCall::default().after(callback)).unwrap();
+    let mut client = SmallClient::new(server.connect().unwrap()).unwrap();
+    assert!(client.make_directory("/a").is_err());
+    let fault = server.snapshot().unwrap_err();
+    assert!(fault.to_string().contains("this thread would wait for itself"), "{}", fault);
+}
+
+#[test]
+fn a_server_without_faults_is_closed() {
+    let server = Server::new(Engine::new().unwrap(), || at(0));
+    let mut client = SmallClient::new(server.connect().unwrap()).unwrap();
+    client.make_directory("/a").unwrap();
+    assert_eq!(server.close(), Ok(()));
+    assert!(client.make_directory("/b").is_err());
+}
+
+/// The small client of this crate, with more than one packet for each request.
+#[test]
+fn the_small_client() {
+    let files = [("/d/a", "1"), ("/d/b", "2")];
+    let engine = Engine::from_files(files, at(100)).unwrap();
+    let server = Server::new(engine, || at(7));
+    let mut client = SmallClient::new(server.connect().unwrap()).unwrap();
+    let contents: Vec<u8> = (0..100_000_u32).map(|k| (k % 251) as u8).collect();
+    client.write("/f", &contents).unwrap();
+    assert!(client.read("/f").unwrap() == contents);
+    assert_eq!(client.list("/d").unwrap(), [b"a", b"b"]);
+    assert_eq!(client.modified("/d/a").unwrap(), at(100));
+    assert_eq!(client.modified("/f").unwrap(), at(7));
+    assert_eq!(client.rename("/d/a", "/d/b").unwrap_err().kind(), ErrorKind::Other);
+    client.posix_rename("/d/a", "/d/b").unwrap();
+    assert_eq!(client.read("/d/b").unwrap(), b"1");
+    client.make_directory("/e").unwrap();
+    client.remove_directory("/e").unwrap();
+    client.remove("/f").unwrap();
+    let missing = client.read("/f").unwrap_err();
+    assert_eq!(missing.kind(), ErrorKind::NotFound);
+    assert_eq!(missing.to_string(), "open \"/f\": No such file");
+    assert!(server.snapshot().unwrap().paths().eq(["/", "/d", "/d/b"]));
+}
+
+/// As in the documents of `Server::write_files`.
+#[test]
+fn files_with_the_time_of_the_clock() {
+    let server = Server::new(Engine::new().unwrap(), || at(7));
+    server.write_files([("/a", "1")]).unwrap();
+    assert_eq!(server.snapshot().unwrap()["/a"].mtime, at(7));
 }
 
 #[test]
 fn a_257th_client_is_refused() {
-    let server = Server::new(Engine::new().unwrap(), || 0);
-    let lines: Vec<UnixStream> = (0..256).map(|_| server.connect().unwrap()).collect();
+    let server = Server::new(Engine::new().unwrap(), || at(0));
+    let lines: Vec<Connection> = (0..256).map(|_| server.connect().unwrap()).collect();
     let refused = server.connect().unwrap_err();
     assert_eq!(refused.to_string(), "256 sessions are open");
     assert_eq!(server.with_engine(Engine::open), Err(Refusal::TooManySessions));
@@ -495,7 +577,7 @@ fn a_257th_client_is_refused() {
 /// replies.
 #[test]
 fn a_server_that_is_dropped_ends_its_connections() {
-    let mut server = Server::new(Engine::from_files([("/f", "1")], 0).unwrap(), || 0);
+    let mut server = Server::new(Engine::from_files([("/f", "1")], at(0)).unwrap(), || at(0));
     let socket = std::env::temp_dir().join(format!("lucernetick-{}-dropped", process::id()));
     server.listen(&socket).unwrap();
     let mut waits = UnixStream::connect(&socket).unwrap();

@@ -1,5 +1,6 @@
 //! Copies from folders of the system, and to them.
 
+use lucernetick::unix_time as at;
 use lucernetick::{Engine, Session};
 use std::fs;
 use std::io::ErrorKind;
@@ -28,19 +29,19 @@ impl Drop for Folder {
 fn set(engine: &mut Engine, session: Session, path: &str, attributes: &[u8]) {
     let body = [&[9, 0, 0, 0, 1, 0, 0, 0, path.len() as u8], path.as_bytes(), attributes].concat();
     engine.feed(session, &[&(body.len() as u32).to_be_bytes()[..], &body].concat()).unwrap();
-    engine.settle(session, 0, 100).unwrap();
+    engine.settle(session, at(0), 100).unwrap();
     assert_eq!(engine.take(session).unwrap()[4..13], [101, 0, 0, 0, 1, 0, 0, 0, 0]);
 }
 
 #[test]
 fn a_snapshot_is_saved_and_taken_back() {
     let files = [("/a/b", "one"), ("/a-b", "two"), ("/none", ""), ("/d/e/f", "three")];
-    let mut engine = Engine::from_files(files, 77).unwrap();
-    engine.make_directories("/empty", 77).unwrap();
-    engine.hard_link("/a/b", "/x/b", 77).unwrap();
+    let mut engine = Engine::from_files(files, at(77)).unwrap();
+    engine.make_directories("/empty", at(77)).unwrap();
+    engine.hard_link("/a/b", "/x/b", at(77)).unwrap();
     let session = engine.open().unwrap();
     engine.feed(session, b"\0\0\0\x05\x01\0\0\0\x03").unwrap();
-    engine.settle(session, 0, 1).unwrap();
+    engine.settle(session, at(0), 1).unwrap();
     engine.take(session).unwrap();
     // Permissions 0o6750; atime 5, mtime 9; and of /d none at all.
     set(&mut engine, session, "/a-b", b"\0\0\0\x04\0\0\x0d\xe8");
@@ -61,11 +62,11 @@ fn a_snapshot_is_saved_and_taken_back() {
     assert_eq!(tree.save(&top).unwrap_err().kind(), ErrorKind::AlreadyExists);
 
     fs::set_permissions(top.join("d"), fs::Permissions::from_mode(0o700)).unwrap();
-    let again = Engine::from_folder(&top, 3).unwrap().snapshot().unwrap();
+    let again = Engine::from_folder(&top, at(3)).unwrap().snapshot().unwrap();
     assert!(again.paths().eq(tree.paths()));
     for (found, entry) in again.values().zip(tree.values()) {
         assert_eq!((found.contents(), found.file), (entry.contents(), entry.file));
-        assert_eq!(found.mtime, 3);
+        assert_eq!(found.mtime, at(3));
     }
 }
 
@@ -74,8 +75,8 @@ fn folders_that_are_refused() {
     let folder = Folder::new("refused");
     fs::write(folder.0.join("f"), "1").unwrap();
     symlink("f", folder.0.join("g")).unwrap();
-    let refused = Engine::from_folder(&folder.0, 0).unwrap_err();
+    let refused = Engine::from_folder(&folder.0, at(0)).unwrap_err();
     assert!(refused.to_string().ends_with("/g is neither a file nor a directory"), "{}", refused);
-    let refused = Engine::from_folder(folder.0.join("none"), 0).unwrap_err();
+    let refused = Engine::from_folder(folder.0.join("none"), at(0)).unwrap_err();
     assert_eq!(refused.kind(), ErrorKind::NotFound);
 }

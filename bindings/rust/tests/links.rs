@@ -1,5 +1,6 @@
 //! Files with several names.
 
+use lucernetick::unix_time as at;
 use lucernetick::{Engine, Error, Session, Snapshot, Turn};
 
 const INIT: &[u8] = b"\0\0\0\x05\x01\0\0\0\x03";
@@ -25,7 +26,7 @@ fn string(bytes: &[u8]) -> Vec<u8> {
 fn client(engine: &mut Engine) -> Session {
     let session = engine.open().unwrap();
     engine.feed(session, INIT).unwrap();
-    assert_eq!(engine.turn(session, 0), Ok(Turn::Wrote));
+    assert_eq!(engine.turn(session, at(0)), Ok(Turn::Wrote));
     engine.take(session).unwrap();
     session
 }
@@ -34,7 +35,7 @@ fn client(engine: &mut Engine) -> Session {
 fn ask(engine: &mut Engine, session: Session, kind: u8, fields: &[u8]) -> Vec<u8> {
     let request = string(&[&[kind, 0, 0, 0, 1], fields].concat());
     engine.feed(session, &request).unwrap();
-    assert_eq!(engine.settle(session, 900, 1000), Ok(Turn::Idle));
+    assert_eq!(engine.settle(session, at(900), 1000), Ok(Turn::Idle));
     engine.take(session).unwrap()
 }
 
@@ -50,9 +51,9 @@ fn look(engine: &mut Engine, session: Session) -> Vec<Vec<u8>> {
 /// atimes are 5, their mtimes 9.
 fn alike() -> Engine {
     let files = [("/a", "same"), ("/b", "same"), ("/d/e", "same")];
-    let mut engine = Engine::from_files(files, 77).unwrap();
-    engine.hard_link("/b", "/c", 77).unwrap();
-    engine.hard_link("/a", "/d/a", 77).unwrap();
+    let mut engine = Engine::from_files(files, at(77)).unwrap();
+    engine.hard_link("/b", "/c", at(77)).unwrap();
+    engine.hard_link("/a", "/d/a", at(77)).unwrap();
     let session = client(&mut engine);
     for (path, _) in files {
         let times = [0, 0, 0, 8, 0, 0, 0, 5, 0, 0, 0, 9];
@@ -70,9 +71,9 @@ fn numbers(found: &Snapshot) -> Vec<(&str, Option<u64>)> {
 
 #[test]
 fn a_tree_that_begins_with_links() {
-    let mut engine = Engine::from_files([("/a", "one"), ("/b", "two")], 77).unwrap();
+    let mut engine = Engine::from_files([("/a", "one"), ("/b", "two")], at(77)).unwrap();
     for (old, new) in [("/a", "/d/a"), ("d/a", "/d/c"), ("/b", "/e/f/b")] {
-        engine.hard_link(old, new, 77).unwrap();
+        engine.hard_link(old, new, at(77)).unwrap();
     }
     let found = engine.snapshot().unwrap();
     let wanted = [
@@ -89,7 +90,7 @@ fn a_tree_that_begins_with_links() {
     assert_eq!(numbers(&found), wanted);
     let contents = |path: &str| found[path].contents().unwrap();
     assert_eq!([&*contents("/d/c"), &*contents("/e/f/b")], [b"one", b"two"]);
-    assert!(found.values().all(|entry| entry.mtime == 77));
+    assert!(found.values().all(|entry| entry.mtime == at(77)));
 }
 
 #[test]
@@ -102,14 +103,14 @@ fn a_snapshot_leaves_all_attributes() {
         assert_eq!(numbers(&found), ALIKE);
         assert_eq!(look(&mut engine, session), before);
         let mut files = found.values().filter(|entry| !entry.is_directory());
-        assert!(files.all(|entry| (entry.atime, entry.mtime) == (5, 9)));
+        assert!(files.all(|entry| (entry.atime, entry.mtime) == (at(5), at(9))));
     }
 }
 
 #[test]
 fn all_names_are_one_file() {
     let mut engine = alike();
-    engine.write_files([("/c", "longer than before")], 10).unwrap();
+    engine.write_files([("/c", "longer than before")], at(10)).unwrap();
     let found = engine.snapshot().unwrap();
     assert_eq!(found["/b"], found["/c"]);
     assert_eq!(found["/a"], found["/d/a"]);
@@ -126,8 +127,8 @@ fn all_names_are_one_file() {
 fn links_that_are_refused() {
     let mut engine = alike();
     for (old, new, code) in [("/none", "/x", 2), ("/d", "/x", 4), ("/a", "/b", 4)] {
-        let refused = engine.hard_link(old, new, 0).unwrap_err();
-        assert!(matches!(refused, Error::Status(found, _) if found == code), "{refused}");
+        let refused = engine.hard_link(old, new, at(0)).unwrap_err();
+        assert!(matches!(refused, Error::Status { code: found, .. } if found == code), "{refused}");
     }
     assert_eq!(numbers(&engine.snapshot().unwrap()), ALIKE);
 }

@@ -1,12 +1,11 @@
-//! OpenSSH's `sftp` over SSH: `sftpd-over-ssh` puts an `sshd` in front of a server's socket.
-//!
-//! It is the file SFTPD_OVER_SSH, or the one of the archive of `make dist`, or of the
-//! repository.
+//! OpenSSH's `sftp` over SSH.
 
-use lucernetick::{Engine, Kind, Server};
+use lucernetick::unix_time as at;
+use lucernetick::{Engine, Faults, Kind, Server, SshServer};
 use std::env;
 use std::fs::{self, File};
-use std::io::{BufRead, BufReader, Read, Write};
+use std::io::{BufRead, BufReader, ErrorKind, Read, Write};
+use std::net::TcpStream;
 use std::path::{Path, PathBuf};
 use std::process::{self, Child, ChildStdin, ChildStdout, Command, Stdio};
 use std::thread;
@@ -21,19 +20,10 @@ const MANY: usize = 50;
 /// The maximum number of sessions of an engine.
 const ROOM: usize = 256;
 
-fn script() -> PathBuf {
-    let named = env::var_os("SFTPD_OVER_SSH").map(PathBuf::from);
-    let beside = |place| Path::new(&env::var_os("CARGO_MANIFEST_DIR").unwrap()).join(place);
-    named.unwrap_or_else(|| {
-        let places = ["../../bin/sftpd-over-ssh", "../../scripts/sftpd-over-ssh"].map(beside);
-        places.into_iter().find(|place| place.exists()).expect("no sftpd-over-ssh")
-    })
-}
-
-/// A server behind an `sshd`, in its own folder.
+/// A server behind SSH, and a folder of the test.
 struct OverSsh {
     server: Server,
-    sshd: Child,
+    ssh: SshServer,
     folder: PathBuf,
 }
 
@@ -42,19 +32,9 @@ impl OverSsh {
     fn new(test: &str) -> Self {
         let folder = env::temp_dir().join(format!("lucernetick-{}-{}", process::id(), test));
         fs::create_dir(&folder).unwrap();
-        let socket = folder.join("socket");
-        let mut server = Server::new(Engine::new().unwrap(), || 0);
-        server.listen(&socket).unwrap();
-        // Port 0 picks a free port.
-        let mut sshd = Command::new(script())
-            .args([socket, "0".into(), folder.join("keys")])
-            .stdout(Stdio::piped())
-            .spawn()
-            .unwrap();
-        let mut told = String::new();
-        BufReader::new(sshd.stdout.take().unwrap()).read_line(&mut told).unwrap();
-        assert_eq!(told, format!("sftp -F {}/keys/ssh_config tree\n", folder.display()));
-        Self { server, sshd, folder }
+        let server = Server::new(Engine::new().unwrap(), || at(0));
+        let ssh = SshServer::new(&server).unwrap();
+        Self { server, ssh, folder }
     }
 
     /// Makes a local file.
@@ -63,7 +43,7 @@ impl OverSsh {
     }
 
     fn client(&self) -> Client {
-        Client::new(&self.folder, "ssh_config")
+        Client::new(&self.folder, &self.ssh.ssh_config())
     }
 
     /// Waits until no session is open, so that the maximum number can be opened.
@@ -80,8 +60,6 @@ impl OverSsh {
 
 impl Drop for OverSsh {
     fn drop(&mut self) {
-        let ended = Command::new("kill").arg(self.sshd.id().to_string()).status();
-        assert!(ended.unwrap().success() && self.sshd.wait().unwrap().success());
         fs::remove_dir_all(&self.folder).unwrap();
     }
 }
@@ -102,9 +80,11 @@ struct Client {
 }
 
 impl Client {
-    fn new(folder: &Path, config: &str) -> Self {
+    fn new(folder: &Path, config: &Path) -> Self {
         let mut child = Command::new("setsid")
-            .args(["sftp", "-q", "-b", "-", "-F", &format!("keys/{}", config), "tree"])
+            .args(["sftp", "-q", "-b", "-", "-F"])
+            .arg(config)
+            .arg("tree")
             .current_dir(folder)
             .stdin(Stdio::piped())
             .stdout(Stdio::piped())
@@ -133,7 +113,7 @@ impl Client {
     }
 
     /// Drops its connection without closing it properly.
-    fn is_killed(mut self) {
+    fn kill(mut self) {
         let group = format!("-{}", self.child.id());
         assert!(Command::new("kill").args(["-KILL", "--", &group]).status().unwrap().success());
         assert!(!self.child.wait().unwrap().success());
@@ -183,14 +163,17 @@ fn fifty_connections_at_once() {
 #[test]
 fn a_wrong_key() {
     let over = OverSsh::new("wrong_key");
-    let keys = over.folder.join("keys");
-    let words = ["-q", "-t", "ed25519", "-N", "", "-f", "other_key"];
-    let made = Command::new("ssh-keygen").args(words).current_dir(&keys).status();
+    let other_key = over.folder.join("other_key");
+    let words = ["-q", "-t", "ed25519", "-N", "", "-f"];
+    let made = Command::new("ssh-keygen").args(words).arg(&other_key).status();
     assert!(made.unwrap().success());
-    let config = fs::read_to_string(keys.join("ssh_config")).unwrap();
-    fs::write(keys.join("other_config"), config.replace("client_key", "other_key")).unwrap();
-    assert!(!Client::new(&over.folder, "other_config").ends());
-    assert!(over.server.calls().unwrap().into_iter().next().is_none());
+    let config = fs::read_to_string(over.ssh.ssh_config()).unwrap();
+    let [key, other] = [over.ssh.client_key(), other_key].map(|key| key.display().to_string());
+    assert!(config.contains(&key));
+    let other_config = over.folder.join("other_config");
+    fs::write(&other_config, config.replace(&key, &other)).unwrap();
+    assert!(!Client::new(&over.folder, &other_config).ends());
+    assert!(over.server.calls().unwrap().is_empty());
     assert!(over.client().ends());
 }
 
@@ -204,11 +187,96 @@ fn a_connection_that_is_cut_in_the_middle() {
     goes.asks("put endless /f\n");
     let writes = |call: lucernetick::Call| call.kind == Kind::Write;
     wait_for(|| over.server.calls().unwrap().into_iter().any(writes));
-    goes.is_killed();
+    goes.kill();
     stays.asks("mkdir /d\n");
     assert!(stays.ends());
     over.has_no_session();
     let tree = over.server.snapshot().unwrap();
     let cut = tree["/f"].contents().unwrap().len();
     assert!(tree.contains("/d") && 0 < cut && (cut as u64) < ENDLESS);
+}
+
+/// Another client than OpenSSH's takes the port, the key and `known_hosts`.
+#[test]
+fn the_parts_of_the_address() {
+    let over = OverSsh::new("parts");
+    let mut client = Command::new("sftp")
+        .args(["-q", "-F", "none", "-b", "-", "-o", "IdentitiesOnly=yes", "-i"])
+        .arg(over.ssh.client_key())
+        .arg("-o")
+        .arg(format!("UserKnownHostsFile={}", over.ssh.known_hosts().display()))
+        .args(["-P", &over.ssh.port().to_string()])
+        .arg(format!("{}@{}", over.ssh.user(), over.ssh.host()))
+        .stdin(Stdio::piped())
+        .spawn()
+        .unwrap();
+    client.stdin.take().unwrap().write_all(b"mkdir /a\n").unwrap();
+    assert!(client.wait().unwrap().success());
+    assert!(over.server.snapshot().unwrap().contains("/a"));
+    let mut sftp = over.ssh.sftp_command().stdin(Stdio::piped()).spawn().unwrap();
+    sftp.stdin.take().unwrap().write_all(b"rmdir /a\n").unwrap();
+    assert!(sftp.wait().unwrap().success());
+    assert!(!over.server.snapshot().unwrap().contains("/a"));
+}
+
+/// The connection of a client that makes its own is cut.
+#[test]
+fn a_fault_over_ssh() {
+    let over = OverSsh::new("fault");
+    over.write("sent", &[1; 1_000_000]);
+    over.ssh.set_faults(Faults::default().cut_after(100_000)).unwrap();
+    let mut client = over.client();
+    client.asks("put sent /f\n");
+    assert!(!client.ends());
+    over.has_no_session();
+    let size = over.server.snapshot().unwrap()["/f"].size;
+    assert!(0 < size && size < 100_000, "{}", size);
+    over.ssh.set_faults(Faults::default()).unwrap();
+    let mut client = over.client();
+    client.asks("put sent /f\n");
+    assert!(client.ends());
+}
+
+/// Nothing of it is left when it is dropped: no process, no folder, no connection.
+#[test]
+fn a_server_that_is_dropped() {
+    let over = OverSsh::new("dropped");
+    let mut client = over.client();
+    client.is_done();
+    let (port, config) = (over.ssh.port(), over.ssh.ssh_config());
+    let second = SshServer::new(&over.server).unwrap();
+    assert_ne!((second.port(), second.ssh_config()), (port, config));
+    let (second_port, second_config) = (second.port(), second.ssh_config());
+    drop(second);
+    assert!(!second_config.parent().unwrap().parent().unwrap().exists());
+    assert!(TcpStream::connect(("127.0.0.1", second_port)).is_err());
+    client.is_done();
+    assert!(client.ends());
+}
+
+/// It says what is missing.
+#[test]
+fn a_script_that_is_missing() {
+    let missing = env::temp_dir().join(format!("lucernetick-{}-none", process::id()));
+    let ends = |name: &str, value: &Path, wanted: &str| {
+        let run = Command::new(env::current_exe().unwrap())
+            .args(["--exact", "is_started_without", "--ignored", "--nocapture"])
+            .env(name, value)
+            .output()
+            .unwrap();
+        let text = String::from_utf8_lossy(&run.stdout).into_owned();
+        assert!(text.contains(wanted), "{}", text);
+    };
+    ends("SFTPD_OVER_SSH", &missing, "SFTPD_OVER_SSH is");
+    ends("SFTPD", &missing, "there is no program");
+}
+
+/// Run by `a_script_that_is_missing` in another process.
+#[test]
+#[ignore]
+fn is_started_without() {
+    let server = Server::new(Engine::new().unwrap(), || at(0));
+    let fault = SshServer::new(&server).unwrap_err();
+    println!("{:?} {}", fault.kind(), fault);
+    assert!(matches!(fault.kind(), ErrorKind::NotFound | ErrorKind::Other));
 }

@@ -1,12 +1,13 @@
 //! Concurrent clients under a seeded scheduler.
 
-use lucernetick::{Engine, RaceStream, Races};
+use lucernetick::unix_time as at;
+use lucernetick::{Client, Engine, Error, Kind, OnCall, RaceStream, Races, Rule, Turn};
 use std::borrow::Cow;
 use std::collections::{BTreeMap, BTreeSet};
 use std::io::{self, ErrorKind, Read, Write};
 use std::sync::mpsc;
 use std::thread;
-use std::time::Duration;
+use std::time::{Duration, Instant};
 
 const INIT: &[u8] = b"\0\0\0\x05\x01\0\0\0\x03";
 /// INIT, and MKDIR of `/a` under the id 7.
@@ -38,16 +39,18 @@ fn the_turns_of_a_seed() {
     let races = Races::new(1234567, 2).unwrap();
     let mut streams = streams(&races, 2);
     streams[0].write_all(LOOKS).unwrap();
-    assert!(races.schedule().is_empty());
+    assert_eq!(races.schedule(), "");
     streams[1].write_all(MAKES).unwrap();
-    assert_eq!(races.schedule(), [2; 5]);
+    assert_eq!(races.schedule(), "2x5");
+    let did = [Turn::Wrote, Turn::Begun, Turn::Moved, Turn::Decided, Turn::Wrote];
+    assert_eq!(races.turns(), did.map(|turn| (2, turn)));
     streams.pop();
-    assert_eq!(races.schedule(), [2, 2, 2, 2, 2, 1, 1, 1, 1, 1]);
+    assert_eq!(races.schedule(), "2x5 1x5");
     take(&mut streams[0], VERSION);
     let reply = take(&mut streams[0], ATTRS);
     // The timestamp of its MKDIR.
     assert_eq!((reply[4], &reply[37..]), (105, &1_000_000_000_u32.to_be_bytes()[..]));
-    assert!(races.is_reproducible());
+    assert_eq!(races.stray(), None);
 }
 
 /// The numbers of this seed are odd, even, odd, even and odd.
@@ -57,75 +60,20 @@ fn the_turns_of_another_seed() {
     let mut streams = streams(&races, 2);
     streams[0].write_all(LOOKS).unwrap();
     streams[1].write_all(MAKES).unwrap();
-    assert_eq!(races.schedule()[..5], [2, 1, 2, 1, 2]);
-}
-
-fn string(bytes: &[u8]) -> Vec<u8> {
-    [&(bytes.len() as u32).to_be_bytes()[..], bytes].concat()
-}
-
-/// A small client.
-struct Client {
-    stream: RaceStream,
-}
-
-impl Client {
-    fn new(stream: RaceStream) -> Self {
-        let mut client = Self { stream };
-        client.stream.write_all(INIT).unwrap();
-        client.reply();
-        client
-    }
-
-    /// The next packet, without its length.
-    fn reply(&mut self) -> Vec<u8> {
-        let length = take(&mut self.stream, 4);
-        let count = u32::from_be_bytes([length[0], length[1], length[2], length[3]]);
-        take(&mut self.stream, count as usize)
-    }
-
-    /// The reply to a request with the id 1.
-    fn ask(&mut self, kind: u8, fields: &[&[u8]]) -> Vec<u8> {
-        let body = [&[kind, 0, 0, 0, 1][..], &fields.concat()].concat();
-        self.stream.write_all(&string(&body)).unwrap();
-        self.reply()
-    }
-
-    /// Whether the reply to a request is OK.
-    fn does(&mut self, kind: u8, fields: &[&[u8]]) -> bool {
-        self.ask(kind, fields)[..9] == [101, 0, 0, 0, 1, 0, 0, 0, 0]
-    }
-
-    fn make_directory(&mut self, path: &str) -> bool {
-        self.does(14, &[&string(path.as_bytes()), &[0; 4]])
-    }
-
-    fn rename(&mut self, old: &str, new: &str) -> bool {
-        self.does(18, &[&string(old.as_bytes()), &string(new.as_bytes())])
-    }
-
-    /// Makes a file with these contents.
-    fn write(&mut self, path: &str, contents: &str) -> bool {
-        let opened = self.ask(3, &[&string(path.as_bytes()), &[0, 0, 0, 0x1a], &[0; 4]]);
-        if opened[0] != 102 {
-            return false;
-        }
-        let handle = &opened[5..];
-        self.does(6, &[handle, &[0; 8], &string(contents.as_bytes())]) && self.does(4, &[handle])
-    }
+    assert!(races.schedule().starts_with("2 1 2 1 2"));
 }
 
 /// Makes `/out`, writes a file there, and renames the directory. Returns whether it made it, and
 /// whether it renamed it with the file.
 fn upload(stream: RaceStream, name: &str) -> (bool, bool) {
-    let mut client = Client::new(stream);
-    let made = client.make_directory("/out");
-    let written = client.write(&format!("/out/{}", name), name);
-    (made, written && client.rename("/out", &format!("/done-{}", name)))
+    let mut client = Client::new(stream).unwrap();
+    let made = client.make_directory("/out").is_ok();
+    let written = client.write(format!("/out/{}", name), name).is_ok();
+    (made, written && client.rename("/out", format!("/done-{}", name)).is_ok())
 }
 
 /// The result of a race: what each client received, the turns, and the files.
-type Run = (Vec<(bool, bool)>, Vec<usize>, BTreeMap<String, Option<Vec<u8>>>);
+type Run = (Vec<(bool, bool)>, String, BTreeMap<String, Option<Vec<u8>>>);
 
 /// Runs two uploaders.
 fn race(races: &Races) -> Run {
@@ -138,7 +86,7 @@ fn race(races: &Races) -> Run {
             .collect();
         uploads.into_iter().map(|upload| upload.join().unwrap()).collect()
     });
-    assert!(races.is_reproducible());
+    assert_eq!(races.stray(), None);
     let tree = races.snapshot().unwrap().into_iter();
     let tree = tree.map(|(path, entry)| {
         (String::from_utf8(path).unwrap(), entry.contents().map(Cow::into_owned))
@@ -166,7 +114,7 @@ fn the_same_each_time() {
 fn a_schedule_is_given_back() {
     for seed in 0..50 {
         let run = race(&Races::new(seed, 2).unwrap());
-        assert_eq!(race(&Races::replay(Engine::new().unwrap(), &run.1, 2)), run);
+        assert_eq!(race(&Races::replay(Engine::new().unwrap(), &run.1, 2).unwrap()), run);
     }
 }
 
@@ -174,8 +122,8 @@ fn a_schedule_is_given_back() {
 /// reported.
 #[test]
 fn schedules_that_do_not_fit() {
-    for schedule in [&[][..], &[2, 2, 2, 2], &[2, 2, 2, 2, 2, 1, 2, 1, 1, 1], &[3, 2]] {
-        let races = Races::replay(Engine::new().unwrap(), schedule, 2);
+    for (schedule, turn) in [("", 1), ("2x4", 5), ("2x5 1 2 1x3", 7), ("3 2", 1)] {
+        let races = Races::replay(Engine::new().unwrap(), schedule, 2).unwrap();
         let mut streams = streams(&races, 2);
         streams[0].write_all(LOOKS).unwrap();
         streams[1].write_all(MAKES).unwrap();
@@ -184,8 +132,9 @@ fn schedules_that_do_not_fit() {
                 scope.spawn(move || take(&mut stream, VERSION + OK));
             }
         });
-        assert_eq!(races.schedule().len(), 10);
-        assert!(!races.is_reproducible());
+        assert_eq!(races.turns().len(), 10);
+        let why = "the schedule has no turn of a client that waits";
+        assert_eq!(races.stray(), Some(format!("before turn {}: {}", turn, why)));
     }
 }
 
@@ -205,27 +154,86 @@ fn a_client_that_waits_for_another() {
             take(&mut first, VERSION + ATTRS);
         });
         second.write_all(MAKES).unwrap();
-        assert!(races.is_reproducible());
+        assert_eq!(races.stray(), None);
         take(&mut second, VERSION + OK);
-        assert!(!races.is_reproducible());
+        let why = "before turn 1: client 1 neither sent nor left for 50ms";
+        assert_eq!(races.stray().as_deref(), Some(why));
         told.send(()).unwrap();
         drop(second);
     });
-    assert_eq!(races.schedule(), [2, 2, 2, 2, 2, 1, 1, 1, 1, 1]);
+    assert_eq!(races.schedule(), "2x5 1x5");
 }
 
+/// A thread that uses a client before it has connected all would wait for itself.
 #[test]
-fn a_client_that_does_not_come() {
+fn a_client_that_is_used_too_early() {
     let races = Races::new(0, 2).unwrap();
-    races.set_patience(Duration::from_millis(50));
-    let mut stream = races.connect().unwrap();
-    stream.write_all(LOOKS).unwrap();
-    take(&mut stream, VERSION);
-    assert!(!races.is_reproducible());
-    let other = races.connect().unwrap();
+    let wanted =
+        "the argument is wrong: client 1 is used, and 1 of 2 clients are connected: first \
+                  call connect() 2 times, then use each stream in its own thread";
+    assert_eq!(Client::new(races.connect().unwrap()).unwrap_err().to_string(), wanted);
+    let mut other = races.connect().unwrap();
+    other.write_all(INIT).unwrap();
+    take(&mut other, VERSION);
     let refused = races.connect().unwrap_err();
-    assert_eq!(refused.to_string(), "all clients of the races have connected");
-    drop(other);
+    assert_eq!(refused.to_string(), "all 2 clients of the race are connected");
+}
+
+/// A thread that uses both clients waits for itself: this is an error long before the patience
+/// ends.
+#[test]
+fn two_clients_in_one_thread() {
+    let races = Races::new(0, 2).unwrap();
+    let mut streams = streams(&races, 2);
+    for stream in &mut streams {
+        stream.write_all(INIT).unwrap();
+    }
+    // The first number of this seed is odd, so client 2 has its reply, and the race waits for it.
+    let begin = Instant::now();
+    let refused = streams[0].read(&mut [0]).unwrap_err();
+    let wanted = "the argument is wrong: client 1 waits for client 2, which the same thread uses: \
+                  use each stream in its own thread";
+    assert_eq!(refused.to_string(), wanted);
+    assert!(begin.elapsed() < Duration::from_secs(25));
+}
+
+/// A panic in a turn ends all streams, and no client waits for ever.
+#[test]
+fn a_rule_that_panics() {
+    let races = Races::new(0, 2).unwrap();
+    races.refuse(Rule::default().when(|_| panic!("a broken rule"))).unwrap();
+    let ends = |stream: RaceStream| {
+        let mut client = Client::new(stream).unwrap();
+        let fault = client.make_directory("/a").unwrap_err();
+        assert_eq!(fault.kind(), ErrorKind::BrokenPipe);
+        assert!(fault.to_string().ends_with("a broken rule"), "{}", fault);
+    };
+    let streams = streams(&races, 2);
+    thread::scope(|scope| {
+        for stream in streams {
+            scope.spawn(move || ends(stream));
+        }
+    });
+    let fault = races.snapshot().unwrap_err();
+    assert!(matches!(&fault, Error::Stopped(why) if why.ends_with("a broken rule")));
+    assert_eq!(races.close(), Err(fault));
+}
+
+/// Rules and callbacks work as in an engine.
+#[test]
+fn a_race_with_a_rule() {
+    let races = Races::new(3, 2).unwrap();
+    let rule = races.refuse(Rule::default().kind(Kind::Write).path("/out/*")).unwrap();
+    let (told, seen) = mpsc::channel();
+    let note = move |_: &mut Engine, call: &lucernetick::Call| told.send(call.number).unwrap();
+    races.with_engine(|engine| engine.on_call(OnCall::default().after(note)));
+    let (outcomes, _, tree) = race(&races);
+    assert_eq!(rule.refused(), 1);
+    assert!(outcomes.iter().any(|(_, renamed)| !renamed));
+    assert!(tree.len() > 1);
+    let calls = races.calls().unwrap();
+    assert!(seen.try_iter().eq(calls.iter().map(|call| call.number)));
+    assert_eq!(races.close(), Ok(()));
 }
 
 /// The requests of a client take effect, although it reads no reply.
@@ -235,12 +243,12 @@ fn a_client_that_goes_early() {
     let mut streams = streams(&races, 2);
     streams[1].write_all(&[MAKES, &LOOKS[INIT.len()..]].concat()).unwrap();
     streams.pop();
-    assert!(races.schedule().is_empty());
+    assert_eq!(races.schedule(), "");
     streams.pop();
     // VERSION, and four turns for each call.
-    assert_eq!(races.schedule(), [2; 9]);
+    assert_eq!(races.schedule(), "2x9");
     assert!(races.snapshot().unwrap().contains("/a"));
-    assert!(races.is_reproducible());
+    assert_eq!(races.stray(), None);
 }
 
 #[test]
@@ -253,7 +261,7 @@ fn sessions_that_end_themselves() {
         assert_eq!(stream.read_to_end(&mut Vec::new()).unwrap(), 0);
         assert_eq!(stream.write(LOOKS).unwrap_err().kind(), ErrorKind::BrokenPipe);
     }
-    assert_eq!(races.schedule().len(), 2);
+    assert_eq!(races.turns().len(), 2);
 }
 
 /// A waiting client gets an error when the race is dropped.
@@ -273,14 +281,14 @@ fn races_that_are_dropped() {
 /// The race has its own clock, and may start with files.
 #[test]
 fn a_tree_that_is_there_before() {
-    let engine = Engine::from_files([("/out/x", "1")], 5).unwrap();
-    let races = Races::over(engine, 7, 1);
-    races.time().set(1_700_000_000);
+    let engine = Engine::from_files([("/out/x", "1")], at(5)).unwrap();
+    let races = Races::over(engine, 7, 1).unwrap();
+    races.time().set(at(1_700_000_000)).unwrap();
     assert_eq!(upload(races.connect().unwrap(), "a"), (false, true));
     let found = races.snapshot().unwrap();
     let times = ["/done-a/x", "/done-a/a"].map(|path| found[path].mtime);
-    assert_eq!(times, [5, 1_700_000_000]);
-    assert!(races.schedule().iter().all(|client| *client == 1));
+    assert_eq!(times, [at(5), at(1_700_000_000)]);
+    assert!(races.turns().iter().all(|(client, _)| *client == 1));
 }
 
 /// One thread reads the replies to requests of another one.

@@ -1,6 +1,10 @@
 //! Sessions packet by packet, and snapshots.
 
-use lucernetick::{Ending, Engine, Entry, Error, Refusal, Server, Session, Turn};
+use lucernetick::unix_time as at;
+use lucernetick::{
+    Ending, Engine, Entry, Error, Races, Refusal, Server, Session, Turn, VirtualTime,
+};
+use std::time::Duration;
 
 const STATUS: u8 = 101;
 const HANDLE: u8 = 102;
@@ -31,7 +35,7 @@ fn string(bytes: &[u8]) -> Vec<u8> {
 fn client(engine: &mut Engine) -> Session {
     let session = engine.open().unwrap();
     engine.feed(session, INIT).unwrap();
-    assert_eq!(engine.settle(session, 0, 10), Ok(Turn::Idle));
+    assert_eq!(engine.settle(session, at(0), 10), Ok(Turn::Idle));
     assert_eq!(engine.take(session).unwrap().len(), VERSION);
     session
 }
@@ -39,7 +43,7 @@ fn client(engine: &mut Engine) -> Session {
 /// The body of the reply to a request with this timestamp.
 fn ask(engine: &mut Engine, session: Session, moment: u32, request: &[u8]) -> Vec<u8> {
     engine.feed(session, request).unwrap();
-    assert_eq!(engine.settle(session, moment, 1000), Ok(Turn::Idle));
+    assert_eq!(engine.settle(session, at(moment), 1000), Ok(Turn::Idle));
     let reply = engine.take(session).unwrap();
     assert_eq!(reply[..4], (reply.len() as u32 - 4).to_be_bytes());
     reply[4..].to_vec()
@@ -83,7 +87,7 @@ fn write_read_list_rename() {
 
 #[test]
 fn two_sessions_on_one_tree() {
-    let mut engine = Engine::from_files([("/f", "12345")], 100).unwrap();
+    let mut engine = Engine::from_files([("/f", "12345")], at(100)).unwrap();
     let (first, second) = (client(&mut engine), client(&mut engine));
     let stat = request(17, 1, &[&string(b"/f")]);
     let wanted = [vec![ATTRS, 0, 0, 0, 1], file(5, 100)].concat();
@@ -101,18 +105,18 @@ fn times_are_those_of_turns() {
     let stat = request(17, 1, &[&string(b"/f")]);
     let wanted = [vec![ATTRS, 0, 0, 0, 1], file(0, 4_000_000_000)].concat();
     assert_eq!(ask(&mut engine, session, 7, &stat), wanted);
-    assert_eq!(engine.snapshot().unwrap()["/"].mtime, 4_000_000_000);
+    assert_eq!(engine.snapshot().unwrap()["/"].mtime, at(4_000_000_000));
 }
 
 /// What the turns of a schedule did, and the output of its two sessions. The second one asks for
 /// `/a` before the first one has made it.
 fn replay() -> (Vec<Turn>, [Vec<u8>; 2]) {
-    let mut engine = Engine::with_keep(0).unwrap();
+    let mut engine = Engine::new().unwrap();
     let (first, second) = (engine.open().unwrap(), engine.open().unwrap());
     engine.feed(first, MAKES).unwrap();
     engine.feed(second, LOOKS).unwrap();
     let turns = [first, second, second, first, first, second, first, second, second, second, first];
-    let did = turns.iter().map(|session| engine.turn(*session, 100).unwrap()).collect();
+    let did = turns.iter().map(|session| engine.turn(*session, at(100)).unwrap()).collect();
     (did, [engine.output(first).unwrap(), engine.output(second).unwrap()])
 }
 
@@ -135,7 +139,7 @@ fn a_schedule_gives_the_same_bytes_each_time() {
 fn begun(engine: &mut Engine, old: &[u8], new: &[u8]) -> Session {
     let session = client(engine);
     engine.feed(session, &request(18, 7, &[&string(old), &string(new)])).unwrap();
-    assert_eq!(engine.turn(session, 100), Ok(Turn::Begun));
+    assert_eq!(engine.turn(session, at(100)), Ok(Turn::Begun));
     session
 }
 
@@ -144,15 +148,15 @@ fn begun(engine: &mut Engine, old: &[u8], new: &[u8]) -> Session {
 #[test]
 fn crossing_renames_in_rounds() {
     let mut engine = Engine::new().unwrap();
-    engine.make_directories("/a/x", 0).unwrap();
-    engine.make_directories("/b/y", 0).unwrap();
+    engine.make_directories("/a/x", at(0)).unwrap();
+    engine.make_directories("/b/y", at(0)).unwrap();
     let first = begun(&mut engine, b"/a/x", b"/b/y/x");
     let second = begun(&mut engine, b"/b/y", b"/a/x/y");
     assert_eq!(engine.run_all(), 8);
     assert_eq!(engine.run_all(), 0);
     for (session, code, message) in [(second, 2, "No such file"), (first, 0, "Success")] {
         assert_eq!(engine.output(session), Ok(vec![]));
-        assert_eq!(engine.turn(session, 100), Ok(Turn::Wrote));
+        assert_eq!(engine.turn(session, at(100)), Ok(Turn::Wrote));
         let head = [STATUS, 0, 0, 0, 7, 0, 0, 0, code];
         let wanted = [&head[..], &string(message.as_bytes()), &string(b"")].concat();
         assert_eq!(engine.take(session), Ok(string(&wanted)));
@@ -169,7 +173,7 @@ fn no_rounds_without_a_call_under_way() {
     let session = client(&mut engine);
     engine.feed(session, &LOOKS[INIT.len()..]).unwrap();
     assert_eq!(engine.run_all(), 0);
-    assert_eq!(engine.turn(session, 0), Ok(Turn::Begun));
+    assert_eq!(engine.turn(session, at(0)), Ok(Turn::Begun));
 }
 
 #[test]
@@ -185,7 +189,7 @@ fn how_sessions_end() {
     ] {
         let session = engine.open().unwrap();
         engine.feed(session, &bytes).unwrap();
-        assert_eq!(engine.settle(session, 0, 10), Ok(Turn::Ended(ending)));
+        assert_eq!(engine.settle(session, at(0), 10), Ok(Turn::Ended(ending)));
         assert_eq!(engine.feed(session, b"more"), Err(Refusal::HasEnded));
     }
 }
@@ -194,7 +198,7 @@ fn how_sessions_end() {
 fn refusals() {
     let (mut engine, mut other) = (Engine::new().unwrap(), Engine::new().unwrap());
     let unknown = other.open().unwrap();
-    assert_eq!(engine.turn(unknown, 0), Err(Refusal::NoSuchSession));
+    assert_eq!(engine.turn(unknown, at(0)), Err(Refusal::NoSuchSession.into()));
     assert_eq!(engine.output(unknown), Err(Refusal::NoSuchSession));
     let session = client(&mut engine);
     assert_eq!(engine.sent(session, 1), Err(Refusal::NotSent));
@@ -210,12 +214,12 @@ fn refusals() {
 fn files_at_the_start() {
     let long = vec![b'x'; 300000];
     let files = [("/a/b", &b"one"[..]), ("c", b""), ("/a/deep/er", &long)];
-    let mut engine = Engine::from_files(files, 77).unwrap();
-    engine.make_directories("/e", 77).unwrap();
+    let mut engine = Engine::from_files(files, at(77)).unwrap();
+    engine.make_directories("/e", at(77)).unwrap();
     let found = engine.snapshot().unwrap();
     let paths = ["/", "/a", "/a/b", "/a/deep", "/a/deep/er", "/c", "/e"];
     assert!(found.paths().eq(paths));
-    assert!(found.values().all(|entry| entry.mtime == 77));
+    assert!(found.values().all(|entry| entry.mtime == at(77)));
     assert_eq!(found["/a/b"].contents().as_deref(), Some(&b"one"[..]));
     assert_eq!(found["/a/deep/er"].contents().as_deref(), Some(&long[..]));
     assert_eq!(found["/c"].contents().as_deref(), Some(&[][..]));
@@ -226,7 +230,7 @@ fn files_at_the_start() {
 #[test]
 fn more_names_than_one_listing_has() {
     let files: Vec<_> = (0..100).map(|k| (format!("/d/{}", k), k.to_string())).collect();
-    let engine = Engine::from_files(files.clone(), 0).unwrap();
+    let engine = Engine::from_files(files.clone(), at(0)).unwrap();
     let found = engine.snapshot().unwrap();
     assert_eq!(found.len(), 102);
     for (path, contents) in files {
@@ -236,21 +240,22 @@ fn more_names_than_one_listing_has() {
 
 #[test]
 fn what_trees_refuse() {
-    let failure = Error::Status(4, "Failure".to_string());
-    assert_eq!(Engine::from_files([("a\0b", "")], 0).err(), Some(failure.clone()));
-    let mut engine = Engine::from_files([("/f", "")], 0).unwrap();
-    assert_eq!(engine.write_files([("/f/g", "")], 0), Err(failure));
+    let mut engine = Engine::from_files([("/f", "")], at(0)).unwrap();
+    let failed = engine.write_files([("/f/g", "")], at(0)).unwrap_err();
+    assert!(matches!(failed, Error::Status { code: 4, .. }));
+    // It makes missing parents, and there is a file.
+    assert_eq!(failed.to_string(), "mkdir \"/f\": Failure");
     let held = engine.open().unwrap();
     engine.feed(held, MAKES).unwrap();
     for wanted in [Turn::Wrote, Turn::Begun, Turn::Moved] {
-        assert_eq!(engine.turn(held, 0), Ok(wanted));
+        assert_eq!(engine.turn(held, at(0)), Ok(wanted));
     }
-    assert_eq!(engine.write_files([("/g", "")], 0), Err(Error::Blocked));
+    assert_eq!(engine.write_files([("/g", "")], at(0)), Err(Error::Blocked));
 }
 
 #[test]
 fn an_engine_goes_to_another_thread() {
-    let engine = Engine::from_files([("/f", "1")], 0).unwrap();
+    let engine = Engine::from_files([("/f", "1")], at(0)).unwrap();
     let found = std::thread::spawn(move || engine.snapshot().unwrap().len()).join().unwrap();
     assert_eq!(found, 2);
 }
@@ -266,7 +271,7 @@ fn set_size(engine: &mut Engine, path: &str, size: u64) {
 /// Its holes are reported and not read.
 #[test]
 fn a_sparse_file() {
-    let mut engine = Engine::from_files([("/d/f", "one")], 0).unwrap();
+    let mut engine = Engine::from_files([("/d/f", "one")], at(0)).unwrap();
     set_size(&mut engine, "/d/f", 1 << 40);
     let session = client(&mut engine);
     let open = request(3, 1, &[&string(b"/d/f"), &[0, 0, 0, 2, 0, 0, 0, 0]]);
@@ -288,7 +293,7 @@ fn a_gap_is_zeros() {
     let mut long = vec![0; 100_000];
     long[0] = b'1';
     let files = [("/f", long.clone()), ("/g", vec![b'1'])];
-    let mut engine = Engine::from_files(files, 0).unwrap();
+    let mut engine = Engine::from_files(files, at(0)).unwrap();
     set_size(&mut engine, "/g", 100_000);
     let found = engine.snapshot().unwrap();
     assert_eq!(found["/f"].contents().as_deref(), Some(&long[..]));
@@ -300,11 +305,11 @@ fn a_gap_is_zeros() {
 #[test]
 fn a_snapshot_asks_for_nothing() {
     let long = vec![b'1'; 40_000];
-    let mut engine = Engine::from_files([("/f", long.clone())], 0).unwrap();
-    let before: Vec<_> = engine.calls().map(Result::unwrap).collect();
+    let mut engine = Engine::from_files([("/f", long.clone())], at(0)).unwrap();
+    let before = engine.calls().unwrap();
     let first = engine.open().unwrap();
     let found = engine.snapshot().unwrap();
-    assert_eq!(engine.calls().map(Result::unwrap).collect::<Vec<_>>(), before);
+    assert_eq!(engine.calls().unwrap(), before);
     for count in 1..=255 {
         assert_eq!(engine.open().map(Session::number), Ok(first.number() + count));
     }
@@ -320,10 +325,10 @@ fn a_snapshot_while_a_call_stands_half_way() {
     let held = engine.open().unwrap();
     engine.feed(held, MAKES).unwrap();
     for wanted in [Turn::Wrote, Turn::Begun, Turn::Moved] {
-        assert_eq!(engine.turn(held, 0), Ok(wanted));
+        assert_eq!(engine.turn(held, at(0)), Ok(wanted));
         assert!(engine.snapshot().unwrap().paths().eq(["/"]));
     }
-    assert_eq!(engine.turn(held, 0), Ok(Turn::Decided));
+    assert_eq!(engine.turn(held, at(0)), Ok(Turn::Decided));
     assert!(engine.snapshot().unwrap().paths().eq(["/", "/a"]));
 }
 
@@ -338,7 +343,7 @@ fn who_wants_bytes() {
     engine.feed(session, &MAKES[5..]).unwrap();
     for wanted in [Turn::Wrote, Turn::Begun, Turn::Moved, Turn::Decided, Turn::Wrote] {
         assert!(!engine.wants_bytes(session));
-        assert_eq!(engine.turn(session, 0), Ok(wanted));
+        assert_eq!(engine.turn(session, at(0)), Ok(wanted));
     }
     assert!(engine.wants_bytes(session));
     engine.close(session).unwrap();
@@ -347,7 +352,7 @@ fn who_wants_bytes() {
 
 #[test]
 fn a_path_is_asked_for_as_text_or_as_bytes() {
-    let engine = Engine::from_files([(&b"/a/\xff"[..], "1"), (b"/b", "2")], 0).unwrap();
+    let engine = Engine::from_files([(&b"/a/\xff"[..], "1"), (b"/b", "2")], at(0)).unwrap();
     let found = engine.snapshot().unwrap();
     let name = String::from("/b");
     assert_eq!(
@@ -372,10 +377,40 @@ fn a_path_that_is_not_there() {
 /// What a failed test prints.
 #[test]
 fn engines_and_servers_are_printed() {
-    let mut engine = Engine::new().unwrap();
+    let engine = Engine::new().unwrap();
     assert_eq!(format!("{:?}", engine), "Engine { .. }");
-    assert_eq!(format!("{:?}", engine.calls()), "Calls { engine: Engine { .. }, at: 0 }");
-    let server = Server::new(engine, || 0);
+    let server = Server::new(engine, || at(0));
     let _line = server.connect().unwrap();
     assert_eq!(format!("{:?}", server), "Server { sessions: 1, .. }");
+}
+
+/// What is out of range is an error with the argument's name, and changes nothing.
+#[test]
+fn arguments_that_are_wrong() {
+    let mut engine = Engine::new().unwrap();
+    let session = engine.open().unwrap();
+    let late = at(u32::MAX) + Duration::from_secs(1);
+    let early = at(0) - Duration::from_secs(1);
+    let long = "/a".repeat(2049);
+    let name = "a".repeat(256);
+    for (found, wanted) in [
+        (engine.turn(session, late).err(), "moment"),
+        (engine.settle(session, early, 1).err(), "moment"),
+        (engine.write_files([("/f", "")], late).err(), "moment"),
+        (engine.write_files([("/a\0b", "")], at(0)).err(), "path must not have a byte 0"),
+        (engine.make_directories(&long, at(0)).err(), "path must have at most 4096 bytes"),
+        (engine.make_directories(&name, at(0)).err(), "path must have no name of more than 255"),
+        (engine.hard_link("\0", "/f", at(0)).err(), "old must not have a byte 0"),
+        (VirtualTime::new(early).err(), "moment"),
+        (VirtualTime::default().advance(Duration::MAX).err(), "by"),
+        (Races::new(0, 0).err(), "clients must be from 1 to 256, not 0"),
+        (Races::new(0, 257).err(), "clients must be from 1 to 256, not 257"),
+        (Races::replay(Engine::new().unwrap(), "1x", 2).err(), "schedule"),
+    ] {
+        match found {
+            Some(Error::Argument(why)) => assert!(why.starts_with(wanted), "{}", why),
+            other => panic!("{:?} for {}", other, wanted),
+        }
+    }
+    assert!(engine.snapshot().unwrap().paths().eq(["/"]));
 }

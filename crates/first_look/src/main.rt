@@ -1,8 +1,8 @@
-//! A first look at the server, which `make demo` builds before anything is proved: sessions at a
-//! Unix socket, on one tree, one client after the other.
+//! A demonstration server, which `make demo` builds without any proof: it serves clients at a Unix
+//! socket one after the other, on one tree.
 //!
-//! A session is served as `sftpd stdio` serves it, by `serve_one` of `sf_alone`. What else
-//! `sftpd` has isn't here, so that this is built in half the time.
+//! It serves a session as `sftpd stdio` does, by `serve_one` of `sf_alone`. It lacks the other
+//! features of `sftpd`, which halves its build time.
 #![tactic(auto)]
 
 use sf_alone::serve_one;
@@ -14,10 +14,10 @@ use std::env;
 use std::io::{self, ErrorKind};
 use std::os::unix::net::UnixListener;
 
-/// How many records of calls are kept.
+/// The number of retained call records.
 const KEEP: usize = 256;
 
-/// Serves whoever connects at the path, one after the other.
+/// Serves the clients that connect at a path, one after the other.
 fn serve(rt: &HostRuntime, path: &str) -> io::Result<()> {
     let alloc = rt.alloc();
     let mut engine = Engine::with_keep(alloc, KEEP)?;
@@ -26,7 +26,7 @@ fn serve(rt: &HostRuntime, path: &str) -> io::Result<()> {
     for stream in listener.incoming() {
         let stream = stream?;
         let mut line = StreamLine::new(&stream, &stream);
-        // How one session ends is nothing to the next.
+        // An error of one session doesn't affect the next.
         let _ = serve_one(alloc, &mut engine, &mut line, &mut clock, &NoObserver);
     }
     Ok(())

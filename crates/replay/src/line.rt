@@ -8,26 +8,26 @@ use std::alloc::Global;
 #[derive(Drop)]
 pub enum Line {
     Event(Event),
-    /// Events, one after the other.
+    /// Events in sequence.
     Run(Vec<Event>),
-    /// Turns of a session at a moment, as long as its call is on its way.
+    /// Turns of a session with a timestamp, until its call is answered or can't progress.
     Turns(u64, u32),
-    /// Bytes for a session, without an event.
+    /// Bytes for a session, by `Engine::feed`.
     FeedSlice(u64, Vec<u8>),
-    /// Rounds, until no call is under way.
+    /// Rounds, until no call is unanswered.
     RunAll,
-    /// A new engine, which keeps so many records.
+    /// A new engine that retains this many records.
     Keep(usize),
     State,
-    /// What a session has to be sent behind so many bytes.
+    /// A session's output after this many bytes.
     Output(u64, usize),
-    /// Whether a session wants bytes.
+    /// Whether a session needs input.
     Wants(u64),
     LookUps,
     Tree,
 }
 
-/// An event, read from the words of its line.
+/// Parses an event from the words of its line.
 fn read_event(alloc: Global, words: &[&str]) -> anyhow::Result<Event> {
     Ok(match words {
         ["open"] => Event::Open,
@@ -39,7 +39,7 @@ fn read_event(alloc: Global, words: &[&str]) -> anyhow::Result<Event> {
     })
 }
 
-/// Events with a bar between each two.
+/// Parses events, separated by bars.
 fn read_events(alloc: Global, text: &str) -> anyhow::Result<Vec<Event>> {
     let mut events = Vec::new(alloc);
     for part in text.split('|') {
@@ -50,7 +50,7 @@ fn read_events(alloc: Global, text: &str) -> anyhow::Result<Vec<Event>> {
 }
 
 impl Line {
-    /// A line of a schedule, read from its text: see `replay` for the form of each.
+    /// Parses a line of a schedule. The program's head lists the forms.
     pub fn parse(alloc: Global, text: &str) -> anyhow::Result<Line> {
         if let Some(events) = text.strip_prefix("run ") {
             return Ok(Line::Run(read_events(alloc, events)?));

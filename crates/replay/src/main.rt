@@ -1,26 +1,26 @@
-//! Replays a schedule of an engine's events, and prints what came of each:
+//! Replays a schedule of an engine's events from standard input, and prints their results:
 //!
 //! ```text
-//! open                            a session opens
-//! feed 1 000000050100000003       session 1 is fed these bytes
-//! turn 1 100                      it takes a turn, at the moment 100
-//! close 1                         it is closed
-//! sent 1 9                        9 bytes of its output are dropped
-//! run open | turn 1 100           these events, and how many of them were refused
-//! turns 1 100                     turns as long as the call is on its way, and what the last came
-//!                                 to
-//! feed_slice 1 000000050100000003 as feed, without an event
-//! run_all                         rounds, until no call is under way, and how many there were
-//! keep 2                          a new engine, which keeps 2 records, in the place of this one
-//! state                           what each session was sent, and the records of all calls
-//! output 1 9                      what session 1 was sent, behind the first 9 bytes
-//! wants 1                         whether session 1 wants bytes
-//! look_ups                        how many names were looked up
-//! tree                            every path, with what it names
+//! open                            opens a session
+//! feed 1 000000050100000003       feeds session 1 these bytes
+//! turn 1 100                      takes a turn of session 1, with the timestamp 100
+//! close 1                         closes session 1
+//! sent 1 9                        removes the first 9 bytes of its output
+//! run open | turn 1 100           applies these events; prints the number of errors
+//! turns 1 100                     takes turns until its call is answered or can't progress;
+//!                                 prints the last result
+//! feed_slice 1 000000050100000003 as feed, by the method for slices
+//! run_all                         runs rounds until no call is unanswered; prints their number
+//! keep 2                          replaces the engine by a new one that retains 2 records
+//! state                           prints each session's output, and the retained records
+//! output 1 9                      prints the output of session 1 after the first 9 bytes
+//! wants 1                         prints whether session 1 needs input
+//! look_ups                        prints the number of lookups
+//! tree                            prints every path, with its inode
 //! ```
 //!
-//! Before the engine is made it prints `read`, and `begun` when it is. An event that is refused for
-//! want of memory is followed by the state, and applied again. The last line is `end`.
+//! It prints `read` before it makes the engine, and `begun` after it. If memory runs out in an
+//! event, it prints the state and applies the event again. The last line is `end`.
 #![tactic(auto)]
 
 mod line;
@@ -39,13 +39,13 @@ fn print_bytes(out: &mut impl Write, bytes: &[u8]) -> io::Result<()> {
     writeln!(out, "")
 }
 
-/// Prints what a session has to be sent, in hexadecimal.
+/// Prints a session's output in hexadecimal.
 fn print_output(out: &mut impl Write, session: u64, output: &[u8]) -> io::Result<()> {
     write!(out, "output {session} ")?;
     print_bytes(out, output)
 }
 
-/// Prints what each session has to be sent, how many calls began, and the records.
+/// Prints each session's output, the number of calls, and the records.
 fn print_state(out: &mut impl Write, engine: &Engine) -> io::Result<()> {
     for session in 1..257 {
         if let Some(output) = engine.output(session) {
@@ -60,7 +60,7 @@ fn print_state(out: &mut impl Write, engine: &Engine) -> io::Result<()> {
     Ok(())
 }
 
-/// Prints what a session has to be sent behind so many bytes.
+/// Prints a session's output after its first `start` bytes.
 fn print_behind(
     out: &mut impl Write,
     engine: &Engine,
@@ -73,8 +73,7 @@ fn print_behind(
     }
 }
 
-/// Prints every path with what it names: its label and its attributes, its text, and a file's
-/// bytes.
+/// Prints every path with its label, its attributes, its text, and a file's bytes.
 fn print_tree(out: &mut impl Write, alloc: Global, engine: &Engine) -> anyhow::Result<()> {
     let leaves = engine.tree(alloc)?;
     writeln!(out, "leaves {}", leaves.len())?;
@@ -90,7 +89,7 @@ fn print_tree(out: &mut impl Write, alloc: Global, engine: &Engine) -> anyhow::R
     Ok(())
 }
 
-/// Prints what came of an event.
+/// Prints the result of an event.
 fn print_outcome(out: &mut impl Write, outcome: &Result<Happened, EngineFault>) -> io::Result<()> {
     match outcome {
         Ok(happened) => writeln!(out, "{happened:?}"),
@@ -98,7 +97,7 @@ fn print_outcome(out: &mut impl Write, outcome: &Result<Happened, EngineFault>) 
     }
 }
 
-/// Applies an event, and once more where memory was wanting. Prints what came of it.
+/// Applies an event, and once more if memory ran out. Prints the results.
 fn apply(out: &mut impl Write, engine: &mut Engine, event: &Event) -> io::Result<()> {
     let outcome = engine.apply(event);
     print_outcome(out, &outcome)?;
@@ -109,7 +108,7 @@ fn apply(out: &mut impl Write, engine: &mut Engine, event: &Event) -> io::Result
     Ok(())
 }
 
-/// An engine that keeps so many records.
+/// An engine that retains `count` records.
 fn keeping(alloc: Global, count: usize) -> anyhow::Result<Engine> {
     if count == 0 {
         bail!("no record is kept");
@@ -117,7 +116,7 @@ fn keeping(alloc: Global, count: usize) -> anyhow::Result<Engine> {
     Ok(Engine::with_keep(alloc, count)?)
 }
 
-/// Does what a line says, and prints what came of it.
+/// Executes a line, and prints the result.
 fn replay_line(
     out: &mut impl Write,
     alloc: Global,
@@ -156,7 +155,7 @@ fn replay(
     Ok(())
 }
 
-/// An engine, at the second try where memory was wanting.
+/// Makes an engine, at the second try if memory runs out.
 fn make_engine(out: &mut impl Write, alloc: Global) -> anyhow::Result<Engine> {
     if let Ok(engine) = Engine::new(alloc) {
         return Ok(engine);
@@ -165,7 +164,7 @@ fn make_engine(out: &mut impl Write, alloc: Global) -> anyhow::Result<Engine> {
     Ok(Engine::new(alloc)?)
 }
 
-/// The lines of the input.
+/// Parses the lines of the input.
 fn read_lines(alloc: Global, input: impl BufRead + Drop) -> anyhow::Result<Vec<Line>> {
     let mut lines = Vec::new(alloc);
     for text in input.lines(alloc) {

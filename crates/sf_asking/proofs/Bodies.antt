@@ -1,4 +1,4 @@
--- A packet's body, and the reply that it is.
+-- A packet's body, and the reply in it.
 use Rattle.std.proofs.Common.{◌≡◌, ◌∙◌, ◌<◌, ◌^◌, ℕ, List, [], ◌∷◌, ◌++◌, length, Option, Some, None, refl, sym, ap, subst, append-nil, inr, arith}
 use Rattle.sf_field.specs.Fields.{packet}
 use Rattle.sf_field.specs.Reading.{string_at}

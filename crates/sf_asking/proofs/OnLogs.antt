@@ -1,4 +1,4 @@
--- What an engine's calls tell, of traces and of logs.
+-- The methods of an engine, by its traces and by its logs.
 use Rattle.std.proofs.Common.{◌≡◌, ℕ, List, Result}
 use Rattle.std.specs.Prelude.{OnErr}
 use Rattle.std.specs.Global.{Vec}

@@ -1,4 +1,4 @@
--- What is done on an engine: by events alone, one after the other.
+-- Operations on an engine, defined by its events.
 use Rattle.std.specs.Prelude.{◌≡◌, ◌<◌, ◌⊎◌, ◌^◌, ℕ, List, [], ◌∷◌, length, Option, Some, None, Result, Ok, Err, OnErr}
 use Rattle.std.specs.Global.{Vec}
 use Rattle.sf_field.specs.Fields.{packet}
@@ -20,7 +20,7 @@ use Rattle.sf_trees.specs.Lengths.{id, strings_of, most_strings}
 use Rattle.sf_asking.specs.Askers.{AskerView}
 use Rattle.sf_asking.specs.Logs.{EventLeads, FeedsBy, TurnsLead, HasUnsent, HasNoSession}
 
--- the fault that is told of an engine's refusal
+-- the error for an engine's error
 abbrev pub fault_for : EngineFault → TreeFault
 fault_for engine.OutOfMemory = fault.OutOfMemory
 fault_for engine.NoSuchSession = fault.Reply
@@ -29,7 +29,7 @@ fault_for engine.Ended = fault.Reply
 fault_for engine.NumbersSpent = fault.NumbersSpent
 fault_for engine.NotSent = fault.Reply
 
--- why turns that came to this led to no reply
+-- why turns with this result wrote no reply
 abbrev pub stuck_by : Result Happened EngineFault → Option TreeFault
 stuck_by (Ok (happened.Opened session)) = Some fault.Reply
 stuck_by (Ok happened.Fed) = Some fault.Reply
@@ -44,7 +44,7 @@ stuck_by (Ok happened.Closed) = Some fault.Reply
 stuck_by (Ok happened.Sent) = Some fault.Reply
 stuck_by (Err f) = Some (fault_for f)
 
--- bytes were fed, and then turns of the session, at the moment, came to this
+-- bytes were fed, and then turns of the session with this timestamp had this result
 pub record Turned (session moment : ℕ) (bytes : List ℕ) (old : EngineView)
     (r : Result Happened EngineFault) (new : EngineView) : Type 0 where
   pub fed : EngineView
@@ -53,12 +53,12 @@ pub record Turned (session moment : ℕ) (bytes : List ℕ) (old : EngineView)
   pub feeds : FeedsBy old session bytes (Ok happened) fed
   pub has_turns : TurnsLead turns fed (event.Turn session moment) r new
 
--- There was no memory for the bytes, or they were refused.
+-- Memory for the bytes ran out, or the engine rejected them.
 abbrev pub IsUnfed : ℕ → List ℕ → EngineView → TreeFault → EngineView → Type 0
 IsUnfed session bytes old why new = (new ≡ old) × ((why ≡ fault.OutOfMemory)
     ⊎ ((f : EngineFault) × FeedsBy old session bytes (Err f) new × (why ≡ fault_for f)))
 
--- Bytes were fed, and turns led to a reply; or why not.
+-- Bytes were fed, and turns wrote a reply; or the error.
 abbrev pub Converses : ℕ → ℕ → List ℕ → EngineView → Result (Unit {0}) TreeFault → EngineView
     → Type 0
 Converses session moment bytes old (Ok done) new =
@@ -67,38 +67,38 @@ Converses session moment bytes old (Err why) new = IsUnfed session bytes old why
     ⊎ ((r : Result Happened EngineFault) × Turned session moment bytes old r new
     × (stuck_by r ≡ Some why))
 
--- all that a session is sent was taken
+-- a session's whole output was taken
 abbrev pub IsTaken : ℕ → List ℕ → EngineView → EngineView → Type 0
 IsTaken session output old new = HasUnsent old session output
     × ((h : Happened) × EventLeads old (event.Sent session (length output)) (Ok h) new)
 
--- no memory to read bytes as a reply, or they are none
+-- memory to read the output ran out, or the output isn't a reply's packet
 abbrev pub MayMissReply : List ℕ → TreeFault → Type 0
 MayMissReply output why = (why ≡ fault.OutOfMemory) ⊎ ((why ≡ fault.Reply)
     × ((r : Reply) → ReplyFits r → length (reply_body id r) < 2 ^ 32
     → output ≡ packet (reply_body id r) → ⊥))
 
--- There is no such session, or the engine refused that bytes were sent.
+-- The session is unknown, or the engine rejected the event `Sent`.
 abbrev pub IsUntaken : ℕ → EngineView → TreeFault → EngineView → Type 0
 IsUntaken session old why new = (HasNoSession old session × (why ≡ fault.Reply))
     ⊎ ((n : ℕ) × (f : EngineFault) × EventLeads old (event.Sent session n) (Err f) new
     × (why ≡ fault_for f))
 
--- One reply, which is all that the session is sent, was taken; or nothing changed, and why.
+-- One reply was taken, which was the session's whole output; or nothing changed, and the error.
 abbrev pub Gets : ℕ → EngineView → Result Reply TreeFault → EngineView → Type 0
 Gets session old (Ok r) new = IsTaken session (packet (reply_body id r)) old new
 Gets session old (Err why) new = (new ≡ old)
     × (((output : List ℕ) × HasUnsent old session output × MayMissReply output why)
     ⊎ IsUntaken session old why new)
 
--- A request's packet was fed, turns led to its reply, and that was taken, and was all that the
--- session was sent.
+-- A request's packet was fed, turns wrote its reply, and the reply was taken as the session's whole
+-- output.
 abbrev pub IsAnsweredBy : ℕ → ℕ → WireRequest → EngineView → Reply → EngineView → Type 0
 IsAnsweredBy session moment q old r new = (wrote : EngineView)
     × Converses session moment (packet (request_body id q)) old (Ok tt) wrote
     × Gets session wrote (Ok r) new
 
--- Strings are too long, and nothing was done.
+-- The request is too long, and nothing was done.
 abbrev pub IsTooLong : WireRequest → EngineView → TreeFault → EngineView → Type 0
 IsTooLong q old why new = (most_strings < strings_of q) × (why ≡ fault.Path) × (new ≡ old)
 
@@ -113,7 +113,7 @@ abbrev pub TakesAll : ℕ → EngineView → Result (Unit {0}) TreeFault → Eng
 TakesAll session old (Ok done) new = (output : List ℕ) × IsTaken session output old new
 TakesAll session old (Err why) new = (new ≡ old) × IsUntaken session old why new
 
--- INIT was fed, turns led to its answer, and all that the session was sent was taken.
+-- INIT was fed, turns wrote its answer, and the session's whole output was taken.
 abbrev pub GreetsSession : ℕ → ℕ → EngineView → EngineView → Type 0
 GreetsSession session moment old new = (wrote : EngineView)
     × Converses session moment (packet init_body) old (Ok tt) wrote
@@ -129,15 +129,14 @@ abbrev pub Greets : ℕ → ℕ → EngineView → Result (Unit {0}) TreeFault �
 Greets session moment old (Ok done) new = GreetsSession session moment old new
 Greets session moment old (Err why) new = IsUngreeted session moment old why new
 
--- A session was closed, if it was there, and then turns were made of it, which write an answer that
--- waits.
+-- A session was closed, if it was open, and then turns wrote its pending reply, if any.
 abbrev pub IsClosed : ℕ → ℕ → EngineView → EngineView → Type 0
 IsClosed session moment old new = (closed : EngineView) × (turns : ℕ)
     × (outcome left : Result Happened EngineFault)
     × EventLeads old (event.Close session) outcome closed
     × TurnsLead turns closed (event.Turn session moment) left new
 
--- A session was greeted; or it was closed, since it wasn't.
+-- A session was initialized; or that failed, and it was closed.
 abbrev pub Welcomes : ℕ → ℕ → EngineView → Result (Unit {0}) TreeFault → EngineView → Type 0
 Welcomes session moment old (Ok done) new = GreetsSession session moment old new
 Welcomes session moment old (Err why) new = (left : EngineView)
@@ -153,7 +152,7 @@ abbrev pub Opens : EngineView → Result ℕ TreeFault → EngineView → Type 0
 Opens old result new = (r : Result Happened EngineFault)
     × EventLeads old event.Open r new × (result ≡ session_opened r)
 
--- A session opened and was greeted; or it didn't open, or wasn't greeted.
+-- A session opened and was initialized; or either failed.
 abbrev pub OpensGreeted : ℕ → EngineView → Result ℕ TreeFault → EngineView → Type 0
 OpensGreeted moment old (Ok session) new = (opened : EngineView) × Opens old (Ok session) opened
     × Welcomes session moment opened (Ok tt) new
@@ -161,7 +160,7 @@ OpensGreeted moment old (Err why) new = Opens old (Err why) new
     ⊎ ((session : ℕ) × (opened : EngineView) × Opens old (Ok session) opened
     × Welcomes session moment opened (Err why) new)
 
--- what each operation is on an engine
+-- each operation, by the engine's events
 abbrev pub IsDone : ℕ → Operation → EngineView → EngineView → Type 0
 IsDone moment (Begins outcome) old new = OpensGreeted moment old outcome new
 IsDone moment (Asks session q (Ok r)) old new = IsAnsweredBy session moment q old r new

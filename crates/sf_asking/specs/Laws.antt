@@ -1,5 +1,5 @@
 -- No public clause cites this module.
--- Operations that are done one after the other.
+-- Operations in sequence.
 use Rattle.std.specs.Prelude.{◌≡◌, ℕ, List, [], ◌∷◌, ◌++◌, refl}
 use Rattle.std.proofs.Common.{◌∙◌, sym, subst}
 use Rattle.sf_engine.specs.Views.{EngineView}

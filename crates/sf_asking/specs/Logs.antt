@@ -1,5 +1,4 @@
--- What the calls of an engine tell of its log. Of what it is for an engine to have one the trait
--- `Sftp` says all that is said.
+-- What the methods of an engine add to its log. The trait `Sftp` says what a log is.
 use Rattle.std.specs.Prelude.{◌≡◌, ◌++◌, ◌∷◌, ◌↔◌, ℕ, List, [], Bool, IsTrue, Result, OnErr}
 use Rattle.std.specs.Global.{Vec}
 use Rattle.sf_call.specs.declared.record.Record.{Record}
@@ -17,36 +16,36 @@ use Rattle.sf_engine.specs.Fits.{Fits, GoesOnTrace, HasTurns, IsSentBy, IsUnknow
 use Rattle.sf_engine.specs.Views.{EngineView}
 use Rattle.sf_engine.specs.contracts.promise.EngineSftp.TheImpl.{ghosts}
 
--- each log of the old engine, and the event's entry behind it, is one of the new engine
+-- each log of the old engine, extended by the event's entry, is a log of the new engine
 abbrev pub GoesOnLog : EngineView → Event → Result Happened EngineFault → EngineView → Type 0
 GoesOnLog old event result new = (log : List LogEntry) → ghosts.has_log old log
     → (added : List Record) × (wrote : List Response)
     × ghosts.has_log new (log ++ log_entry event result added wrote ∷ [])
 
--- An event led from an engine to another, and this came of it. Refused, it changed nothing.
+-- An event changed an engine, with this result. An error changed nothing.
 abbrev pub EventLeads : EngineView → Event → Result Happened EngineFault → EngineView → Type 0
 EventLeads old event result new = GoesOnLog old event result new × GoesOnTrace old event result new
     × OnErr result (new ≡ old)
 
--- so, by the event `Feed` of any vector of these bytes
+-- the same for the event `Feed` of any vector of these bytes
 abbrev pub FeedsBy : EngineView → ℕ → List ℕ → Result Happened EngineFault → EngineView → Type 0
 FeedsBy old session bytes result new =
     (fed : Vec ℕ) → fed.items ≡ bytes → EventLeads old (event.Feed session fed) result new
 
--- turns, the last of which came to this
+-- turns; the last one had this result
 abbrev pub TurnsLead : ℕ → EngineView → Event → Result Happened EngineFault → EngineView → Type 0
 TurnsLead n old turn result new = ((log : List LogEntry) → ghosts.has_log old log
     → (entries : List LogEntry) × AreTurns turn result entries
     × ghosts.has_log new (log ++ entries))
     × HasTurns n old turn result new
 
--- what waits to be sent to a session
+-- the session's output that isn't sent yet
 abbrev pub HasUnsent : EngineView → ℕ → List ℕ → Type 0
 HasUnsent engine session output = ((log : List LogEntry) → ghosts.has_log engine log
     → IsKnown log session × IsUnsent log session output)
     × IsSentBy engine session output
 
--- there is no such session
+-- the session is unknown
 abbrev pub HasNoSession : EngineView → ℕ → Type 0
 HasNoSession engine session =
     ((log : List LogEntry) → ghosts.has_log engine log → ¬ IsKnown log session)
@@ -57,8 +56,8 @@ abbrev pub WaitsForBytesBy : EngineView → ℕ → Bool → Type 0
 WaitsForBytesBy engine session wants =
     (log : List LogEntry) → ghosts.has_log engine log → IsTrue wants ↔ WaitsForBytes log session
 
--- These are the leaves of the engine's tree: each path once, in the order of paths, with what it
--- names after the calls that were decided so far, and nothing else.
+-- The leaves of the engine's tree: each path once, in the order of paths, with its object after the
+-- calls that were decided so far.
 abbrev pub HasTree : EngineView → List Leaf → Type 0
 HasTree engine leaves = ((log : List LogEntry) → ghosts.has_log engine log
     → leaves ≡ leaves_of (replay (linearization log)))

@@ -1,4 +1,4 @@
-//! A server on an engine.
+//! The `Server` of `sf_trees` on an engine.
 
 ghost use Rattle.std.specs.Prelude.{◌≡◌};
 ghost use Rattle.sf_trees.specs.Operations.{Asks};
@@ -12,7 +12,7 @@ use sf_trees::{Server, TreeFault, is_too_long};
 use std::alloc::Global;
 use std::marker::Model;
 
-/// An engine whose sessions ask, all at one moment.
+/// An engine with sessions that send requests one at a time, all with one timestamp.
 #[derive(Drop)]
 pub struct Asker {
     engine: Box<Engine, Global>,
@@ -28,7 +28,7 @@ impl Model for Asker {
     ghost view = { λ a. record { engine = a.engine.value; moment = a.moment } };
 }
 
-/// Opens a session, and greets it.
+/// Opens a session, and initializes it.
 fn begin(engine: &mut Engine, moment: u32) -> Result<u64, TreeFault>
     ensures { OpensGreeted moment engine.old result engine.new }
 {
@@ -37,7 +37,7 @@ fn begin(engine: &mut Engine, moment: u32) -> Result<u64, TreeFault>
     Ok(session)
 }
 
-/// Asks a request, and takes its reply.
+/// Sends a request, and receives its reply.
 fn ask(
     engine: &mut Engine,
     alloc: Global,
@@ -56,7 +56,7 @@ fn ask(
 }
 
 impl Asker {
-    /// All requests are asked at this moment.
+    /// An asker on an engine. `moment` is the timestamp of all requests, in seconds since 1970.
     pub fn new(engine: Box<Engine, Global>, alloc: Global, moment: u32) -> Asker
         ensures { result ≡ record { engine = engine.value; moment = moment } }
     {
@@ -67,7 +67,7 @@ impl Asker {
         }
     }
 
-    /// The engine, given back.
+    /// Returns the engine.
     pub fn into_engine(self) -> Box<Engine, Global>
         ensures { result.value ≡ self.engine }
     {

@@ -1,4 +1,4 @@
-//! Bytes to a session, its turns, and what it is sent.
+//! Feeding a session, taking its turns, and reading its output.
 
 ghost use Rattle.std.specs.Prelude.{◌≡◌, ◌<◌, ◌^◌, length, IfOk};
 ghost use Rattle.sf_field.specs.Fields.{packet};
@@ -14,7 +14,7 @@ use sf_request::{WireRequest, init_packet, write_request};
 use sf_trees::TreeFault;
 use std::alloc::{AllocError, Global};
 
-/// The fault that is told of an engine's refusal.
+/// The error for an engine's error.
 fn fault_for(fault: EngineFault) -> TreeFault
     ensures { result ≡ fault_for fault }
 {
@@ -26,7 +26,7 @@ fn fault_for(fault: EngineFault) -> TreeFault
     }
 }
 
-/// Why turns that came to this led to no reply.
+/// Why turns with this result wrote no reply.
 fn stuck_by(outcome: Result<Happened, EngineFault>) -> Option<TreeFault>
     ensures { result ≡ stuck_by outcome }
 {
@@ -38,7 +38,7 @@ fn stuck_by(outcome: Result<Happened, EngineFault>) -> Option<TreeFault>
     }
 }
 
-/// Feeds bytes, and makes turns up to a reply.
+/// Feeds bytes, and takes turns until a reply is written. Fails if the session can't progress.
 fn converse(engine: &mut Engine, session: u64, moment: u32, bytes: &[u8]) -> Result<(), TreeFault>
     requires { length bytes.now < 2 ^ 63 }
     ensures { Converses session moment bytes.now engine.old result engine.new }
@@ -52,7 +52,7 @@ fn converse(engine: &mut Engine, session: u64, moment: u32, bytes: &[u8]) -> Res
     }
 }
 
-/// Takes one reply, which is all that the session is sent.
+/// Takes one reply, which must be the session's whole output.
 pub(crate) fn take(engine: &mut Engine, alloc: Global, session: u64) -> Result<Reply, TreeFault>
     ensures { Gets session engine.old result engine.new }
 {
@@ -77,7 +77,7 @@ fn packet_of(alloc: Global, request: &WireRequest) -> Result<BytesMut, AllocErro
     Ok(out)
 }
 
-/// Feeds a request's packet, and makes turns up to a reply.
+/// Feeds a request's packet, and takes turns until a reply is written.
 pub(crate) fn say(
     engine: &mut Engine,
     alloc: Global,
@@ -95,7 +95,7 @@ pub(crate) fn say(
     converse(engine, session, moment, packet.as_slice())
 }
 
-/// Takes all that the session is sent, which is VERSION.
+/// Takes the session's whole output, which is VERSION.
 fn take_all(engine: &mut Engine, session: u64) -> Result<(), TreeFault>
     ensures { TakesAll session engine.old result engine.new }
 {
@@ -109,14 +109,14 @@ fn take_all(engine: &mut Engine, session: u64) -> Result<(), TreeFault>
     }
 }
 
-/// Feeds INIT, and makes turns up to its answer.
+/// Feeds INIT, and takes turns until it is answered.
 fn say_init(engine: &mut Engine, session: u64, moment: u32) -> Result<(), TreeFault>
     ensures { Converses session moment (packet init_body) engine.old result engine.new }
 {
     converse(engine, session, moment, &init_packet())
 }
 
-/// Sends INIT, and takes VERSION.
+/// Sends INIT, and receives VERSION.
 fn greet(engine: &mut Engine, session: u64, moment: u32) -> Result<(), TreeFault>
     ensures { Greets session moment engine.old result engine.new }
 {
@@ -125,9 +125,9 @@ fn greet(engine: &mut Engine, session: u64, moment: u32) -> Result<(), TreeFault
     Ok(())
 }
 
-/// Closes a session. Where an answer waits, as after a turn that found no memory for it, further
-/// turns write it, so that the session leaves. Only one whose call is blocked, or for which there
-/// is no memory still, stays.
+/// Closes a session. If a reply is still pending, as after a turn in which memory ran out, further
+/// turns write it, so that the session leaves. A session stays only if its call is blocked or
+/// memory still runs out.
 pub(crate) fn close(engine: &mut Engine, session: u64, moment: u32)
     ensures { IsClosed session moment engine.old engine.new }
 {
@@ -135,7 +135,7 @@ pub(crate) fn close(engine: &mut Engine, session: u64, moment: u32)
     let _left = engine.turns(session, moment);
 }
 
-/// As `greet`, and closes a session that isn't greeted.
+/// As `greet`, but closes the session on an error.
 pub(crate) fn welcome(engine: &mut Engine, session: u64, moment: u32) -> Result<(), TreeFault>
     ensures { Welcomes session moment engine.old result engine.new }
 {

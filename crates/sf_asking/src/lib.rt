@@ -1,8 +1,7 @@
-//! An engine that is asked by sessions of one's own, one request at a time: there is no second way
-//! into its tree.
+//! A client of an engine in the same process: its sessions send ordinary requests, one at a time.
 //!
-//! Start with `specs/Asking.antt`: `IsDone` says what each operation is on the engine, by its
-//! events alone. `Asker` is the `Server` of `sf_trees` that does them.
+//! Start with `specs/Asking.antt`: `IsDone` defines each operation by the engine's events. `Asker`
+//! implements `Server` of `sf_trees`.
 #![tactic(auto)]
 
 mod asker;

@@ -1,4 +1,4 @@
-//! The reply that bytes are.
+//! Reading a reply's packet.
 
 ghost use Rattle.std.specs.Prelude.{◌≡◌, ◌<◌, ◌^◌, ℕ, List, length, IfOk, IfErr, IfSome, IfNone};
 ghost use Rattle.sf_field.specs.Fields.{packet};
@@ -11,10 +11,10 @@ use sf_reply::{Reply, read_reply};
 use sf_trees::TreeFault;
 use std::alloc::Global;
 
-/// The id of each request: none is asked before the one before is answered.
+/// The id of each request; only one is pending at a time.
 pub(crate) const ID: u32 = 1;
 
-/// The body of the packet that these bytes are.
+/// The body of these bytes, if they are one packet.
 fn body_of(bytes: &[u8]) -> Option<&[u8]>
     ensures some { IfSome result (λ body. (bytes.now ≡ packet body.now)
         × (length body.now < 2 ^ 32)) }
@@ -25,7 +25,7 @@ fn body_of(bytes: &[u8]) -> Option<&[u8]>
     if rest.is_empty() { Some(body) } else { None }
 }
 
-/// The reply whose packet these bytes are, and nothing else.
+/// The reply in these bytes, if they are exactly its packet.
 pub(crate) fn read_packet(alloc: Global, output: &[u8]) -> Result<Reply, TreeFault>
     ensures ok { IfOk result (λ r. output.now ≡ packet (reply_body id r)) }
     ensures err { IfErr result (MayMissReply output.now) }

@@ -1,4 +1,4 @@
--- How many blocks a write has, and how many are left.
+-- The number of blocks of a write, and of those left.
 use Rattle.std.proofs.Common.{◌≡◌, ◌≤◌, ◌+◌, ◌-◌, ◌/◌, ◌∙◌, ℕ, zero, suc, List, [], ◌∷◌, length, refl, ap, arith}
 use Rattle.sf_block.specs.Contents.{FileBytes, complete, blocks_of, most_blocks, copied_one, copied}
 use Rattle.sf_block.proofs.Laying.{last_block}

@@ -1,4 +1,4 @@
--- Where no block is, the bytes are zeros.
+-- The bytes of missing blocks are zeros.
 use Rattle.std.proofs.Common.{◌≡◌, ◌<◌, ◌≤◌, ◌+◌, ◌-◌, ◌*◌, ◌/◌, ◌%◌, ◌∙◌, ℕ, min, List, [], get_or, take, drop, replicate, refl, sym, ap, arith}
 use Rattle.std.proofs.lemmas.List.{length-replicate, get_or_past}
 use Rattle.sf_block.specs.Blocks.{byte_in, block_in, bytes_from, FileBlocks}
@@ -14,7 +14,7 @@ zeros_are block len offset n fits zero =
     ∙ sym (are_bytes block start n (replicate n 0) (length-replicate n 0)
     (λ i lt. zero_at n i ∙ sym (zero (start + i) (omega (arith, lt, fits)) (omega (arith, lt, fits)))))
 
--- up to a row, before which no block is
+-- up to a row, if all blocks before it are missing
 pub zeros_before : (blocks : FileBlocks) (len offset n row : ℕ) → ((k : ℕ) → offset / 32768 * 8 ≤ k → k < row * 8 → block_in blocks k ≡ []) → n ≤ len - offset → n ≤ row * 32768 - offset
     → take n (drop offset (bytes_from (block_in blocks) 0 len)) ≡ replicate n 0
 zeros_before blocks len offset n row none fits before =

@@ -1,4 +1,4 @@
--- Copies of blocks that were put in their places.
+-- Copies of blocks that are in place.
 use Rattle.std.proofs.Common.{◌≡◌, ◌<◌, ◌≤◌, ◌+◌, ◌*◌, ◌/◌, ◌∙◌, ◌++◌, ℕ, Bool, true, false, List, length, take, drop, refl, sym, ap, subst, arith, inl, inr}
 use Rattle.std.specs.Prelude.{if◌then◌else◌, IsTrue}
 use Rattle.std.proofs.lemmas.Bool.{cases_lt}
@@ -24,7 +24,7 @@ held_same old new first bytes same kept held = record {
 }
 
 module _ (old new : FileBlocks) (number : ℕ) (block : List ℕ) (put : Puts old new number block) where
-  -- another block was put in its place
+  -- another block was put in place
   pub held_other : (first : ℕ) (bytes : List ℕ) → (0 < length bytes → first + length bytes / 4096 ≡ number) → IsHeld old first bytes → IsHeld new first bytes
   held_other first bytes ends held = record {
     whole = held.whole;
@@ -32,7 +32,7 @@ module _ (old new : FileBlocks) (number : ℕ) (block : List ℕ) (put : Puts ol
     are = λ j lt. put.others (first + j) (λ e. omega (arith, lt, e, ends (omega (arith, lt)))) ∙ held.are j lt;
   }
 
-  -- the next one was, and is copied too
+  -- the next one was, and it is copied
   pub held_more : (first : ℕ) (bytes : List ℕ) → first + length bytes / 4096 ≡ number → length block ≡ 4096 → HasPlace old number → IsHeld old first bytes → IsHeld new first (bytes ++ block)
   held_more first bytes at full place held =
       let count : length (bytes ++ block) ≡ length bytes + length block = length-append bytes block in
@@ -62,7 +62,7 @@ module _ (old new : FileBlocks) (number : ℕ) (block : List ℕ) (put : Puts ol
         ];
       }
 
-  -- the next one was, and perhaps it is copied too
+  -- the next one was, and it may be copied
   module _ (f g : Filled) (copied : Bool) (ends : EndsBefore f number) (copy : Copies f g number block copied) where
     at : IsHeld old f.from f.bytes → (g.from + length f.bytes / 4096 ≡ number) × IsHeld old g.from f.bytes
     at held = elim (cases_lt 0 (length f.bytes)) [

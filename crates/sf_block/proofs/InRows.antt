@@ -1,4 +1,4 @@
--- What changes of a row are to the blocks.
+-- The effect of a changed row on the blocks.
 use Rattle.std.proofs.Common.{◌≡◌, ◌<◌, ◌≤◌, ◌+◌, ◌/◌, ◌%◌, ◌∙◌, ℕ, min, take, List, [], length, get_or, sym, ap, subst, arith, inl, inr}
 use Rattle.std.specs.Prelude.{◌≢◌, nat_lt, if◌then◌else◌}
 use Rattle.std.proofs.lemmas.Bool.{cases_lt, cases_eq}
@@ -29,7 +29,7 @@ module _ (old new : FileBlocks) (number : ℕ) (block : List ℕ) (put : PutsInR
   pub puts_row : Puts old new number block
   puts_row = record { at = put.at; others = other_block; kept = still_there }
 
--- the rows behind a block's own were taken out, and from its own what is from it on
+-- the later rows were removed, and the blocks of a row from an index on
 module _ (old mid new : FileBlocks) (end : ℕ) (rows : (r : ℕ) → row_in mid r ≡ (if nat_lt r (end / 8 + 1) then row_in old r else []))
     (at : (j : ℕ) → get_or (row_in new (end / 8)) j [] ≡ (if nat_lt j (end % 8) then get_or (row_in mid (end / 8)) j [] else []))
     (others : (r : ℕ) → r ≢ end / 8 → row_in new r ≡ row_in mid r) where
@@ -62,7 +62,7 @@ module _ (old mid new : FileBlocks) (end : ℕ) (rows : (r : ℕ) → row_in mid
     | inr le ↦ gone k le ∙ sym (if_above k end (block_in old k) [] le)
   ]
 
--- the blocks behind a place's own were taken out, and from its own the bytes from it on
+-- the later blocks were removed, and the bytes of a block from an offset on
 module _ (old mid new : FileBlocks) (n : ℕ) (dropped : (k : ℕ) → block_in mid k ≡ (if nat_lt k (n / 4096 + 1) then block_in old k else []))
     (put : Puts mid new (n / 4096) (take (n % 4096) (block_in mid (n / 4096)))) where
   own : block_in mid (n / 4096) ≡ block_in old (n / 4096)

@@ -1,4 +1,4 @@
--- What the blocks of a write make of the bytes.
+-- The effect of the blocks of a write on the bytes.
 use Rattle.std.proofs.Common.{◌≡◌, ◌<◌, ◌≤◌, ◌+◌, ◌*◌, ◌-◌, ◌/◌, ◌%◌, ◌∙◌, ℕ, min, max, List, [], ◌∷◌, length, get_or, drop, sym, ap, arith, inl, inr}
 use Rattle.std.specs.Prelude.{◌⊎◌}
 use Rattle.std.proofs.lemmas.Bool.{cases_lt}
@@ -37,12 +37,12 @@ module _ (block : ℕ → List ℕ) (start : ℕ) (bytes : List ℕ) (k : ℕ) (
   pub laid_small : length (block k) ≤ 4096 → length (block_written block start bytes k) ≤ 4096
   laid_small small = omega (arith, small, part_length, from, length_written (block k) (part_in start bytes k) (place_in start k))
 
--- how far the blocks of a write reach
+-- the extent of the blocks of a write
 pub last_block : (start : ℕ) (bytes : List ℕ) → 0 < length bytes → blocks_of start bytes ≡ (start + length bytes - 1) / 4096 + 1 - start / 4096
 last_block start [] some = absurd (omega (arith, some))
 last_block start (b ∷ bytes) some = ap (λ n. n / 4096 + 1 - start / 4096) (omega arith)
 
--- ---- all blocks of a write, waiting
+-- ---- all blocks of a write, pending
 module _ (blocks old : FileBlocks) (start : ℕ) (bytes : List ℕ) (fresh : List (List ℕ)) (some : 0 < length bytes)
     (same : (k : ℕ) → block_in blocks k ≡ block_in old k)
     (count : length fresh ≡ blocks_of start bytes)

@@ -1,4 +1,4 @@
--- Which byte stands at a place of what is resized or written.
+-- The byte at an offset after a resize or a write.
 use Rattle.std.proofs.Common.{◌≡◌, ◌<◌, ◌≤◌, ◌+◌, ◌*◌, ◌-◌, ◌/◌, ◌%◌, ◌∙◌, ℕ, min, max, zero, suc, List, [], ◌∷◌, ◌++◌, length, get_or, take, drop, replicate, refl, sym, ap, append_assoc, arith, inl, inr}
 use Rattle.std.specs.Prelude.{nat_lt, if◌then◌else◌}
 use Rattle.std.proofs.lemmas.Bool.{cases_lt, lt-ltb, le-ltb}
@@ -15,13 +15,13 @@ length_resized c n =
     let both : length (resized c n) ≡ length (take n c) + length (replicate (n - length c) zero_byte) = length-append (take n c) (replicate (n - length c) zero_byte) in
     omega (arith, a, b, both)
 
--- zeros, and what comes behind all bytes
+-- zeros, and the bytes beyond the end
 pub zero_at : (n i : ℕ) → ◌≡◌ {A = ℕ} (get_or (replicate n 0) i 0) 0
 zero_at zero i = refl
 zero_at (suc n) zero = refl
 zero_at (suc n) (suc i) = zero_at n i
 
--- a front, filled up with zeros
+-- a prefix, extended with zeros
 filled : (c : List ℕ) (n m i : ℕ) → i < n → get_or (take n c ++ replicate m 0) i 0 ≡ get_or c i 0
 filled [] zero m i lt = absurd (omega (arith, lt))
 filled [] (suc n) m i lt = zero_at m i
@@ -41,7 +41,7 @@ length_written c d s =
     let g : length (written c s d) ≡ length (resized c s ++ (d ++ drop (s + length d) c)) = ap (λ x. length x) (append_assoc (resized c s) d (drop (s + length d) c)) in
     omega (arith, a, b, e, f, g)
 
--- what is written, in three parts
+-- a write, in three parts
 parted : (c d : List ℕ) (s : ℕ) → written c s d ≡ resized c s ++ (d ++ drop (s + length d) c)
 parted c d s = append_assoc (resized c s) d (drop (s + length d) c)
 
@@ -72,13 +72,13 @@ length_bytes block s n = length-map-range_with_len (byte_in block) s n
 pub byte_at : (block : ℕ → List ℕ) (s n i : ℕ) → i < n → get_or (bytes_from block s n) i 0 ≡ byte_in block (s + i)
 byte_at block s n i lt = get_or-map-range_with_len (byte_in block) s n i (s + i) 0 lt refl
 
--- these are the bytes from a place on
+-- these are the bytes from an offset on
 pub are_bytes : (block : ℕ → List ℕ) (s n : ℕ) (bytes : List ℕ) → length bytes ≡ n → ((i : ℕ) → i < n → get_or bytes i 0 ≡ byte_in block (s + i)) → bytes ≡ bytes_from block s n
 are_bytes block s n bytes len each =
     ext_get_or 0 bytes (bytes_from block s n) (len ∙ sym (length_bytes block s n))
     (λ i lt. each i (omega (arith, len, lt)) ∙ sym (byte_at block s n i (omega (arith, len, lt))))
 
--- the bytes of one block, or of a run, from a place on
+-- the bytes of a block or a run, from an offset on
 pub from_block : (block : ℕ → List ℕ) (at n : ℕ) → at % 4096 + n ≤ 4096 → resized (drop (at % 4096) (block (at / 4096))) n ≡ bytes_from block at n
 from_block block at n fits =
     let there = drop (at % 4096) (block (at / 4096)) in
@@ -100,7 +100,7 @@ from_run block run at n bytes fits =
     ∙ bytes (at % 32768 + i) (omega (arith, lt, fits))
     ∙ ap (byte_in block) (omega (arith, lt, fits)))
 
--- more bytes behind some
+-- bytes appended to others
 pub gathered : (block : ℕ → List ℕ) (s m n : ℕ) → bytes_from block s m ++ bytes_from block (s + m) n ≡ bytes_from block s (m + n)
 gathered block s m n =
     let one = bytes_from block s m in
@@ -115,7 +115,7 @@ gathered block s m n =
           ∙ ap (byte_in block) (omega (arith, from))
     ])
 
--- what is read
+-- the bytes that are read
 pub read_is : (block : ℕ → List ℕ) (len offset most start n : ℕ) → start ≡ min offset len → n ≡ min most (len - start) → bytes_from block start n ≡ take most (drop offset (bytes_from block 0 len))
 read_is block len offset most start n from much =
     let all = bytes_from block 0 len in
@@ -128,7 +128,7 @@ read_is block len offset most start n from much =
     ∙ byte_at block 0 len (offset + i) (omega (arith, lt, much, from))
     ∙ ap (byte_in block) (omega (arith, lt, much, from))))
 
--- cut at a size, or filled up to it
+-- a resize
 pub sized : (block new : ℕ → List ℕ) (len n : ℕ) → ((i : ℕ) → i < n → byte_in new i ≡ byte_in block i) → ((i : ℕ) → len ≤ i → byte_in block i ≡ 0) → bytes_from new 0 n ≡ resized (bytes_from block 0 len) n
 sized block new len n same ends =
     sym (are_bytes new 0 n (resized (bytes_from block 0 len) n) (length_resized (bytes_from block 0 len) n)

@@ -1,4 +1,4 @@
--- The next block of a write takes its place.
+-- The next block of a write is put in place.
 use Rattle.std.proofs.Common.{◌≡◌, ◌≤◌, ◌<◌, ◌+◌, ◌/◌, ◌∙◌, ℕ, Bool, List, length, ap, sym, subst, arith}
 use Rattle.std.specs.Prelude.{IsTrue}
 use Rattle.sf_block.specs.Blocks.{FileBlocks, PendingWrite, TakesNext, Puts, HasPlace, IsHeld, EndsBefore, block_in, block_now}
@@ -38,7 +38,7 @@ module _ (old new : FileBlocks) (was now : PendingWrite) (number : ℕ) (block :
   pub placed_end : now.filled.from + length now.filled.bytes / 4096 ≤ now.first
   placed_end = omega (arith, step.takes.at, step.takes.next, end_put old new number block step.puts was.filled now.filled copied ends step.takes.copies step.held)
 
-  -- other blocks with the same bytes are there then, and the same ones wait
+  -- other blocks with the same bytes are in place, and the same ones are pending
   pub settled_now : (later : FileBlocks) (left : PendingWrite) → ((k : ℕ) → block_in later k ≡ block_in new k) → left.first ≡ now.first → left.fresh ≡ now.fresh
       → (k : ℕ) → block_now later left.first left.fresh k ≡ block_now old was.first was.fresh k
   settled_now later left same first fresh k =

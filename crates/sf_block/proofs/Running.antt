@@ -1,4 +1,4 @@
--- Runs that stand in one buffer.
+-- Runs in one buffer.
 use Rattle.std.proofs.Common.{◌≡◌, ◌<◌, ◌≤◌, ◌+◌, ◌*◌, ◌-◌, ◌/◌, ◌%◌, ◌∙◌, ℕ, min, max, List, length, get_or, take, drop, Some, inl, inr, sym, ap, subst, arith}
 use Rattle.std.specs.Prelude.{◌⊎◌}
 use Rattle.std.proofs.lemmas.List.{length-take, length-drop, get_or-take, get_or-drop}
@@ -9,7 +9,7 @@ use Rattle.sf_block.proofs.Places.{are_bytes}
 pub runs_same : (runs : List (ℕ × List ℕ)) (f g : ℕ → List ℕ) (len : ℕ) → ((k : ℕ) → g k ≡ f k) → AreRuns runs f len → AreRuns runs g len
 runs_same runs f g len same are = λ k run at. subst (λ (b : ℕ → List ℕ). IsRun b len k run) (λ i j. sym (same j) i) (are k run at)
 
--- runs went
+-- runs were removed
 pub runs_fewer : (old new : List (ℕ × List ℕ)) (f : ℕ → List ℕ) (len : ℕ) → ((k : ℕ) (run : List ℕ) → run_in new k ≡ Some run → run_in old k ≡ Some run)
     → AreRuns old f len → AreRuns new f len
 runs_fewer old new f len fewer are = λ k run at. are k run (fewer k run at)
@@ -30,7 +30,7 @@ runs_cut old new f g len n are same kept = λ k run at.
       bytes = λ i lt. r.bytes i lt ∙ sym (same (k * 32768 + i) (omega (arith, w.0, lt)));
     }
 
--- bytes were written: the others are as they were
+-- after a write: the other runs are unchanged
 pub record Wrote (f g : ℕ → List ℕ) (start : ℕ) (bytes : List ℕ) : Type 0 where
   pub some : 0 < length bytes
   pub kept : (i : ℕ) → (i < start) ⊎ (start + length bytes ≤ i) → byte_in g i ≡ byte_in f i
@@ -57,12 +57,12 @@ runs_noted old new len {start = start} {bytes = bytes} are wrote noted = λ k ru
       }
 ]
 
--- copies of blocks that are in their places
+-- copies of blocks that are in place
 pub record InPlace (blocks : FileBlocks) (g : ℕ → List ℕ) (first : ℕ) (bytes : List ℕ) : Type 0 where
   pub held : IsHeld blocks first bytes
   pub same : (j : ℕ) → j < length bytes / 4096 → g (first + j) ≡ block_in blocks (first + j)
 
--- a run of them was put in
+-- a run of them was inserted
 pub runs_held : (old new : List (ℕ × List ℕ)) {blocks : FileBlocks} {g : ℕ → List ℕ} {first : ℕ} {bytes : List ℕ} (len : ℕ) → AreRuns old g len → InPlace blocks g first bytes
     → ((k : ℕ) (run : List ℕ) → run_in new k ≡ Some run → (run_in old k ≡ Some run) ⊎ IsRunOf first bytes len k run) → AreRuns new g len
 runs_held old new {g = g} {first = first} {bytes = bytes} len are copies put = λ k run at. elim (put k run at) [

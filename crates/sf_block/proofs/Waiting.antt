@@ -1,4 +1,4 @@
--- What changes of blocks are to the bytes.
+-- The effect of changed blocks on the bytes.
 use Rattle.std.proofs.Common.{◌≡◌, ◌<◌, ◌≤◌, ◌+◌, ◌-◌, ◌∙◌, ℕ, suc, List, [], ◌∷◌, length, get_or, sym, ap, arith, inl, inr}
 use Rattle.std.specs.Prelude.{◌≢◌}
 use Rattle.std.proofs.lemmas.Bool.{cases_lt, cases_eq}
@@ -29,7 +29,7 @@ now_same old new first fresh same k = elim (cases_lt k first) [
   ]
 ]
 
--- the first block that waited is in its place
+-- the first pending block is in place
 pub now_put : (old new : FileBlocks) (first : ℕ) (fresh left : List (List ℕ)) (block : List ℕ) → fresh ≡ block ∷ left → Puts old new first block
     → (k : ℕ) → block_now new (first + 1) left k ≡ block_now old first fresh k
 now_put old new first fresh left block is put k =

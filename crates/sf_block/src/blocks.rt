@@ -1,4 +1,4 @@
-//! Blocks under their numbers.
+//! Blocks by number.
 
 ghost use Rattle.std.specs.Prelude.{◌≡◌, ◌≢◌, ◌<◌, ◌≤◌, ◌+◌, ◌*◌, ◌^◌, ℕ, nat_lt, [], length, if◌then◌else◌, take, slice_index_or, None, IsSome, IfOk, IfSome, IfNone, OnOk};
 ghost use Rattle.sf_block.specs.Blocks.{entry_in, row_in, block_in, byte_in, HasPlace, Puts, PutsInRow};
@@ -12,17 +12,16 @@ use std::collections::BTreeMap;
 use std::marker::Model;
 use std::mem;
 
-/// The blocks of a file, eight in a row. A missing one is zeros.
+/// The blocks of a file, in rows of eight. A missing block is zeros.
 #[derive(Debug, Drop)]
 pub(crate) struct Blocks {
-    /// The first row, with places for as many blocks as the file has needed: a small file has no
-    /// other.
+    /// The first row, with as many places as needed; a small file has no other.
     near: Row,
-    /// The other rows, each under its number.
+    /// The other rows by number.
     far: BTreeMap<u64, Row>,
-    /// Rows of a file that was emptied. One goes for each new one, in order: memory that is given
-    /// back all at once, or from the last row on, goes to the system, which clears it before it
-    /// gives it again.
+    /// The free list: rows of a truncated file. Each new row frees one, in order. If memory is
+    /// freed all at once, or from the last row on, the allocator returns it to the system, which
+    /// clears it before reuse.
     shed: BTreeMap<u64, Row>,
 }
 
@@ -35,7 +34,7 @@ impl Model for Blocks {
 }
 
 impl Blocks {
-    /// No blocks, and memory for none.
+    /// No blocks. Allocates nothing.
     pub(crate) fn new(alloc: Global) -> Blocks
         ensures { result ≡ record { near = []; far = [] } }
     {
@@ -46,7 +45,7 @@ impl Blocks {
         }
     }
 
-    /// Equal ones, whose bytes are shared.
+    /// A copy that shares the bytes.
     pub(crate) fn try_copy(&self, alloc: Global) -> Result<Blocks, AllocError>
         ensures { IfOk result (λ copy. copy ≡ self.now) }
     {
@@ -57,7 +56,7 @@ impl Blocks {
         })
     }
 
-    /// The bytes of a block: fewer where it ends in zeros, and none where it is missing.
+    /// The bytes of a block; zeros at its end may be missing, and a missing block has none.
     pub(crate) fn get(&self, number: u64) -> &[u8]
         ensures { result.now ≡ block_in self.now number }
     {
@@ -71,7 +70,7 @@ impl Blocks {
         }
     }
 
-    /// Makes places for so many blocks from a number on: one without bytes, where none is there.
+    /// Makes places for `count` blocks from a number on; a new place has no bytes.
     pub(crate) fn make_places(
         &mut self,
         alloc: Global,
@@ -90,7 +89,7 @@ impl Blocks {
         Ok(())
     }
 
-    /// Makes places for a row's first blocks, so many of them.
+    /// Makes places for the first `count` blocks of a row.
     fn make_row(&mut self, alloc: Global, number: u64, count: usize) -> Result<(), AllocError>
         ensures same { (r j : ℕ) → slice_index_or (row_in self.new r) j []
             ≡ slice_index_or (row_in self.old r) j [] }
@@ -104,7 +103,7 @@ impl Blocks {
         self.fill_row(number, count)
     }
 
-    /// Puts a row without blocks where none is there.
+    /// Inserts an empty row if it is missing.
     fn add_row(&mut self, alloc: Global, number: u64) -> Result<(), AllocError>
         requires { 0 < number }
         ensures same { (r : ℕ) → row_in self.new r ≡ row_in self.old r }
@@ -117,7 +116,7 @@ impl Blocks {
         Ok(())
     }
 
-    /// Makes a row's places.
+    /// Makes places for the first blocks of a row that exists.
     fn fill_row(&mut self, number: u64, count: usize) -> Result<(), AllocError>
         requires later { 0 < number }
         requires there { IsSome (entry_in self.old.far number) }
@@ -132,7 +131,7 @@ impl Blocks {
         }
     }
 
-    /// Puts a block in its place, which is there.
+    /// Puts a block in its place, which must exist.
     pub(crate) fn put(&mut self, number: u64, block: ByteString)
         requires { HasPlace self.old number }
         ensures { Puts self.old self.new number block }
@@ -148,7 +147,7 @@ impl Blocks {
         }
     }
 
-    /// Drops the bytes from a place on. It takes no memory.
+    /// Zeros the bytes from an offset on. Allocates nothing.
     pub(crate) fn cut(&mut self, n: u64)
         ensures bytes { (i : ℕ) → byte_in (block_in self.new) i
             ≡ (if nat_lt i n then byte_in (block_in self.old) i else 0) }
@@ -163,7 +162,7 @@ impl Blocks {
         self.truncate(n / BLOCK, (n % BLOCK) as usize);
     }
 
-    /// Keeps of a block the first bytes.
+    /// Truncates a block.
     fn truncate(&mut self, number: u64, n: usize)
         ensures { Puts self.old self.new number (take n (block_in self.old number)) }
     {
@@ -178,7 +177,7 @@ impl Blocks {
         }
     }
 
-    /// Takes out the blocks from a number on.
+    /// Removes the blocks from a number on.
     fn drop_from(&mut self, end: u64)
         ensures { (k : ℕ) → block_in self.new k
             ≡ (if nat_lt k end then block_in self.old k else []) }
@@ -187,7 +186,7 @@ impl Blocks {
         self.cut_row(end / ROW, (end % ROW) as usize);
     }
 
-    /// Takes out a row's blocks from one on.
+    /// Removes the blocks of a row from an index on.
     fn cut_row(&mut self, number: u64, i: usize)
         ensures at { (j : ℕ) → slice_index_or (row_in self.new number) j []
             ≡ (if nat_lt j i then slice_index_or (row_in self.old number) j [] else []) }
@@ -203,7 +202,7 @@ impl Blocks {
         }
     }
 
-    /// The greatest number of a row behind the first.
+    /// The greatest row number after the first row.
     fn last(&self) -> Option<u64>
         ensures there { IfSome result (λ number. IsSome (entry_in self.now.far number)) }
         ensures greatest { IfSome result (λ number. (r : ℕ) → number < r
@@ -216,7 +215,7 @@ impl Blocks {
         }
     }
 
-    /// The number of the first row from one on that has a block.
+    /// The number of the first row, from a number on, that is not missing.
     pub(crate) fn next_row(&self, from: u64) -> Option<u64>
         ensures some { IfSome result (λ number. (k : ℕ) → from * 8 ≤ k → k < number * 8
             → block_in self.now k ≡ []) }
@@ -228,7 +227,7 @@ impl Blocks {
         self.next_far(from)
     }
 
-    /// The number of the first row from one on, of those behind the first.
+    /// The same, without the first row.
     fn next_far(&self, from: u64) -> Option<u64>
         ensures some { IfSome result (λ number. (r : ℕ) → from ≤ r → r < number
             → entry_in self.now.far r ≡ None) }
@@ -240,7 +239,7 @@ impl Blocks {
         }
     }
 
-    /// Takes out the rows from a number on, behind the first.
+    /// Removes the rows from a number on, but not the first.
     fn drop_rows(&mut self, end: u64)
         requires { 0 < end }
         ensures { (r : ℕ) → row_in self.new r

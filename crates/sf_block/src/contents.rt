@@ -1,4 +1,4 @@
-//! A file's bytes in blocks.
+//! The bytes of a file in blocks.
 
 ghost use Rattle.std.specs.Prelude.{◌≡◌, ◌⊎◌, ◌+◌, ◌++◌, ◌-◌, ◌*◌, ◌/◌, ◌%◌, ◌<◌, ◌≤◌, ◌^◌, ℕ, List, [], length, take, drop, replicate, slice_index_or, Some, IsSome, IfOk, OnOk, OnErr};
 ghost use Rattle.sf_block.specs.Contents.{complete, resized, written, writing, blocks_of};
@@ -14,18 +14,18 @@ use sf_field::ByteString;
 use std::alloc::{AllocError, Global};
 use std::marker::Model;
 
-/// The bytes of a file.
+/// The bytes of a file, with at most one pending write.
 #[derive(Debug)]
 pub struct Contents {
     len: u64,
     blocks: Blocks,
     runs: Runs,
-    /// What is left of a write, each of whose blocks has a place.
+    /// The rest of a write, each block with its place made.
     pending: Pending,
 }
 
 impl Drop for Contents {
-    // By hand: where contents are dropped, a proof then sees one call and not their parts.
+    // By hand, so that a proof sees one call instead of the parts.
     fn drop(self) {
         let Self {
             len: _,
@@ -62,7 +62,7 @@ impl Model for Contents {
 }
 
 impl Contents {
-    /// No bytes, and memory for none.
+    /// An empty file. Allocates nothing.
     pub fn new(alloc: Global) -> Contents
         ensures { result ≡ complete [] }
     {
@@ -74,7 +74,7 @@ impl Contents {
         }
     }
 
-    /// Equal ones, whose blocks are shared.
+    /// A copy that shares the blocks.
     pub fn try_copy(&self, alloc: Global) -> Result<Contents, AllocError>
         requires { self.now.left ≡ 0 }
         ensures { IfOk result (λ copy. copy ≡ self.now) }
@@ -87,8 +87,7 @@ impl Contents {
         })
     }
 
-    /// Equal ones, whose blocks are shared, those too that are still to be copied: so many blocks
-    /// are left of these as well.
+    /// A copy that shares the blocks, pending ones included: it has as many left to copy.
     pub(crate) fn share(&self, alloc: Global) -> Result<Contents, AllocError>
         ensures { IfOk result (λ copy. copy ≡ self.now) }
     {
@@ -100,22 +99,22 @@ impl Contents {
         })
     }
 
-    /// How many bytes there are.
+    /// The size in bytes.
     pub fn len(&self) -> u64
         ensures { result ≡ length self.now.bytes }
     {
         self.len
     }
 
-    /// How many blocks of a write are still to be copied.
+    /// The number of blocks of a write that are still to be copied.
     pub fn left(&self) -> usize
         ensures { result ≡ self.now.left }
     {
         self.pending.left()
     }
 
-    /// Begins to write: takes all memory that it wants, so that nothing more is refused. The bytes
-    /// are those that it leaves; each of its blocks is still to be copied.
+    /// Starts a write: makes all its allocations, or fails with no change. The bytes are as after
+    /// the write, and each of its blocks is still to be copied.
     pub fn start_write(
         &mut self,
         alloc: Global,
@@ -137,7 +136,7 @@ impl Contents {
         Ok(())
     }
 
-    /// Copies one block of a write, and puts it in place. It takes no memory.
+    /// Copies one block of a write into place. Allocates nothing.
     pub fn copy_block(&mut self)
         requires { 0 < self.old.left }
         ensures { self.new ≡ record { bytes = self.old.bytes; left = self.old.left - 1 } }
@@ -162,7 +161,7 @@ impl Contents {
         }
     }
 
-    /// Copies all blocks that are left of a write. It takes no memory.
+    /// Copies the rest of a write into place. Allocates nothing.
     pub fn copy_rest(&mut self)
         ensures { self.new ≡ complete self.old.bytes }
     {
@@ -171,7 +170,7 @@ impl Contents {
         }
     }
 
-    /// Begins to write, and copies all blocks.
+    /// Starts a write and copies all its blocks.
     pub fn write(
         &mut self,
         alloc: Global,
@@ -189,8 +188,8 @@ impl Contents {
         Ok(())
     }
 
-    /// Cuts the bytes at a size, or fills them up to it with zeros, as POSIX's `ftruncate` does. It
-    /// takes no memory: zeros at the end stand in no block.
+    /// Truncates the file to a size, or extends it with zeros, as POSIX's `ftruncate` does.
+    /// Allocates nothing: zeros at the end need no block.
     pub fn set_len(&mut self, n: u64)
         requires { self.old.left ≡ 0 }
         ensures { self.new ≡ complete (resized self.old.bytes n) }
@@ -204,9 +203,9 @@ impl Contents {
         self.len = n;
     }
 
-    /// The bytes from an offset on, of `most` at most: none from the end on. Most of a run is
-    /// shared, where the run stands in one buffer; all else is copied, so that no run is kept for a
-    /// few bytes of it.
+    /// Returns up to `most` bytes from an offset on: none from the end on. Half a run or more is
+    /// shared if the run is in one buffer. All else is copied, so that a few bytes keep no run
+    /// alive.
     pub fn read(&self, alloc: Global, offset: u64, most: usize) -> Result<ByteString, AllocError>
         requires whole { self.now.left ≡ 0 }
         ensures { IfOk result (λ bytes. bytes ≡ take most (drop offset self.now.bytes)) }
@@ -222,7 +221,7 @@ impl Contents {
         ByteString::from_vec(gather(alloc, &self.blocks, &self.runs, start, n as usize)?)
     }
 
-    /// How many bytes from an offset on are zeros that take no memory: as far as the next row of
+    /// The number of zero bytes from an offset on that take no memory: up to the next row of
     /// blocks, or the end.
     pub fn gap(&self, offset: u64) -> u64
         requires { self.now.left ≡ 0 }
@@ -236,7 +235,7 @@ impl Contents {
     }
 }
 
-/// Makes places for the blocks of a write, and for the runs that it writes whole.
+/// Makes places for the blocks of a write, and for the runs that it covers.
 fn make_places(
     alloc: Global,
     blocks: &mut Blocks,
@@ -260,8 +259,7 @@ fn make_places(
     runs.note(offset, bytes)
 }
 
-/// The blocks that a write changes, as it leaves them: parts of its bytes, where these are all that
-/// a block has.
+/// The blocks that a write touches, as after the write. Whole ones are parts of the written bytes.
 fn renewed(
     alloc: Global,
     blocks: &Blocks,
@@ -286,7 +284,7 @@ fn renewed(
     Ok(fresh)
 }
 
-/// A block as a write leaves it.
+/// A block as after a write.
 fn block_with(
     alloc: Global,
     blocks: &Blocks,
@@ -312,8 +310,8 @@ fn block_with(
     with_part(alloc, blocks.get(number), place, bytes, from, to)
 }
 
-/// A block's bytes, with a part of others written over them from a place on: where that is all of
-/// them, and these aren't too many, it is shared.
+/// A block with a part of other bytes written at an offset. If that part is all of it, and the
+/// other bytes aren't too many, it is shared.
 fn with_part(
     alloc: Global,
     old: &[u8],
@@ -334,7 +332,7 @@ fn with_part(
     spliced(alloc, old, place, &bytes.as_slice()[from..to])
 }
 
-/// A copy of bytes with others written over them from a place on; a gap before that is zeros.
+/// A copy of bytes with others written at an offset; a gap before them is zeros.
 fn spliced(alloc: Global, old: &[u8], place: usize, bytes: &[u8]) -> Result<ByteString, AllocError>
     requires { place + length bytes.now ≤ 4096 }
     ensures { IfOk result (λ block. block ≡ written old.now place bytes.now) }
@@ -348,8 +346,8 @@ fn spliced(alloc: Global, old: &[u8], place: usize, bytes: &[u8]) -> Result<Byte
     ByteString::from_vec(block)
 }
 
-/// Puts blocks that were copied in the places of the same ones, which share a write's bytes, so
-/// that those go. A run is put in. It takes no memory.
+/// Replaces blocks that share a write's bytes by their copies, so that the write's bytes are freed.
+/// Adds a complete run. Allocates nothing.
 fn settle(blocks: &mut Blocks, runs: &mut Runs, pending: &mut Pending, len: u64)
     requires held { IsHeld blocks.old pending.old.filled.from pending.old.filled.bytes }
     requires fits { pending.old.filled.from + length pending.old.filled.bytes / 4096 < 2 ^ 64 }
@@ -371,7 +369,7 @@ fn settle(blocks: &mut Blocks, runs: &mut Runs, pending: &mut Pending, len: u64)
     }
 }
 
-/// Puts parts of a buffer in the places of blocks that have the same bytes.
+/// Replaces blocks by equal parts of a buffer.
 fn share(blocks: &mut Blocks, first: u64, buffer: &ByteString)
     requires held { IsHeld blocks.old first buffer.now }
     requires fits { first + length buffer.now / 4096 < 2 ^ 64 }
@@ -386,7 +384,7 @@ fn share(blocks: &mut Blocks, first: u64, buffer: &ByteString)
     }
 }
 
-/// A copy of the bytes from a place on.
+/// A copy of `n` bytes from an offset on.
 fn gather(
     alloc: Global,
     blocks: &Blocks,
@@ -407,8 +405,8 @@ fn gather(
     Ok(copy)
 }
 
-/// Appends the bytes from a place on up to the end of its run, where that stands in one buffer, or
-/// else of its block: `most` of them at most.
+/// Appends up to `most` bytes from an offset on: to the end of its run if that is in one buffer,
+/// else to the end of its block.
 fn append_from(
     copy: &mut Vec<u8>,
     blocks: &Blocks,
@@ -432,7 +430,7 @@ fn append_from(
     append(copy, blocks.get(at / BLOCK), (at % BLOCK) as usize, n)
 }
 
-/// Appends bytes of a block or a run from a place on; behind its end they are zeros.
+/// Appends `n` bytes of a block or a run from an offset on; beyond its end they are zeros.
 fn append(copy: &mut Vec<u8>, block: &[u8], place: usize, n: usize) -> Result<(), AllocError>
     requires { length copy.old.items + n < 2 ^ 64 }
     ensures { OnOk result (copy.new.items

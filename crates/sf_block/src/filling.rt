@@ -1,4 +1,4 @@
-//! Blocks of a long write, on their way to a buffer of their own.
+//! Copies of the blocks of a long write.
 
 ghost use Rattle.std.specs.Prelude.{◌≡◌, ◌+◌, ◌++◌, ◌^◌, ◌<◌, ◌≤◌, [], length, if◌then◌else◌, IfOk, IfSome, IsTrue};
 ghost use Rattle.sf_block.specs.Blocks.{Filled, Copies, unfilled};
@@ -9,15 +9,15 @@ use std::alloc::{AllocError, Global};
 use std::marker::Model;
 use std::mem;
 
-/// Copies of whole blocks that were put in place, one behind another, where a write has more bytes
-/// than its blocks may share. A buffer for each run of the write is reserved, so that to copy takes
-/// no memory.
+/// Consecutive copies of whole blocks that are in place, for writes with more bytes than their
+/// blocks may share. The buffers for all runs of the write are reserved, so copying allocates
+/// nothing.
 #[derive(Debug, Drop)]
 pub(crate) struct Filling {
     /// The number of the first block.
     from: u64,
     bytes: ByteBuffer,
-    /// The buffers that are still unused, of which the last one is the next.
+    /// The unused buffers; the last one is used next.
     room: Vec<ByteBuffer>,
 }
 
@@ -30,7 +30,7 @@ impl Model for Filling {
 }
 
 impl Filling {
-    /// No copies, and room for none.
+    /// No copies, and no buffers.
     pub(crate) fn new(alloc: Global) -> Filling
         ensures { result ≡ unfilled }
     {
@@ -41,8 +41,8 @@ impl Filling {
         }
     }
 
-    /// No copies, and room for the whole blocks of a write of so many bytes: none where they are so
-    /// few that its blocks share them.
+    /// No copies, and buffers for the whole blocks of a write. None if it is so short that its
+    /// blocks share its bytes.
     pub(crate) fn reserve(alloc: Global, offset: u64, len: usize) -> Result<Filling, AllocError>
         requires { offset + len < 2 ^ 64 }
         ensures { IfOk result (λ filling. filling.bytes ≡ []) }
@@ -62,8 +62,8 @@ impl Filling {
         Ok(filling)
     }
 
-    /// Copies a block that follows, if it is whole and there is room for it, and tells whether it
-    /// did. It takes no memory.
+    /// Appends a block if it is whole and there is room, and returns whether it did. Allocates
+    /// nothing.
     pub(crate) fn push(&mut self, number: u64, block: &[u8]) -> bool
         ensures { Copies self.old self.new number block.now result }
     {
@@ -73,8 +73,8 @@ impl Filling {
         block.len() == BLOCK as usize && self.bytes.append(block)
     }
 
-    /// Gives the number of the first block and the copies, if there are any, and goes on with the
-    /// next buffer. It takes no memory.
+    /// Takes the copies, with the number of the first block, if there are any, and starts the next
+    /// buffer. Allocates nothing.
     pub(crate) fn take(&mut self) -> Option<(u64, ByteString)>
         ensures taken { IfSome result (λ taken. (taken.0 ≡ self.old.from)
             × (taken.1 ≡ self.old.bytes)) }

@@ -1,12 +1,11 @@
 //! The bytes of a file, in memory.
 //!
-//! Start with `WholeContents`, which contracts see as a list of bytes. `specs/Contents.antt` says
-//! what a new size makes of them (`resized`), and a write (`written`), as POSIX's `ftruncate` and
-//! `pwrite` do. Inside, `Contents` has blocks of 4096 bytes, eight in a row, under their numbers
-//! (`specs/Blocks.antt`); one that is missing is zeros, so that a gap takes no memory. A write
-//! first takes all room that it needs, or is refused whole; then its blocks are copied one by one,
-//! which needs no memory. So contracts see of `Contents` a count of blocks that are still to be
-//! copied, too.
+//! Start with `WholeContents`, which contracts see as a list of bytes. `specs/Contents.antt`
+//! defines a resize (`resized`) and a write (`written`), as POSIX's `ftruncate` and `pwrite` do.
+//! `Contents` stores numbered blocks of 4096 bytes in rows of eight (`specs/Blocks.antt`). A
+//! missing block is zeros, so a gap takes no memory. A write first allocates all memory that it
+//! needs, or fails with no change. Then its blocks are copied one by one without allocation. So the
+//! contracts of `Contents` also count the blocks that are still to be copied.
 #![tactic(auto)]
 
 mod block_laws;
@@ -24,21 +23,21 @@ pub use block_laws::{copied_whole, few_blocks};
 pub use contents::Contents;
 pub use whole::WholeContents;
 
-/// How many bytes a whole block has.
+/// Bytes of a whole block.
 const BLOCK: u64 = 4096;
 
-/// How many blocks a row has: those of a run.
+/// Blocks of a row, and of a run.
 const ROW: u64 = 8;
 
-/// How many bytes a run has: as many as clients write and ask for at once.
+/// Bytes of a run: the size of a client's usual READ and WRITE.
 const RUN: u64 = 32768;
 
-/// Bytes that are left of a block have a buffer of their own where they are fewer than so many.
+/// A truncated block with fewer bytes is copied into a buffer of its own.
 const LEAST_SHARED: usize = 2048;
 
-/// A block keeps at most so many times its own bytes of a write alive.
+/// A block keeps at most this multiple of its size alive in a shared buffer.
 const MOST_KEPT: usize = 16;
 
-/// A write's bytes are shared with its blocks up to so many of them: else a block could keep more
-/// alive.
+/// Writes up to this size are shared by their blocks; larger ones are copied, since a block would
+/// keep them alive.
 const MOST_SHARED: usize = 32768;

@@ -1,4 +1,4 @@
-//! What is left of a write.
+//! Pending writes.
 
 ghost use Rattle.std.specs.Prelude.{◌≡◌, ◌+◌, ◌∷◌, ◌<◌, ◌^◌, [], length, IfOk, IfSome, IfNone};
 ghost use Rattle.sf_block.specs.Blocks.{unfilled, Copies, TakesNext};
@@ -10,20 +10,20 @@ use std::alloc::{AllocError, Global};
 use std::boxed::Box;
 use std::marker::Model;
 
-/// What is left of a write. Few files are being written, so most of it stands behind a pointer.
+/// The rest of a write. It is boxed, since few files have one.
 #[derive(Debug, Drop)]
 pub(crate) struct Pending {
-    /// The number of the first block that waits to take its place.
+    /// The number of the first pending block.
     first: u64,
     write: Option<Box<Write>>,
 }
 
-/// A block that is to take its place.
+/// A block to be put in place.
 #[derive(Debug, Drop)]
 pub(crate) struct Next {
     pub(crate) number: u64,
     pub(crate) block: ByteString,
-    /// It was copied behind the last ones.
+    /// Whether it was appended to the copies.
     pub(crate) copied: bool,
 }
 
@@ -42,7 +42,7 @@ impl Model for Pending {
 }
 
 impl Pending {
-    /// Nothing, and memory for none.
+    /// No write. Allocates nothing.
     pub(crate) fn new() -> Pending
         ensures { result ≡ record { first = 0; fresh = []; filled = unfilled } }
     {
@@ -52,7 +52,7 @@ impl Pending {
         }
     }
 
-    /// Blocks from a number on, of which none took its place, and room for copies.
+    /// A write with all blocks pending, numbered from `first` on, and room for copies.
     pub(crate) fn of(
         alloc: Global,
         first: u64,
@@ -69,7 +69,7 @@ impl Pending {
         })
     }
 
-    /// The same blocks, whose bytes are shared, and no copies.
+    /// A copy that shares the bytes, without copied blocks.
     pub(crate) fn share(&self, alloc: Global) -> Result<Pending, AllocError>
         ensures { IfOk result (λ copy. copy
             ≡ record { first = self.now.first; fresh = self.now.fresh; filled = unfilled }) }
@@ -84,7 +84,7 @@ impl Pending {
         })
     }
 
-    /// How many blocks wait.
+    /// The number of pending blocks.
     pub(crate) fn left(&self) -> usize
         ensures { result ≡ length self.now.fresh }
     {
@@ -94,8 +94,8 @@ impl Pending {
         }
     }
 
-    /// Takes out the first block that waits. It is copied behind the last ones, if it is whole and
-    /// there is room for it. It takes no memory.
+    /// Removes the first pending block. It is appended to the copies if it is whole and there is
+    /// room. Allocates nothing.
     pub(crate) fn next(&mut self) -> Option<Next>
         requires { self.old.first + length self.old.fresh < 2 ^ 64 }
         ensures some { IfSome result (λ next.
@@ -111,8 +111,8 @@ impl Pending {
         Some(next)
     }
 
-    /// Gives the number of the first block and the copies, if there are any, and goes on with the
-    /// next buffer. Where no block waits, all memory is given back.
+    /// Takes the copies, with the number of the first block, if there are any, and starts the next
+    /// buffer. Frees all memory if no block is pending.
     pub(crate) fn take(&mut self) -> Option<(u64, ByteString)>
         ensures taken { IfSome result (λ taken. (taken.0 ≡ self.old.filled.from)
             × (taken.1 ≡ self.old.filled.bytes)) }
@@ -131,7 +131,7 @@ impl Pending {
     }
 }
 
-/// The blocks that wait, and copies of the last ones that took their places.
+/// The pending blocks, and copies of the last ones that were put in place.
 #[derive(Debug, Drop)]
 struct Write {
     fresh: BlockQueue,
@@ -147,7 +147,7 @@ impl Model for Write {
 }
 
 impl Write {
-    /// The same blocks, whose bytes are shared, and no copies.
+    /// A copy that shares the bytes, without copied blocks.
     fn share(&self, alloc: Global) -> Result<Write, AllocError>
         ensures { IfOk result (λ copy. copy
             ≡ record { fresh = self.now.fresh; filled = unfilled }) }
@@ -164,7 +164,7 @@ impl Write {
         self.fresh.len()
     }
 
-    /// Takes out the first block, which has this number.
+    /// Removes the first block, which has this number.
     fn next(&mut self, number: u64) -> Option<Next>
         ensures some { IfSome result (λ next. (next.number ≡ number)
             × (self.old.fresh ≡ next.block ∷ self.new.fresh)

@@ -1,4 +1,4 @@
-//! Blocks that wait in a queue.
+//! Queues of blocks.
 
 ghost use Rattle.std.specs.Prelude.{◌≡◌, ◌++◌, ◌∷◌, ◌-◌, ◌<◌, ◌^◌, [], length, IfOk, OnOk, OnErr, IfSome, IfNone};
 
@@ -7,10 +7,11 @@ use std::alloc::{AllocError, Global};
 use std::collections::VecDeque;
 use std::marker::Model;
 
-/// Blocks in a queue. The first one that comes takes no memory: most writes have no other.
+/// A queue of blocks. The first block is stored inline, so that most writes allocate nothing for
+/// it.
 #[derive(Debug, Drop)]
 pub(crate) struct BlockQueue {
-    /// The first one that came, as long as it waits.
+    /// The first block that was pushed, until it is popped.
     head: Option<ByteString>,
     later: VecDeque<ByteString>,
     len: usize,
@@ -28,7 +29,7 @@ impl Model for BlockQueue {
 }
 
 impl BlockQueue {
-    /// No blocks, and room for so many.
+    /// No blocks, and capacity for `count`.
     pub(crate) fn with_capacity(alloc: Global, count: usize) -> Result<BlockQueue, AllocError>
         ensures { IfOk result (λ queue. queue ≡ []) }
     {
@@ -39,7 +40,7 @@ impl BlockQueue {
         })
     }
 
-    /// The same blocks, whose bytes are shared.
+    /// A copy that shares the bytes.
     pub(crate) fn share(&self, alloc: Global) -> Result<BlockQueue, AllocError>
         ensures { IfOk result (λ copy. copy ≡ self.now) }
     {
@@ -54,14 +55,14 @@ impl BlockQueue {
         })
     }
 
-    /// How many blocks there are.
+    /// The number of blocks.
     pub(crate) fn len(&self) -> usize
         ensures { result ≡ length self.now }
     {
         self.len
     }
 
-    /// A block comes, as the last one.
+    /// Pushes a block at the end.
     pub(crate) fn push(&mut self, block: ByteString) -> Result<(), AllocError>
         requires { length self.old < 2 ^ 64 - 1 }
         ensures ok { OnOk result (self.new ≡ self.old ++ block ∷ []) }
@@ -76,7 +77,7 @@ impl BlockQueue {
         Ok(())
     }
 
-    /// The first block goes.
+    /// Removes the first block.
     pub(crate) fn pop(&mut self) -> Option<ByteString>
         ensures some { IfSome result (λ block. self.old ≡ block ∷ self.new) }
         ensures none { IfNone result ((self.old ≡ []) × (self.new ≡ self.old)) }
@@ -90,7 +91,7 @@ impl BlockQueue {
     }
 }
 
-/// The same blocks, whose bytes are shared.
+/// A copy that shares the bytes.
 fn shares(alloc: Global, blocks: &VecDeque<ByteString>) -> Result<Vec<ByteString>, AllocError>
     ensures { IfOk result (λ copy. copy.items ≡ blocks.now.items) }
 {

@@ -1,4 +1,4 @@
-//! Blocks in a row.
+//! Rows of blocks.
 
 ghost use Rattle.std.specs.Prelude.{◌≡◌, ◌<◌, ◌≤◌, ◌↔◌, ℕ, nat_lt, [], length, if◌then◌else◌, take, slice_index_or, IsTrue, IfOk, OnOk};
 ghost use Rattle.sf_block.specs.Blocks.{PutsInRow};
@@ -9,7 +9,7 @@ use sf_field::ByteString;
 use std::alloc::{AllocError, Global};
 use std::marker::Model;
 
-/// Eight blocks in a row, or its first ones: one that is missing is zeros.
+/// Up to eight blocks; a missing one is zeros.
 #[derive(Debug, Drop)]
 pub(crate) struct Row {
     list: Vec<ByteString>,
@@ -24,7 +24,7 @@ impl Model for Row {
 }
 
 impl Row {
-    /// No blocks, and memory for none.
+    /// No blocks. Allocates nothing.
     pub(crate) fn new(alloc: Global) -> Row
         ensures { result ≡ [] }
     {
@@ -33,14 +33,14 @@ impl Row {
         }
     }
 
-    /// No place is there.
+    /// Whether the row has no place.
     pub(crate) fn is_empty(&self) -> bool
         ensures { IsTrue result ↔ (self.now ≡ []) }
     {
         self.list.is_empty()
     }
 
-    /// The bytes of a block: fewer where it ends in zeros, and none where it is missing.
+    /// The bytes of a block; zeros at its end may be missing, and a missing block has none.
     pub(crate) fn get(&self, i: usize) -> &[u8]
         ensures { result.now ≡ slice_index_or self.now i [] }
     {
@@ -50,8 +50,7 @@ impl Row {
         }
     }
 
-    /// Makes places for so many blocks: one without bytes, where none is there. The first ones take
-    /// no more memory than they want.
+    /// Makes places for `count` blocks; a new place has no bytes. The first allocation is exact.
     pub(crate) fn fill(&mut self, count: usize) -> Result<(), AllocError>
         ensures same { (j : ℕ) → slice_index_or self.new j [] ≡ slice_index_or self.old j [] }
         ensures kept { length self.old ≤ length self.new }
@@ -66,7 +65,7 @@ impl Row {
         Ok(())
     }
 
-    /// Puts a block in its place, if that is there.
+    /// Puts a block in its place, if that exists.
     pub(crate) fn put(&mut self, i: usize, block: ByteString)
         ensures { i < length self.old → PutsInRow self.old self.new i block }
     {
@@ -75,8 +74,8 @@ impl Row {
         }
     }
 
-    /// Keeps of a block the first bytes. A few get a buffer of their own, if there is memory, so
-    /// that they keep no large one alive.
+    /// Truncates a block. If few bytes are left, they are copied if memory allows, so that they
+    /// keep no large buffer alive.
     pub(crate) fn truncate(&mut self, i: usize, n: usize)
         ensures { PutsInRow self.old self.new i (take n (slice_index_or self.old i [])) }
     {
@@ -87,7 +86,7 @@ impl Row {
         }
     }
 
-    /// Takes out the blocks from one on.
+    /// Removes the blocks from an index on.
     pub(crate) fn cut(&mut self, i: usize)
         ensures { (j : ℕ) → slice_index_or self.new j []
             ≡ (if nat_lt j i then slice_index_or self.old j [] else []) }
@@ -95,7 +94,7 @@ impl Row {
         self.list.truncate(i);
     }
 
-    /// Takes out all blocks, and gives their memory back.
+    /// Removes all blocks and frees their memory.
     pub(crate) fn clear(&mut self)
         ensures { self.new ≡ [] }
     {
@@ -103,7 +102,7 @@ impl Row {
     }
 }
 
-/// Copies bytes that are too few to be shared, if there is memory.
+/// Copies bytes that are too few to share, if memory allows.
 fn separate(alloc: Global, block: &mut ByteString)
     ensures { block.new ≡ block.old }
 {

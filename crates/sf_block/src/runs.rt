@@ -1,4 +1,4 @@
-//! Runs of blocks that stand in one buffer each.
+//! Runs of blocks in one buffer each.
 
 ghost use Rattle.std.specs.Prelude.{◌≡◌, ◌⊎◌, ◌<◌, ◌≤◌, ◌+◌, ◌^◌, ℕ, List, length, Some, None, IsSome, IfOk, IfSome, IfNone, OnOk, OnErr};
 ghost use Rattle.std.specs.Option.{option_copied};
@@ -11,8 +11,8 @@ use std::alloc::{AllocError, Global};
 use std::collections::BTreeMap;
 use std::marker::Model;
 
-/// The bytes of runs of eight blocks, by the runs' numbers, each in one buffer that its blocks
-/// share: so a reader of a run shares it too. A run may be missing.
+/// Runs of eight blocks by number, each in one buffer that its blocks share, so that a reader can
+/// share it too. A run may be missing.
 #[derive(Debug, Drop)]
 pub(crate) struct Runs {
     map: BTreeMap<u64, ByteString>,
@@ -27,7 +27,7 @@ impl Model for Runs {
 }
 
 impl Runs {
-    /// No runs, and memory for none.
+    /// No runs. Allocates nothing.
     pub(crate) fn new(alloc: Global) -> Runs
         ensures { (k : ℕ) → run_in result k ≡ None }
     {
@@ -36,7 +36,7 @@ impl Runs {
         }
     }
 
-    /// Equal ones, whose bytes are shared.
+    /// A copy that shares the bytes.
     pub(crate) fn try_copy(&self, alloc: Global) -> Result<Runs, AllocError>
         ensures { IfOk result (λ copy. copy ≡ self.now) }
     {
@@ -45,7 +45,7 @@ impl Runs {
         })
     }
 
-    /// The bytes of the run of a number, if it isn't missing.
+    /// The bytes of the run with this number, if any.
     pub(crate) fn get(&self, number: u64) -> Option<&ByteString>
         ensures { option_copied result ≡ run_in self.now number }
     {
@@ -55,7 +55,7 @@ impl Runs {
         }
     }
 
-    /// Takes out the runs from a number up to another.
+    /// Removes the runs in a range of numbers.
     fn forget(&mut self, first: u64, end: u64)
         ensures gone { (k : ℕ) → first ≤ k → k < end → run_in self.new k ≡ None }
         ensures kept { (k : ℕ) (run : List ℕ) → run_in self.new k ≡ Some run
@@ -75,7 +75,7 @@ impl Runs {
         self.map.remove(&number);
     }
 
-    /// Makes a place for each run from a number up to another: what is there goes.
+    /// Makes an empty place for each run in a range of numbers.
     fn make_places(&mut self, first: u64, end: u64) -> Result<(), AllocError>
         ensures { (k : ℕ) (run : List ℕ) → run_in self.new k ≡ Some run
             → run_in self.old k ≡ Some run }
@@ -94,7 +94,7 @@ impl Runs {
         Ok(())
     }
 
-    /// Puts a run in its place, if there is one. It takes no memory.
+    /// Puts a run in its place, if that exists. Allocates nothing.
     pub(crate) fn put(&mut self, number: u64, run: ByteString)
         ensures { (k : ℕ) (other : List ℕ) → run_in self.new k ≡ Some other
             → ((k ≡ number) × (other ≡ run)) ⊎ (run_in self.old k ≡ Some other) }
@@ -104,8 +104,8 @@ impl Runs {
         }
     }
 
-    /// Bytes are about to be written: the runs that they touch go. Each run that is written whole
-    /// has a place then, and if the bytes are one run, it is put in.
+    /// Prepares for a write: removes the runs that it touches, and makes places for those that it
+    /// covers. If the bytes are exactly one run, it is inserted.
     pub(crate) fn note(&mut self, offset: u64, bytes: &ByteString) -> Result<(), AllocError>
         requires some { 0 < length bytes.now }
         requires fits { offset + length bytes.now < 2 ^ 64 }
@@ -125,7 +125,7 @@ impl Runs {
         Ok(())
     }
 
-    /// Takes out the runs from a number on.
+    /// Removes the runs from a number on.
     pub(crate) fn cut(&mut self, end: u64)
         ensures { (k : ℕ) (run : List ℕ) → run_in self.new k ≡ Some run
             → (k < end) × (run_in self.old k ≡ Some run) }
@@ -138,7 +138,7 @@ impl Runs {
         }
     }
 
-    /// The greatest number of a run.
+    /// The greatest run number.
     fn last(&self) -> Option<u64>
         ensures there { IfSome result (λ number. IsSome (entry_in self.now number)) }
         ensures greatest { IfSome result (λ number. (k : ℕ) → number < k

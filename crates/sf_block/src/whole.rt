@@ -1,4 +1,4 @@
-//! A file's bytes, of which none is still to be copied.
+//! The bytes of a file, with no pending write.
 
 ghost use Rattle.std.specs.Prelude.{◌≡◌, ◌+◌, ◌<◌, ◌^◌, ℕ, [], length, take, drop, replicate, IfOk, OnOk, OnErr};
 ghost use Rattle.sf_block.specs.Contents.{resized, written};
@@ -8,14 +8,14 @@ use sf_field::ByteString;
 use std::alloc::{AllocError, Global};
 use std::marker::Model;
 
-/// The bytes of a file that is written in one step: nothing is left to be copied.
+/// The bytes of a file. Each write is done in one call.
 #[derive(Debug)]
 pub struct WholeContents {
     contents: Contents,
 }
 
 impl Drop for WholeContents {
-    // By hand: where contents are dropped, a proof then sees one call and not their parts.
+    // By hand, so that a proof sees one call instead of the parts.
     fn drop(self) {
         let Self {
             contents: _contents,
@@ -34,7 +34,7 @@ impl Model for WholeContents {
 }
 
 impl WholeContents {
-    /// No bytes, and memory for none.
+    /// An empty file. Allocates nothing.
     pub fn new(alloc: Global) -> WholeContents
         ensures { result ≡ [] }
     {
@@ -43,7 +43,7 @@ impl WholeContents {
         }
     }
 
-    /// Equal ones, whose blocks are shared.
+    /// A copy that shares the blocks.
     pub fn try_copy(&self, alloc: Global) -> Result<WholeContents, AllocError>
         ensures { IfOk result (λ copy. copy ≡ self.now) }
     {
@@ -52,8 +52,7 @@ impl WholeContents {
         })
     }
 
-    /// The bytes of contents, whose blocks are shared: what is still to be copied among them counts
-    /// as copied.
+    /// The bytes of `contents`, with shared blocks. Blocks still to be copied count as copied.
     pub fn of(contents: &Contents, alloc: Global) -> Result<WholeContents, AllocError>
         ensures { IfOk result (λ whole. whole ≡ contents.now.bytes) }
     {
@@ -62,32 +61,32 @@ impl WholeContents {
         Ok(WholeContents { contents })
     }
 
-    /// How many bytes there are.
+    /// The size in bytes.
     pub fn len(&self) -> u64
         ensures { result ≡ length self.now }
     {
         self.contents.len()
     }
 
-    /// The bytes from an offset on, of `most` at most: none from the end on. Most of a run is
-    /// shared, where the run stands in one buffer; all else is copied, so that no run is kept for a
-    /// few bytes of it.
+    /// Returns up to `most` bytes from an offset on: none from the end on. Half a run or more is
+    /// shared if the run is in one buffer. All else is copied, so that a few bytes keep no run
+    /// alive.
     pub fn read(&self, alloc: Global, offset: u64, most: usize) -> Result<ByteString, AllocError>
         ensures { IfOk result (λ bytes. bytes ≡ take most (drop offset self.now)) }
     {
         self.contents.read(alloc, offset, most)
     }
 
-    /// How many bytes from an offset on are zeros that take no memory: as far as the next 32 KiB
-    /// that something was written in, or the end.
+    /// The number of zero bytes from an offset on that take no memory: up to the next 32 KiB run
+    /// that was written to, or the end.
     pub fn gap(&self, offset: u64) -> u64
         ensures { take result (drop offset self.now) ≡ replicate result 0 }
     {
         self.contents.gap(offset)
     }
 
-    /// Replaces bytes from an offset on, as POSIX's `pwrite` does: a gap before them is filled with
-    /// zeros, which take no memory. Where no bytes are given, too, the end moves up to the offset.
+    /// Writes bytes at an offset, as POSIX's `pwrite` does; a gap before them is filled with zeros
+    /// and takes no memory. Unlike `pwrite`, empty bytes also extend the file to the offset.
     pub fn write(
         &mut self,
         alloc: Global,
@@ -105,7 +104,7 @@ impl WholeContents {
         self.contents.write(alloc, offset, bytes)
     }
 
-    /// Moves the end up to an offset, if it is before it.
+    /// Extends the file to an offset, if it is shorter.
     fn move_end(&mut self, offset: u64)
         ensures { self.new ≡ written self.old offset [] }
     {
@@ -114,8 +113,8 @@ impl WholeContents {
         }
     }
 
-    /// Cuts the bytes at a size, or fills them up to it with zeros, as POSIX's `ftruncate` does. It
-    /// takes no memory.
+    /// Truncates the file to a size, or extends it with zeros, as POSIX's `ftruncate` does.
+    /// Allocates nothing.
     pub fn set_len(&mut self, n: u64)
         ensures { self.new ≡ resized self.old n }
     {

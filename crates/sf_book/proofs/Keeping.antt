@@ -1,10 +1,10 @@
--- The oldest of the records that are kept goes.
+-- The oldest retained record is dropped.
 use Rattle.std.specs.Prelude.{◌≡◌, ℕ, ◌+◌, ◌<◌, ◌≤◌, List, length, drop, Option, Some, None, slice_set}
 use Rattle.std.specs.Option.{IfSome}
 use Rattle.std.proofs.Common.{arith, length-set, length-drop}
 use Rattle.sf_call.specs.declared.record.Record.{Record}
 
--- what is kept at most, of so many entries with so many gone at the front
+-- the retained entries, after some at the start were dropped
 abbrev pub IsKept : Option ℕ → ℕ → ℕ → Type 0
 IsKept keep len gone = IfSome keep (λ n. (0 < n) × (len ≤ gone + n))
 

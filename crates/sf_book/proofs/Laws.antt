@@ -1,5 +1,5 @@
--- For the crates above: a book that has the last records of a history has, once a record is put, the last ones of the history
--- with it. All other files here are private to this crate.
+-- For other crates: a book with the last records of a history has the last ones of the extended
+-- history after `put`. All other files here are private to this crate.
 use Rattle.std.specs.Prelude.{◌≡◌, ◌≤◌, ◌+◌, ◌-◌, ℕ, cond, List, [], ◌∷◌, ◌++◌, length, take, drop, Option, Some, None, refl}
 use Rattle.std.specs.List.{count_by}
 use Rattle.std.proofs.Common.{sym, ap, ◌∙◌, arith, length-append, length-drop}
@@ -11,7 +11,7 @@ use Rattle.sf_book.specs.Books.{is_call, excess, kept_of, gone_of}
 abbrev call_count : List Record → ℕ
 call_count records = count_by is_call records
 
--- the calls among the records of two lists, of a beginning and of the rest
+-- the number of calls in two lists, in a prefix and in the suffix
 pub call_count-append : (xs ys : List Record) → count_by is_call (xs ++ ys) ≡ count_by is_call xs + count_by is_call ys
 call_count-append xs ys = sum_by-append (λ (r : Record). cond (is_call r) 1 0) xs ys
 

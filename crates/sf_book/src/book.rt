@@ -1,4 +1,4 @@
-//! Records, and room for more.
+//! Books of records.
 
 ghost use Rattle.std.specs.Prelude.{◌≡◌, ◌∷◌, ◌+◌, ◌-◌, ◌^◌, ◌<◌, ◌≤◌, min, [], Some, None, length, take, drop, IsOk, OnOk};
 ghost use Rattle.std.specs.List.{count_by};
@@ -8,11 +8,11 @@ use sf_call::Record;
 use std::alloc::{AllocError, Global};
 use std::marker::Model;
 
-/// The records of a history, in the order in which they were put. Room is reserved before a record
-/// is put, so that putting can't fail.
+/// The retained records of a history, in order. Space is reserved before a record is added, so that
+/// adding can't fail.
 #[derive(Drop)]
 pub struct Book {
-    // Those that went stand at the front, as leavings of no session, until room is made.
+    // Dropped records stay at the start, as `Left` of session 0, until space is reserved.
     entries: Vec<Record>,
     gone: usize,
     keep: Option<usize>,
@@ -39,7 +39,7 @@ impl Model for Book {
 }
 
 impl Book {
-    /// No record and no room. All records are kept.
+    /// An empty book without reserved space, which retains all records.
     pub fn new(alloc: Global) -> Book
         ensures records { result.records ≡ [] }
         ensures keep { result.keep ≡ None }
@@ -53,7 +53,7 @@ impl Book {
         }
     }
 
-    /// No record and no room. The last `n` records are kept.
+    /// An empty book without reserved space, which retains the last `n` records.
     pub fn with_keep(alloc: Global, n: usize) -> Book
         requires { 0 < n }
         ensures records { result.records ≡ [] }
@@ -68,16 +68,16 @@ impl Book {
         }
     }
 
-    /// How many records can be put.
+    /// The number of records that can be added without allocation.
     pub fn room(&self) -> usize
         ensures { result ≡ self.now.room }
     {
         self.entries.capacity() - self.entries.len()
     }
 
-    /// Makes room for so many records. It takes memory only where there is less, and then for as
-    /// many more as are kept, or three times as many where records go, so that their places are
-    /// given back seldom.
+    /// Reserves space for `n` records. If there is less, it first frees the slots of dropped
+    /// records. Then it also asks for as much as the retained ones use, or three times that for a
+    /// limited book, so that it allocates seldom.
     pub fn reserve(&mut self, n: usize) -> Result<(), AllocError>
         ensures records { self.new ≡ record self.old { room = self.new.room } }
         ensures ok { OnOk result (n ≤ self.new.room) }
@@ -97,7 +97,7 @@ impl Book {
         self.entries.reserve(n)
     }
 
-    /// Gives back the places of the records that went.
+    /// Frees the slots of the dropped records.
     fn close_up(&mut self)
         ensures same { self.new ≡ record self.old { room = self.new.room } }
         ensures room { self.old.room ≤ self.new.room }
@@ -108,8 +108,8 @@ impl Book {
         self.gone = 0;
     }
 
-    /// Adds a record at the end. Where more than are kept would be there, the oldest goes. Takes no
-    /// memory.
+    /// Adds a record at the end, and drops the oldest if more would be retained than wanted.
+    /// Allocates nothing.
     pub fn put(&mut self, entry: Record)
         requires { 0 < self.old.room }
         ensures { self.new ≡ put self.old entry }
@@ -120,7 +120,7 @@ impl Book {
         self.entries.push_reserved(entry);
     }
 
-    /// Lets go of the oldest record.
+    /// Drops the oldest record.
     fn forget_oldest(&mut self)
         requires { 0 < length self.old.records }
         ensures records { self.new.records ≡ drop 1 self.old.records }
@@ -135,14 +135,14 @@ impl Book {
         self.gone += 1;
     }
 
-    /// The records that are kept, the oldest first.
+    /// The retained records, oldest first.
     pub fn records(&self) -> &[Record]
         ensures { result.now ≡ self.now.records }
     {
         &self.entries[self.gone..]
     }
 
-    /// How many calls' records went, up to 2^64 - 1.
+    /// The number of calls whose records were dropped, up to 2^64 - 1.
     pub fn folded(&self) -> u64
         ensures { result ≡ self.now.folded }
     {
@@ -150,7 +150,7 @@ impl Book {
     }
 }
 
-/// Moves the entries from a place on to the front. What stood there is behind them, in any order.
+/// Moves the entries from an index on to the start. The others follow in any order.
 fn move_to_front(entries: &mut [Record], gone: usize)
     requires { gone ≤ length entries.old }
     ensures front { take (length entries.old - gone) entries.new ≡ drop gone entries.old }
@@ -161,7 +161,7 @@ fn move_to_front(entries: &mut [Record], gone: usize)
     }
 }
 
-/// How many calls a record that goes told of: a leaving of none.
+/// The number of calls of a dropped record: 1, or 0 for the end of a session.
 fn call_count(gone: &Record) -> u64
     ensures { result ≡ count_by is_call (gone.now ∷ []) }
 {

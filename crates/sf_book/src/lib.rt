@@ -1,8 +1,8 @@
-//! The history of all calls, in reserved room.
+//! The history of all calls, in memory reserved in advance.
 //!
-//! Start with `Book`: room is reserved first, then records are put, which takes no memory and can't
-//! fail. A book keeps all records, or the last so many; what went is counted. What a contract sees
-//! of it stands in `specs/Books.antt`; read the contracts of `reserve` and `put`.
+//! Start with `Book`. Space is reserved first; adding a record then allocates nothing and can't
+//! fail. A book retains all records or the last N, and counts the calls among the dropped ones.
+//! `specs/Books.antt` defines its value in contracts; read the contracts of `reserve` and `put`.
 #![tactic(auto)]
 
 mod book;

@@ -1,18 +1,18 @@
--- A room that is filled from its front on.
+-- A room that is filled from its start.
 use Rattle.std.proofs.Common.{◌≡◌, ◌∙◌, ◌+◌, ◌≤◌, ℕ, List, ◌++◌, length, take, drop, sym, ap, append_assoc, arith}
 use Rattle.std.proofs.Math.Seq.{take-add}
 use Rattle.std.proofs.lemmas.List.{length-take-le, length-drop, take-append-drop, take_at, drop_at, drop-drop, drop-append-le}
 use borrow.Rule.Slice.PartMut.{put_mid, mid_of}
 use Rattle.sf_c.specs.Trees.{IsFilled}
 
--- the rest of a part, and what is behind the part
+-- the remainder of a part, and what follows the part
 part_rest : (k n : ℕ) (l : List ℕ) → k ≤ n → n ≤ length l → drop k (take n l) ++ drop n l ≡ drop k l
 part_rest k n l few fits =
     let len : length (take n l) ≡ n = length-take-le n l fits in
     let within : k ≤ length (take n l) = omega (arith, few, len) in
     sym (drop-append-le k (take n l) (drop n l) within) ∙ ap (drop k) (take-append-drop n l)
 
--- So many bytes more were read into a part of the room behind those that were.
+-- More bytes were read into a part of the room, after those that were read before.
 pub filled_more : (bytes room now part : List ℕ) (done k n : ℕ) → done ≤ length bytes → done + n ≤ length room → k ≤ n
     → IsFilled bytes done room now → IsFilled (drop done bytes) k (mid_of done n now) part
     → IsFilled bytes (done + k) room (put_mid done n now part)

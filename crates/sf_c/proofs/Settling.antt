@@ -1,5 +1,5 @@
--- Turns of a session one after another, through its engine's refusals: those of `Engine::turns`, counted, and what is
--- told of settling.
+-- Several turns of a session through its engine's refusals: those of `Engine::turns`, counted, and
+-- the results of settling.
 use Rattle.std.proofs.Common.{◌≡◌, ◌∙◌, ◌≤◌, ◌<◌, ◌+◌, ◌-◌, ◌^◌, ◌++◌, ◌∷◌, ℕ, zero, suc, Bool, true, false, List, [], length, map, Result, Ok, Err, Option, Some, None, refl, sym, ap, subst, arith, inl, inr, append-nil, append_assoc, length-append}
 use Rattle.std.specs.Prelude.{OnOk, OnErr, IfErr}
 use Rattle.std.proofs.lemmas.List.{length-map}
@@ -22,7 +22,7 @@ use Rattle.sf_c.specs.declared.turns.Settled.{Settled}
 use Rattle.sf_c.specs.Numbers.{leads_on, replies_of}
 use Rattle.sf_c.specs.Journals.{JournalGoesOn, ComeBytes, GoBytes, IsOneTurn, AreTurnsOf, FollowsFirst, AreSettled}
 
--- a turn that leads to another one and wrote nothing is one after which the call goes on
+-- a turn that made progress and wrote nothing is one after which the call continues
 lead_goes : (r : Result Happened EngineFault) → replies_of r ≡ 0 → leads_on r ≡ true → goes_on_at r ≡ true
 lead_goes (Ok happened.Begun) none on = refl
 lead_goes (Ok happened.Moved) none on = refl
@@ -72,7 +72,7 @@ turn_entries (suc n) old new turn r log turns has =
     let more : n < length rest.0 = rest.2 in
     (e ∷ rest.0, turn_before turn r e turns.1 rest.0 refl refl turns.3 rest.1, omega arith, subst (λ (xs : List LogEntry). ghosts.has_log new xs) (append_assoc log (e ∷ []) rest.0) rest.3)
 
--- so after what stood at the front went on
+-- the turns, after a packet was passed on
 pub turned_on : (n s m : ℕ) (mid new : EngineView) (r : Refusals) (journal passed : List Act) (result : Result Happened EngineFault)
     → PassesOn journal s passed → Have ghosts.has_log mid r (journal ++ passed) → HasTurns n mid (event.Turn s m) result new → (goes_on_at result ≡ true → 2 ^ 64 - 2 ≤ n)
     → (acts : List Act) × AreTurnsOf s m result journal acts × Have ghosts.has_log new r (journal ++ acts)
@@ -89,7 +89,7 @@ turned_on n s m mid new r journal passed result on H turns far =
       have_turned ghosts.has_log new r journal passed s m result entries H.0 made.1 made.3,
     )
 
--- ---- what is told of settling
+-- ---- the results of settling
 
 pub settled_by : (most s m : ℕ) (settled : Settled) (journal : List Act) (first : Result Happened EngineFault) (front back : List Act)
     → (most ≡ 0 → ⊥) → IsOneTurn s m first journal front → FollowsFirst (leads_on first) first most s m settled (journal ++ front) back
@@ -97,15 +97,15 @@ pub settled_by : (most s m : ℕ) (settled : Settled) (journal : List Act) (firs
 settled_by zero s m settled journal first front back some turn follows = absurd (some refl)
 settled_by (suc most) s m settled journal first front back some turn follows = (first, front, back, refl, turn, follows)
 
--- an engine and its refusals that are as before
+-- an engine and its refusals, unchanged
 pub still : (engine : EngineView) (r : Refusals) (journal : List Act) → Have ghosts.has_log engine r journal → Have ghosts.has_log engine r (journal ++ [])
 still engine r journal H = subst (λ (j : List Act). Have ghosts.has_log engine r j) (sym (append-nil journal)) H
 
--- acts behind others
+-- acts after others
 pub behind : (engine : EngineView) (r : Refusals) (journal front back : List Act) → Have ghosts.has_log engine r ((journal ++ front) ++ back) → Have ghosts.has_log engine r (journal ++ (front ++ back))
 behind engine r journal front back H = subst (λ (j : List Act). Have ghosts.has_log engine r j) (append_assoc journal front back) H
 
--- ---- bytes come and go
+-- ---- bytes in and out
 
 same_log : (old new : EngineView) (log : List LogEntry) → new ≡ old → ghosts.has_log old log → ghosts.has_log new log
 same_log old new log same has = subst (λ (e : EngineView). ghosts.has_log e log) (sym same) has

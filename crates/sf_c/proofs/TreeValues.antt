@@ -39,7 +39,7 @@ module _ {M : Type 1} {𝓤 : Ura M} {𝓛 : Logic 𝓤} {K : Type 0} {Γ : List
       (subst (λ (p : Ptr). vs ≡ vstruct (of_list (ptr_val p ∷ h ∷ [])) ∷ []) e
       (subst (λ (ws : List Val). vs ≡ vstruct (of_list (ptr_val d.at ∷ (ws ++ []))) ∷ []) ea (subst (λ (ps : List Val). vs ≡ vstruct (of_list (ps ++ (vss.1.0 ++ []))) ∷ []) ep ev))) fits)))))
 
-  -- what is owned at `p`, behind what a `Kept` owns of itself
+  -- what is owned at `p`, beyond what a `Kept` itself owns
   pub kept_in : K → (p : Ptr) (h : Val) (a : heap.the_row.Denot) (x : Option (List Leaf))
       → Step K 𝓛 (‵ (kept.the_row.own_val (record { at = p; alloc = a; tree = x }) (both (ptr_val p) h ∷ [])) ∷ Γ) G (‵ (tree_owned a p x) ∷ ‵ (heap.the_row.own_val a (h ∷ [])) ∷ Γ) G
   kept_in t p h a x = step (λ s. let v : Val = both (ptr_val p) h in

@@ -1,5 +1,5 @@
--- What is told of the calls that go through an engine's refusals. Whatever journal both have, such
--- acts stand behind it afterwards.
+-- What each call of the library does to an engine and its refusals: the acts that it appends to
+-- their journal.
 use Rattle.std.specs.Prelude.{◌≡◌, ◌<◌, ◌≤◌, ◌-◌, ◌^◌, ◌++◌, ◌⊎◌, ◌↔◌, Bool, IsTrue, true, false, ℕ, zero, suc, ℤ, pos, negsuc, List, [], ◌∷◌, length, map, take, drop, Option, Some, None, Result, Ok, Err, OnErr}
 use Rattle.sf_wire.specs.declared.cutting.Cut.TheVariants as cut
 use Rattle.sf_wire.specs.Packets.{IsCut}
@@ -16,14 +16,14 @@ use Rattle.sf_refusing.specs.Refusing.{Have, IsOwn, IsFed, IsTurn, IsNextOutput,
 use Rattle.sf_c.specs.declared.turns.Settled.{Settled}
 use Rattle.sf_c.specs.Numbers.{IsNumber, IsFresh, leads_on, replies_of}
 
--- ---- an engine and its refusals go on
+-- ---- an engine and its refusals advance
 
 abbrev pub JournalGoesOn : (List Act → List Act → Type 0) → EngineView → Refusals → EngineView
     → Refusals → Type 0
 JournalGoesOn AreActs old r new r' = (journal : List Act) → Have ghosts.has_log old r journal
     → (acts : List Act) × AreActs journal acts × Have ghosts.has_log new r' (journal ++ acts)
 
--- so of those that C has
+-- the same for the engine and the refusals that C holds
 abbrev pub InBoth : Option EngineView → Option Refusals
     → (EngineView → Refusals → EngineView → Refusals → Type 0)
     → Option EngineView → Option Refusals → Type 0
@@ -32,9 +32,9 @@ InBoth before rules Leads after rules' =
     × (before ≡ Some old) × (rules ≡ Some r) × (after ≡ Some new) × (rules' ≡ Some r')
     × Leads old r new r'
 
--- ---- bytes come and go
+-- ---- bytes in and out
 
--- The engine was asked whether it takes bytes, and they came; or they were refused.
+-- The bytes were received, after the engine accepted an empty feed; or they were rejected.
 abbrev pub ComeBytes : ℕ → List ℕ → Result Happened EngineFault → List Act → List Act → Type 0
 ComeBytes session bytes (Ok h) journal acts = (asked : LogEntry) × IsFed session [] asked
     × (asked.result ≡ Ok h) × (acts ≡ Made asked ∷ Received session bytes ∷ [])
@@ -47,7 +47,7 @@ GoBytes session count (Ok h) journal acts = (h ≡ happened.Sent)
 GoBytes session count (Err f) journal acts =
     MayRefuseSent journal session count f × (acts ≡ [])
 
--- so they did, and what came of it has this number; refused, the engine is as before
+-- the result has this number; after an error the engine is unchanged
 abbrev pub Moves : (Result Happened EngineFault → List Act → List Act → Type 0) → ℤ
     → EngineView → Refusals → EngineView → Refusals → Type 0
 Moves AreBytes n old r new r' = (result : Result Happened EngineFault) × IsNumber result n
@@ -61,7 +61,7 @@ SendsBytes session count n = Moves (GoBytes session count) n
 
 -- ---- turns
 
--- one turn of a session: a refusal, or a turn of the engine, after a packet was passed on
+-- one turn of a session: a refusal, or a turn of the engine, perhaps after a packet was passed on
 abbrev pub IsOneTurn : ℕ → ℕ → Result Happened EngineFault → List Act → List Act → Type 0
 IsOneTurn session moment result journal acts =
     IsTurn journal session (λ entries. (e : LogEntry) × (entries ≡ e ∷ [])
@@ -71,22 +71,22 @@ abbrev pub TurnsOnce : ℕ → ℕ → ℤ → EngineView → Refusals → Engin
 TurnsOnce session moment n old r new r' = (result : Result Happened EngineFault)
     × IsNumber result n × JournalGoesOn (IsOneTurn session moment result) old r new r'
 
--- the same, but the engine's turns went on as long as its call was on its way to its reply; no call
--- has steps for 2^64
+-- The same, but the engine takes turns until the session's call is answered or can't progress. No
+-- call has as many as 2^64 steps.
 abbrev pub AreTurnsOf : ℕ → ℕ → Result Happened EngineFault → List Act → List Act → Type 0
 AreTurnsOf session moment result journal acts =
     IsTurn journal session (AreTurns (event.Turn session moment) result) result acts
     × (replies_of result ≡ 0 → leads_on result ≡ true → 2 ^ 64 - 1 ≤ length acts)
 
--- turns that wrote so many replies, one after another
+-- turns that wrote this many replies, one after another
 abbrev pub HaveReplied : ℕ → ℕ → ℕ → List Act → List Act → Type 0
 HaveReplied zero session moment journal acts = acts ≡ []
 HaveReplied (suc replies) session moment journal acts = (front : List Act) × (back : List Act)
     × (acts ≡ front ++ back) × HaveReplied replies session moment journal front
     × AreTurnsOf session moment (Ok happened.Wrote) (journal ++ front) back
 
--- Turns were made, up to one that wrote no reply and led to no other, and fewer replies were
--- written before it than may be; or as many were.
+-- Turns up to one that wrote no reply and made no progress, with fewer than `most` replies before
+-- it; or turns that wrote `most` replies.
 abbrev pub TurnsTo : ℕ → ℕ → ℕ → Option (Result Happened EngineFault) → List Act → List Act → Type 0
 TurnsTo most session moment None journal acts = HaveReplied most session moment journal acts
 TurnsTo most session moment (Some result) journal acts = (replies : ℕ) × (replies < most)
@@ -94,7 +94,7 @@ TurnsTo most session moment (Some result) journal acts = (replies : ℕ) × (rep
     × HaveReplied replies session moment journal front × (replies_of result ≡ 0)
     × AreTurnsOf session moment result (journal ++ front) back
 
--- the turns behind a first one, which may have led to them
+-- the turns after a first one, if it made progress
 abbrev pub FollowsFirst : Bool → Result Happened EngineFault → ℕ → ℕ → ℕ → Settled → List Act
     → List Act → Type 0
 FollowsFirst false first most session moment settled journal acts =
@@ -102,8 +102,8 @@ FollowsFirst false first most session moment settled journal acts =
 FollowsFirst true first most session moment settled journal acts = (settled.moved ≡ true)
     × TurnsTo (most - replies_of first) session moment settled.last journal acts
 
--- A session was settled: no turn was to be made; or there was a first one, and those that it led
--- to.
+-- A session was settled: by no turn if `most` is 0; otherwise by a first turn and those that follow
+-- it.
 abbrev pub AreSettled : ℕ → ℕ → ℕ → Settled → List Act → List Act → Type 0
 AreSettled zero session moment settled journal acts =
     (settled ≡ record { last = None; moved = false }) × (acts ≡ [])
@@ -112,7 +112,7 @@ AreSettled (suc most) session moment settled journal acts = (first : Result Happ
     × IsOneTurn session moment first journal front
     × FollowsFirst (leads_on first) first (suc most) session moment settled (journal ++ front) back
 
--- the number of the turn that led to no other, or 6
+-- the number of the turn without progress, or 6
 abbrev pub IsLastNumber : Option (Result Happened EngineFault) → ℤ → Type 0
 IsLastNumber None n = n ≡ pos 6
 IsLastNumber (Some result) n = IsNumber result n
@@ -122,16 +122,16 @@ Settles most session moment n moved old r new r' = (settled : Settled)
     × IsLastNumber settled.last n × (moved ≡ settled.moved)
     × JournalGoesOn (AreSettled most session moment settled) old r new r'
 
--- ---- what is told
+-- ---- reports
 
--- Whether a session waits for bytes, and less than a packet is held of what came for it.
+-- Whether a session needs input: it waits for bytes, and less than a packet of its bytes is held.
 abbrev pub SaysItWaits : EngineView → Refusals → ℕ → Bool → Type 0
 SaysItWaits engine r session wants = (journal : List Act) → Have ghosts.has_log engine r journal
     → IsOwn session journal → IsTrue wants ↔ (WaitsForBytes (log_of journal) session
     × ((held : List ℕ) → received_in session journal ≡ taken_in session journal ++ held
     → IsCut held cut.More))
 
--- what waits to be sent next to a session
+-- the bytes to be sent to a session next
 abbrev pub HasNext : EngineView → Refusals → ℕ → List ℕ → Type 0
 HasNext engine r session output = (journal : List Act) → Have ghosts.has_log engine r journal
     → IsOwn session journal → IsKnown (log_of journal) session × IsNextOutput journal session output
@@ -140,7 +140,7 @@ abbrev pub KnowsNoSession : EngineView → Refusals → ℕ → Type 0
 KnowsNoSession engine r session = (journal : List Act) → Have ghosts.has_log engine r journal
     → IsKnown (log_of journal) session → ⊥
 
--- the output as far as there is room, and how long it is
+-- as much of the output as fits was copied, and its length is returned
 abbrev pub CopiesOutput : EngineView → Refusals → ℕ → List ℕ → ℤ → List ℕ → Type 0
 CopiesOutput engine r session old n new =
     (output : List ℕ) × HasNext engine r session output × (n ≡ pos (length output))
@@ -151,7 +151,7 @@ abbrev pub Outputs : EngineView → Refusals → ℕ → List ℕ → ℤ → Li
 Outputs engine r session old n new = CopiesOutput engine r session old n new
     ⊎ (KnowsNoSession engine r session × (n ≡ negsuc 1) × (new ≡ old))
 
--- so of those that C has
+-- the same for the engine and the refusals that C holds
 abbrev pub OfBoth : Option EngineView → Option Refusals → (EngineView → Refusals → Type 0) → Type 0
 OfBoth engine rules Tells = (e : EngineView) × (r : Refusals) × (engine ≡ Some e)
     × (rules ≡ Some r) × Tells e r

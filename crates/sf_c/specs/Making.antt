@@ -1,4 +1,4 @@
--- What C is told of what is made in a tree.
+-- The results of building trees, for C.
 use Rattle.std.specs.Prelude.{◌≡◌, ◌+◌, ℕ, ℤ, pos, negsuc, List, Option, Some, Result, Ok, Err}
 use Rattle.sf_reply.specs.Replies.{number_of}
 use Rattle.sf_engine.specs.Views.{EngineView}
@@ -9,8 +9,8 @@ use Rattle.sf_trees.specs.Operations.{Operation}
 use Rattle.sf_asking.specs.Asking.{AreDone}
 use Rattle.sf_c.specs.declared.making.At.{At}
 
--- The number of a refusal, below 0: those of an engine, further ones, and from -100 on the codes of
--- statuses.
+-- The number of an error, below 0: those of an engine, further ones, and the status codes from -100
+-- downwards.
 abbrev pub tree_fault_number : TreeFault → ℤ
 tree_fault_number fault.OutOfMemory = negsuc 0
 tree_fault_number fault.Sessions = negsuc 2
@@ -20,19 +20,19 @@ tree_fault_number fault.Path = negsuc 9
 tree_fault_number fault.Reply = negsuc 10
 tree_fault_number (fault.Status code) = negsuc (99 + number_of code)
 
--- The number of what came of it, and which request it stopped at.
+-- The number of the result, and the request that failed.
 abbrev pub TellsMade : Result (Unit {0}) Refused → ℤ → At → Type 0
 TellsMade (Ok done) n at = (n ≡ pos 0) × (at ≡ record { length = 0; kind = 0 })
 TellsMade (Err r) n at = (n ≡ tree_fault_number r.fault)
     × (at ≡ record { length = r.place.length; kind = r.place.kind })
 
--- Operations led from an engine to another, and came to this.
+-- Operations were done on an engine, with this result.
 abbrev pub DoesIn : {R : Type 0} → ℕ → (List Operation → R → Type 0) → EngineView → R → EngineView
     → Type 0
 DoesIn moment P old r new = (operations : List Operation) × AreDone moment operations old new
     × P operations r
 
--- so of the engines that C has, and it is told so
+-- the same for the engine that C holds, and the reported number
 abbrev pub AnswersMade : Option EngineView → ℕ
     → (List Operation → Result (Unit {0}) Refused → Type 0) → ℤ
     → At → Option EngineView → Type 0

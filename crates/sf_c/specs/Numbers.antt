@@ -1,4 +1,4 @@
--- The numbers that C is answered.
+-- The numbers that the library returns to C.
 use Rattle.std.specs.Prelude.{◌≡◌, ◌<◌, ◌≤◌, ◌+◌, ◌-◌, ◌⊎◌, ◌^◌, ◌++◌, Bool, true, false, ℕ, zero, suc, ℤ, pos, negsuc, List, [], length, take, drop, Option, Some, None, Result, Ok, Err, Vec}
 use Rattle.std.specs.Global.{Global}
 use Rattle.std.specs.List.{AllByRecursion}
@@ -28,7 +28,7 @@ cause_number cause.TooLong = 5
 cause_number cause.NoId = 6
 cause_number cause.Closed = 7
 
--- One less than the refusal's number without its sign, as `negsuc` has it.
+-- The number of an error, negated, less one, as `negsuc` has it.
 abbrev pub fault_number : EngineFault → ℕ
 fault_number fault.OutOfMemory = 0
 fault_number fault.NoSuchSession = 1
@@ -37,7 +37,7 @@ fault_number fault.Ended = 3
 fault_number fault.NumbersSpent = 4
 fault_number fault.NotSent = 5
 
--- What happened, as a number. An engine opens no session of a number from 2^63 on.
+-- The number of a result. A session's number is always below 2^63.
 abbrev pub IsHappened : Happened → ℤ → Type 0
 IsHappened (happened.Opened session) n = session < 2 ^ 63 → n ≡ pos session
 IsHappened happened.Fed n = n ≡ pos 0
@@ -55,17 +55,17 @@ abbrev pub IsNumber : Result Happened EngineFault → ℤ → Type 0
 IsNumber (Ok happened) n = IsHappened happened n
 IsNumber (Err fault) n = n ≡ negsuc (fault_number fault)
 
--- an event led from an engine to another, and what came of it has this number
+-- an event changes an engine, and its result has this number
 abbrev pub LeadsToNumber : EngineView → Event → ℤ → EngineView → Type 0
 LeadsToNumber old event n new =
     (result : Result Happened EngineFault) × EventLeads old event result new × IsNumber result n
 
--- so of the engines that C has
+-- the same for the engine that C holds
 abbrev pub AnswersNumber : Option EngineView → Event → ℤ → Option EngineView → Type 0
 AnswersNumber before event n after = (old : EngineView) × (new : EngineView) × (before ≡ Some old)
     × (after ≡ Some new) × LeadsToNumber old event n new
 
--- whether a turn of which this came leads to another one
+-- whether a turn with this result made progress, so that another one follows
 abbrev pub leads_on : Result Happened EngineFault → Bool
 leads_on (Ok (happened.Opened session)) = false
 leads_on (Ok happened.Fed) = false
@@ -80,7 +80,7 @@ leads_on (Ok happened.Closed) = false
 leads_on (Ok happened.Sent) = false
 leads_on (Err fault) = false
 
--- how many replies it wrote
+-- the number of replies that it wrote
 abbrev pub replies_of : Result Happened EngineFault → ℕ
 replies_of (Ok (happened.Opened session)) = 0
 replies_of (Ok happened.Fed) = 0
@@ -95,25 +95,25 @@ replies_of (Ok happened.Closed) = 0
 replies_of (Ok happened.Sent) = 0
 replies_of (Err fault) = 0
 
--- turns of some sessions, up to where no call is under way
+-- turns of some sessions, until no call is unanswered
 abbrev pub RunsToEnd : EngineView → EngineView → Type 0
 RunsToEnd old new = (log : List LogEntry) → ghosts.has_log old log → (entries : List LogEntry)
     × AllByRecursion IsStepAtZero entries × ghosts.has_log new (log ++ entries)
     × AreDecided (log ++ entries)
 
--- An engine made so many rounds, within the bounds of its calls, and then none is under way.
+-- An engine took this many rounds, within the bounds of its calls, and then no call is unanswered.
 abbrev pub RunsAll : Option EngineView → ℕ → Option EngineView → Type 0
 RunsAll before rounds after =
     (old : EngineView) × (new : EngineView) × (before ≡ Some old) × (after ≡ Some new)
     × RunsToEnd old new × HasRounds rounds old new × IsWithinBounds rounds old × AreUnderWay [] new
 
--- a new engine keeps so many records, or all for 0
+-- a new engine that retains `keep` records, or all for 0
 abbrev pub IsFresh : ℕ → EngineView → Type 0
 IsFresh keep engine = ghosts.has_log engine [] × Fits engine []
     × (keep ≡ 0 → engine.core.keep ≡ None)
     × (0 < keep → engine.core.keep ≡ Some keep)
 
--- a new engine was made, with refusals that have no journal yet; or there is none
+-- a new engine was made, with refusals that have an empty journal; or memory ran out
 abbrev pub IsNewEngine : ℕ → ℤ → Option EngineView → Option Refusals → Type 0
 IsNewEngine keep n made rules = ((n ≡ negsuc 0) × (made ≡ None) × (rules ≡ None))
     ⊎ ((engine : EngineView) × (r : Refusals) × (n ≡ pos 0) × (made ≡ Some engine)

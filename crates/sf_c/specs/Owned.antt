@@ -1,5 +1,5 @@
 -- No public clause cites this module.
--- What C has of an engine, of its refusals, and of a tree.
+-- The memory that C owns: of an engine, of its refusals, and of a snapshot.
 use Rattle.std.specs.Prelude.{List, Option, Some, None}
 use Rattle.std.specs.Global.{Global}
 use Rattle.std.specs.Box.Ownership.{box_owns}
@@ -23,7 +23,7 @@ abbrev pub refusals_owned : Global → Ptr → Option Refusals → Fml
 refusals_owned alloc at None = ftrue
 refusals_owned alloc at (Some x) = box_owns (ghosts.dealloc_token alloc) refusals_row at x
 
--- the box of a tree, if there is one
+-- the box of a snapshot, if there is one
 abbrev pub tree_owned : Global → Ptr → Option (List Leaf) → Fml
 tree_owned alloc at None = ftrue
 tree_owned alloc at (Some leaves) = box_owns (ghosts.dealloc_token alloc) tree_row at leaves

@@ -1,4 +1,4 @@
--- What C is told of a record.
+-- A record as numbers and bytes, for C.
 use Rattle.std.specs.Prelude.{◌≡◌, ◌+◌, ◌++◌, ◌∷◌, ◌⊎◌, ℕ, ℤ, pos, negsuc, List, [], length, take, drop, slice_get, Option, Some, None}
 use Rattle.std.specs.List.{flat_map}
 use Rattle.sf_path.specs.Names.{text_of}
@@ -23,7 +23,7 @@ use Rattle.sf_c.specs.declared.record_parts.Answered.{Answered}
 use Rattle.sf_c.specs.declared.record_parts.RecordParts.{RecordParts}
 use Rattle.sf_c.specs.declared.record_parts.Recounted.{Recounted}
 
--- the flag of each part that is given, and its numbers
+-- the flag of each attribute that is present, and its numbers
 abbrev pub size_parts : Option ℕ → ℕ × ℕ
 size_parts (Some size) = (1, size)
 size_parts None = (0, 0)
@@ -63,7 +63,7 @@ no_attributes = record {
   mtime = 0;
 }
 
--- the numbers of a request, and of a reply: a packet's type, and what it has in numbers
+-- the numbers of a request, and of a reply: the packet type and its numeric fields
 abbrev pub plainly : ℕ → AskedParts
 plainly kind = record {
   attributes = no_attributes;
@@ -140,7 +140,7 @@ abbrev pub data_parts : Request → List ℕ
 data_parts (request.Write handle offset written) = written
 data_parts _ = []
 
--- the names of a listing, each with a byte 0 behind it
+-- the names of a listing, each followed by a 0 byte
 abbrev pub name_parts : Entry → List ℕ
 name_parts entry = entry.filename ++ 0 ∷ []
 
@@ -153,8 +153,7 @@ answer_bytes (reply.Data bytes) = bytes
 answer_bytes (reply.Names entries) = names_parts entries
 answer_bytes _ = []
 
--- What is told of a call: its numbers, the bytes of its parts one behind another, and how many each
--- has.
+-- A call's record: its numbers, the concatenated bytes of its parts, and the length of each part.
 abbrev pub IsRecounted : ℕ → ℕ → ℕ → Request → Reply → Recounted → Type 0
 IsRecounted number session moment q a r =
     (r.parts ≡ record {
@@ -170,7 +169,7 @@ IsRecounted number session moment q a r =
     })
     × (r.bytes.items ≡ ((first_text q ++ second_text q) ++ data_parts q) ++ answer_bytes a)
 
--- of a session that left
+-- the record of a session that left
 abbrev pub left_parts : ℕ → RecordParts
 left_parts session = record {
   number = 0;
@@ -188,19 +187,19 @@ abbrev pub Recounts : Record → Recounted → Type 0
 Recounts (record_of.Did number session moment q a) r = IsRecounted number session moment q a r
 Recounts (record_of.Left session) r = (r.parts ≡ left_parts session) × (r.bytes.items ≡ [])
 
--- The record at a place was told, and its bytes copied as far as there is room.
+-- The numbers of the record at an index are returned, and as many of its bytes as fit.
 abbrev pub TellsParts : EngineView → ℕ → List ℕ → RecordParts → List ℕ → Type 0
 TellsParts engine at old parts new = (kept : Record) × (r : Recounted)
     × (slice_get engine.core.records at ≡ Some kept) × Recounts kept r × (parts ≡ r.parts)
     × (new ≡ take (length old) r.bytes.items ++ drop (length r.bytes.items) old)
 
--- the records that are kept are the last of each log that the engine has, or all
+-- the retained records are a suffix of the linearization of each log that the engine may have
 abbrev pub KeepsLastRecords : EngineView → Type 0
 KeepsLastRecords engine = (log : List LogEntry) → ghosts.has_log engine log
     → (gone : List Record) × (linearization log ≡ gone ++ engine.core.records)
 
--- how many records are kept; the one at a place was told, or there is none there, or no memory to
--- tell it
+-- Returns the number of retained records, with the record at an index if there is one; or -1 if
+-- memory runs out.
 abbrev pub TellsRecord : EngineView → ℕ → RecordParts → List ℕ → ℤ → RecordParts → List ℕ → Type 0
 TellsRecord engine at before old n parts new =
     ((n ≡ pos (length engine.core.records)) × TellsParts engine at old parts new)

@@ -1,4 +1,4 @@
--- What C gives a rule by, and is told of it.
+-- Rules of fault injection, as C gives them.
 use Rattle.std.specs.Prelude.{◌≡◌, ◌<◌, ◌^◌, ◌++◌, ◌⊎◌, Bool, true, false, ℕ, zero, suc, ℤ, pos, negsuc, List, [], ◌∷◌, Option, Some, None}
 use Rattle.sf_path.specs.Names.{Path}
 use Rattle.sf_reply.specs.Replies.{number_of}
@@ -14,7 +14,7 @@ use Rattle.sf_c.specs.declared.rules.RuleParts.{RuleParts}
 use Rattle.sf_c.specs.declared.rules.RuleFault.{RuleFault}
 use Rattle.sf_c.specs.declared.rules.RuleFault.TheVariants as fault
 
--- the types of packets; those by extensions have numbers of their own
+-- the packet types; extended requests have numbers of their own
 abbrev pub kind_number : RequestKind → ℕ
 kind_number kind.Open = 3
 kind_number kind.Close = 4
@@ -35,7 +35,7 @@ kind_number kind.Rename = 18
 kind_number kind.PosixRename = 201
 kind_number kind.Link = 202
 
--- 0 stands for any
+-- 0 means any
 abbrev pub HasKind : Option RequestKind → ℕ → Type 0
 HasKind None number = number ≡ 0
 HasKind (Some wanted) number = number ≡ kind_number wanted
@@ -69,7 +69,7 @@ rule_fault_number fault.Kind = negsuc 11
 rule_fault_number fault.Status = negsuc 12
 rule_fault_number fault.Path = negsuc 13
 
--- The rule was given, and has this number; or it wasn't, and the journals are as before.
+-- The rule was added, and has this number; or it was invalid, and the journals are unchanged.
 abbrev pub GivesRule : RuleParts → List ℕ → Refusals → ℤ → Refusals → Type 0
 GivesRule parts text r n r' =
     ((rule : Rule) × (number : ℕ) × IsRuleOf parts text rule × (n ≡ pos number)
@@ -78,12 +78,12 @@ GivesRule parts text r n r' =
     ⊎ ((why : RuleFault) × IsFaulty parts text why × (n ≡ rule_fault_number why)
     × ((journal : List Act) → HasJournal r journal → HasJournal r' journal))
 
--- so to the refusals that C has
+-- the same for the refusals that C holds
 abbrev pub TakesRule : Option Refusals → RuleParts → List ℕ → ℤ → Option Refusals → Type 0
 TakesRule before parts text n after = (r : Refusals) × (r' : Refusals) × (before ≡ Some r)
     × (after ≡ Some r') × GivesRule parts text r n r'
 
--- How many requests the rule with this number has refused; or no rule has it.
+-- The number of requests that the rule with this number has refused, or -15 if no rule has it.
 abbrev pub TellsRefused : Refusals → ℕ → ℤ → Type 0
 TellsRefused r number n = ((count : ℕ) × (count < 2 ^ 63 → n ≡ pos count)
     × ((journal : List Act) → HasJournal r journal → (rule : Rule) × (since : List Act)

@@ -1,4 +1,4 @@
--- What C is told of a tree.
+-- A snapshot of a tree, for C.
 use Rattle.std.specs.Prelude.{◌≡◌, ◌⊎◌, ◌++◌, ℕ, ℤ, pos, negsuc, List, [], length, min, take, drop, replicate, slice_get, Option, Some, None}
 use Rattle.sf_path.specs.Names.{text_of}
 use Rattle.sf_call.specs.Attributes.{attrs_of}
@@ -8,12 +8,12 @@ use Rattle.sf_asking.specs.Logs.{HasTree}
 use Rattle.sf_c.specs.declared.leaves.LeafParts.{LeafParts}
 use Rattle.sf_c.specs.Records.{attributes_parts}
 
--- the engine's tree is kept, or there was no memory for it
+-- a snapshot of the engine's tree was taken, or memory ran out
 abbrev pub TakesTree : EngineView → ℤ → Option (List Leaf) → Type 0
 TakesTree engine n kept = ((n ≡ negsuc 0) × (kept ≡ None))
     ⊎ ((leaves : List Leaf) × (n ≡ pos 0) × (kept ≡ Some leaves) × HasTree engine leaves)
 
--- the numbers of a leaf, and how long the text of its path is
+-- the numbers of a leaf, and the length of its path's text
 abbrev pub leaf_parts : Leaf → LeafParts
 leaf_parts leaf = record {
   attributes = attributes_parts (attrs_of leaf.1.1);
@@ -21,21 +21,20 @@ leaf_parts leaf = record {
   path = length (text_of leaf.0);
 }
 
--- The leaf at a place was told, and the text of its path copied as far as there is room.
+-- The numbers of the leaf at an index are returned, and as much of its path's text as fits.
 abbrev pub TellsPath : List Leaf → ℕ → List ℕ → LeafParts → List ℕ → Type 0
 TellsPath leaves at old parts new = (leaf : Leaf) × (slice_get leaves at ≡ Some leaf)
     × (parts ≡ leaf_parts leaf)
     × (new ≡ take (length old) (text_of leaf.0) ++ drop (length (text_of leaf.0)) old)
 
--- how many leaves there are; the one at a place was told, or there is none there, or no memory to
--- tell it
+-- returns the number of leaves, with the leaf at an index if there is one; or -1 if memory runs out
 abbrev pub TellsLeaf : List Leaf → ℕ → LeafParts → List ℕ → ℤ → LeafParts → List ℕ → Type 0
 TellsLeaf leaves at before old n parts new =
     ((n ≡ pos (length leaves)) × TellsPath leaves at old parts new)
     ⊎ (((n ≡ negsuc 0) ⊎ ((n ≡ pos (length leaves)) × (slice_get leaves at ≡ None)))
     × (parts ≡ before) × (new ≡ old))
 
--- the bytes of a file; none of a directory, or where there is no leaf
+-- the bytes of a file; none for a directory or a missing leaf
 abbrev pub bytes_of_object : Option (List ℕ) → List ℕ
 bytes_of_object (Some contents) = contents
 bytes_of_object None = []
@@ -47,12 +46,12 @@ leaf_bytes None = []
 abbrev pub bytes_at : List Leaf → ℕ → List ℕ
 bytes_at leaves at = leaf_bytes (slice_get leaves at)
 
--- so many of these bytes stand in the room, and behind them it is as it was
+-- the first n bytes of the room are these, and the others are unchanged
 abbrev pub IsFilled : List ℕ → ℕ → List ℕ → List ℕ → Type 0
 IsFilled bytes n old new = new ≡ take n bytes ++ drop n old
 
--- The bytes from an offset on were copied, as far as there is room, and their count was told; or
--- there was no memory, after some of them.
+-- As many bytes from an offset as fit were copied, and their number returned; or memory ran out
+-- after some of them.
 abbrev pub ReadsBytes : List ℕ → List ℕ → ℤ → List ℕ → Type 0
 ReadsBytes bytes old n new =
     ((count : ℕ) × (count ≡ min (length old) (length bytes)) × (n ≡ pos count)
@@ -62,7 +61,7 @@ ReadsBytes bytes old n new =
 abbrev pub ReadsLeaf : List Leaf → ℕ → ℕ → List ℕ → ℤ → List ℕ → Type 0
 ReadsLeaf leaves at offset old n new = ReadsBytes (drop offset (bytes_at leaves at)) old n new
 
--- so many bytes at the front are zeros
+-- this many bytes at the start are zeros
 abbrev pub HasGap : List ℕ → ℤ → Type 0
 HasGap bytes n = (count : ℕ) × (n ≡ pos count) × (take count bytes ≡ replicate count 0)
 

@@ -1,4 +1,4 @@
-//! An engine in a box, as the box's pointer: what C has of it.
+//! An engine in a box, as C holds it: a raw pointer.
 
 ghost use Rattle.std.specs.Prelude.{◌≡◌, Option, Some, None, IsSome};
 ghost use Rattle.std.specs.Coded.{coded_option};
@@ -11,7 +11,7 @@ use std::alloc::{Allocator, Global};
 use std::marker::Model;
 use std::{mem, ptr};
 
-/// A box as its pointer.
+/// A box as a raw pointer and its allocator.
 pub(crate) struct Loose<T, A: Allocator> {
     pub(crate) at: *mut T,
     pub(crate) alloc: A,
@@ -23,7 +23,7 @@ impl<T, A: Allocator> Model for Loose<T, A> {
 }
 
 impl<T: Drop, A: Allocator> Loose<T, A> {
-    /// A box's value, which C is to hold.
+    /// Turns a box into a pointer for C.
     pub(crate) fn of(value: Box<T, A>) -> Loose<T, A>
         ensures { result.value ≡ value.value }
     {
@@ -31,7 +31,7 @@ impl<T: Drop, A: Allocator> Loose<T, A> {
         Loose { at, alloc }
     }
 
-    /// The box again.
+    /// Turns the pointer back into the box.
     pub(crate) fn into_box(self) -> Box<T, A>
         ensures { result.value ≡ self.value }
     {
@@ -40,7 +40,7 @@ impl<T: Drop, A: Allocator> Loose<T, A> {
     }
 }
 
-/// What C has of an engine: its box, or nothing.
+/// A handle that C has of an engine: its box, or empty.
 #[repr(C)]
 #[derive(Drop)]
 pub struct Held {
@@ -55,7 +55,7 @@ impl Model for Held {
     ghost also_owns = { λ h. engine_owned h.alloc h.at h.engine };
 }
 
-// C may hand an engine to another thread. The proof is in `proofs/held/Held/TheSendSync`.
+// C may move an engine to another thread. The proof is in `proofs/held/Held/TheSendSync`.
 unsafe impl Send for Held {}
 
 impl Held {
@@ -89,7 +89,7 @@ impl Held {
         }
     }
 
-    /// Takes the engine. It has to be put back, or freed.
+    /// Takes the engine out and leaves the handle empty. The caller puts it back or drops it.
     pub fn take(&mut self, alloc: Global) -> Box<Engine, Global>
         requires { IsSome self.old.engine }
         ensures engine { self.old.engine ≡ Some result.value }
@@ -98,7 +98,7 @@ impl Held {
         mem::replace(self, Held::none(alloc)).loose().into_box()
     }
 
-    /// Puts an engine in place of nothing.
+    /// Puts an engine into the empty handle.
     pub fn put(&mut self, engine: Box<Engine, Global>)
         ensures { self.new.engine ≡ Some engine.value }
     {

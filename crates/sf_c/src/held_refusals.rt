@@ -1,4 +1,4 @@
-//! Refusals in a box, as the box's pointer: what C has of them, beside their engine.
+//! The refusals of an engine in a box, as C holds them: a raw pointer.
 
 ghost use Rattle.std.specs.Prelude.{◌≡◌, Option, Some, None, IsSome};
 ghost use Rattle.std.specs.Coded.{coded_option};
@@ -11,7 +11,7 @@ use std::alloc::Global;
 use std::marker::Model;
 use std::{mem, ptr};
 
-/// What C has of refusals: their box, or nothing.
+/// A handle that C has of refusals: their box, or empty.
 #[repr(C)]
 #[derive(Drop)]
 pub struct HeldRefusals {
@@ -26,7 +26,7 @@ impl Model for HeldRefusals {
     ghost also_owns = { λ h. refusals_owned h.alloc h.at h.refusals };
 }
 
-// C may hand refusals to another thread. The proof is in
+// C may move refusals to another thread. The proof is in
 // `proofs/held_refusals/HeldRefusals/TheSendSync`.
 unsafe impl Send for HeldRefusals {}
 
@@ -61,7 +61,7 @@ impl HeldRefusals {
         }
     }
 
-    /// Takes the refusals. They have to be put back, or freed.
+    /// Takes the refusals out and leaves the handle empty. The caller puts them back or drops them.
     pub fn take(&mut self, alloc: Global) -> Box<Refusals, Global>
         requires { IsSome self.old.refusals }
         ensures refusals { self.old.refusals ≡ Some result.value }
@@ -72,7 +72,7 @@ impl HeldRefusals {
             .into_box()
     }
 
-    /// Puts refusals in place of nothing.
+    /// Puts refusals into the empty handle.
     pub fn put(&mut self, refusals: Box<Refusals, Global>)
         ensures { self.new.refusals ≡ Some refusals.value }
     {

@@ -1,4 +1,4 @@
-//! A tree in a box, as the box's pointer: what C has of it.
+//! A snapshot of a tree in a box, as C holds it: a raw pointer.
 
 ghost use Rattle.std.specs.Prelude.{◌≡◌, Option, Some, None, IsSome};
 ghost use Rattle.std.specs.Coded.{coded_option};
@@ -12,7 +12,7 @@ use std::alloc::Global;
 use std::marker::Model;
 use std::{mem, ptr};
 
-/// What C has of a tree: the box of its leaves, or nothing.
+/// A handle that C has of a snapshot: the box of its leaves, or empty.
 #[repr(C)]
 #[derive(Drop)]
 pub struct Kept {
@@ -27,7 +27,7 @@ impl Model for Kept {
     ghost also_owns = { λ h. tree_owned h.alloc h.at h.tree };
 }
 
-// C may hand a tree to another thread. The proof is in `proofs/kept/Kept/TheSendSync`.
+// C may move a snapshot to another thread. The proof is in `proofs/kept/Kept/TheSendSync`.
 unsafe impl Send for Kept {}
 
 impl Kept {
@@ -61,7 +61,7 @@ impl Kept {
         }
     }
 
-    /// Takes the tree. It has to be put back, or freed.
+    /// Takes the snapshot out and leaves the handle empty. The caller puts it back or drops it.
     pub fn take(&mut self, alloc: Global) -> Box<Leaves, Global>
         requires { IsSome self.old.tree }
         ensures tree { self.old.tree ≡ Some result.value }
@@ -70,7 +70,7 @@ impl Kept {
         mem::replace(self, Kept::none(alloc)).loose().into_box()
     }
 
-    /// Puts a tree in place of nothing.
+    /// Puts a snapshot into the empty handle.
     pub fn put(&mut self, tree: Box<Leaves, Global>)
         ensures { self.new.tree ≡ Some tree.value }
     {

@@ -1,4 +1,4 @@
-//! The leaves of a tree, as numbers and bytes.
+//! The leaves of a snapshot, as numbers and bytes.
 
 ghost use Rattle.std.specs.Prelude.{◌≡◌, ◌<◌, ◌≤◌, ◌+◌, ◌-◌, ◌^◌, ℕ, length, min, take, drop, replicate, slice_get, pos, IfOk, IfErr};
 ghost use Rattle.std.specs.Option.{option_copied};
@@ -14,16 +14,16 @@ use sf_engine::Engine;
 use std::alloc::{AllocError, Global};
 use std::marker::Model;
 
-/// How many bytes of a file stand in one buffer, if any do: a read of such a run takes no memory.
+/// The size of a file's buffers in bytes. A read within one buffer allocates nothing.
 const RUN: u64 = 32768;
 
-/// Each path of a tree, with what it names.
+/// A snapshot of a tree: each path, with its inode's label, attributes and contents.
 pub struct Leaves {
     leaves: Vec<Leaf>,
 }
 
 impl Drop for Leaves {
-    // By hand: where leaves are dropped, a proof then sees one call and not the list.
+    // By hand: a proof about dropping leaves then has one call, and not the list's drop.
     fn drop(self) {
         let Self { leaves: _leaves } = self;
     }
@@ -38,7 +38,7 @@ impl Model for Leaves {
     ghost view = { λ tree. tree.leaves.items };
 }
 
-/// What C is told of a leaf, and how many bytes the text of its path has.
+/// The numbers of a leaf, with the length of its path's text in bytes.
 #[repr(C)]
 #[derive(Clone, Copy, Debug)]
 pub struct LeafParts {
@@ -48,7 +48,7 @@ pub struct LeafParts {
 }
 
 impl Leaves {
-    /// The tree of an engine.
+    /// Takes a snapshot of an engine's tree.
     fn of(engine: &Engine, alloc: Global) -> Result<Leaves, AllocError>
         ensures { IfOk result (λ leaves. HasTree engine.now leaves) }
     {
@@ -56,7 +56,7 @@ impl Leaves {
         Ok(Leaves { leaves })
     }
 
-    /// The leaf at a place.
+    /// The leaf at an index.
     fn get(&self, at: u64) -> Option<&Leaf>
         ensures { option_copied result ≡ slice_get self.now at }
     {
@@ -71,7 +71,7 @@ impl Leaves {
     }
 }
 
-/// The tree of an engine, in a box.
+/// Takes a snapshot of an engine's tree, in a box.
 pub fn tree_of(engine: &Engine, alloc: Global) -> Result<Box<Leaves, Global>, AllocError>
     ensures { IfOk result (λ leaves. HasTree engine.now leaves.value) }
 {
@@ -81,7 +81,7 @@ pub fn tree_of(engine: &Engine, alloc: Global) -> Result<Box<Leaves, Global>, Al
     }
 }
 
-/// The numbers of a leaf whose path has a text of so many bytes.
+/// The numbers of a leaf; `path` is the length of its path's text.
 fn leaf_parts(leaf: &Leaf, path: usize) -> LeafParts
     requires { path ≡ length (text_of leaf.now.0) }
     ensures { result ≡ leaf_parts leaf.now }
@@ -93,7 +93,8 @@ fn leaf_parts(leaf: &Leaf, path: usize) -> LeafParts
     }
 }
 
-/// Tells the leaf at a place, and copies its path's text, as far as there is room.
+/// Copies the numbers of the leaf at an index, and as much of its path's text as fits into `room`.
+/// Returns the number of leaves, or -1 if memory runs out.
 pub fn copy_leaf(
     alloc: Global,
     leaves: &Leaves,
@@ -114,8 +115,8 @@ pub fn copy_leaf(
     leaves.len() as i64
 }
 
-/// Copies bytes from an offset on into the room, as far as there is room, and up to the next run.
-/// Answers how many.
+/// Copies bytes of a file from an offset, up to the end of `room` or of the file's buffer. Returns
+/// the number of bytes.
 fn read_run(
     alloc: Global,
     contents: &WholeContents,
@@ -135,7 +136,7 @@ fn read_run(
     Ok(bytes.len())
 }
 
-/// Copies so many bytes from an offset on into the room, one run after the other.
+/// Copies `count` bytes of a file from an offset into `room`, buffer by buffer.
 fn read_runs(
     alloc: Global,
     contents: &WholeContents,
@@ -162,8 +163,8 @@ fn read_runs(
     Ok(())
 }
 
-/// Copies the bytes from an offset on into the room, as far as there is room. Answers how many, or
-/// -1 for want of memory.
+/// Copies bytes of a file from an offset, as many as fit into `room`. Returns their number, or -1
+/// if memory runs out.
 fn read_contents(alloc: Global, contents: &WholeContents, offset: u64, room: &mut [u8]) -> i64
     ensures { ReadsBytes (drop offset contents.now) room.old result room.new }
 {
@@ -178,15 +179,15 @@ fn read_contents(alloc: Global, contents: &WholeContents, offset: u64, room: &mu
     }
 }
 
-/// The contents of the leaf at a place, if it is a file.
+/// The contents of the leaf at an index, if it is a file.
 fn contents_at(leaves: &Leaves, at: u64) -> Option<&WholeContents>
     ensures { bytes_of_object (option_copied result) ≡ bytes_at leaves.now at }
 {
     leaves.get(at)?.contents()
 }
 
-/// Copies the bytes of the leaf at a place into the room, from an offset on and as far as there is
-/// room. Answers how many, or -1 for want of memory.
+/// Copies bytes of the leaf at an index from an offset, as many as fit into `room`. Returns their
+/// number, or -1 if memory runs out.
 pub fn read_leaf(alloc: Global, leaves: &Leaves, at: u64, offset: u64, room: &mut [u8]) -> i64
     ensures { ReadsLeaf leaves.now at offset room.old result room.new }
 {
@@ -196,14 +197,14 @@ pub fn read_leaf(alloc: Global, leaves: &Leaves, at: u64, offset: u64, room: &mu
     }
 }
 
-/// How many bytes from an offset on are zeros that take no memory, of 2^63 - 1 at most.
+/// The length of the hole at an offset: zeros that take no memory. At most 2^63 - 1.
 fn gap_in(contents: &WholeContents, offset: u64) -> i64
     ensures { HasGap (drop offset contents.now) result }
 {
     contents.gap(offset).min(i64::MAX as u64) as i64
 }
 
-/// How many bytes of the leaf at a place, from an offset on, are zeros that take no memory.
+/// The length of the hole at an offset of the leaf at an index.
 pub fn gap_at(leaves: &Leaves, at: u64, offset: u64) -> i64
     ensures { TellsGap leaves.now at offset result }
 {

@@ -1,14 +1,13 @@
-//! The engine as a library for C.
+//! The deterministic SFTP engine as a library for C.
 //!
 //! Start with `lucernetick_turn`. Each function takes an engine as a `Held` (`held.rt`), makes one
-//! event of what it is given, and answers the engine again and a number: `specs/Numbers.antt` says
-//! which, for what the engine answered. Bytes come and go, and turns are made, through the engine's
-//! refusals, a `HeldRefusals` beside it: `specs/Journals.antt` says what that is in the journal of
-//! both, and `specs/Rules.antt` what a rule is. Sessions open and close on the engine itself, which
-//! leaves all that refusals promise (`sf_refusing::events_apart`); so do those that make trees
-//! (`specs/Making.antt`). A whole tree is a `Kept` (`kept.rt`), of which `specs/Trees.antt` says
-//! what is told.
-//! `bindings/c/lucernetick.c` has the functions of `include/lucernetick.h`, which call these.
+//! event, and returns the engine and a number; `specs/Numbers.antt` defines the numbers. Bytes and
+//! turns pass through the engine's fault injection, a `HeldRefusals`: `specs/Journals.antt` says
+//! what they add to the journal of both, and `specs/Rules.antt` what a rule is. Sessions open and
+//! close on the engine itself (`sf_refusing::events_apart`), and so do those that build trees
+//! (`specs/Making.antt`). A snapshot of the tree is a `Kept` (`kept.rt`, `specs/Trees.antt`).
+//!
+//! `bindings/c/lucernetick.c` implements the functions of `include/lucernetick.h` by calling these.
 #![tactic(auto)]
 
 ghost use Rattle.std.specs.Prelude.{◌≡◌, ◌++◌, length, take, drop, None, IsSome, IfOk, IfSome};
@@ -43,7 +42,7 @@ use sf_refusing::Refusals;
 use std::alloc::{AllocError, Global};
 use turns::{apply, feed, sent, settle_at, turn};
 
-/// Makes an engine that keeps the last `keep` records, or all of them.
+/// Makes an engine that retains the last `keep` records, or all of them for 0.
 fn new_engine(alloc: Global, keep: u64) -> Result<Engine, AllocError>
     ensures { IfOk result (λ engine. IsFresh keep engine) }
 {
@@ -53,8 +52,8 @@ fn new_engine(alloc: Global, keep: u64) -> Result<Engine, AllocError>
     Engine::with_keep(alloc, keep as usize)
 }
 
-/// Makes an engine, and refusals before it, in place of nothing. Answers 0, or -1 for want of
-/// memory, which leaves nothing.
+/// Makes an engine and its refusals, in empty handles. Returns 0, or -1 if memory runs out; the
+/// handles are then empty.
 #[unsafe(no_mangle)]
 pub extern "C" fn lucernetick_new(
     alloc: Global,
@@ -80,7 +79,7 @@ pub extern "C" fn lucernetick_new(
     0
 }
 
-/// Drops an engine, and its refusals.
+/// Drops an engine and its refusals.
 #[unsafe(no_mangle)]
 pub extern "C" fn lucernetick_free(alloc: Global, held: &mut Held, refusing: &mut HeldRefusals)
     requires engine { IsSome held.old.engine }
@@ -92,7 +91,7 @@ pub extern "C" fn lucernetick_free(alloc: Global, held: &mut Held, refusing: &mu
     let _refusals = refusing.take(alloc);
 }
 
-/// Applies an event, and answers its number.
+/// Applies an event, and returns its number.
 fn answer(alloc: Global, held: &mut Held, event: &Event) -> i64
     requires { IsSome held.old.engine }
     ensures { AnswersNumber held.old.engine event.now result held.new.engine }
@@ -112,7 +111,7 @@ pub extern "C" fn lucernetick_open(alloc: Global, held: &mut Held) -> i64
     answer(alloc, held, &Event::Open)
 }
 
-/// Bytes come for a session.
+/// Feeds bytes to a session.
 #[unsafe(no_mangle)]
 pub extern "C" fn lucernetick_feed(
     alloc: Global,
@@ -134,7 +133,7 @@ pub extern "C" fn lucernetick_feed(
     number
 }
 
-/// A session goes on, at a moment in seconds since 1970.
+/// Takes one turn of a session, at the timestamp `moment` in seconds since 1970.
 #[unsafe(no_mangle)]
 pub extern "C" fn lucernetick_turn(
     alloc: Global,
@@ -156,8 +155,8 @@ pub extern "C" fn lucernetick_turn(
     number
 }
 
-/// Turns of a session, until one leads to no other, or `most` replies were written. Tells whether
-/// anything moved.
+/// Takes turns of a session, until one makes no progress or `most` replies are written. Reports
+/// whether anything progressed.
 #[unsafe(no_mangle)]
 pub extern "C" fn lucernetick_settle(
     alloc: Global,
@@ -181,7 +180,7 @@ pub extern "C" fn lucernetick_settle(
     number
 }
 
-/// Rounds of turns, up to where no call is under way. Answers how many there were.
+/// Takes rounds of turns, until no call is unanswered. Returns the number of rounds.
 #[unsafe(no_mangle)]
 pub extern "C" fn lucernetick_run_all(alloc: Global, held: &mut Held) -> u64
     requires { IsSome held.old.engine }
@@ -202,7 +201,7 @@ pub extern "C" fn lucernetick_close(alloc: Global, held: &mut Held, session: u64
     answer(alloc, held, &Event::Close(session))
 }
 
-/// The first bytes of a session's output were sent.
+/// Removes the first bytes of a session's output, which were sent.
 #[unsafe(no_mangle)]
 pub extern "C" fn lucernetick_sent(
     alloc: Global,
@@ -224,7 +223,8 @@ pub extern "C" fn lucernetick_sent(
     number
 }
 
-/// Whether a session rests with no whole packet unread. A number without a session wants no bytes.
+/// Whether a session needs input: it is idle, and no whole packet is buffered. False for a number
+/// without a session.
 #[unsafe(no_mangle)]
 pub extern "C" fn lucernetick_wants_bytes(
     alloc: Global,
@@ -247,14 +247,14 @@ pub extern "C" fn lucernetick_wants_bytes(
     wants
 }
 
-/// Whether a session waits for bytes, as the journal tells.
+/// Whether a session needs input.
 fn wants_bytes(engine: &Engine, refusals: &Refusals, session: u64) -> bool
     ensures { SaysItWaits engine.now refusals.now session result }
 {
     refusals.wants_bytes(engine, session)
 }
 
-/// Copies bytes into a room, as far as there is room.
+/// Copies bytes, as many as fit into `room`.
 fn copy_front(room: &mut [u8], bytes: &[u8])
     ensures { room.new ≡ take (length room.old) bytes.now ++ drop (length bytes.now) room.old }
 {
@@ -262,7 +262,8 @@ fn copy_front(room: &mut [u8], bytes: &[u8])
     room[..count].copy_from_slice(&bytes[..count]);
 }
 
-/// Copies the front of what a session is to be sent next, and answers how much that is.
+/// Copies the first bytes of a session's output, and returns its length, or -2 without such a
+/// session.
 fn copy_output(engine: &Engine, refusals: &Refusals, session: u64, room: &mut [u8]) -> i64
     ensures { Outputs engine.now refusals.now session room.old result room.new }
 {
@@ -273,7 +274,7 @@ fn copy_output(engine: &Engine, refusals: &Refusals, session: u64, room: &mut [u
     output.len() as i64
 }
 
-/// Copies the front of what a session is to be sent next into the room.
+/// Copies the first bytes of a session's output into `room`. Returns the output's length.
 #[unsafe(no_mangle)]
 pub extern "C" fn lucernetick_output(
     alloc: Global,
@@ -297,7 +298,7 @@ pub extern "C" fn lucernetick_output(
     number
 }
 
-/// Gives a rule, whose path has this text, if it has one, and answers its number.
+/// Adds a rule, with the text of its path if it has one. Returns its number.
 #[unsafe(no_mangle)]
 pub extern "C" fn lucernetick_refuse(
     alloc: Global,
@@ -314,7 +315,7 @@ pub extern "C" fn lucernetick_refuse(
     number
 }
 
-/// Tells how many requests a rule has refused.
+/// Returns the number of requests that a rule has refused.
 #[unsafe(no_mangle)]
 pub extern "C" fn lucernetick_refused(
     alloc: Global,
@@ -331,7 +332,7 @@ pub extern "C" fn lucernetick_refused(
     count
 }
 
-/// Tells the record at a place, and copies its bytes into the room, as far as there is room.
+/// Copies the numbers of the record at an index, and as many of its bytes as fit into `room`.
 fn copy_record(
     alloc: Global,
     engine: &Engine,
@@ -353,7 +354,7 @@ fn copy_record(
     records.len() as i64
 }
 
-/// Tells one of the records that are kept, the oldest at 0, and how many these are.
+/// Copies a retained record; the oldest has the index 0. Returns the number of retained records.
 #[unsafe(no_mangle)]
 pub extern "C" fn lucernetick_call(
     alloc: Global,
@@ -374,7 +375,7 @@ pub extern "C" fn lucernetick_call(
     number
 }
 
-/// Makes the directory of a path, and those on its way, where they are missing.
+/// Makes the directory of a path, and its missing parents.
 #[unsafe(no_mangle)]
 pub extern "C" fn lucernetick_make_directory(
     alloc: Global,
@@ -392,7 +393,7 @@ pub extern "C" fn lucernetick_make_directory(
     tell_made(made, at)
 }
 
-/// Makes a file, or replaces its contents. Directories on its way are made where they are missing.
+/// Makes a file or replaces its contents. Makes its missing parents.
 #[unsafe(no_mangle)]
 pub extern "C" fn lucernetick_write_file(
     alloc: Global,
@@ -411,8 +412,7 @@ pub extern "C" fn lucernetick_write_file(
     tell_made(made, at)
 }
 
-/// Gives the file at the old path the new one too. Directories on its way are made where they are
-/// missing.
+/// Adds the new path as a link to the file of the old path. Makes its missing parents.
 #[unsafe(no_mangle)]
 pub extern "C" fn lucernetick_link(
     alloc: Global,
@@ -431,8 +431,8 @@ pub extern "C" fn lucernetick_link(
     tell_made(made, at)
 }
 
-/// Puts the tree of an engine in place of nothing: each path, with what it names. Answers 0, or -1
-/// for want of memory, which leaves nothing.
+/// Takes a snapshot of an engine's tree, into an empty handle. Returns 0, or -1 if memory runs out;
+/// the handle is then empty.
 #[unsafe(no_mangle)]
 pub extern "C" fn lucernetick_tree(alloc: Global, held: &mut Held, kept: &mut Kept) -> i64
     requires engine { IsSome held.old.engine }
@@ -450,8 +450,8 @@ pub extern "C" fn lucernetick_tree(alloc: Global, held: &mut Held, kept: &mut Ke
     0
 }
 
-/// Tells one of a tree's leaves, by their places, and how many these are. The text of its path is
-/// copied into the room, as far as there is room.
+/// Copies the leaf at an index: its numbers, and as much of its path's text as fits into `room`.
+/// Returns the number of leaves.
 #[unsafe(no_mangle)]
 pub extern "C" fn lucernetick_tree_leaf(
     alloc: Global,
@@ -471,8 +471,8 @@ pub extern "C" fn lucernetick_tree_leaf(
     number
 }
 
-/// Copies the bytes of a leaf into the room, from an offset on and as far as there is room. Answers
-/// how many, or -1 for want of memory. A directory has none, and so has a place without a leaf.
+/// Copies bytes of a leaf from an offset, as many as fit into `room`. Returns their number, or -1
+/// if memory runs out. A directory has no bytes, nor has an index without a leaf.
 #[unsafe(no_mangle)]
 pub extern "C" fn lucernetick_tree_read(
     alloc: Global,
@@ -491,7 +491,7 @@ pub extern "C" fn lucernetick_tree_read(
     number
 }
 
-/// Tells how many bytes of a leaf, from an offset on, are zeros that take no memory.
+/// Returns the length of the hole at an offset of a leaf: zeros that take no memory.
 #[unsafe(no_mangle)]
 pub extern "C" fn lucernetick_tree_gap(alloc: Global, kept: &mut Kept, at: u64, offset: u64) -> i64
     requires { IsSome kept.old.tree }
@@ -504,7 +504,7 @@ pub extern "C" fn lucernetick_tree_gap(alloc: Global, kept: &mut Kept, at: u64, 
     number
 }
 
-/// Drops a tree.
+/// Drops a snapshot.
 #[unsafe(no_mangle)]
 pub extern "C" fn lucernetick_tree_free(alloc: Global, kept: &mut Kept)
     requires { IsSome kept.old.tree }

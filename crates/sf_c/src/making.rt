@@ -1,4 +1,4 @@
-//! Trees that are made, by requests of sessions of their own.
+//! Building trees, by requests of sessions that are opened for it.
 
 ghost use Rattle.std.specs.Prelude.{◌≡◌, ◌<◌, ◌^◌, length};
 ghost use Rattle.sf_trees.specs.Makings.{MakesDirectory, WritesFile, Links};
@@ -9,7 +9,8 @@ use sf_engine::Engine;
 use sf_trees::{Refused, TreeFault, link, make_directory, write_file};
 use std::alloc::Global;
 
-/// Which request wasn't done, and how many bytes of the path that was given it was on.
+/// The request that failed, and the length in bytes of the prefix of the given path that it was
+/// about.
 #[repr(C)]
 #[derive(Clone, Copy, Debug)]
 pub struct At {
@@ -17,7 +18,7 @@ pub struct At {
     pub kind: u32,
 }
 
-/// The number of why a request wasn't done.
+/// The number of an error.
 fn tree_fault_number(fault: TreeFault) -> i64
     ensures { result ≡ tree_fault_number fault }
 {
@@ -32,7 +33,7 @@ fn tree_fault_number(fault: TreeFault) -> i64
     }
 }
 
-/// The number of what came of it, and where it stopped.
+/// The number of the result, and where it failed.
 pub fn tell_made(made: Result<(), Refused>, at: &mut At) -> i64
     ensures { TellsMade made result at.new }
 {
@@ -82,7 +83,7 @@ pub fn write_file_in(
     (asker.into_engine(), made)
 }
 
-/// Gives a file one more name.
+/// Adds a link to a file.
 pub fn link_in(
     engine: Box<Engine, Global>,
     alloc: Global,

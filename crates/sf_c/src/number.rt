@@ -1,4 +1,4 @@
-//! What an engine answers, as a number.
+//! The engine's results as numbers.
 
 ghost use Rattle.std.specs.Prelude.{◌≡◌, ◌+◌, pos};
 ghost use Rattle.sf_c.specs.Numbers.{cause_number, IsHappened, IsNumber};
@@ -6,7 +6,7 @@ ghost use Rattle.sf_c.specs.Numbers.{cause_number, IsHappened, IsNumber};
 use sf_engine::{EngineFault, Happened};
 use sf_session::Cause;
 
-/// The number of a session that ended so.
+/// The number for a session that ended with this cause.
 fn ended_number(cause: Cause) -> i64
     ensures { result ≡ pos (16 + cause_number cause) }
 {
@@ -36,7 +36,7 @@ fn happened_number(happened: Happened) -> i64
     }
 }
 
-/// What came of an event: 0 and above, or why it was refused, below 0.
+/// The number of an event's result: 0 or above, or an error below 0.
 pub fn number_of(outcome: Result<Happened, EngineFault>) -> i64
     ensures { IsNumber outcome result }
 {

@@ -1,4 +1,4 @@
-//! The records that an engine keeps, as numbers and bytes.
+//! The engine's retained records, as numbers and bytes.
 
 ghost use Rattle.std.specs.Prelude.{◌≡◌, ◌≤◌, IfOk};
 ghost use Rattle.sf_c.specs.Records.{size_parts, owner_parts, permissions_parts, times_parts, attributes_parts, plainly, handle_parts, at_place, with_attributes, asked_parts, answer, answered_parts, first_text, second_text, data_parts, names_parts, answer_bytes, left_parts, IsRecounted, Recounts};
@@ -8,7 +8,8 @@ use sf_field::{Attrs, Owner, Times};
 use sf_reply::{Entry, Reply};
 use std::alloc::{AllocError, Global};
 
-/// Attributes: `given` has a bit for each part that is there, as the protocol's flags do.
+/// Attributes. `given` has a bit for each one that is present, as the flags of ATTRS do
+/// (draft-ietf-secsh-filexfer-02, section 5).
 #[repr(C)]
 #[derive(Clone, Copy, Debug)]
 pub struct Attributes {
@@ -21,7 +22,7 @@ pub struct Attributes {
     pub mtime: u32,
 }
 
-/// What a call asked, by the type of its packet, without its paths and the bytes of a WRITE.
+/// The request of a call, by its packet type, without its paths and a WRITE's bytes.
 #[repr(C)]
 #[derive(Clone, Copy, Debug)]
 pub struct AskedParts {
@@ -33,7 +34,7 @@ pub struct AskedParts {
     pub flags: u32,
 }
 
-/// What a call was answered, by the type of that packet, without bytes and names.
+/// The reply of a call, by its packet type, without bytes and names.
 #[repr(C)]
 #[derive(Clone, Copy, Debug)]
 pub struct Answered {
@@ -44,7 +45,7 @@ pub struct Answered {
     pub status: u32,
 }
 
-/// A record, and how many bytes its parts have: these stand one behind another.
+/// A record's numbers, and the lengths of its parts, which are concatenated.
 #[repr(C)]
 #[derive(Clone, Copy, Debug)]
 pub struct RecordParts {
@@ -99,7 +100,7 @@ fn times_parts(times: Option<Times>) -> (u32, u32, u32)
     }
 }
 
-/// Attributes as C has them: a bit of `given` for each that is there, and 0 for one that isn't.
+/// Attributes for C: a bit of `given` for each one that is present, and 0 for a missing one.
 pub fn attributes_parts(attrs: &Attrs) -> Attributes
     ensures { result ≡ attributes_parts attrs.now }
 {
@@ -129,7 +130,7 @@ const NONE: Attributes = Attributes {
     mtime: 0,
 };
 
-/// A packet of this type, of which nothing else is told in numbers.
+/// A request of this type without further numbers.
 fn plainly(kind: u32) -> AskedParts
     ensures { result ≡ plainly kind }
 {
@@ -143,7 +144,7 @@ fn plainly(kind: u32) -> AskedParts
     }
 }
 
-/// A packet of this type by a handle, of which nothing else is told in numbers.
+/// A request of this type with a handle.
 fn handle_parts(kind: u32, handle: u64) -> AskedParts
     ensures { result ≡ handle_parts kind handle }
 {
@@ -153,7 +154,7 @@ fn handle_parts(kind: u32, handle: u64) -> AskedParts
     }
 }
 
-/// A packet of this type by a handle, of so many bytes from a place in its file.
+/// A request of this type for `length` bytes from an offset of a handle's file.
 fn at_place(kind: u32, handle: u64, offset: u64, length: u64) -> AskedParts
     ensures { result ≡ at_place kind handle offset length }
 {
@@ -164,7 +165,7 @@ fn at_place(kind: u32, handle: u64, offset: u64, length: u64) -> AskedParts
     }
 }
 
-/// A packet of this type with attributes.
+/// A request of this type with attributes.
 fn with_attributes(kind: u32, attrs: &Attrs) -> AskedParts
     ensures { result ≡ with_attributes kind attrs.now }
 {
@@ -174,7 +175,7 @@ fn with_attributes(kind: u32, attrs: &Attrs) -> AskedParts
     }
 }
 
-/// The numbers of a request. Both renames and links by extensions have types of their own.
+/// The numbers of a request. Extended requests have types of their own.
 fn asked_parts(request: &Request) -> AskedParts
     ensures { result ≡ asked_parts request.now }
 {
@@ -212,7 +213,7 @@ fn asked_parts(request: &Request) -> AskedParts
     }
 }
 
-/// An answer of this type, of which nothing else is told in numbers.
+/// A reply of this type without further numbers.
 fn answer(kind: u32) -> Answered
     ensures { result ≡ answer kind }
 {
@@ -225,7 +226,7 @@ fn answer(kind: u32) -> Answered
     }
 }
 
-/// The numbers of a reply. Want of memory is the status FAILURE, with a type of its own.
+/// The numbers of a reply. "Out of memory" is the status FAILURE with a type of its own.
 fn answered_parts(reply: &Reply) -> Answered
     ensures { result ≡ answered_parts reply.now }
 {
@@ -254,7 +255,7 @@ fn answered_parts(reply: &Reply) -> Answered
     }
 }
 
-/// The text of a request's path, or of its old one; none where it has no path.
+/// The text of a request's path, or of its old one; empty if it has none.
 fn first_text(alloc: Global, request: &Request) -> Result<Vec<u8>, AllocError>
     ensures { IfOk result (λ text. text.items ≡ first_text request.now) }
 {
@@ -295,7 +296,7 @@ fn data_parts(request: &Request) -> &[u8]
     }
 }
 
-/// The names of a listing, each with a byte 0 behind it, which no name has.
+/// The names of a listing, each followed by a 0 byte, which no name contains.
 fn names_parts(alloc: Global, entries: &[Entry]) -> Result<Vec<u8>, AllocError>
     ensures { IfOk result (λ bytes. bytes.items ≡ names_parts entries.now) }
 {
@@ -307,7 +308,7 @@ fn names_parts(alloc: Global, entries: &[Entry]) -> Result<Vec<u8>, AllocError>
     Ok(bytes)
 }
 
-/// The bytes of a reply: those that were read, or names.
+/// The bytes of a reply: those of READ, or names.
 fn answer_bytes(alloc: Global, reply: &Reply) -> Result<Vec<u8>, AllocError>
     ensures { IfOk result (λ bytes. bytes.items ≡ answer_bytes reply.now) }
 {
@@ -318,14 +319,14 @@ fn answer_bytes(alloc: Global, reply: &Reply) -> Result<Vec<u8>, AllocError>
     }
 }
 
-/// A record's parts, one behind another, and its numbers with how long each part is.
+/// A record's parts, concatenated, and its numbers with the length of each part.
 #[derive(Drop)]
 pub struct Recounted {
     pub parts: RecordParts,
     pub bytes: Vec<u8>,
 }
 
-/// What is told of a call.
+/// The numbers and bytes of a call's record.
 fn call_parts(
     alloc: Global,
     number: u64,
@@ -358,7 +359,7 @@ fn call_parts(
     Ok(Recounted { parts, bytes })
 }
 
-/// What is told of a record.
+/// The numbers and bytes of a record.
 pub fn recount(alloc: Global, record: &Record) -> Result<Recounted, AllocError>
     ensures { IfOk result (λ r. Recounts record.now r) }
 {
@@ -377,7 +378,7 @@ pub fn recount(alloc: Global, record: &Record) -> Result<Recounted, AllocError>
     }
 }
 
-/// A session that left: the number of its record is 0, as no call's is.
+/// The record of a session that left has the number 0, which no call has.
 fn left_parts(session: u64) -> RecordParts
     ensures { result ≡ left_parts session }
 {

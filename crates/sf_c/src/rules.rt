@@ -1,4 +1,4 @@
-//! Rules of refusals, as numbers and bytes.
+//! Rules of fault injection, as numbers and bytes.
 
 ghost use Rattle.std.specs.Prelude.{◌≡◌, ◌<◌, ◌^◌, ◌⊎◌, ℕ, List, pos, IfSome, IfNone, IfOk, IfErr, Option, None, true};
 ghost use Rattle.sf_path.specs.Names.{Path};
@@ -13,7 +13,7 @@ use sf_refusing::{Refusals, RequestKind, Rule};
 use sf_reply::StatusCode;
 use std::alloc::Global;
 
-/// A rule as C gives it, but for the text of its path: 0 for any session, and 0 for any kind.
+/// A rule as C gives it, without its path's text: 0 for any session, and 0 for any kind.
 #[repr(C)]
 #[derive(Clone, Copy, Debug)]
 pub struct RuleParts {
@@ -25,7 +25,7 @@ pub struct RuleParts {
     pub has_path: bool,
 }
 
-/// Why a rule isn't taken.
+/// Why a rule is invalid.
 #[derive(Clone, Copy, Debug, PartialEq, Eq)]
 pub enum RuleFault {
     OutOfMemory,
@@ -34,7 +34,7 @@ pub enum RuleFault {
     Path,
 }
 
-/// The kind that has a number.
+/// The request kind with a number.
 fn kind_at(number: u32) -> Option<RequestKind>
     ensures some { IfSome result (λ kind. number ≡ kind_number kind) }
     ensures none { IfNone result ((kind : RequestKind) → number ≡ kind_number kind → ⊥) }
@@ -62,7 +62,7 @@ fn kind_at(number: u32) -> Option<RequestKind>
     }
 }
 
-/// The code that has a number.
+/// The status code with a number.
 fn status_at(number: u32) -> Option<StatusCode>
     ensures some { IfSome result (λ code. number_of code ≡ number) }
     ensures none { IfNone result ((code : StatusCode) → number_of code ≡ number → ⊥) }
@@ -79,7 +79,7 @@ fn status_at(number: u32) -> Option<StatusCode>
     }
 }
 
-/// The session that a rule is for, if not all.
+/// The session that a rule is for; none for 0, which means any.
 fn session_of(number: u64) -> Option<u64>
     ensures { result ≡ session_of number }
 {
@@ -89,7 +89,7 @@ fn session_of(number: u64) -> Option<u64>
     Some(number)
 }
 
-/// The kind that a rule is for, if not any.
+/// The kind that a rule is for; none for 0, which means any.
 fn kind_of(number: u32) -> Result<Option<RequestKind>, RuleFault>
     ensures ok { IfOk result (λ wanted. HasKind wanted number) }
     ensures err { IfErr result (λ why. (why ≡ RuleFault.Kind)
@@ -104,7 +104,7 @@ fn kind_of(number: u32) -> Result<Option<RequestKind>, RuleFault>
     }
 }
 
-/// The path that a rule is for, if not any.
+/// The path that a rule is for, if it has one.
 fn path_of(alloc: Global, has_path: bool, text: &[u8]) -> Result<Option<Path>, RuleFault>
     ensures ok { IfOk result (λ wanted. HasPath wanted has_path text.now) }
     ensures err { IfErr result (λ why. (why ≡ RuleFault.OutOfMemory) ⊎ ((why ≡ RuleFault.Path)
@@ -122,7 +122,7 @@ fn path_of(alloc: Global, has_path: bool, text: &[u8]) -> Result<Option<Path>, R
     }
 }
 
-/// The rule that is given by these parts, and by the text of its path.
+/// The rule with these parts and this path's text.
 fn rule_of(alloc: Global, parts: &RuleParts, text: &[u8]) -> Result<Rule, RuleFault>
     ensures ok { IfOk result (IsRuleOf parts.now text.now) }
     ensures err { IfErr result (IsFaulty parts.now text.now) }
@@ -142,7 +142,7 @@ fn rule_of(alloc: Global, parts: &RuleParts, text: &[u8]) -> Result<Rule, RuleFa
     })
 }
 
-/// The number of why a rule isn't taken.
+/// The number of an invalid rule's error.
 fn rule_fault_number(why: RuleFault) -> i64
     ensures { result ≡ rule_fault_number why }
 {
@@ -154,7 +154,7 @@ fn rule_fault_number(why: RuleFault) -> i64
     }
 }
 
-/// Gives a rule, and answers its number.
+/// Adds a rule, and returns its number.
 pub fn give_rule(alloc: Global, refusals: &mut Refusals, parts: &RuleParts, text: &[u8]) -> i64
     ensures { GivesRule parts.now text.now refusals.old result refusals.new }
 {
@@ -168,7 +168,7 @@ pub fn give_rule(alloc: Global, refusals: &mut Refusals, parts: &RuleParts, text
     }
 }
 
-/// How many requests a rule has refused.
+/// The number of requests that a rule has refused.
 pub fn tell_refused(refusals: &Refusals, number: u64) -> i64
     ensures { TellsRefused refusals.now number result }
 {

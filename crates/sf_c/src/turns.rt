@@ -1,5 +1,5 @@
-//! One event of an engine; and, through its refusals, bytes for a session, and a session's turns up
-//! to where it rests.
+//! Events of an engine, bytes for a session through its refusals, and a session's turns until it is
+//! idle.
 
 ghost use Rattle.std.specs.Prelude.{◌≡◌, ◌≤◌, ◌<◌, ◌^◌, ℕ, length};
 ghost use Rattle.sf_c.specs.Numbers.{leads_on, replies_of, LeadsToNumber};
@@ -9,21 +9,21 @@ use crate::number::number_of;
 use sf_engine::{Engine, EngineFault, Event, Happened};
 use sf_refusing::Refusals;
 
-/// Applies an event, and answers its number.
+/// Applies an event, and returns its number.
 pub fn apply(engine: &mut Engine, event: &Event) -> i64
     ensures { LeadsToNumber engine.old event.now result engine.new }
 {
     number_of(engine.apply(event))
 }
 
-/// Bytes come for a session.
+/// Feeds bytes to a session.
 pub fn feed(engine: &mut Engine, refusals: &mut Refusals, session: u64, bytes: &[u8]) -> i64
     ensures { FeedsBytes session bytes.now result engine.old refusals.old engine.new refusals.new }
 {
     number_of(refusals.feed(engine, session, bytes))
 }
 
-/// So many bytes of what a session is sent are gone.
+/// Removes the first `count` bytes of a session's output.
 pub fn sent(engine: &mut Engine, refusals: &mut Refusals, session: u64, count: usize) -> i64
     ensures { SendsBytes session count result engine.old refusals.old engine.new refusals.new }
 {
@@ -37,7 +37,7 @@ pub fn turn(engine: &mut Engine, refusals: &mut Refusals, session: u64, moment: 
     number_of(refusals.turn(engine, session, moment))
 }
 
-/// As `turn`, but the engine makes turns as long as the session's call is on its way to its reply.
+/// As `turn`, but the engine takes turns until the session's call is answered or can't progress.
 fn turns(
     engine: &mut Engine,
     refusals: &mut Refusals,
@@ -53,7 +53,7 @@ fn turns(
     engine.turns(session, moment)
 }
 
-/// Whether a turn leads to another one.
+/// Whether a turn made progress, so that another one follows.
 fn leads_on(outcome: Result<Happened, EngineFault>) -> bool
     ensures { result ≡ leads_on outcome }
 {
@@ -63,7 +63,7 @@ fn leads_on(outcome: Result<Happened, EngineFault>) -> bool
     )
 }
 
-/// How many replies a turn wrote.
+/// The number of replies that a turn wrote.
 fn replies_of(outcome: Result<Happened, EngineFault>) -> u64
     ensures is { result ≡ replies_of outcome }
     ensures few { result ≤ 1 }
@@ -74,8 +74,8 @@ fn replies_of(outcome: Result<Happened, EngineFault>) -> u64
     }
 }
 
-/// Turns, as many as lead to `most` replies at most, until one leads to no other: what came of that
-/// one, if there was one.
+/// Takes turns until one makes no progress, or `most` replies are written. Returns the result of
+/// the turn without progress, if there was one.
 fn follow(
     engine: &mut Engine,
     refusals: &mut Refusals,
@@ -95,16 +95,16 @@ fn follow(
     None
 }
 
-/// How a session was settled.
+/// The result of settling a session.
 #[derive(Clone, Copy, Debug)]
 pub struct Settled {
-    /// What came of the turn that leads to no other, if there was one.
+    /// The result of the turn without progress, if there was one.
     last: Option<Result<Happened, EngineFault>>,
-    /// Whether a turn before that one was made.
+    /// Whether an earlier turn made progress.
     moved: bool,
 }
 
-/// As `follow`, with the first turn apart, by which it is known whether anything moved.
+/// As `follow`, and also reports whether the first turn made progress.
 fn settle(
     engine: &mut Engine,
     refusals: &mut Refusals,
@@ -134,7 +134,7 @@ fn settle(
     }
 }
 
-/// As `settle`, and answers the number of the turn that leads to no other, or 6.
+/// As `settle`, but returns the number of the turn without progress, or 6.
 pub fn settle_at(
     engine: &mut Engine,
     refusals: &mut Refusals,

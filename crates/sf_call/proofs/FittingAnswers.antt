@@ -1,5 +1,4 @@
--- The answers to requests whose parts are values of their types: short replies, and changes to
--- trees of such values.
+-- The answers to requests with values in range: short replies, and trees with values in range.
 use Rattle.std.proofs.Common.{◌≡◌, ℕ, zero, suc, refl, ◌+◌, ◌<◌, ◌≤◌, ◌^◌, Bool, true, false, cond, not, nat_eq, nat_lt, nat_le, ◌&&◌, List, [], ◌∷◌, ◌++◌, length, take, filter_map, Option, Some, None, option_map, option_and_then, unwrap_or, IfSome, arith}
 use Rattle.std.specs.List.{AllByRecursion}
 use Rattle.std.specs.Option.{is_some}
@@ -38,7 +37,7 @@ use Rattle.sf_call.specs.Calls.{Outcome, answer_to, stat, refuses_size, with_siz
 use Rattle.sf_call.proofs.RenameCases.{rename_cases, posix_rename_cases, link_cases, link_to_cases}
 use Rattle.sf_call.proofs.FittingTrees.{MetadataFits, ObjectFits, TreeFits, ChangeFits, all_made, found_value, rest_names}
 
--- what holds of the elements of two lists holds of those of both
+-- a property of the elements of two lists holds for both lists together
 all_both : {A : Type 0} (P : A → Type 0) (xs ys : List A) → AllByRecursion P xs → AllByRecursion P ys → AllByRecursion P (xs ++ ys)
 all_both P [] ys p q = q
 all_both P (x ∷ xs) ys p q = (p.0, all_both P xs ys p.1 q)
@@ -146,7 +145,7 @@ module _ (tree : Tree) (fits : TreeFits tree) (few : (label : ℕ) → links tre
         taken_short EntryIsShort MAX_ENTRIES entries (all_made (λ e. IsPath e.0) EntryIsShort (listed_entry tree directory last) (listed_short directory last) tree.names fits.names),
       )
 
-  -- ---- what a path or a handle leads to
+  -- ---- the objects of paths and handles
 
   object_found : (label : ℕ) (o : Option Object) → IfSome o ObjectFits → FoundFits (found_object label o)
   object_found label None f = tt

@@ -1,4 +1,4 @@
--- The trees and the replies of legal histories, whose calls' parts are values of their types.
+-- The trees and the replies of legal histories, whose calls have values in range.
 use Rattle.std.proofs.Common.{ℕ, ◌*◌, ◌≤◌, List, [], ◌∷◌, length, sym, subst, inl, inr, arith}
 use Rattle.std.specs.List.{AllByRecursion, flat_map}
 use Rattle.std.proofs.lemmas.List.{length-append}

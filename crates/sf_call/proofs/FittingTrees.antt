@@ -1,5 +1,4 @@
--- Trees of values that types can hold, and of files below the limit; no change leads away from
--- them.
+-- Trees with values in range and files below the limit; each change keeps them so.
 use Rattle.std.proofs.Common.{◌≡◌, ℕ, ◌≤◌, Bool, true, false, cond, not, nat_eq, List, [], ◌∷◌, ◌++◌, length, filter, filter_map, Option, Some, None, option_map, IfSome, refl, sym, subst, arith}
 use Rattle.std.specs.List.{AllByRecursion, cons_option}
 use Rattle.std.specs.declared.cmp.Ordering.{Ordering}
@@ -44,7 +43,7 @@ ChangeFits (OpenHandle number handle) = Unit {0}
 ChangeFits (SetHandle number handle) = Unit {0}
 ChangeFits (CloseHandle number) = Unit {0}
 
--- what holds of each element holds of each that is left
+-- a property of each element holds for each that is left
 pub all_filtered : {A : Type 0} (P : A → Type 0) (test : A → Bool) (xs : List A) → AllByRecursion P xs → AllByRecursion P (filter test xs)
 all_filtered P test [] all = tt
 all_filtered P test (x ∷ xs) all =
@@ -61,7 +60,7 @@ all_removed P test (e ∷ es) all =
       | false ↦ (all.0, all_removed P test es all.1)
     ]
 
--- what holds of each that is there holds of each that is made of them
+-- a property of all elements gives one of all that are made from them
 pub all_made : {A B : Type 0} (P : A → Type 0) (Q : B → Type 0) (f : A → Option B) → ((x : A) → P x → IfSome (f x) Q) → (xs : List A) → AllByRecursion P xs → AllByRecursion Q (filter_map f xs)
 all_made P Q f made [] all = tt
 all_made {B = B} P Q f made (x ∷ xs) all =
@@ -97,7 +96,7 @@ module _ {K X : Type 0} (P : X → Type 0) where
         | false ↦ found_value test es all.1
       ]
 
--- a path that is found is of names
+-- a path that is found consists of names
 pub found_path : (names : List (Path × ℕ)) (path : Path) (label : ℕ) → AllByRecursion (λ e. IsPath e.0) names → label_at names path ≡ Some label → IsPath path
 found_path [] path label all is = cc
 found_path (e ∷ es) path label all is =
@@ -106,7 +105,7 @@ found_path (e ∷ es) path label all is =
       | false ↦ λ other k. found_path es path label all.1 k
     ] refl is
 
--- what follows a front of a path has names
+-- the suffix of a path consists of names
 pub rest_names : (front path : Path) → IsPath path → IfSome (after_front front path) IsPath
 rest_names [] path names = names
 rest_names (n ∷ front) [] names = tt

@@ -1,4 +1,4 @@
--- After a history each path that is named leads over directories to an object.
+-- After a history each path resolves over directories to an object.
 use Rattle.std.proofs.Common.{◌≡◌, ◌≢◌, ℕ, zero, suc, ◌<◌, nat_eq, Bool, true, false, cond, not, ◌||◌, List, [], ◌∷◌, ◌++◌, length, filter, take, Option, Some, None, option_map, option_and_then, refl, sym, ap, ◌∙◌, eq-eqb, inl, inr, arith}
 use Rattle.std.specs.List.{list_any}
 use Rattle.std.specs.Option.{is_some}
@@ -28,19 +28,19 @@ use Rattle.sf_call.proofs.Ways.{open_way}
 use Rattle.sf_call.proofs.MovedNames.{is_equal, lookup-insert_entry, same_path_is, moved_to_new, moved_outside, came_from, no_front, no_proper_front, fronts_append, fronts_behind}
 use Rattle.sf_call.proofs.Labels.{root_alone}
 
--- a named path leads over directories to an object
+-- a path with an inode number resolves over directories to an object
 pub record IsFounded (tree : Tree) : Type 0 where
   pub object : (path : Path) (label : ℕ) → label_at tree.names path ≡ Some label → is_some (object_of tree.objects label) ≡ true
   pub way : (path : Path) (label : ℕ) → label_at tree.names path ≡ Some label → is_faulty_way tree path ≡ false
 
--- what is a directory stays one
+-- a directory stays one
 abbrev pub KeepsDirectories : Tree → Tree → Type 0
 KeepsDirectories tree next = (path : Path) → is_directory tree path ≡ true → is_directory next path ≡ true
 
 way_stays : (tree next : Tree) → KeepsDirectories tree next → (path : Path) → is_faulty_way tree path ≡ false → is_faulty_way next path ≡ false
 way_stays tree next keeps path open_before = (open_way next path).1 (λ n lt. keeps (take n path) ((open_way tree path).0 open_before n lt))
 
--- what the objects have at a label after one was put or set
+-- the object of an inode number after an insertion or a setting
 object_put : (objects : List (ℕ × Object)) (label : ℕ) (object : Object) (l : ℕ) → object_of (insert_entry nat_cmp objects label object) l ≡ cond (is_at (nat_cmp l) label) (Some object) (object_of objects l)
 object_put objects label object l =
     ap (λ (es : List (ℕ × Object)). object_of es l) (put_is nat_cmp objects label object) ∙ find_is nat_cmp (put nat_cmp label object objects) l
@@ -91,7 +91,7 @@ not_both (File m contents) file directory = cc
 abbrev pub with_label : ℕ → Metadata → ℕ × Metadata
 with_label label m = (label, m)
 
--- a path is a directory where its label's object is one
+-- a path is a directory if its inode number's object is one
 directory_of_label : (tree : Tree) (label : ℕ) → is_some (option_map (with_label label) (option_and_then directory_metadata (object_of tree.objects label))) ≡ is_directory_object (object_of tree.objects label)
 directory_of_label tree label =
     elim (option_and_then directory_metadata (object_of tree.objects label)) as (λ o. is_some (option_map (with_label label) o) ≡ is_some o) [ None ↦ refl | Some m ↦ refl ]
@@ -107,7 +107,7 @@ is_directory_is tree path =
       | Some label ↦ directory_of_label tree label
     ]
 
--- a look-up that finds gives what it found
+-- a successful lookup returns what it found
 some_label : (o : Option ℕ) (P : Option ℕ → Type 0) → ((label : ℕ) → o ≡ Some label → P (Some label)) → (o ≡ None → P None) → P o
 some_label None P some none = none refl
 some_label (Some label) P some none = some label refl
@@ -153,7 +153,7 @@ module _ (tree : Tree) (path : Path) (number : ℕ) (object : Object) (free : la
         ] refl (sym (lookup-insert_entry tree.names path number q) ∙ e));
   }
 
--- ---- a further path of a file
+-- ---- a further link of a file
 module _ (tree : Tree) (path : Path) (number : ℕ) (may : IsNewName tree path number) where
   abbrev named_anew : Tree
   named_anew = changed tree (NewName path number)
@@ -264,14 +264,14 @@ set_founded tree label object may f = record {
   way = λ q l there. way_stays tree (changed tree (SetObject label object)) (object_keeps tree label object may) q (f.way q l there);
 }
 
--- ---- a path that goes
+-- ---- a removed path
 front_stays : (tree : Tree) (gone q : Path) → q ≢ gone → is_directory tree q ≡ true → is_directory (with_names tree (remove_entry (is_at (path_cmp gone)) tree.names)) q ≡ true
 front_stays tree gone q other h =
     is_directory_is (with_names tree (remove_entry (is_at (path_cmp gone)) tree.names)) q
     ∙ ap (is_directory_label tree.objects) (other_removed path_cmp exact_paths gone q tree.names other)
     ∙ sym (is_directory_is tree q) ∙ h
 
--- a proper front has a name after it
+-- a proper prefix has a name after it
 proper_rest : (path : Path) (n : ℕ) → n < length path → (name : Name) × (rest : Path) × (path ≡ take n path ++ name ∷ rest)
 proper_rest [] n lt = absurd (omega arith)
 proper_rest (name ∷ path) zero lt = (name, path, refl)
@@ -299,7 +299,7 @@ module _ (tree : Tree) (old new : Path) (may : IsMove tree old new) where
   abbrev renamed : Tree
   renamed = with_names tree (moved tree.names old new)
 
-  -- a path with another's label is a directory where that is one
+  -- a path with another's inode number is a directory if the other is one
   directory_moved : (p q : Path) → label_at (moved tree.names old new) q ≡ label_at tree.names p → is_directory tree p ≡ true → is_directory renamed q ≡ true
   directory_moved p q same h = is_directory_is renamed q ∙ ap (is_directory_label tree.objects) same ∙ sym (is_directory_is tree p) ∙ h
 

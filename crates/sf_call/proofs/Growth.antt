@@ -1,4 +1,4 @@
--- Histories with one record more.
+-- Histories extended by one record.
 use Rattle.std.proofs.Common.{◌≡◌, ℕ, false, List, [], ◌∷◌, ◌++◌, Some, refl, sym, subst, inl, inr, append_assoc, ne_eqb, eq-eqb}
 use Rattle.std.proofs.lemmas.List.{append-nil}
 use Rattle.std.proofs.lemmas.List.Sums.{fold-append}
@@ -47,7 +47,7 @@ pub last_other : (number : ℕ) (before : List Record) (x : Record) → IsNewNum
 last_other number [] x new = new.0
 last_other number (y ∷ before) x new = last_other number before x new.1
 
--- a later call's number is none of those before
+-- a later call's number differs from those before
 module _ (number session moment : ℕ) (request : Request) (reply : Reply) where
   new_before : (before rs : List Record) → IsLegalAfter before rs → IsAmong (Did number session moment request reply) rs → IsNewNumber number before
   unfolding IsLegalAfter IsAmong
@@ -72,15 +72,15 @@ module _ (number session moment : ℕ) (request : Request) (reply : Reply) where
             rw (is_of_other x (last_other number before x (new_before (before ++ x ∷ []) rs legal.1 later))) (found_after (before ++ x ∷ []) rs legal.1 later)
       ]
 
-  -- the number of a call leads to its record
+  -- the number of a call identifies its record
   pub record_of-legal : (history : List Record) → IsLegal history → IsAmong (Did number session moment request reply) history → record_of number history ≡ Some (Did number session moment request reply)
   unfolding IsLegal
   record_of-legal history legal among = found_after [] history legal among
 
--- what holds of the root alone, and still holds after each call that may come and each leaving,
--- holds after each legal history
+-- induction over legal histories: a property of the initial tree that each call and each end of a
+-- session preserves
 module _ (P : Tree → Type 0) where
-  -- a call that may come keeps it
+  -- a call that may come preserves it
   abbrev pub CallsKeep : Type 0
   CallsKeep = (history : List Record) (number session moment : ℕ) (request : Request) (given : Reply) → IsLegal history
       → MayFollow history (Did number session moment request given) → P (replay history) → P (apply (replay history) session number moment request).tree

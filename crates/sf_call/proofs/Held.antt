@@ -1,4 +1,4 @@
--- What a request is since its type holds it: its parts are values of their types.
+-- The fields of a request are in range, as its type holds them.
 use denote.Laws.{Is}
 use mir.Val.{Val}
 use Rattle.std.specs.Prelude.{List}

@@ -1,4 +1,4 @@
--- What kinds of replies there are.
+-- The kinds of reply to each request.
 use Rattle.std.proofs.Common.{◌≡◌, ℕ, nat_eq, nat_lt, nat_le, ◌+◌, ◌&&◌, not, Bool, true, false, cond, List, [], ◌∷◌, length, Option, Some, None, refl}
 use Rattle.std.specs.Option.{is_some}
 use Rattle.sf_path.specs.Names.{Path}
@@ -24,7 +24,7 @@ use Rattle.sf_call.specs.Calls.{Outcome, apply, stat, refuses_size, sets, set_st
 use Rattle.sf_call.specs.ReplyKinds.{IsStatus, IsStatusOrAttrs, IsStatusOrHandle, IsStatusOrData, IsStatusOrNames, IsReplyTo}
 use Rattle.sf_call.proofs.RenameCases.{rename_cases, posix_rename_cases, link_cases, link_to_cases}
 
--- a choice of two replies of a kind is of the kind
+-- a choice between two replies of a kind is of that kind
 choice : (Kind : Reply → Type 0) (b : Bool) (this that : Outcome) → Kind this.reply → Kind that.reply → Kind (cond b this that).reply
 choice Kind true this that p q = p
 choice Kind false this that p q = q
@@ -166,6 +166,6 @@ goes_on tree next number request (reply.Data bytes) k = refl
 goes_on tree next number request (reply.Names entries) k = refl
 goes_on tree next number request (reply.Attrs attrs) k = refl
 
--- the tree's own reply leads to the tree after it
+-- the specified reply leads to the specified tree
 pub after_told : (tree : Tree) (session number moment : ℕ) (request : Request) → after_reply tree (apply tree session number moment request).tree (apply tree session number moment request).reply ≡ (apply tree session number moment request).tree
 after_told tree session number moment request = goes_on tree _ number request _ (applied tree session number moment request)

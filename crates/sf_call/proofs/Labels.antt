@@ -1,5 +1,5 @@
--- No number of a call to come is a label or a handle, one path at most names a directory, and so
--- many at most a file.
+-- No number of a future call is an inode number or a handle. A directory has at most one path, and
+-- a file at most MAX_LINKS.
 use Rattle.std.proofs.Common.{◌≡◌, ◌≢◌, ◌<◌, ◌≤◌, ◌⊎◌, ℕ, true, false, cond, not, nat_eq, List, [], ◌∷◌, ◌++◌, filter, Some, None, option_map, refl, sym, ap, ◌∙◌, subst, inl, inr, arith}
 use Rattle.std.specs.Ordering.{nat_cmp}
 use Rattle.std.specs.Cmp.{nat_cmp_total}
@@ -27,8 +27,8 @@ use Rattle.sf_call.proofs.ObjectKinds.{kinds_set, directory_by_kind, no_director
 use Rattle.sf_call.proofs.Links.{links_more, links_fewer, links_moved_less, is_link, none_linked}
 use Rattle.sf_call.proofs.MovedNames.{lookup-insert_entry, same_path_is, is_equal, after_front-append, came_from}
 
--- no path, no object and no handle has a free number, no two paths name one directory, and not too
--- many one file
+-- no path, object or handle has a free number, no two paths name one directory, and no file has too
+-- many
 pub record IsLabelled (Free : ℕ → Type 0) (tree : Tree) : Type 0 where
   pub unused : (number : ℕ) → Free number → (path : Path) → label_at tree.names path ≢ Some number
   pub no_object : (number : ℕ) → Free number → object_of tree.objects number ≡ None
@@ -36,7 +36,7 @@ pub record IsLabelled (Free : ℕ → Type 0) (tree : Tree) : Type 0 where
   pub one_path : (path other : Path) (label : ℕ) → is_directory_object (object_of tree.objects label) ≡ true → label_at tree.names path ≡ Some label → label_at tree.names other ≡ Some label → path ≡ other
   pub few : (label : ℕ) → links tree.names label ≤ MAX_LINKS
 
--- where fewer numbers are free
+-- with fewer free numbers
 pub labelled_less : (Free Less : ℕ → Type 0) (tree : Tree) → ((n : ℕ) → Less n → Free n) → IsLabelled Free tree → IsLabelled Less tree
 labelled_less Free Less tree less h = record {
   unused = λ n free path. h.unused n (less n free) path;
@@ -62,7 +62,7 @@ other_entry entries number n x other none =
       | false ↦ λ _. none
     ] refl
 
--- what follows one front is one, and a path that doesn't begin with the front isn't below it
+-- the suffix after a prefix is unique, and a path without the prefix is not below it
 same_rest : (p r s : Path) → p ++ r ≡ p ++ s → r ≡ s
 same_rest p r s same =
     let rests : Some r ≡ Some s = sym (after_front-append p r) ∙ ap (after_front p) same ∙ after_front-append p s in cc
@@ -81,7 +81,7 @@ was_directory names handles objects label is =
     ] (sym (ap is_directory_object (lookup-filter-keys (is_at (nat_cmp label)) (is_used names handles) (is_used names handles label)
     (λ k t. ap (is_used names handles) (sym (nat_cmp-IsAntisymmetric label k (is_equal (nat_cmp label k) t)))) objects)) ∙ is)
 
--- with a path more of a label that has fewer than the most
+-- with one more path of an inode number that has fewer than MAX_LINKS
 few_more : (names : List (Path × ℕ)) (path : Path) (l label : ℕ) → label_at names path ≡ None → links names label ≤ MAX_LINKS → links names l < MAX_LINKS → links (insert_entry path_cmp names path l) label ≤ MAX_LINKS
 few_more names path l label free few fewer =
     elim (nat_eq l label) as (λ b. nat_eq l label ≡ b → links (insert_entry path_cmp names path l) label ≤ MAX_LINKS) [

@@ -1,5 +1,5 @@
--- For the crates above: laws of trees and histories. They speak of definitions alone. All other
--- files here are private to this crate.
+-- For other crates: laws of trees and histories. They use definitions alone. All other files here
+-- are private to this crate.
 use Rattle.std.proofs.Common.{◌≡◌, ◌≢◌, ◌<◌, ◌≤◌, ◌↔◌, ℕ, true, false, List, [], ◌∷◌, ◌++◌, length, take, Option, Some, None, IsSome, IfSome, sym, ap, ◌∙◌, subst, arith}
 use Rattle.std.specs.Ordering.{nat_cmp}
 use Rattle.std.specs.BTreeMap.{is_at}
@@ -33,94 +33,95 @@ use Rattle.sf_call.proofs.Used.{kept-used}
 use Rattle.sf_call.proofs.Founded.{is_directory_label, is_directory_is}
 use Rattle.sf_call.proofs.FittingTrees.{ObjectFits, found_path}
 use Rattle.sf_call.proofs.Sound.{FreeAfter, allowed_by_sound, sound_replay}
--- names that compare alike are one; a test that passes tells two names, or two paths, equal
+-- names that compare equal are equal, and tests for equal names and paths are correct
 pub use Rattle.sf_call.proofs.Orders.{exact_names, exact_paths}
 pub use Rattle.sf_call.proofs.MovedNames.{is_equal, same_path_is, same_name_is, same_name_itself}
--- what follows a front of a path, and the order of two paths with one front
+-- the suffix after a prefix, and the order of two paths with a common prefix
 pub use Rattle.sf_call.proofs.MovedNames.{after_front-append, append-after_front, path_cmp-front}
--- lists of entries in the order of their keys: what is found in one, what after an entry was put,
--- set or removed, and that they stay in order
+-- lists of entries in key order: lookups, also after an insertion, a setting or a removal, and that
+-- the order is kept
 pub use Rattle.sf_call.proofs.Orders.{find_is}
 pub use Rattle.sf_call.proofs.Ordered.{put_is, and_both, and_first, and_second, sorted_put, sorted_removed, sorted_set, sorted_filtered}
 pub use Rattle.sf_call.proofs.LookUps.{lookup-put, lookup_below, set_there, none_set, not_at, other_put, other_set, other_removed, removed_itself}
--- what holds of all is kept by a choice and by a beginning, and by entries that are put, set and
--- removed; and what follows from it holds of all
+-- a property of all entries is kept by a choice, a prefix, insertions, settings and removals; and
+-- its consequences hold for all
 pub use Rattle.sf_call.proofs.Used.{all_by}
 pub use Rattle.sf_call.proofs.FittingTrees.{all_made, all_filtered, all_removed, all_put, all_set, found_value}
 pub use Rattle.sf_call.proofs.FittingAnswers.{taken_short}
--- trees in order that map alike are equal, and a change keeps the order
+-- ordered trees that map alike are equal, and a change keeps the order
 pub use Rattle.sf_call.proofs.Orders.{same_tree}
 pub use Rattle.sf_call.proofs.Ordered.{ordered_changed, ordered_replay}
--- the leaves of a tree: what is found at a path, and that they stand in order
+-- the leaves of a tree: lookups by path, and their order
 pub use Rattle.sf_call.proofs.Leaves.{found_leaf, ordered_leaves}
--- what a move leaves at a path, and letting go of what nothing names or opens at a label
+-- the inode number at a path after a move, and the object of an inode number after unused ones are
+-- deleted
 pub use Rattle.sf_call.proofs.MovedNames.{at_old, label_after_move, lookup-moved, moved_to_new, moved_outside, moved_from_old}
 pub use Rattle.sf_call.proofs.Used.{object_kept}
--- a path that doesn't begin with another has no front that does, and no parent begins with its path
+-- a path without a prefix has no prefix that has it, and no parent begins with its path
 pub use Rattle.sf_call.proofs.MovedNames.{no_front}
 pub use Rattle.sf_call.proofs.Requests.{no_parent, front_itself}
--- what holds of both
+-- a property of both
 pub use Rattle.sf_call.proofs.Requests.{both_true}
--- what stands where a path leads, and of what kind
+-- the object that a lookup finds, and its file type
 pub use Rattle.sf_call.proofs.Requests.{place_label, place_free, directory_there, is_there_directory, kind_by, kind_at}
 pub use Rattle.sf_call.proofs.Founded.{is_directory_label, is_directory_is}
 pub use Rattle.sf_call.proofs.ObjectKinds.{directory_by_kind, no_directory}
--- how many paths name an object
+-- the number of links of an inode
 pub use Rattle.sf_call.proofs.Links.{sum_removed, sum_removed_less, sum_inserted, is_link, is_link_itself, is_link_other, links_more, links_less, links_same, links_fewer, links_moved, named_linked, linked_path, none_linked, only_path}
--- what each rename answers: it is refused, does nothing or moves; and what a link answers
+-- the cases of a rename: it fails, does nothing or moves; and those of a link
 pub use Rattle.sf_call.proofs.RenameCases.{rename_cases, posix_rename_cases, link_cases, link_to_cases}
 pub use Rattle.sf_call.proofs.Founded.{kept_object}
--- what holds of the root alone, and still holds after each call that may come and each leaving,
--- holds after each legal history
+-- induction over legal histories: a property of the initial tree that each call and each end of a
+-- session preserves
 pub use Rattle.sf_call.proofs.Growth.{CallsKeep, holds_after}
--- a number that is new to a history and a record behind it is new to both
+-- a number that is new to a history and to a record after it is new to both
 pub use Rattle.sf_call.proofs.Growth.{front_new, last_other}
--- what a request is since its type holds it
+-- the fields of a request are in range, as its type holds them
 pub use Rattle.sf_call.proofs.Held.{held_request}
 
 -- ---- trees
 
--- a way is open where each proper front of the path is a directory
+-- path resolution succeeds if each proper prefix of the path is a directory
 pub open_way : (tree : Tree) (path : Path) → (is_faulty_way tree path ≡ false) ↔ ((n : ℕ) → n < length path → is_directory tree (take n path) ≡ true)
 open_way = ways.open_way
 
--- the attributes that are sent of an object have all parts, and its type among the permissions
+-- the sent attributes have all four fields, and the file type among the permissions
 pub all_parts : (object : Object) → HasAllParts (attrs_of object)
 all_parts = listed.all_parts
 
 pub has_type : (object : Object) → HasType (attrs_of object).permissions
 has_type = listed.has_type
 
--- the line of an entry is that of its attributes
+-- the long name of an entry is that of its attributes
 pub has_line : (name : Name) (count : ℕ) (object : Object) → longname_text (attrs_of object) count name ≡ Some (entry_of name count object).longname
 has_line = listed.has_line
 
--- a record with the tree's own reply leads to the tree after it
+-- a record with the specified reply leads to the specified tree
 pub after_told : (tree : Tree) (session number moment : ℕ) (request : Request)
     → after tree (Did number session moment request (apply tree session number moment request).reply) ≡ (apply tree session number moment request).tree
 after_told = kinds.after_told
 
--- the tree never answers want of memory
+-- the specification never replies out of memory
 pub never_wants : (tree : Tree) (session number moment : ℕ) (request : Request) → (apply tree session number moment request).reply ≢ NoMemory
 never_wants tree session number moment request e =
     kinds.never_refused number request (subst (IsReplyTo number request) e (kinds.applied tree session number moment request))
 
 -- ---- histories
 
--- a history goes on by one record
+-- a history extended by one record
 pub replay-push : (history : List Record) (r : Record) → replay (history ++ r ∷ []) ≡ after (replay history) r
 replay-push = growth.replay-push
 
 pub IsLegal-push : (history : List Record) (r : Record) → IsLegal history → MayFollow history r → IsLegal (history ++ r ∷ [])
 IsLegal-push = growth.IsLegal-push
 
--- the reply of a call in a legal history is given by some legal history before it
+-- each reply in a legal history follows from a legal history before it
 pub given_before : (number session moment : ℕ) (request : Request) (reply : Reply) (history : List Record)
     → IsLegal history → IsAmong (Did number session moment request reply) history → IsGiven number session reply
 given_before number session moment request reply history legal among =
     let earlier = growth.given history (Did number session moment request reply) legal among in (earlier.0, moment, request, earlier.1, earlier.2)
 
--- after a legal history no path, no object and no handle has the number of a call to come
+-- after a legal history no path, object or handle has the number of a future call
 pub unused_number : (history : List Record) (number : ℕ) (path : Path) → IsLegal history → 0 < number → IsNewNumber number history
     → label_at (replay history).names path ≢ Some number
 unused_number history number path legal above new = (sound_replay history legal).labelled.unused number (above, new) path
@@ -133,7 +134,7 @@ pub no_handle : (history : List Record) (number : ℕ) → IsLegal history → 0
     → handle_of (replay history).handles number ≡ None
 no_handle history number legal above new = (sound_replay history legal).labelled.unopened number (above, new)
 
--- one path at most names a directory, and so many at most a file
+-- a directory has at most one path, and a file at most MAX_LINKS
 pub one_path : (history : List Record) (path other : Path) (label : ℕ) → IsLegal history → is_directory (replay history) path ≡ true
     → label_at (replay history).names path ≡ Some label → label_at (replay history).names other ≡ Some label → path ≡ other
 one_path history path other label legal is e f =
@@ -142,7 +143,7 @@ one_path history path other label legal is e f =
 pub few_paths : (history : List Record) (label : ℕ) → IsLegal history → links (replay history).names label ≤ MAX_LINKS
 few_paths history label legal = (sound_replay history legal).labelled.few label
 
--- a path that is named leads over directories to an object
+-- each path resolves over directories to an object
 pub named_object : (history : List Record) (path : Path) (label : ℕ) → IsLegal history
     → label_at (replay history).names path ≡ Some label → IsSome (object_of (replay history).objects label)
 named_object history path label legal = (sound_replay history legal).founded.object path label
@@ -151,22 +152,22 @@ pub named_way : (history : List Record) (path : Path) (label : ℕ) → IsLegal 
     → label_at (replay history).names path ≡ Some label → is_faulty_way (replay history) path ≡ false
 named_way history path label legal = (sound_replay history legal).founded.way path label
 
--- each object is named or open, so that letting go changes nothing
+-- each object has a link or an open handle, so deleting the others changes nothing
 pub all_kept : (history : List Record) → IsLegal history → kept (replay history) ≡ replay history
 all_kept history legal = kept-used (replay history) (sound_replay history legal).used
 
--- what a request that may come next changes is allowed
+-- the changes of a request that may come next are allowed
 pub allowed_changes : (history : List Record) (number session moment : ℕ) (request : Request) → IsLegal history → 0 < number → IsNewNumber number history
     → AreAllowed number (replay history) (answer_to (replay history) session number moment request).changes
 allowed_changes history number session moment request legal above new =
     allowed_by_sound (FreeAfter history) (replay history) session number moment request (above, new) (sound_replay history legal)
 
--- and what is allowed keeps the tree well formed
+-- and allowed changes keep the tree well formed
 pub well_formed : (history : List Record) (number : ℕ) (changes : List Change) → IsLegal history → AreAllowed number (replay history) changes
     → IsWellFormed (done (replay history) changes)
 well_formed = sound.well_formed
 
--- no file is above the limit, and each path is of names
+-- no file is above the limit, and each path consists of names
 pub short_file : (history : List Record) (label : ℕ) (m : Metadata) (contents : List ℕ) → IsLegal history
     → object_of (replay history).objects label ≡ Some (File m contents) → length contents ≤ MAX_FILE_SIZE
 short_file history label m contents legal is =
@@ -175,8 +176,8 @@ short_file history label m contents legal is =
 pub named_path : (history : List Record) (path : Path) (label : ℕ) → IsLegal history → label_at (replay history).names path ≡ Some label → IsPath path
 named_path history path label legal = found_path (replay history).names path label (fitting.fits_replay history legal).names
 
--- each reply of a call that may come after a legal history has a short packet, whose body fits, and
--- its numbers and its strings have a spelling
+-- each reply after a legal history has a short packet, and its numbers and strings fit their
+-- encodings
 pub packet_short : (number session id : ℕ) (reply : Reply) → IsGiven number session reply → length (packet (reply_body id reply)) ≤ longest_packet
 packet_short number session id reply given = fitting.short_packet id reply (fitting.given_short number session reply given)
 

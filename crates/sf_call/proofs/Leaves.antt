@@ -1,5 +1,5 @@
--- The leaves of a tree: they stand in the order of their paths, and a look-up finds what the path
--- names.
+-- The leaves of a tree: they are in the order of their paths, and a lookup finds the object of a
+-- path.
 use Rattle.std.proofs.Common.{◌≡◌, ℕ, T, cond, true, false, List, [], ◌∷◌, filter_map, option_map, option_and_then, Option, Some, None, IsSome, refl, sym, ap, subst, ◌∙◌}
 use Rattle.std.specs.List.{cons_option}
 use Rattle.std.specs.declared.cmp.Ordering.{Ordering}
@@ -21,7 +21,7 @@ use Rattle.sf_call.proofs.Ordered.{and_both, and_first, and_second, ordered_repl
 use Rattle.sf_call.proofs.LookUps.{lookup_below}
 use Rattle.sf_call.proofs.Sound.{sound_replay}
 
--- entries by other values, those without one left out
+-- entries with mapped values; those without one are left out
 module _ {K X Y : Type 0} (R : K → K → Ordering) (g : X → Option Y) where
   abbrev valued : K × X → Option (K × Y)
   valued e = option_map (λ v. (e.0, v)) (g e.1)

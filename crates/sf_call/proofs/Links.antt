@@ -1,4 +1,4 @@
--- How many paths name an object, before and after a change of the names.
+-- The number of links of an inode, before and after a change of the names.
 use Rattle.std.proofs.Common.{◌≡◌, ◌≢◌, ℕ, ◌+◌, ◌<◌, ◌≤◌, nat_eq, Bool, true, false, cond, T, ◌&&◌, List, [], ◌∷◌, ◌++◌, filter, filter_map, Some, None, is_none, option_map, zero, suc, refl, sym, ap, ◌∙◌, eq-eqb, arith}
 use Rattle.std.proofs.lemmas.Bool.{eqb-true}
 use Rattle.std.specs.List.{sum_by, cons_option}
@@ -26,7 +26,7 @@ module _ {K X : Type 0} (g : X → ℕ) where
   abbrev weight : K × X → ℕ
   weight e = g e.1
 
-  -- of an entry that goes
+  -- after a removal
   pub sum_removed : (test : K → Bool) (es : List (K × X)) (v : X) → lookup test es ≡ Some v → sum_by weight es ≡ g v + sum_by weight (remove_entry test es)
   sum_removed test [] v = λ l. cc
   sum_removed test (e ∷ es) v =
@@ -38,7 +38,7 @@ module _ {K X : Type 0} (g : X → ℕ) where
             let b = sum_by-cons weight e (remove_entry test es) in omega (arith, h, a, b)
       ]
 
-  -- of an entry that may be there
+  -- of an optional entry
   pub sum_removed_less : (test : K → Bool) (es : List (K × X)) → sum_by weight (remove_entry test es) ≤ sum_by weight es
   sum_removed_less test [] = omega arith
   sum_removed_less test (e ∷ es) =
@@ -60,7 +60,7 @@ module _ {K X : Type 0} (g : X → ℕ) where
             let b = sum_by-cons weight e (insert_entry R es k v) in omega (arith, h, a, b)
       ]
 
-  -- of an entry that is new or takes another's place
+  -- of an inserted or a replaced entry
   pub sum_put_less : (R : K → K → Ordering) (es : List (K × X)) (k : K) (v : X) → sum_by weight (insert_entry R es k v) ≤ g v + sum_by weight es
   sum_put_less R [] k v = omega (arith, sum_by-cons weight (k, v) [])
   sum_put_less R (e ∷ es) k v =
@@ -70,7 +70,7 @@ module _ {K X : Type 0} (g : X → ℕ) where
         | Greater ↦ omega (arith, sum_put_less R es k v, sum_by-cons weight e es, sum_by-cons weight e (insert_entry R es k v))
       ]
 
--- 1 for a path of the label, 0 for another
+-- 1 for a path of the inode number, 0 for another
 abbrev pub is_link : ℕ → ℕ → ℕ
 is_link label l = cond (nat_eq l label) 1 0
 
@@ -84,7 +84,7 @@ is_link_other label l other =
       | false ↦ λ t. refl
     ] refl
 
--- where nothing is found, nothing is removed
+-- if no entry is found, none is removed
 none_gone : {K X : Type 0} (test : K → Bool) (es : List (K × X)) → lookup test es ≡ None → remove_entry test es ≡ es
 none_gone test [] none = refl
 none_gone test (e ∷ es) none =
@@ -94,28 +94,28 @@ none_gone test (e ∷ es) none =
     ] none
 
 module _ (names : List (Path × ℕ)) (label : ℕ) where
-  -- a path that was none
+  -- an absent path
   pub links_same : (path : Path) → label_at names path ≡ None → links (remove_entry (is_at (path_cmp path)) names) label ≡ links names label
   links_same path none = ap (λ (ns : List (Path × ℕ)). links ns label) (none_gone (is_at (path_cmp path)) names none)
 
-  -- a path more
+  -- one more path
   pub links_more : (path : Path) (l : ℕ) → label_at names path ≡ None → links (insert_entry path_cmp names path l) label ≡ is_link label l + links names label
   links_more path l free = sum_inserted (is_link label) path_cmp names path l free
 
-  -- a path less
+  -- one path fewer
   pub links_less : (path : Path) (l : ℕ) → label_at names path ≡ Some l → links names label ≡ is_link label l + links (remove_entry (is_at (path_cmp path)) names) label
   links_less path l there = sum_removed (is_link label) (is_at (path_cmp path)) names l there
 
   pub links_fewer : (path : Path) → links (remove_entry (is_at (path_cmp path)) names) label ≤ links names label
   links_fewer path = sum_removed_less (is_link label) (is_at (path_cmp path)) names
 
-  -- ---- a move: at most as many
+  -- ---- a move: at most the links before
   entries_most : (es : List (Path × ℕ)) → links (with_entries names es) label ≤ links es label + links names label
   entries_most [] = omega arith
   entries_most (e ∷ es) =
       omega (arith, sum_put_less (is_link label) path_cmp (with_entries names es) e.0 e.1, entries_most es, sum_by-cons (λ (x : Path × ℕ). is_link label x.1) e es)
 
--- what is outside and what is carried are different entries
+-- unmoved entries and moved ones differ
 two_parts : (names : List (Path × ℕ)) (label : ℕ) (old new : Path) → links (filter (λ e. is_outside old new e.0) names) label + links (filter_map (carried old new) names) label ≤ links names label
 two_parts [] label old new = omega arith
 two_parts (e ∷ es) label old new =
@@ -134,7 +134,7 @@ pub links_moved_less : (names : List (Path × ℕ)) (label : ℕ) (old new : Pat
 links_moved_less names label old new =
     omega (arith, entries_most (filter (λ e. is_outside old new e.0) names) label (filter_map (carried old new) names), two_parts names label old new)
 
--- ---- a path that names a label
+-- ---- a path with an inode number
 pub named_linked : (names : List (Path × ℕ)) (path : Path) (label : ℕ) → label_at names path ≡ Some label → 0 < links names label
 named_linked names path label there = omega (arith, links_less names label path label there, is_link_itself label)
 
@@ -170,7 +170,7 @@ none_linked names label sorted none =
       above zero f = cc
       above (suc n) f = omega arith
 
--- two paths of a label that one path names are one
+-- two paths of an inode with one link are equal
 pub only_path : (names : List (Path × ℕ)) (label : ℕ) (p q : Path) → links names label ≡ 1 → label_at names p ≡ Some label → label_at names q ≡ Some label → p ≡ q
 only_path names label p q one at_p at_q =
     elim (same_path q p) as (λ b. same_path q p ≡ b → p ≡ q) [
@@ -181,7 +181,7 @@ only_path names label p q one at_p at_q =
           absurd (omega (arith, one, links_less names label p label at_p, is_link_itself label, named_linked (remove_entry (is_at (path_cmp p)) names) q label still))
     ] refl
 
--- ---- a move: as many as without what was replaced
+-- ---- a move: the links without the replaced one
 module _ (names : List (Path × ℕ)) (old new : Path) (sorted : T (is_sorted path_cmp names)) (not_inside : after_front old new ≡ None)
     (bare : (name : Name) (rest : Path) → label_at names (new ++ name ∷ rest) ≡ None) where
   abbrev without : List (Path × ℕ)

@@ -1,4 +1,4 @@
--- What is shown of an object has all parts, and its type.
+-- Listed attributes have all fields, and the file type.
 use Rattle.std.proofs.Common.{◌≡◌, ℕ, Some, refl, inl, inr, arith}
 use Rattle.sf_path.specs.Names.{Name}
 use Rattle.sf_reply.specs.Longname.{HasType, longname_text}
@@ -15,7 +15,7 @@ pub has_type : (object : Object) → HasType (attrs_of object).permissions
 has_type (Directory m) = inr (omega arith)
 has_type (File m contents) = inl (omega arith)
 
--- the line of an entry is that of its attributes
+-- the long name of an entry is that of its attributes
 pub has_line : (name : Name) (count : ℕ) (object : Object) → longname_text (attrs_of object) count name ≡ Some (entry_of name count object).longname
 has_line name count (Directory m) = refl
 has_line name count (File m contents) = refl

@@ -1,4 +1,4 @@
--- What look-ups find after entries were put, set, removed or kept.
+-- Lookups in maps after insertions, settings, removals and filters.
 use Rattle.std.proofs.Common.{◌≡◌, ◌≢◌, Bool, true, false, T, cond, List, [], ◌∷◌, filter, Option, Some, None, refl, sym, ap, ◌∙◌}
 use Rattle.std.specs.declared.cmp.Ordering.{Ordering}
 use Rattle.std.specs.declared.cmp.Ordering.TheVariants.{Less, Equal, Greater}
@@ -12,7 +12,7 @@ use Rattle.sf_call.proofs.Orders.{find_is}
 use Rattle.sf_call.proofs.Ordered.{put_is, and_first, and_second}
 use Rattle.sf_call.proofs.MovedNames.{is_equal}
 
--- after an entry was put
+-- after an insertion
 pub lookup-put : {K X : Type 0} (R : K → K → Ordering) → IsTotalOrder R → (es : List (K × X)) (k : K) (v : X) (q : K) → lookup (is_at (R q)) (insert_entry R es k v) ≡ cond (is_at (R q) k) (Some v) (lookup (is_at (R q)) es)
 lookup-put {K = K} {X = X} R o es k v q =
     ap (λ (fs : List (K × X)). lookup (is_at (R q)) fs) (put_is R es k v) ∙ find_is R _ q ∙ find-put R o q k v es
@@ -22,7 +22,7 @@ none_behind : {X : Type 0} (b : Bool) (x : X) (o : Option X) → cond b (Some x)
 none_behind true x o e = cc
 none_behind false x o e = e
 
--- where something is found, the value that is set there is found
+-- if a key is found, a value set at it is found
 pub set_there : {K X : Type 0} (at : K → Bool) (es : List (K × X)) (v w : X) → lookup at es ≡ Some v → lookup at (set_value at es w) ≡ Some w
 set_there at [] v w there = cc
 set_there at (e ∷ es) v w there =
@@ -32,7 +32,7 @@ set_there at (e ∷ es) v w there =
     ] refl there
 
 module _ {K X : Type 0} where
-  -- where nothing is found, nothing is found after a setting, a removal or a keeping
+  -- if a key is not found, it is not found after a setting, a removal or a filter
   pub none_set : (at test : K → Bool) (es : List (K × X)) (w : X) → lookup at es ≡ None → lookup at (set_value test es w) ≡ None
   none_set at test [] w none = none
   none_set at test (e ∷ es) w none =
@@ -74,7 +74,7 @@ not_at Less t = refl
 not_at Equal t = absurd t
 not_at Greater t = absurd t
 
--- nothing is found at a key that ties with one below all
+-- no entry is found at a key that equals one below all
 pub lookup_below : {K X : Type 0} (R : K → K → Ordering) → IsTotalOrder R → (q k : K) (es : List (K × X)) → R q k ≡ Equal → T (below_all R k es) → lookup (is_at (R q)) es ≡ None
 lookup_below R o q k [] e h = refl
 lookup_below R o q k (f ∷ es) e h =
@@ -82,14 +82,14 @@ lookup_below R o q k (f ∷ es) e h =
     ∙ lookup_below R o q k es e (and_second (is_lt (R k f.0)) (below_all R k es) h)
 
 module _ {K X : Type 0} (R : K → K → Ordering) (exact : IsAntisymmetric R) where
-  -- nothing is found at a key below all
+  -- no entry is found at a key below all
   pub none_below : (q : K) (es : List (K × X)) → T (below_all R q es) → lookup (is_at (R q)) es ≡ None
   none_below q [] below = refl
   none_below q (e ∷ es) below =
       ap (λ b. cond b (Some e.1) (lookup (is_at (R q)) es)) (not_at (R q e.0) (and_first (is_lt (R q e.0)) (below_all R q es) below))
       ∙ none_below q es (and_second (is_lt (R q e.0)) (below_all R q es) below)
 
-  -- what is found after a removal was there
+  -- an entry found after a removal was found before it
   pub found_removed : (test : K → Bool) (es : List (K × X)) (q : K) (v : X) → T (is_sorted R es) → lookup (is_at (R q)) (remove_entry test es) ≡ Some v → lookup (is_at (R q)) es ≡ Some v
   found_removed test [] q v sorted e = e
   found_removed test (x ∷ es) q v sorted e =
@@ -120,7 +120,7 @@ module _ {K X : Type 0} (R : K → K → Ordering) (exact : IsAntisymmetric R) w
             ∙ removed_itself p xs (and_second (below_all R x.0 xs) (is_sorted R xs) sorted)
       ] refl
 
-  -- a removal leaves what stands at other keys
+  -- a removal leaves the other keys alone
   pub other_removed : (p q : K) (es : List (K × X)) → q ≢ p → lookup (is_at (R q)) (remove_entry (is_at (R p)) es) ≡ lookup (is_at (R q)) es
   other_removed p q [] other = refl
   other_removed p q (x ∷ es) other =
@@ -133,7 +133,7 @@ module _ {K X : Type 0} (R : K → K → Ordering) (exact : IsAntisymmetric R) w
         | false ↦ λ _. ap (cond (is_at (R q) x.0) (Some x.1)) (other_removed p q es other)
       ] refl
 
-  -- an entry that is put or set leaves what stands at other keys
+  -- an insertion or a setting leaves the other keys alone
   pub other_put : IsTotalOrder R → (es : List (K × X)) (p : K) (v : X) (q : K) → q ≢ p → lookup (is_at (R q)) (insert_entry R es p v) ≡ lookup (is_at (R q)) es
   other_put o es p v q other =
       lookup-put R o es p v q

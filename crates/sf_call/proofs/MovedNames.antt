@@ -1,4 +1,4 @@
--- What a move leaves at each path.
+-- The inode number at each path after a move.
 use Rattle.std.proofs.Common.{◌≡◌, ◌<◌, ◌⊎◌, ℕ, zero, suc, Bool, true, false, cond, ◌&&◌, List, [], ◌∷◌, ◌++◌, filter, filter_map, length, take, option_map, is_none, Option, Some, None, refl, sym, ap, ◌∙◌, inl, inr, arith}
 use Rattle.std.specs.List.{cons_option}
 use Rattle.std.specs.Option.{option_or}
@@ -21,7 +21,7 @@ is_equal Less e = cc
 is_equal Equal e = refl
 is_equal Greater e = cc
 
--- a test that passes tells the paths equal
+-- the equality test for paths is correct
 pub same_path_is : (p q : Path) → same_path p q ≡ true → p ≡ q
 same_path_is p q e = exact_paths p q (is_equal (path_cmp p q) e)
 
@@ -31,12 +31,12 @@ same_name_is n m e = exact_names n m (is_equal (name_cmp n m) e)
 pub same_name_itself : (n : Name) → same_name n n ≡ true
 same_name_itself n = ap is_eq (tied_itself name_total n)
 
--- what follows the front p of p ++ r
+-- the suffix of p ++ r after p
 pub after_front-append : (p r : Path) → after_front p (p ++ r) ≡ Some r
 after_front-append [] r = refl
 after_front-append (n ∷ p) r = ap (λ b. cond b (after_front p (p ++ r)) None) (same_name_itself n) ∙ after_front-append p r
 
--- a path with this front is the front and what follows
+-- a path with a prefix is the prefix and the suffix
 pub append-after_front : (p q r : Path) → after_front p q ≡ Some r → q ≡ p ++ r
 append-after_front [] q r = λ e. cc
 append-after_front (n ∷ p) [] r = λ e. cc
@@ -63,7 +63,7 @@ find_is : (es : List (Path × ℕ)) (q : Path) → label_at es q ≡ find path_c
 find_is [] q = refl
 find_is (e ∷ es) q = ap (cond (same_path q e.0) (Some e.1)) (find_is es q)
 
--- what the map has at q after an entry was put
+-- the value at q after an insertion
 pub lookup-insert_entry : (es : List (Path × ℕ)) (k : Path) (v : ℕ) (q : Path) → label_at (insert_entry path_cmp es k v) q ≡ cond (same_path q k) (Some v) (label_at es q)
 lookup-insert_entry es k v q =
     ap (λ (l : List (Path × ℕ)). label_at l q) (put_is es k v) ∙ find_is (put path_cmp k v es) q ∙ find-put path_cmp path_total q k v es
@@ -73,14 +73,14 @@ or_cond : (b : Bool) (v : ℕ) (x y : Option ℕ) → cond b (Some v) (option_or
 or_cond true v x y = refl
 or_cond false v x y = refl
 
--- the entries that were put hide those below
+-- inserted entries hide the older ones
 pub lookup-with_entries : (names es : List (Path × ℕ)) (q : Path) → label_at (with_entries names es) q ≡ option_or (label_at es q) (label_at names q)
 lookup-with_entries names [] q = refl
 lookup-with_entries names (e ∷ es) q =
     lookup-insert_entry (with_entries names es) e.0 e.1 q ∙ ap (cond (same_path q e.0) (Some e.1)) (lookup-with_entries names es q)
     ∙ or_cond (same_path q e.0) e.1 (label_at es q) (label_at names q)
 
--- a path with another beginning is another path
+-- a path with another prefix is another path
 other_path : (p q r : Path) → after_front p q ≡ None → same_path (p ++ r) q ≡ false
 other_path p q r none =
     elim (same_path (p ++ r) q) as (λ b. same_path (p ++ r) q ≡ b → b ≡ false) [
@@ -91,12 +91,12 @@ other_path p q r none =
 other_path_back : (p q r : Path) → after_front p q ≡ None → same_path q (p ++ r) ≡ false
 other_path_back p q r none = (eq_by_cmp_equiv path_total).symm q (p ++ r) ∙ other_path p q r none
 
--- where the new path is looked up, its old one is
+-- a lookup of the new path finds the entry of the old one
 abbrev pub at_old : List (Path × ℕ) → Path → Option Path → Option ℕ
 at_old names old None = None
 at_old names old (Some r) = label_at names (old ++ r)
 
--- among the carried entries the path new ++ r has what old ++ r had
+-- among the moved entries, new ++ r has the value of old ++ r
 pub lookup-carried : (names : List (Path × ℕ)) (old new q : Path) → label_at (filter_map (carried old new) names) q ≡ at_old names old (after_front new q)
 lookup-carried [] old new q = elim (after_front new q) as (λ f. None ≡ at_old [] old f) [ None ↦ refl | Some r ↦ refl ]
 lookup-carried (e ∷ es) old new q =
@@ -122,7 +122,7 @@ alone None true y = refl
 alone None false y = refl
 alone (Some n) b y = refl
 
--- what a move leaves at each path
+-- the inode number at each path after a move
 abbrev pub label_after_move : List (Path × ℕ) → Path → Path → Path → Option ℕ
 label_after_move names old new q = option_or (at_old names old (after_front new q)) (cond (is_outside old new q) (label_at names q) None)
 
@@ -133,29 +133,29 @@ lookup-moved names old new q =
     ∙ ap (option_or (at_old names old (after_front new q)))
     (lookup-filter-keys (is_at (path_cmp q)) (is_outside old new) (is_outside old new q) (λ k t. ap (is_outside old new) (sym (same_path_is q k t))) names)
 
--- at new ++ rest stands what stood at old ++ rest
+-- new ++ rest has what old ++ rest had
 pub moved_to_new : (names : List (Path × ℕ)) (old new rest : Path) → label_at (moved names old new) (new ++ rest) ≡ label_at names (old ++ rest)
 moved_to_new names old new rest =
     lookup-moved names old new (new ++ rest)
     ∙ ap (λ (f : Option Path). option_or (at_old names old f) (cond (is_none (after_front old (new ++ rest)) && is_none f) (label_at names (new ++ rest)) None)) (after_front-append new rest)
     ∙ alone (label_at names (old ++ rest)) (is_none (after_front old (new ++ rest))) (label_at names (new ++ rest))
 
--- a path that begins with neither keeps its label
+-- a path with neither prefix keeps its inode number
 pub moved_outside : (names : List (Path × ℕ)) (old new path : Path) → after_front old path ≡ None → after_front new path ≡ None → label_at (moved names old new) path ≡ label_at names path
 moved_outside names old new path none_old none_new =
     lookup-moved names old new path
     ∙ ap (λ (f : Option Path). option_or (at_old names old f) (cond (is_none (after_front old path) && is_none f) (label_at names path) None)) none_new
     ∙ ap (λ (f : Option Path). cond (is_none f && true) (label_at names path) None) none_old
 
--- and nothing is left at old
+-- and no path is left at old
 pub moved_from_old : (names : List (Path × ℕ)) (old new path rest : Path) → after_front old path ≡ Some rest → after_front new path ≡ None → label_at (moved names old new) path ≡ None
 moved_from_old names old new path rest some_old none_new =
     lookup-moved names old new path
     ∙ ap (λ (f : Option Path). option_or (at_old names old f) (cond (is_none (after_front old path) && is_none f) (label_at names path) None)) none_new
     ∙ ap (λ (f : Option Path). cond (is_none f && true) (label_at names path) None) some_old
 
--- where a label after a move was before it: below old, for a path at or below new, or at the path
--- itself
+-- the path before a move of an inode number after it: below old for a path at or below new, and
+-- otherwise the same path
 abbrev pub IsCarried : List (Path × ℕ) → Path → Path → Path → ℕ → Type 0
 IsCarried names old new q label = (rest : Path) × (q ≡ new ++ rest) × (label_at names (old ++ rest) ≡ Some label)
 
@@ -174,8 +174,8 @@ came_from names old new q label e =
       ] refl
     ] refl
 
--- ---- fronts of a path
--- a path that doesn't begin with p has no front that does
+-- ---- prefixes of a path
+-- a path without the prefix p has no prefix with it
 pub no_front : (p q : Path) (n : ℕ) → after_front p q ≡ None → after_front p (take n q) ≡ None
 no_front [] q n none = cc
 no_front (x ∷ p) [] zero none = refl
@@ -187,7 +187,7 @@ no_front (x ∷ p) (y ∷ q) (suc n) none =
       | false ↦ λ k. refl
     ] none
 
--- no path is the beginning of a proper front of it
+-- no path is a prefix of its proper prefixes
 pub no_proper_front : (p : Path) (n : ℕ) → n < length p → after_front p (take n p) ≡ None
 no_proper_front [] n lt = absurd (omega arith)
 no_proper_front (x ∷ p) zero lt = refl
@@ -195,7 +195,7 @@ no_proper_front (x ∷ p) (suc n) lt =
     let short : n < length p = omega arith in
     ap (λ b. cond b (after_front p (take n p)) None) (same_name_itself x) ∙ no_proper_front p n short
 
--- the proper fronts of p ++ r are those of p, and p with those of r behind it
+-- the proper prefixes of p ++ r are those of p, and p followed by those of r
 pub fronts_append : (P : Path → Type 0) (p r : Path) → ((n : ℕ) → n < length p → P (take n p)) → ((n : ℕ) → n < length r → P (p ++ take n r)) → (n : ℕ) → n < length (p ++ r) → P (take n (p ++ r))
 fronts_append P [] r first second n lt = second n lt
 fronts_append P (x ∷ p) r first second zero lt = first zero (omega arith)

@@ -1,4 +1,4 @@
--- One of two paths begins with the other where all of its names are alike.
+-- One path is a prefix of another if all of its names are equal to the other's.
 use Rattle.std.proofs.Common.{◌≡◌, ◌≢◌, ℕ, ◌<◌, ◌≤◌, Bool, true, false, eqb, [], ◌++◌, length, take, drop, Option, Some, None, is_some, refl, sym, ap, ◌∙◌, inl, inr, arith, length-append}
 use Rattle.std.specs.Prelude.{slice_get}
 use Rattle.std.proofs.lemmas.Bool.{cases_lt, eqb-true, eq-eqb}
@@ -8,7 +8,7 @@ use Rattle.sf_path.specs.Names.{Path}
 use Rattle.sf_call.specs.Tree.{after_front}
 use Rattle.sf_call.proofs.MovedNames.{after_front-append, append-after_front}
 
--- so many names are alike at the front of two paths, and no more
+-- the number of equal names at the start of two paths
 pub record AreAlike (front path : Path) (n : ℕ) : Type 0 where
   pub alike : take n front ≡ take n path
   pub within : n ≤ length front

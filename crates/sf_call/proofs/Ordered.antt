@@ -1,4 +1,4 @@
--- Each change keeps the maps in order.
+-- Each change keeps the maps in key order.
 use Rattle.std.proofs.Common.{◌≡◌, ℕ, Bool, true, false, T, cond, not, nat_eq, ◌&&◌, List, [], ◌∷◌, filter, filter_map, fold, refl, sym, ap, subst}
 use Rattle.std.specs.declared.cmp.Ordering.{Ordering}
 use Rattle.std.specs.declared.cmp.Ordering.TheVariants.{Less, Equal, Greater}

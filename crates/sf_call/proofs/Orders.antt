@@ -1,4 +1,4 @@
--- Ordered lists of entries that answer alike are one.
+-- Ordered lists of entries with equal lookups are equal.
 use Rattle.std.proofs.Common.{◌≡◌, T, cond, List, [], ◌∷◌, Some, refl, sym, ap, ◌∙◌}
 use Rattle.std.specs.declared.cmp.Ordering.{Ordering}
 use Rattle.std.specs.Cmp.{IsTotalOrder, nat_cmp_total}
@@ -9,7 +9,7 @@ use Rattle.std.specs.FinMap.Entries as entries
 use Rattle.sf_path.specs.Order.{name_cmp, path_cmp, path_total}
 use Rattle.sf_call.specs.Tree.{Tree, IsOrderedTree, MapsAlike}
 
--- names and paths that compare alike are one
+-- names and paths that compare equal are equal
 pub exact_names : IsAntisymmetric name_cmp
 exact_names = slice_cmp-IsAntisymmetric nat_cmp-IsAntisymmetric
 

@@ -1,5 +1,5 @@
--- What a rename answers: it is refused, does nothing, or moves, where neither path begins with the
--- other. And what a link answers: it is refused, or names a file anew.
+-- A rename fails, does nothing, or moves a path; then neither path begins with the other. A link
+-- fails or adds a name.
 use Rattle.std.proofs.Common.{◌≡◌, ℕ, Bool, true, false, cond, ◌&&◌, ◌||◌, nat_eq, nat_le, List, [], ◌∷◌, Some, None, is_some, refl}
 use Rattle.sf_path.specs.Names.{Path}
 use Rattle.sf_path.specs.Order.{same_path, parent}
@@ -16,7 +16,7 @@ use Rattle.sf_call.specs.Changes.{touched}
 use Rattle.sf_call.specs.Changes.Change.{NewName}
 use Rattle.sf_call.specs.Calls.{Outcome, answer_to, refuses, succeeds, moves, unless_nested, unless_root, rename_to, rename, replace_by, posix_rename, link_to, link}
 
--- what holds of an answer unless one path begins with the other
+-- properties of an answer that fails if one path begins with the other
 pub apart : (P : Outcome → Type 0) (old new : Path) (answer : Outcome) → P (refuses Failure)
     → (after_front old new ≡ None → after_front new old ≡ None → P answer) → P (unless_nested old new answer)
 apart P old new answer refused right =
@@ -82,7 +82,7 @@ module _ (P : Outcome → Type 0) (refused : (code : StatusCode) → P (refuses 
   pub link_cases : (session number : ℕ) → P (answer_to tree session number moment (Link old new))
   link_cases session number = if_rooted old _ (if_rooted new _ (link_found (found_at tree old) refl))
 
--- a link to a path is refused, or may be made
+-- a link to a path fails or is allowed
 pub link_to_cases : (P : Outcome → Type 0) → ((code : StatusCode) → P (refuses code)) → (tree : Tree) (moment : ℕ) (new : Path) (label : ℕ) (place : Lookup) → look_up tree new ≡ place
     → (look_up tree new ≡ Absent → nat_le MAX_LINKS (links tree.names label) ≡ false → P (succeeds (NewName new label ∷ touched tree moment (parent new)))) → P (link_to tree moment new label place)
 link_to_cases P refused tree moment new label NoWay e made = refused NoSuchFile

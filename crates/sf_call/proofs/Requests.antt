@@ -1,4 +1,4 @@
--- What a request changes is allowed.
+-- The changes of a request are allowed.
 use Rattle.std.proofs.Common.{◌≡◌, ◌≢◌, ◌<◌, ℕ, Bool, true, false, cond, not, nat_eq, nat_lt, nat_le, ◌+◌, ◌-◌, ◌&&◌, List, [], ◌∷◌, ◌++◌, length, length-append, length-take, take, Option, Some, None, IsSome, option_map, option_and_then, refl, sym, ap, ◌∙◌, append_assoc, eq-eqb, arith}
 use Rattle.std.specs.List.{cons_option}
 use Rattle.std.specs.Ordering.{nat_cmp}
@@ -42,7 +42,7 @@ use Rattle.sf_call.proofs.RenameCases.{apart, link_to_cases}
 use Rattle.sf_call.proofs.LookUps.{other_put, other_removed}
 use Rattle.sf_call.proofs.Founded.{IsFounded, is_file, kept_object, is_directory_label, is_directory_is, not_both}
 
--- the place of a path that has a label
+-- the lookup of a path that exists
 pub place_label : (tree : Tree) (path : Path) (label : ℕ) → look_up tree path ≡ At label → label_at tree.names path ≡ Some label
 place_label tree path label e =
     elim (is_faulty_way tree path) as (λ b. cond b NoWay (lookup_of (label_at tree.names path)) ≡ At label → label_at tree.names path ≡ Some label) [
@@ -50,7 +50,7 @@ place_label tree path label e =
       | false ↦ elim (label_at tree.names path) as (λ o. lookup_of o ≡ At label → o ≡ Some label) [ None ↦ λ k. cc | Some l ↦ λ k. let same : l ≡ label = cc in ap Some same ]
     ] e
 
--- the place of a path that is free
+-- the lookup of a path that is absent
 pub place_free : (tree : Tree) (path : Path) → look_up tree path ≡ Absent → (is_faulty_way tree path ≡ false) × (label_at tree.names path ≡ None)
 place_free tree path e =
     elim (is_faulty_way tree path) as (λ b. cond b NoWay (lookup_of (label_at tree.names path)) ≡ Absent → (b ≡ false) × (label_at tree.names path ≡ None)) [
@@ -58,7 +58,7 @@ place_free tree path e =
       | false ↦ λ k. (refl, elim (label_at tree.names path) as (λ o. lookup_of o ≡ Absent → o ≡ None) [ None ↦ λ _. refl | Some l ↦ λ j. cc ] k)
     ] e
 
--- a name that is there is among the children
+-- the name of an entry is among the children
 is_nil-cons_option : (o : Option Name) (names : List Name) → is_nil names ≡ false → is_nil (cons_option o names) ≡ false
 is_nil-cons_option None names some = some
 is_nil-cons_option (Some n) names some = refl
@@ -73,7 +73,7 @@ child_there (n ∷ names) path name label e =
       | false ↦ λ other k. is_nil-cons_option (only_name (after_front path n.0)) (children names path) (child_there names path name label k)
     ] refl e
 
--- what is below a path that is named
+-- the paths below a path that exists
 front_directory : (tree : Tree) (path : Path) (name : Name) (rest : Path) (label : ℕ) → IsFounded tree → label_at tree.names (path ++ name ∷ rest) ≡ Some label → is_directory tree path ≡ true
 front_directory tree path name rest label f e =
     let lt : length path < length (path ++ name ∷ rest) = omega (arith, length-append path (name ∷ rest)) in
@@ -103,7 +103,7 @@ handle_there tree session handle h e =
       | Some g ↦ elim (nat_eq g.session session) as (λ b. cond b (Some g) None ≡ Some h → Some g ≡ Some h) [ true ↦ λ k. k | false ↦ λ k. cc ]
     ] e
 
--- the label of a directory, and what its object is
+-- the inode number of a directory, and its object
 pub directory_there : (tree : Tree) (path : Path) (d : ℕ × Metadata) → directory_at tree path ≡ Some d → (label_at tree.names path ≡ Some d.0) × (object_of tree.objects d.0 ≡ Some (Directory d.1))
 directory_there tree path d e =
     elim (label_at tree.names path) as (λ o. option_and_then (λ label. option_map (λ m. (label, m)) (option_and_then directory_metadata (object_of tree.objects label))) o ≡ Some d
@@ -121,14 +121,14 @@ directory_there tree path d e =
           let metadata : m ≡ d.1 = ap (λ (x : ℕ × Metadata). x.1) same in
           (ap Some labels, ap (object_of tree.objects) (sym labels) ∙ is ∙ ap (λ (x : Metadata). Some (Directory x)) metadata)
 
--- a path but the root is not its parent
+-- a path other than the root is not its parent
 other_parent : (path : Path) → path ≢ [] → parent path ≢ path
 other_parent [] not_root same = not_root refl
 other_parent (n ∷ path) not_root same =
     let lengths : length (take (length (n ∷ path) - 1) (n ∷ path)) ≡ length (n ∷ path) = ap length same in
     let short = length-take (length (n ∷ path) - 1) (n ∷ path) in omega arith
 
--- the kind of what is a directory or a file
+-- the file type of a directory or a file
 abbrev pub kind_by : Bool → FileType
 kind_by b = cond b file_type.Directory file_type.File
 
@@ -155,7 +155,7 @@ front_itself (n ∷ p) = ap (λ b. cond b (after_front p p) None) (same_name_its
 not_itself : (p q : Path) → p ≡ q → after_front p q ≡ None → ⊥
 not_itself p q same none = let some : Some [] ≡ None = sym (front_itself p) ∙ ap (after_front p) same ∙ none in cc
 
--- a path that isn't the front of all paths isn't a front of its parent
+-- a path that is no prefix of another is no prefix of its parent
 pub no_parent : (p q : Path) → after_front p q ≡ None → after_front p (parent p) ≡ None
 no_parent [] q none = cc
 no_parent (n ∷ p) q none = no_proper_front (n ∷ p) (length (n ∷ p) - 1) (omega arith)
@@ -173,7 +173,7 @@ module _ (tree : Tree) (number moment : ℕ) (unused : (q : Path) → label_at t
   either_if true this that p q = p refl
   either_if false this that p q = q refl
 
-  -- a directory that stayed of its kind may be set
+  -- a directory that kept its file type may be set
   touch_kinds : (t : Tree) (path : Path) (at : Option (ℕ × Metadata)) → directory_at tree path ≡ at
       → ((label : ℕ) → label_at tree.names path ≡ Some label → option_map file_type_of (object_of t.objects label) ≡ option_map file_type_of (object_of tree.objects label)) → AreAllowed number t (touch moment at)
   touch_kinds t path None e same = tt
@@ -226,7 +226,7 @@ module _ (tree : Tree) (number moment : ℕ) (unused : (q : Path) → label_at t
         (other_removed path_cmp exact_paths path (parent path) tree.names (other_parent path not_root) ∙ e)),
   )
 
-  -- nothing is below an empty directory or a file
+  -- no path is below an empty directory or a file
   below_empty : (path : Path) → is_empty tree.names path ≡ true → (name : Name) (rest : Path) (label : ℕ) → label_at tree.names (path ++ name ∷ rest) ≡ Some label → ⊥
   below_empty path none name [] label e = let some : is_empty tree.names path ≡ false = child_there tree.names path name label e in cc
   below_empty path none name (n ∷ rest) label e =

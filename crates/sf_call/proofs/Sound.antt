@@ -1,4 +1,4 @@
--- What holds of the tree after every legal history.
+-- The invariant of the tree after each legal history.
 use Rattle.std.proofs.Common.{◌≢◌, ◌<◌, ℕ, List, [], ◌∷◌, ◌++◌, refl, sym, ap, ◌∙◌, subst, append_assoc}
 use Rattle.std.proofs.lemmas.List.{append-nil}
 use Rattle.sf_reply.specs.declared.reply.Reply.{Reply}
@@ -18,8 +18,8 @@ use Rattle.sf_call.proofs.Founded.{IsFounded, is_directory_label, is_directory_i
 use Rattle.sf_call.proofs.Used.{AllUsed, kept-used, used_changed, used_left, used_empty}
 use Rattle.sf_call.proofs.Requests.{allowed}
 
--- the tree is in order, free numbers are unused in it, its paths lead to objects, and its objects
--- are named or open
+-- the tree is in key order, free numbers are unused, its paths resolve to objects, and each object
+-- has a link or an open handle
 pub record IsSound (Free : ℕ → Type 0) (tree : Tree) : Type 0 where
   pub ordered : IsOrderedTree tree
   pub labelled : IsLabelled Free tree
@@ -58,7 +58,7 @@ sound_less history r tree s = record {
   used = s.used;
 }
 
--- what a request that may follow changes is allowed
+-- the changes of a request that may follow are allowed
 pub allowed_by_sound : (Free : ℕ → Type 0) (tree : Tree) (session number moment : ℕ) (request : Request) → Free number → IsSound Free tree → AreAllowed number tree (answer_to tree session number moment request).changes
 allowed_by_sound Free tree session number moment request free s =
     allowed tree number moment (s.labelled.unused number free) (s.labelled.no_object number free) (s.labelled.unopened number free) s.founded s.labelled.one_path session request
@@ -99,7 +99,7 @@ pub sound_replay : (history : List Record) → IsLegal history → IsSound (Free
 unfolding IsLegal replay
 sound_replay history legal = sound_from [] history legal sound_empty
 
--- what is allowed after a legal history keeps the tree well formed
+-- allowed changes after a legal history keep the tree well formed
 pub well_formed : (history : List Record) (number : ℕ) (changes : List Change) → IsLegal history → AreAllowed number (replay history) changes
     → IsWellFormed (done (replay history) changes)
 well_formed history number changes legal may =

@@ -1,4 +1,4 @@
--- No change leaves an object that nothing names or opens.
+-- No change leaves an object without link and open handle.
 use Rattle.std.proofs.Common.{◌≡◌, ℕ, Bool, true, false, cond, nat_eq, not, ◌||◌, List, [], ◌∷◌, filter, Some, None, refl, sym, ap, ◌∙◌, eq-eqb}
 use Rattle.std.specs.List.{AllByRecursion, list_any}
 use Rattle.std.specs.declared.cmp.Ordering.{Ordering}
@@ -49,13 +49,13 @@ all_by P Q (x ∷ xs) more all = (more x all.0, all_by P Q xs more all.1)
 tied : (label k : ℕ) → is_at (nat_cmp label) k ≡ true → label ≡ k
 tied label k t = nat_cmp-IsAntisymmetric label k (is_equal (nat_cmp label k) t)
 
--- an object is kept where it is used, and let go of elsewhere
+-- an object is kept if and only if it is used
 pub object_kept : (tree : Tree) (label : ℕ) → object_of (kept tree).objects label ≡ cond (is_used tree.names tree.handles label) (object_of tree.objects label) None
 object_kept tree label =
     lookup-filter-keys (is_at (nat_cmp label)) (is_used tree.names tree.handles) (is_used tree.names tree.handles label)
     (λ k t. ap (is_used tree.names tree.handles) (sym (tied label k t))) tree.objects
 
--- maps with an entry more, or with another value at a key
+-- maps with one more entry, or with another value at a key
 module _ {K X : Type 0} (cmp : K → K → Ordering) (k : K) (v : X) where
   any_inserted : (test : X → Bool) (es : List (K × X)) → test v ≡ true → list_any (λ e. test e.1) (insert_entry cmp es k v) ≡ true
   any_inserted test [] t = rw t
@@ -92,7 +92,7 @@ all_set test v P (e ∷ es) all =
       | false ↦ (all.0, all_set test v P es all.1)
     ]
 
--- each object is named or open
+-- each object has a link or an open handle
 abbrev pub AllUsed : Tree → Type 0
 AllUsed tree = AllByRecursion (λ e. is_used tree.names tree.handles e.0 ≡ true) tree.objects
 
@@ -113,7 +113,7 @@ used_new tree path label object free used =
     (any_still path_cmp path label (λ n. nat_eq n e.0) tree.names free) t)
     used)
 
--- a handle that is set stays with its object
+-- a handle that is set keeps its object
 same_uses : (label number : ℕ) (before after : Handle) (handles : List (ℕ × Handle)) → handle_of handles number ≡ Some before → before.label ≡ after.label
     → list_any (λ h. nat_eq h.1.label label) (set_value (is_at (nat_cmp number)) handles after) ≡ list_any (λ h. nat_eq h.1.label label) handles
 same_uses label number before after [] there same = refl

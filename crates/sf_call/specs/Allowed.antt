@@ -1,4 +1,4 @@
--- What a request may change.
+-- The preconditions of changes, and the invariant of trees.
 use Rattle.std.specs.Prelude.{◌≡◌, ◌≢◌, ◌<◌, ◌≤◌, ℕ, true, false, List, [], ◌∷◌, ◌++◌, Some, None, IsSome, option_map}
 use Rattle.sf_path.specs.Names.{Name, Path}
 use Rattle.sf_call.specs.declared.limits.TheConstants.{MAX_LINKS}
@@ -14,13 +14,13 @@ abbrev pub file_type_of : Object → FileType
 file_type_of (Directory m) = file_type.Directory
 file_type_of (File m contents) = file_type.File
 
--- an object stays of its kind
+-- an object keeps its file type
 abbrev pub IsSetRightly : Tree → ℕ → Object → Type 0
 IsSetRightly tree label object =
     option_map file_type_of (object_of tree.objects label) ≡ Some (file_type_of object)
 
--- a new path was free, its way was open, and its label is the call's number, which no path and no
--- object had
+-- a new path is absent, each proper prefix is a directory, and its inode number is the call's
+-- number, unused before
 pub record IsNewPath (number : ℕ) (tree : Tree) (path : Path) (label : ℕ) : Type 0 where
   pub is_number : label ≡ number
   pub free : label_at tree.names path ≡ None
@@ -28,20 +28,22 @@ pub record IsNewPath (number : ℕ) (tree : Tree) (path : Path) (label : ℕ) : 
   pub unused : (other : Path) → label_at tree.names other ≢ Some label
   pub no_object : object_of tree.objects label ≡ None
 
--- a further path of a file was free, its way was open, and fewer paths than the most named the file
+-- a new link: the path is absent, each proper prefix is a directory, and the file has fewer than
+-- MAX_LINKS links
 pub record IsNewName (tree : Tree) (path : Path) (label : ℕ) : Type 0 where
   pub free : label_at tree.names path ≡ None
   pub way : is_faulty_way tree path ≡ false
   pub of_file : option_map file_type_of (object_of tree.objects label) ≡ Some file_type.File
   pub fewer : links tree.names label < MAX_LINKS
 
--- a new handle's number is the call's, which no handle had
+-- a new handle has the call's number, unused before
 pub record IsNewHandle (number : ℕ) (tree : Tree) (handle : ℕ) : Type 0 where
   pub is_number : handle ≡ number
   pub free : handle_of tree.handles handle ≡ None
 
--- A move: old is named, neither path begins with the other, new's way is open with nothing below
--- new, and what new named is of the kind of what old names, and not the same file (POSIX, rename).
+-- A move: `old` exists, and neither path begins with the other. Each proper prefix of `new` is a
+-- directory, and no path is below `new`. If `new` exists, it has the file type of `old` and is
+-- another object (POSIX, rename).
 pub record IsMove (tree : Tree) (old new : Path) : Type 0 where
   pub label : ℕ
   pub named : label_at tree.names old ≡ Some label
@@ -54,8 +56,8 @@ pub record IsMove (tree : Tree) (old new : Path) : Type 0 where
       ≡ option_map file_type_of (object_of tree.objects label)
   pub other : label_at tree.names new ≢ Some label
 
--- What a change of the call with this number asks of the tree before it. A path that goes has
--- nothing below it, and a handle stays with its object.
+-- The precondition of a change by the call with this number. A removed path has none below it, and
+-- a changed handle keeps its inode number.
 abbrev pub MayChange : ℕ → Tree → Change → Type 0
 MayChange number tree (SetObject label object) = IsSetRightly tree label object
 MayChange number tree (NewPath path label object) = IsNewPath number tree path label
@@ -68,15 +70,15 @@ MayChange number tree (SetHandle handle opened) = (before : Handle)
     × (handle_of tree.handles handle ≡ Some before) × (before.label ≡ opened.label)
 MayChange number tree (CloseHandle handle) = Unit {0}
 
--- each of the changes may be made after those before it
+-- each change is allowed after those before it
 abbrev pub AreAllowed : ℕ → Tree → List Change → Type 0
 AreAllowed number tree [] = Unit {0}
 AreAllowed number tree (change ∷ changes) =
     MayChange number tree change × AreAllowed number (changed tree change) changes
 
--- What holds of the tree after a legal history, and still holds after changes that are allowed:
--- each path that is named leads over directories to an object, one path at most names a directory,
--- so many at most a file, and each object is named or open.
+-- The invariant of trees: it holds after each legal history, and allowed changes preserve it. Each
+-- path resolves over directories to an object. A directory has at most one path, and a file at most
+-- MAX_LINKS. Each object has a link or an open handle.
 pub record IsWellFormed (tree : Tree) : Type 0 where
   pub ordered : IsOrderedTree tree
   pub object : (path : Path) (label : ℕ) → label_at tree.names path ≡ Some label

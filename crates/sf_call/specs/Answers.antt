@@ -1,4 +1,4 @@
--- What an answer tells.
+-- The contents of an answer.
 use Rattle.std.specs.Prelude.{ℕ}
 use Rattle.sf_reply.specs.declared.reply.Reply.{Reply}
 

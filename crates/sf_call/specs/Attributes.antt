@@ -1,4 +1,4 @@
--- What is kept of a directory or a file, and what is sent of it.
+-- The attributes of directories and files, as stored and as sent.
 use Rattle.std.specs.Prelude.{ℕ, ◌+◌, ◌%◌, Some, unwrap_or, List, length}
 use Rattle.std.specs.Option.{option_map_or}
 use Rattle.sf_field.specs.declared.attrs.Attrs.{Attrs}
@@ -11,7 +11,8 @@ pub data Object : Type 0 where
   Directory : (metadata : Metadata) → Object
   File : (metadata : Metadata) → (contents : List ℕ) → Object
 
--- of an object made at a moment: user 0, group 0, and the moment as both times
+-- the metadata of an object created at a timestamp: user 0, group 0, and the timestamp as both
+-- times
 abbrev pub made_at : ℕ → ℕ → Metadata
 made_at permissions moment = record {
   owner = record { uid = 0; gid = 0 };
@@ -19,7 +20,7 @@ made_at permissions moment = record {
   times = record { atime = moment; mtime = moment };
 }
 
--- modified at a moment (POSIX: the last data modification timestamp)
+-- with this modification time (POSIX: the last data modification timestamp)
 abbrev pub modified_at : ℕ → Metadata → Metadata
 modified_at moment m = record {
   owner = m.owner;
@@ -27,8 +28,8 @@ modified_at moment m = record {
   times = record { atime = m.times.atime; mtime = moment };
 }
 
--- The parts that are given replace those that were kept (draft, section 5). Of the permissions the
--- lowest twelve bits count; a size is not kept here.
+-- The given attributes replace the stored ones (draft, section 5). Only the low twelve bits of the
+-- permissions are stored. The size is ignored here.
 abbrev pub with_parts : Metadata → Attrs → Metadata
 with_parts m attrs = record {
   owner = unwrap_or attrs.owner m.owner;
@@ -36,16 +37,16 @@ with_parts m attrs = record {
   times = unwrap_or attrs.times m.times;
 }
 
--- of a new object, as a request's attributes ask for it
+-- the metadata of a new object, with the attributes that the request gives
 abbrev pub new_metadata : ℕ → ℕ → Attrs → Metadata
 new_metadata permissions moment attrs = with_parts (made_at permissions moment) attrs
 
--- the bits of `st_mode` (POSIX) that tell a directory from a file
+-- the file type bits of `st_mode` (POSIX)
 abbrev pub type_bits : FileType → ℕ
 type_bits file_type.Directory = 0o040000
 type_bits file_type.File = 0o100000
 
--- what is sent (draft, section 5): all four parts
+-- the attributes as sent: all four fields of the draft, section 5
 abbrev pub sent : FileType → ℕ → Metadata → Attrs
 sent kind size m = record {
   size = Some size;
@@ -54,7 +55,7 @@ sent kind size m = record {
   times = Some m.times;
 }
 
--- a directory's size is 0
+-- the attributes of an object as sent; the size of a directory is 0
 abbrev pub attrs_of : Object → Attrs
 attrs_of (Directory m) = sent file_type.Directory 0 m
 attrs_of (File m contents) = sent file_type.File (length contents) m

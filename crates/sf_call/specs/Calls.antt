@@ -1,5 +1,5 @@
--- What the tree answers to each request, and what the request changes. Cases are tried in order;
--- the first that fits answers.
+-- The sequential specification of each request: its reply, and the changes that it makes. Cases are
+-- tried in order; the first that matches applies.
 use Rattle.std.specs.Prelude.{ℕ, ◌+◌, not, nat_eq, nat_lt, nat_le, min, Bool, true, false, ◌&&◌, ◌||◌, if◌then◌else◌, List, [], ◌∷◌, ◌++◌, length, take, drop, filter, count_by, Option, Some, None, is_some}
 use Rattle.sf_field.specs.declared.attrs.Attrs.{Attrs}
 use Rattle.sf_field.specs.declared.open_flags.OpenFlags.{OpenFlags}
@@ -25,12 +25,12 @@ use Rattle.sf_call.specs.Listings.{path_of, listing_of, last_name}
 use Rattle.sf_call.specs.Changes.{Change, done, touched}
 use Rattle.sf_call.specs.Changes.Change.{SetObject, NewPath, NewName, GonePath, Move, OpenHandle, SetHandle, CloseHandle}
 
--- what a request is answered, and what it changes
+-- the reply to a request, and the changes that it makes
 pub record Outcome : Type 0 where
   pub reply : Reply
   pub changes : List Change
 
--- a reply that changes nothing
+-- a reply without changes
 abbrev pub tells : Reply → Outcome
 tells r = record { reply = r; changes = [] }
 
@@ -49,14 +49,14 @@ stat Nothing = refuses NoSuchFile
 stat (DirectoryAt label m) = tells (reply.Attrs (attrs_of (Directory m)))
 stat (FileAt label m contents) = tells (reply.Attrs (attrs_of (File m contents)))
 
--- A directory's size can't be set, nor a file's above the limit.
+-- Setting the size of a directory fails, and so does a size above MAX_FILE_SIZE.
 abbrev pub refuses_size : Object → Option ℕ → Bool
 refuses_size object None = false
 refuses_size (Directory m) (Some size) = true
 refuses_size (File m contents) (Some size) = nat_lt MAX_FILE_SIZE size
 
--- A file's size is set first, and the file is modified at the moment; then the other parts (POSIX,
--- ftruncate).
+-- A given size is set first, with the call's timestamp as modification time (POSIX, ftruncate).
+-- Then the other attributes are set.
 abbrev pub with_size : ℕ → Attrs → Option ℕ → Metadata → List ℕ → Object
 with_size moment attrs None m contents = File (with_parts m attrs) contents
 with_size moment attrs (Some size) m contents =
@@ -78,8 +78,8 @@ set_stat moment attrs Nothing = refuses NoSuchFile
 set_stat moment attrs (DirectoryAt label m) = sets moment label attrs (Directory m)
 set_stat moment attrs (FileAt label m contents) = sets moment label attrs (File m contents)
 
--- A call's number, which is the label of what it makes and the number of a handle that it opens;
--- and its moment.
+-- A call's number and its timestamp. The number is also the inode number of an object that the call
+-- creates, and the number of a handle that it opens.
 pub record Stamp : Type 0 where
   pub number : ℕ
   pub moment : ℕ
@@ -87,7 +87,8 @@ pub record Stamp : Type 0 where
 abbrev pub stamp : ℕ → ℕ → Stamp
 stamp number moment = record { number = number; moment = moment }
 
--- MKDIR (draft, section 6.6; POSIX, mkdir): a new directory; its parent is modified
+-- MKDIR (draft, section 6.6; POSIX, mkdir): creates a directory and sets its parent's modification
+-- time
 abbrev pub make_directory : Tree → Stamp → Path → Attrs → Lookup → Outcome
 make_directory tree call path attrs NoWay = refuses NoSuchFile
 make_directory tree call path attrs (At label) = refuses Failure
@@ -95,7 +96,7 @@ make_directory tree call path attrs Absent =
     succeeds (NewPath path call.number (Directory (new_metadata 0o755 call.moment attrs))
     ∷ touched tree call.moment (parent path))
 
--- a path is gone; its parent is modified
+-- removes a path and sets its parent's modification time
 abbrev pub goes : Tree → ℕ → Path → Outcome
 goes tree moment path = succeeds (GonePath path ∷ touched tree moment (parent path))
 
@@ -114,17 +115,17 @@ remove_file tree moment path Nothing = refuses NoSuchFile
 remove_file tree moment path (DirectoryAt label m) = refuses Failure
 remove_file tree moment path (FileAt label m contents) = goes tree moment path
 
--- whether a session has as many handles open as it may
+-- whether a session has reached the limit of open handles
 abbrev pub has_all_handles : Tree → ℕ → Bool
 has_all_handles tree session =
     nat_le MAX_HANDLES (count_by (λ e. nat_eq e.1.session session) tree.handles)
 
--- a handle has the number of the call that opens it
+-- opens a handle, numbered like the call
 abbrev pub opens : ℕ → Handle → List Change → Outcome
 opens number handle changes =
     record { reply = reply.Handle number; changes = OpenHandle number handle ∷ changes }
 
--- a directory's handle has no marks
+-- the handle of a directory has no access mode
 abbrev pub directory_handle : ℕ → ℕ → Handle
 directory_handle session label = record {
   session = session;
@@ -135,7 +136,7 @@ directory_handle session label = record {
   listed = None;
 }
 
--- with neither READ nor WRITE a handle reads
+-- a handle opened with neither READ nor WRITE is readable
 abbrev pub new_file_handle : ℕ → ℕ → OpenFlags → Handle
 new_file_handle session label flags =
     record {
@@ -156,7 +157,7 @@ open_directory tree session number (DirectoryAt label m) =
     if has_all_handles tree session then refuses Failure
     else opens number (directory_handle session label) []
 
--- OPEN of a file that is there: TRUNC with WRITE cuts it
+-- OPEN of an existing file: TRUNC with WRITE truncates it
 abbrev pub open_present : Tree → ℕ → Stamp → OpenFlags → FoundObject → Outcome
 open_present tree session call flags Nowhere = refuses NoSuchFile
 open_present tree session call flags Nothing = refuses NoSuchFile
@@ -168,7 +169,7 @@ open_present tree session call flags (FileAt label m contents) =
     (SetObject label (File (modified_at call.moment m) []) ∷ [])
     else opens call.number (new_file_handle session label flags) []
 
--- What is to be opened, and how.
+-- The arguments of an OPEN.
 pub record Opening : Type 0 where
   pub path : Path
   pub flags : OpenFlags
@@ -177,7 +178,8 @@ pub record Opening : Type 0 where
 abbrev pub opening : Path → OpenFlags → Attrs → Opening
 opening path flags attrs = record { path = path; flags = flags; attrs = attrs }
 
--- OPEN (draft, section 6.3; POSIX, open): a new file is empty; its parent is modified
+-- OPEN (draft, section 6.3; POSIX, open): a new file is empty, and its parent's modification time
+-- is set
 abbrev pub open_file : Tree → ℕ → Stamp → Opening → Lookup → Outcome
 open_file tree session call asked NoWay = refuses NoSuchFile
 open_file tree session call asked (At label) =
@@ -193,18 +195,18 @@ open_file tree session call asked Absent =
 
 -- ---- renames
 
--- what began with old begins with new; both parents are modified
+-- moves `old` and all paths below it to `new`, and sets both parents' modification times
 abbrev pub moves : Tree → ℕ → Path → Path → Outcome
 moves tree moment old new =
     succeeds (Move old new ∷ (touched tree moment (parent old) ++ touched tree moment (parent new)))
 
--- no path is moved into itself or over what it stands in
+-- fails if one path is a prefix of the other: nothing moves below itself or replaces its ancestor
 abbrev pub unless_nested : Path → Path → Outcome → Outcome
 unless_nested old new answer =
     if is_some (after_front old new) || is_some (after_front new old) then refuses Failure
     else answer
 
--- RENAME (draft, section 6.5): to a path where nothing stands
+-- RENAME (draft, section 6.5): fails if the new path exists
 abbrev pub rename_to : Tree → ℕ → Path → Path → Lookup → Outcome
 rename_to tree moment old new NoWay = refuses NoSuchFile
 rename_to tree moment old new (At label) = refuses Failure
@@ -216,8 +218,8 @@ rename tree moment old new Absent = refuses NoSuchFile
 rename tree moment old new (At label) =
     unless_nested old new (rename_to tree moment old new (look_up tree new))
 
--- the extension posix-rename (POSIX, rename): a file also takes a file's place, and a directory an
--- empty directory's; where both paths name one file, nothing is done
+-- The extension posix-rename (POSIX, rename; OpenSSH's PROTOCOL): a file may replace a file, and a
+-- directory an empty directory. If both paths name one file, nothing changes.
 abbrev pub replace_by : Tree → ℕ → Path → Path → ℕ → FoundObject → Outcome
 replace_by tree moment old new label Nowhere = refuses NoSuchFile
 replace_by tree moment old new label Nothing = moves tree moment old new
@@ -237,8 +239,8 @@ posix_rename tree moment old new (At label) =
 
 -- ---- links
 
--- to a path where nothing stands, unless as many paths name the file as may; the new path's parent
--- is modified
+-- adds a link at an absent path and sets its parent's modification time; fails if the file has
+-- MAX_LINKS links
 abbrev pub link_to : Tree → ℕ → Path → ℕ → Lookup → Outcome
 link_to tree moment new label NoWay = refuses NoSuchFile
 link_to tree moment new label (At other) = refuses Failure
@@ -246,7 +248,8 @@ link_to tree moment new label Absent =
     if nat_le MAX_LINKS (links tree.names label) then refuses Failure
     else succeeds (NewName new label ∷ touched tree moment (parent new))
 
--- the extension hardlink (POSIX, link): a further path names the file that the old one names
+-- the extension hardlink (POSIX, link; OpenSSH's PROTOCOL): the new path names the file that the
+-- old one names
 abbrev pub link : Tree → ℕ → Path → FoundObject → Outcome
 link tree moment new Nowhere = refuses NoSuchFile
 link tree moment new Nothing = refuses NoSuchFile
@@ -267,7 +270,7 @@ stat_opened NotOpen = refuses Failure
 stat_opened (OpenDirectory handle m) = tells (reply.Attrs (attrs_of (Directory m)))
 stat_opened (OpenFile handle m contents) = tells (reply.Attrs (attrs_of (File m contents)))
 
--- FSETSTAT (draft, section 6.9): not of the root, and a size with the mark WRITE alone
+-- FSETSTAT (draft, section 6.9): fails for the root; setting a size needs a writable handle
 abbrev pub set_opened : ℕ → Attrs → Opened → Outcome
 set_opened moment attrs NotOpen = refuses Failure
 set_opened moment attrs (OpenDirectory handle m) =
@@ -285,7 +288,7 @@ read offset len (OpenFile handle m contents) =
     else if nat_le (length contents) offset then refuses EndOfFile
     else tells (reply.Data (take (min len MAX_READ) (drop offset contents)))
 
--- with the mark APPEND writing starts at the file's end
+-- a handle opened with APPEND writes at the end of the file
 abbrev pub start_of : Handle → List ℕ → ℕ → ℕ
 start_of handle contents offset = if handle.append then length contents else offset
 
@@ -301,7 +304,7 @@ write moment offset bytes (OpenFile handle m contents) =
     else (let after = written contents (start_of handle contents offset) bytes in
     succeeds (SetObject handle.label (File (modified_at moment m) after) ∷ []))
 
--- READDIR (draft, section 6.7): the names that come next, of which the last is remembered
+-- READDIR (draft, section 6.7): the next entries; the handle remembers the last name
 abbrev pub lists : ℕ → Handle → List Entry → Outcome
 lists number handle [] = refuses EndOfFile
 lists number handle (e ∷ es) = record {
@@ -317,12 +320,13 @@ read_directory tree number (OpenDirectory handle m) =
 
 -- ---- all calls
 
--- the root is neither made, set, removed, moved nor linked
+-- fails if the path is the root: it can't be created, set, opened as a file, removed, moved or
+-- linked
 abbrev pub unless_root : Path → Outcome → Outcome
 unless_root [] answer = refuses Failure
 unless_root (name ∷ path) answer = answer
 
--- the answer to a request: of this session, by this call number, at this moment
+-- the reply to a request of this session, with this call number, at this timestamp, and its changes
 abbrev pub answer_to : Tree → ℕ → ℕ → ℕ → Request → Outcome
 answer_to tree session number moment (Stat path) = stat (found_at tree path)
 answer_to tree session number moment (SetStat path attrs) =
@@ -355,7 +359,7 @@ answer_to tree session number moment (PosixRename old new) =
 answer_to tree session number moment (Link old new) =
     unless_root old (unless_root new (link tree moment new (found_at tree old)))
 
--- the reply, and the tree after it
+-- the reply to a call, and the tree after it
 pub record Applied : Type 0 where
   pub reply : Reply
   pub tree : Tree
@@ -367,7 +371,7 @@ abbrev pub apply : Tree → ℕ → ℕ → ℕ → Request → Applied
 apply tree session number moment request =
     carry_out tree (answer_to tree session number moment request)
 
--- the tree after a session left: its handles are closed
+-- the tree after a session ends: its handles are closed
 abbrev pub leave : Tree → ℕ → Tree
 leave tree session =
     kept (with_handles tree (filter (λ e. not (nat_eq e.1.session session)) tree.handles))

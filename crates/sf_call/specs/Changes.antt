@@ -1,4 +1,4 @@
--- What a call changes, as data, and the tree after it.
+-- The changes that a call makes, as data, and the tree after them.
 use Rattle.std.specs.Prelude.{ℕ, List, [], ◌∷◌, fold, Option, Some, None}
 use Rattle.std.specs.Ordering.{nat_cmp}
 use Rattle.std.specs.Map.{remove_entry, set_value}
@@ -10,8 +10,8 @@ use Rattle.sf_path.specs.Names.{Path}
 use Rattle.sf_call.specs.Tree.{Tree, Handle, with_names, with_objects, with_handles, directory_at, kept}
 use Rattle.sf_call.specs.Moves.{moved}
 
--- another object at a label; a new path, with its label and its object; a further path of a file; a
--- path gone; a move of what begins with a path; a handle opened, changed or closed
+-- set the object of an inode number; add a path with a new object; add a link to a file; remove a
+-- path; move a path and all paths below it; open, set or close a handle
 pub data Change : Type 0 where
   SetObject : (label : ℕ) → (object : Object) → Change
   NewPath : (path : Path) → (label : ℕ) → (object : Object) → Change
@@ -22,7 +22,7 @@ pub data Change : Type 0 where
   SetHandle : (number : ℕ) → (handle : Handle) → Change
   CloseHandle : (number : ℕ) → Change
 
--- Where a name or a handle goes, the objects go that nothing names or opens any more.
+-- The tree after a change: an object left without link and open handle is deleted.
 abbrev pub changed : Tree → Change → Tree
 changed tree (SetObject label object) =
     with_objects tree (set_value (is_at (nat_cmp label)) tree.objects object)
@@ -41,12 +41,11 @@ changed tree (SetHandle number handle) =
 changed tree (CloseHandle number) =
     kept (with_handles tree (remove_entry (is_at (nat_cmp number)) tree.handles))
 
--- the tree after all of them
+-- the tree after all changes
 abbrev pub done : Tree → List Change → Tree
 done tree changes = fold changed tree changes
 
--- A change of a directory's entries marks the directory as modified at the moment (POSIX, mkdir and
--- others).
+-- A change of a directory's entries sets its modification time (POSIX, mkdir and others).
 abbrev pub touch : ℕ → Option (ℕ × Metadata) → List Change
 touch moment None = []
 touch moment (Some e) = SetObject e.0 (Directory (modified_at moment e.1)) ∷ []
@@ -54,7 +53,7 @@ touch moment (Some e) = SetObject e.0 (Directory (modified_at moment e.1)) ∷ [
 abbrev pub touched : Tree → ℕ → Path → List Change
 touched tree moment path = touch moment (directory_at tree path)
 
--- the old path, where changes are a move
+-- the old path of the first move among the changes
 abbrev pub moved_by : List Change → Option Path
 moved_by [] = None
 moved_by (Move old new ∷ changes) = Some old

@@ -1,5 +1,4 @@
--- Histories: the calls that were made, in one order, with their replies, and the leavings of
--- sessions.
+-- Histories: calls with their replies, and ends of sessions, in one sequential order.
 use Rattle.std.specs.Prelude.{◌≡◌, ◌≢◌, ◌<◌, ◌⊎◌, ℕ, nat_eq, Bool, false, List, [], ◌∷◌, ◌++◌, fold, Option}
 use Rattle.std.specs.List.{AllByRecursion, find}
 use Rattle.sf_reply.specs.declared.reply.Reply.{Reply}
@@ -11,7 +10,7 @@ use Rattle.sf_call.specs.Tree.{Tree, empty_tree}
 use Rattle.sf_call.specs.Calls.{apply, leave}
 use Rattle.sf_call.specs.Values.{IsCall}
 
--- the tree after a call that had this reply: want of memory leaves it as it was
+-- the tree after a call with this reply: out of memory leaves it unchanged
 abbrev pub after_reply : Tree → Tree → Reply → Tree
 after_reply tree next reply.NoMemory = tree
 after_reply tree next given = next
@@ -35,16 +34,16 @@ IsOther number (Left session) = Unit {0}
 abbrev pub IsNewNumber : ℕ → List Record → Type 0
 IsNewNumber number history = AllByRecursion (IsOther number) history
 
--- the record is not the session's leaving
+-- the record is not the end of the session
 abbrev pub IsNoLeaving : ℕ → Record → Type 0
 IsNoLeaving session (Did number s moment request given) = Unit {0}
 IsNoLeaving session (Left s) = s ≢ session
 
--- the session has not left
+-- the session has not ended
 abbrev pub IsPresent : ℕ → List Record → Type 0
 IsPresent session history = AllByRecursion (IsNoLeaving session) history
 
--- a call that was carried out, with the reply that it was given
+-- a call with the reply that it received
 pub record DoneCall : Type 0 where
   pub number : ℕ
   pub session : ℕ
@@ -52,12 +51,12 @@ pub record DoneCall : Type 0 where
   pub request : Request
   pub given : Reply
 
--- the tree's reply to the call
+-- the reply of the sequential specification after this history
 abbrev pub due_reply : List Record → DoneCall → Reply
 due_reply history d = (apply (replay history) d.session d.number d.moment d.request).reply
 
--- a call may come next: its parts are values of their types, its number is above 0 and new, its
--- session has not left, and its reply is the tree's or want of memory
+-- A call may come next if its values are in range, its number is new and above 0, and its session
+-- has not ended. Its reply is the specified one or out of memory.
 pub record CallMayFollow (history : List Record) (d : DoneCall) : Type 0 where
   pub is_call : IsCall d.number d.session d.moment d.request
   pub above_zero : 0 < d.number
@@ -65,14 +64,14 @@ pub record CallMayFollow (history : List Record) (d : DoneCall) : Type 0 where
   pub present : IsPresent d.session history
   pub answered : (d.given ≡ due_reply history d) ⊎ (d.given ≡ reply.NoMemory)
 
--- a record may come next; nothing of a session follows its leaving
+-- a record may come next; no record of a session follows its end
 abbrev pub MayFollow : List Record → Record → Type 0
 MayFollow history (Did number session moment request given) =
     CallMayFollow history
     record { number = number; session = session; moment = moment; request = request; given = given }
 MayFollow history (Left session) = IsPresent session history
 
--- each of the records may follow those before it
+-- each record may follow those before it
 unfoldable pub IsLegalAfter : List Record → List Record → Type 0
 IsLegalAfter before [] = Unit {0}
 IsLegalAfter before (r ∷ rs) = MayFollow before r × IsLegalAfter (before ++ r ∷ []) rs
@@ -80,12 +79,12 @@ IsLegalAfter before (r ∷ rs) = MayFollow before r × IsLegalAfter (before ++ r
 unfoldable pub IsLegal : List Record → Type 0
 IsLegal history = IsLegalAfter [] history
 
--- the record is one of these
+-- the list contains the record
 unfoldable pub IsAmong : Record → List Record → Type 0
 IsAmong record' [] = ⊥
 IsAmong record' (r ∷ rs) = (r ≡ record') ⊎ IsAmong record' rs
 
--- after some legal history a record of this call, with this reply, may come
+-- some legal history may continue with a record of this call with this reply
 abbrev pub IsGiven : ℕ → ℕ → Reply → Type 0
 IsGiven number session given = (before : List Record) × (moment : ℕ) × (request : Request)
     × IsLegal before × MayFollow before (Did number session moment request given)

@@ -1,4 +1,4 @@
--- What kinds of replies a request has, beside want of memory, and how long a reply is.
+-- The kinds of reply to each request, apart from out of memory, and the longest reply.
 use Rattle.std.specs.Prelude.{◌≡◌, ℕ, IsSome}
 use Rattle.sf_field.specs.declared.attrs.Attrs.{Attrs}
 use Rattle.sf_reply.specs.declared.reply.Reply.{Reply}
@@ -15,7 +15,7 @@ IsStatus (reply.Data bytes) = ⊥
 IsStatus (reply.Names entries) = ⊥
 IsStatus (reply.Attrs attrs) = ⊥
 
--- all four parts are given
+-- all four attributes are present
 pub record HasAllParts (attrs : Attrs) : Type 0 where
   pub size : IsSome attrs.size
   pub owner : IsSome attrs.owner
@@ -30,7 +30,7 @@ IsStatusOrAttrs (reply.Data bytes) = ⊥
 IsStatusOrAttrs (reply.Names entries) = ⊥
 IsStatusOrAttrs (reply.Attrs attrs) = HasAllParts attrs
 
--- the handle that is given has this number
+-- a status, or a handle with the call's number
 abbrev pub IsStatusOrHandle : ℕ → Reply → Type 0
 IsStatusOrHandle call (reply.Status code) = Unit {0}
 IsStatusOrHandle call reply.NoMemory = ⊥
@@ -55,7 +55,7 @@ IsStatusOrNames (reply.Data bytes) = ⊥
 IsStatusOrNames (reply.Names entries) = Unit {0}
 IsStatusOrNames (reply.Attrs attrs) = ⊥
 
--- a status, or what the request asks for; a handle has the number of the call that opened it
+-- a status, or a reply of the kind that the request asks for; a new handle has the call's number
 abbrev pub IsWanted : ℕ → Wanted → Reply → Type 0
 IsWanted number StatusAlone given = IsStatus given
 IsWanted number Attributes given = IsStatusOrAttrs given
@@ -66,6 +66,6 @@ IsWanted number Entries given = IsStatusOrNames given
 abbrev pub IsReplyTo : ℕ → Request → Reply → Type 0
 IsReplyTo number request given = IsWanted number (wanted_by request) given
 
--- the bytes of the longest packet of a reply: one of DATA, with as many bytes as one READ gives
+-- the size of the longest reply packet in bytes: DATA with MAX_READ bytes
 abbrev pub longest_packet : ℕ
 longest_packet = 261133

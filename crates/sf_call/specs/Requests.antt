@@ -1,10 +1,10 @@
--- What a request is aimed at, and what kind of reply it asks for.
+-- The target of a request, and the kind of its reply.
 use Rattle.std.specs.Prelude.{ℕ}
 use Rattle.sf_path.specs.Names.{Path}
 use Rattle.sf_call.specs.declared.request.Request.{Request}
 use Rattle.sf_call.specs.declared.request.Request.TheVariants.{Stat, SetStat, Mkdir, Rmdir, Remove, OpenDir, Open, Close, FStat, FSetStat, Read, Write, ReadDir, Rename, PosixRename, Link}
 
--- a handle, one path, or two
+-- a handle, one path or two paths
 pub data Target : Type 0 where
   ByHandle : (handle : ℕ) → Target
   OnPath : (path : Path) → Target
@@ -28,7 +28,8 @@ target_of (Rename old new) = OnPaths old new
 target_of (PosixRename old new) = OnPaths old new
 target_of (Link old new) = OnPaths old new
 
--- nothing but a status, or beside it attributes, a handle, a file's bytes, or names
+-- the reply on success: a status, attributes, a handle, file data or names; each request may also
+-- fail with a status
 pub data Wanted : Type 0 where
   StatusAlone : Wanted
   Attributes : Wanted

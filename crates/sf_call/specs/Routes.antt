@@ -1,4 +1,4 @@
--- The paths that a call walks.
+-- The paths that a call resolves by lock coupling (its route).
 use Rattle.std.specs.Prelude.{Bool, true, false, ◌||◌, if◌then◌else◌, is_some}
 use Rattle.sf_path.specs.Names.{Path}
 use Rattle.sf_call.specs.declared.request.Request.{Request}
@@ -13,22 +13,22 @@ use Rattle.sf_call.specs.Requests.{Target, target_of}
 use Rattle.sf_call.specs.Requests.Target.{ByHandle, OnPath, OnPaths}
 use Rattle.sf_call.specs.Tree.{after_front, is_nil}
 
--- no path; one; or two that part
+-- no path, one path, or two paths that diverge
 pub data Route : Type 0 where
   NoPath : Route
   Along : (path : Path) → Route
   Between : (old : Path) → (new : Path) → Route
 
--- one of two paths begins with the other
+-- whether one path is a prefix of the other
 abbrev pub are_nested : Path → Path → Bool
 are_nested old new = is_some (after_front old new) || is_some (after_front new old)
 
--- one of two paths is the root
+-- whether one path is the root
 abbrev pub is_rooted : Path → Path → Bool
 is_rooted old new = is_nil old || is_nil new
 
--- A call on two paths walks neither with the root among them, and the old one alone where one
--- begins with the other.
+-- The route of a call on two paths: none if one is the root, the old path alone if one is a prefix
+-- of the other, and otherwise both.
 abbrev pub route_between : Path → Path → Route
 route_between old new =
     if is_rooted old new then NoPath else if are_nested old new then Along old else Between old new
@@ -47,18 +47,18 @@ route_along request_paths.NoPath = NoPath
 route_along (OnePath path) = Along path.now
 route_along (TwoPaths old new) = route_between old.now new.now
 
--- no path is walked
+-- whether the route has no path
 abbrev pub walks_nothing : Route → Bool
 walks_nothing NoPath = true
 walks_nothing route = false
 
--- of which kind a route is
+-- the kind of a route
 abbrev pub route_kind : Route → RouteKind
 route_kind NoPath = kind.NoPath
 route_kind (Along path) = kind.Along
 route_kind (Between old new) = kind.Between
 
--- a route in the code
+-- the route that a value of `RoutePaths` represents
 abbrev pub route_in : RoutePaths → Route
 route_in paths.NoPath = NoPath
 route_in (paths.Along path) = Along path.now

@@ -1,4 +1,4 @@
--- The values that a call's types can hold.
+-- The ranges of the values of a call.
 use Rattle.std.specs.Prelude.{ℕ, ◌<◌, ◌^◌}
 use Rattle.sf_path.specs.Names.{IsPath}
 use Rattle.sf_field.specs.Attributes.{AttrsFit}
@@ -6,7 +6,7 @@ use Rattle.sf_field.specs.Fields.{AreBytes}
 use Rattle.sf_call.specs.declared.request.Request.{Request}
 use Rattle.sf_call.specs.declared.request.Request.TheVariants.{Stat, SetStat, Mkdir, Rmdir, Remove, OpenDir, Open, Close, FStat, FSetStat, Read, Write, ReadDir, Rename, PosixRename, Link}
 
--- the parts of a request are values of their types
+-- each field of a request is in the range of its type
 abbrev pub IsRequest : Request → Type 0
 IsRequest (Stat path) = IsPath path
 IsRequest (SetStat path attrs) = IsPath path × AttrsFit attrs
@@ -25,7 +25,8 @@ IsRequest (Rename old new) = IsPath old × IsPath new
 IsRequest (PosixRename old new) = IsPath old × IsPath new
 IsRequest (Link old new) = IsPath old × IsPath new
 
--- so are a call's number, its session, its moment and its request
+-- so are the call's number, its session's number, its timestamp (seconds since 1970) and its
+-- request
 pub record IsCall (number session moment : ℕ) (request : Request) : Type 0 where
   pub number_fits : number < 2 ^ 64
   pub session_fits : session < 2 ^ 64

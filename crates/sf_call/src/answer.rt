@@ -1,4 +1,4 @@
-//! Answers to calls.
+//! Replies with the numbers of their calls and sessions.
 
 ghost use Rattle.std.specs.Prelude.{◌≡◌};
 ghost use Rattle.sf_call.specs.Answers.{AnswerView};
@@ -7,8 +7,8 @@ ghost use Rattle.sf_call.specs.Histories.{IsGiven};
 use sf_reply::Reply;
 use std::marker::Model;
 
-/// The reply to a call of a session. Some legal history leads to it: it is what the tree after that
-/// history answers to the call's request, or want of memory.
+/// The reply to a call of a session. After some legal history it is the specified reply to the
+/// call's request, or out of memory.
 #[derive(Debug, Drop)]
 pub struct Answer {
     number: u64,
@@ -28,7 +28,7 @@ impl Model for Answer {
 }
 
 impl Answer {
-    /// Whoever makes an answer owes the history that leads to it. Takes no memory.
+    /// Requires a legal history that leads to the reply. Allocates nothing.
     pub fn new(number: u64, session: u64, reply: Reply) -> Answer
         requires { IsGiven number session reply }
         ensures { result ≡ record { number = number; session = session; reply = reply } }
@@ -54,7 +54,7 @@ impl Answer {
         self.session
     }
 
-    /// What the session is told.
+    /// The reply.
     pub fn reply(&self) -> &Reply
         ensures reply { result.now ≡ self.now.reply }
         ensures given { IsGiven self.now.number self.now.session result.now }

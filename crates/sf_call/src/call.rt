@@ -1,4 +1,4 @@
-//! Calls that wait for their answers.
+//! Pending calls: those without a reply, or with one that their session has not taken.
 
 ghost use Rattle.std.specs.Prelude.{◌≡◌, ◌<◌, ◌^◌, [], length, IfOk, IfSome, OnOk, OnErr};
 ghost use Rattle.std.specs.Option.{option_copied, option_map, option_and_then};
@@ -19,34 +19,33 @@ use std::collections::BTreeMap;
 use std::collections::btree_map::Iter;
 use std::marker::Model;
 
-/// A directory that a call has come to.
+/// A directory that path resolution has reached.
 #[derive(Clone, Copy, Debug, PartialEq, Eq)]
 pub struct Reached {
-    /// How many names of a path lead to it from the root.
+    /// The number of components resolved from the root to it.
     pub walked: usize,
     /// The directory's number in the store.
     pub node: usize,
 }
 
-/// How far a call has walked along the paths of its request.
+/// How far a call has proceeded.
 #[derive(Clone, Copy, Debug, PartialEq, Eq)]
 pub enum Stage {
-    /// It holds nothing yet.
+    /// It holds no directory yet.
     Fresh,
-    /// It holds the directory that so many names of its path lead to from the root.
+    /// It holds the directory at the first `walked` components of its path.
     At {
         walked: usize,
         /// The directory's number in the store.
         node: usize,
     },
-    /// A rename where its paths have parted: it holds the last directory that they have in common,
-    /// and one on the way of each.
+    /// A call on two paths that diverged: it holds the last common directory, and one on each path.
     Ends {
         common: Reached,
         old: Reached,
         new: Reached,
     },
-    /// A WRITE that has its record: it holds its file, into which so many blocks are still to be
+    /// A WRITE with its record made: it holds its file, into which `left` blocks are still to be
     /// copied.
     Copies {
         /// The file's number in the store.
@@ -55,31 +54,30 @@ pub enum Stage {
     },
 }
 
-/// A call of a session that has not been answered yet.
+/// A call of a session, not answered yet.
 #[derive(Debug, Drop)]
 pub struct Call {
-    /// Above 0, and no other call's.
+    /// Unique, and above 0.
     pub number: u64,
     pub session: u64,
-    /// In seconds since 1970.
+    /// The timestamp, in seconds since 1970.
     pub moment: u32,
     pub request: Request,
     pub stage: Stage,
-    /// The request again, for the record of a call that another one carries out while its session
-    /// waits.
+    /// A second owner of the request, for the record if another call helps this one.
     pub copy: Option<Request>,
-    /// The reply that waits for the session, where another call carried this one out.
+    /// The pending reply, if another call helped this one.
     pub reply: Option<Reply>,
 }
 
-/// A call with the kind of its route, which is found once.
+/// A call with the kind of its route, computed once.
 #[derive(Drop)]
 struct RoutedCall {
     call: Call,
     kind: RouteKind,
 }
 
-/// A call in memory of its own, so that a map of calls moves a pointer and not the call.
+/// A boxed call, so that a map of calls moves a pointer instead of a call.
 #[derive(Drop)]
 pub struct PlacedCall {
     routed: Box<RoutedCall>,
@@ -107,12 +105,12 @@ impl PlacedCall {
         let Ok(mut routed) = Box::new(alloc, RoutedCall { call, kind }) else {
             return Err(AllocError);
         };
-        // The request is read where it is placed, so that the call is moved as one piece.
+        // The request is read after boxing, so that the call moves in one piece.
         routed.kind = routed.call.request.route_kind();
         Ok(PlacedCall { routed })
     }
 
-    /// The call's record, with the reply that it was given.
+    /// The call's record with this reply.
     pub fn into_record(self, reply: Reply) -> Record
         ensures { result ≡ Did self.number self.session self.moment self.request reply }
     {
@@ -134,7 +132,7 @@ impl PlacedCall {
         }
     }
 
-    /// The reply that waits for the session.
+    /// The pending reply.
     fn into_reply(self) -> Option<Reply>
         ensures { result ≡ self.reply }
     {
@@ -149,7 +147,7 @@ impl PlacedCall {
         &self.routed.as_ref().call
     }
 
-    /// The paths that the call walks.
+    /// The route of the call.
     pub fn route(&self) -> RoutePaths<'_>
         ensures { route_in result ≡ route_of self.now.request }
     {
@@ -158,7 +156,7 @@ impl PlacedCall {
     }
 }
 
-/// The unanswered calls by rising number.
+/// The pending calls, in the order of their numbers.
 #[derive(Drop)]
 pub struct Calls {
     alloc: Global,
@@ -185,7 +183,7 @@ impl Calls {
         }
     }
 
-    /// How many calls there are.
+    /// The number of calls.
     pub fn len(&self) -> usize
         ensures count { result ≡ length self.now }
         ensures small { result < 2 ^ 63 }
@@ -193,7 +191,7 @@ impl Calls {
         self.calls.len()
     }
 
-    /// Adds a call; one of the same number goes.
+    /// Inserts a call; replaces one with the same number. On failure nothing changes.
     pub fn insert(&mut self, call: Call) -> Result<(), AllocError>
         ensures ok { OnOk result (self.new ≡ insert_entry nat_cmp self.old call.number call) }
         ensures err { OnErr result (self.new ≡ self.old) }
@@ -204,14 +202,14 @@ impl Calls {
         Ok(())
     }
 
-    /// The call of a number.
+    /// The call with this number.
     pub fn get(&self, number: u64) -> Option<&Call>
         ensures { option_copied result ≡ lookup (is_at (nat_cmp number)) self.now }
     {
         Some(self.calls.get(&number)?.as_call())
     }
 
-    /// The call of a number, and the paths that it walks.
+    /// The call with this number, and its route.
     pub fn get_with_route(&self, number: u64) -> Option<(&Call, RoutePaths<'_>)>
         ensures call { option_map (λ found. found.0.now) result
             ≡ lookup (is_at (nat_cmp number)) self.now }
@@ -221,14 +219,14 @@ impl Calls {
         Some((placed.as_call(), placed.route()))
     }
 
-    /// The calls by rising number.
+    /// The calls in the order of their numbers.
     pub fn iter(&self) -> Iter<'_, u64, PlacedCall>
         ensures { result ≡ self.now }
     {
         self.calls.iter()
     }
 
-    /// The call of a number has come to a stage. Takes no memory.
+    /// Sets the stage of the call with this number. Allocates nothing.
     pub fn set_stage(&mut self, number: u64, stage: Stage)
         ensures { self.new ≡ staged self.old number stage }
     {
@@ -237,7 +235,7 @@ impl Calls {
         }
     }
 
-    /// The reply to the call of a number waits from now on. The copy of its request comes out.
+    /// Sets the pending reply of the call with this number. Returns the copy of its request.
     pub fn set_reply(&mut self, number: u64, reply: Reply) -> Option<Request>
         ensures calls { self.new ≡ answered self.old number reply }
         ensures copy { result
@@ -249,7 +247,7 @@ impl Calls {
         placed.routed.call.copy.take()
     }
 
-    /// Takes out the call of a number, if its reply waits.
+    /// Removes the call with this number if it has a reply, and returns the reply.
     pub fn take_reply(&mut self, number: u64) -> Option<Reply>
         ensures reply { result
             ≡ option_and_then (λ (call : Call). call.reply)
@@ -263,8 +261,8 @@ impl Calls {
         self.remove_reply(number)
     }
 
-    /// Takes out the call of a number, and gives its reply. Few calls come here, so that no step of
-    /// another one makes room for a whole call.
+    /// Removes the call with this number and returns its reply. Not inlined, so that callers need
+    /// no stack space for a call.
     #[inline(never)]
     fn remove_reply(&mut self, number: u64) -> Option<Reply>
         ensures reply { result
@@ -275,7 +273,7 @@ impl Calls {
         self.remove(number)?.into_reply()
     }
 
-    /// Takes out the call of a number.
+    /// Removes the call with this number.
     pub fn remove(&mut self, number: u64) -> Option<PlacedCall>
         ensures call { result ≡ lookup (is_at (nat_cmp number)) self.old }
         ensures rest { self.new ≡ remove_entry (is_at (nat_cmp number)) self.old }

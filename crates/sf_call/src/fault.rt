@@ -1,4 +1,4 @@
-//! Why a core refuses.
+//! Errors of a core.
 
 ghost use Rattle.std.specs.Prelude.{◌≡◌};
 ghost use Rattle.sf_call.specs.declared.fault.CoreFault.TheVariants.{OutOfMemory};
@@ -6,16 +6,18 @@ ghost use Rattle.sf_call.specs.declared.fault.CoreFault.TheVariants.{OutOfMemory
 use std::alloc::{AllocError, AllocFailed};
 use thiserror::Error;
 
-/// `Sessions`: the core has as many joined sessions as it takes. `NumbersSpent`: there is no
-/// further number for a session or a call. `Stranger`: the session or the call is not the core's.
+/// The error of an operation on a core.
 #[derive(Clone, Copy, Debug, PartialEq, Eq, Error)]
 pub enum CoreFault {
     #[error("out of memory")]
     OutOfMemory = 1,
+    /// The limit of sessions is reached.
     #[error("too many sessions")]
     Sessions = 2,
+    /// No session or call number is left.
     #[error("numbers spent")]
     NumbersSpent = 3,
+    /// The core has no such session or call.
     #[error("not of this core")]
     Stranger = 4,
 }

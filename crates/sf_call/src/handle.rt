@@ -1,11 +1,11 @@
-//! Open handles.
+//! Open file handles.
 
 ghost use Rattle.std.specs.Prelude.{◌≡◌, IfOk};
 
 use sf_path::Name;
 use std::alloc::{AllocError, Global};
 
-/// What a session has opened. `label` is the opened object's.
+/// An open file handle: its session, the inode number (`label`) of its object, and its access mode.
 #[derive(Debug, Drop)]
 pub struct Handle {
     pub session: u64,
@@ -13,12 +13,12 @@ pub struct Handle {
     pub read: bool,
     pub write: bool,
     pub append: bool,
-    /// The last name that a listing gave.
+    /// The last name that READDIR returned, if any.
     pub listed: Option<Name>,
 }
 
 impl Handle {
-    /// Takes memory for the last listed name.
+    /// Copies the handle; allocates for `listed` alone.
     pub fn try_copy(&self, alloc: Global) -> Result<Handle, AllocError>
         ensures { IfOk result (λ copy. copy ≡ self.now) }
     {

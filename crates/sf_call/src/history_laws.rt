@@ -1,4 +1,4 @@
-//! Laws of histories, which no call needs.
+//! Laws of histories, for proofs in other crates.
 
 ghost use Rattle.std.specs.Prelude.{◌≡◌, ◌≢◌, ◌<◌, ◌≤◌, ℕ, true, false, List, [], ◌∷◌, ◌++◌, length, Some, None, IsSome};
 ghost use Rattle.sf_field.specs.Fields.{packet};
@@ -15,7 +15,7 @@ ghost use Rattle.sf_call.specs.Allowed.{AreAllowed, IsWellFormed};
 ghost use Rattle.sf_call.specs.Histories.{after, replay, IsNewNumber, IsLegal, MayFollow, IsAmong, IsGiven, record_of};
 ghost use Rattle.sf_call.specs.ReplyKinds.{longest_packet};
 
-/// A history goes on by one record.
+/// A history extended by one record.
 pub fn one_record_more()
     ensures replayed { (history : List Record) (r : Record)
         → replay (history ++ r ∷ []) ≡ after (replay history) r }
@@ -23,7 +23,7 @@ pub fn one_record_more()
         → IsLegal (history ++ r ∷ []) }
 {}
 
-/// The reply of a call in a legal history is given by some legal history before it.
+/// Each reply in a legal history follows from a legal history before it.
 pub fn given_by_history()
     ensures { (number session moment : ℕ) (request : Request) (reply : Reply)
         (history : List Record)
@@ -31,7 +31,7 @@ pub fn given_by_history()
         → IsGiven number session reply }
 {}
 
-/// In a legal history a call's number leads to its record.
+/// In a legal history a call's number identifies its record.
 pub fn found_by_number()
     ensures { (number session moment : ℕ) (request : Request) (reply : Reply)
         (history : List Record)
@@ -39,8 +39,8 @@ pub fn found_by_number()
         → record_of number history ≡ Some (Did number session moment request reply) }
 {}
 
-/// After a legal history no path, no object and no handle has the number of a call to come, one
-/// path at most names a directory, and 1024 at most a file.
+/// After a legal history no path, object or handle has the number of a future call. A directory has
+/// at most one path, and a file at most 1024.
 pub fn labels_of_paths()
     ensures unused { (history : List Record) (number : ℕ) (path : Path) → IsLegal history
         → 0 < number → IsNewNumber number history
@@ -57,7 +57,7 @@ pub fn labels_of_paths()
         → links (replay history).names label ≤ 1024 }
 {}
 
-/// After a legal history each path that is named leads over directories to an object.
+/// After a legal history each path resolves over directories to an object.
 pub fn ways_of_paths()
     ensures object { (history : List Record) (path : Path) (label : ℕ) → IsLegal history
         → label_at (replay history).names path ≡ Some label
@@ -67,8 +67,8 @@ pub fn ways_of_paths()
         → is_faulty_way (replay history) path ≡ false }
 {}
 
-/// What a request that may come next changes is allowed there, as each kind of change asks; and
-/// what is allowed, a move too, keeps the tree well formed.
+/// The changes of a request are allowed after each legal history, and allowed changes keep the tree
+/// well formed.
 pub fn allowed_changes()
     ensures request { (history : List Record) (number session moment : ℕ) (request : Request)
         → IsLegal history → 0 < number → IsNewNumber number history
@@ -79,8 +79,8 @@ pub fn allowed_changes()
         → IsWellFormed (done (replay history) changes) }
 {}
 
-/// Each reply of a call that may come after a legal history has a packet of at most 261,133 bytes,
-/// and its numbers and its strings have a spelling.
+/// Each reply after a legal history has a packet of at most 261,133 bytes, and its numbers and
+/// strings fit their encodings.
 pub fn replies_fit()
     ensures packet { (number session id : ℕ) (reply : Reply) → IsGiven number session reply
         → length (packet (reply_body id reply)) ≤ longest_packet }

@@ -1,4 +1,4 @@
-//! A path, with what it names.
+//! A path with the object that it names.
 
 ghost use Rattle.std.specs.Prelude.{◌≡◌};
 ghost use Rattle.std.specs.Option.{option_copied};
@@ -11,8 +11,8 @@ use sf_field::Attrs;
 use sf_path::Path;
 use std::marker::Model;
 
-/// A path, with the label, the attributes and, of a file, the contents of what it names. The
-/// contents' bytes are shared and not copied.
+/// A path with its inode number, its attributes and, for a file, its contents. The bytes are
+/// shared, not copied.
 #[derive(Debug, Drop)]
 pub struct Leaf {
     path: Path,
@@ -33,7 +33,7 @@ impl Model for Leaf {
 }
 
 impl Leaf {
-    /// A path that names a file of these contents, or without contents a directory.
+    /// A path to a file with these contents, or to a directory if there are none.
     pub fn new(path: Path, label: u64, metadata: Metadata, contents: Option<WholeContents>) -> Leaf
         ensures { result ≡ (path, (label, object_by metadata contents)) }
     {
@@ -52,21 +52,21 @@ impl Leaf {
         &self.path
     }
 
-    /// The label of what the path names: paths with one label name one file.
+    /// The inode number: paths with equal numbers name one file.
     pub fn label(&self) -> u64
         ensures { result ≡ self.now.1.0 }
     {
         self.label
     }
 
-    /// The owner, the permissions and the times.
+    /// The owner, permissions and times.
     pub fn metadata(&self) -> Metadata
         ensures { result ≡ metadata_of self.now.1.1 }
     {
         self.metadata
     }
 
-    /// All attributes, as they are sent; the size of a directory is 0.
+    /// All attributes as sent; the size of a directory is 0.
     pub fn attrs(&self) -> Attrs
         ensures { result ≡ attrs_of self.now.1.1 }
     {
@@ -76,7 +76,7 @@ impl Leaf {
         }
     }
 
-    /// The bytes of a file. A directory has none.
+    /// The contents of a file; `None` for a directory.
     pub fn contents(&self) -> Option<&WholeContents>
         ensures { option_copied result ≡ contents_of self.now.1.1 }
     {

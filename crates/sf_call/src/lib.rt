@@ -1,14 +1,14 @@
-//! Calls on a tree of files: what is asked, what is answered, and what the tree is after it.
+//! The sequential specification of the server: a model of a file system, and the reply to each SFTP
+//! request.
 //!
-//! This crate says what the server means; it keeps no tree. Start with `specs/Tree.antt` (paths,
-//! labels, objects, handles) and `specs/Calls.antt`: `answer_to` answers each request case by case,
-//! and `apply` is the reply with the tree after it. `specs/Changes.antt` says what a change makes
-//! of a tree, and `specs/Leaves.antt` has all paths of one, each with what it names, as a `Leaf`
-//! holds it. A list of calls with their replies is a history; `specs/Histories.antt` says which
-//! are legal, and what tree stands at the end of one. `Request`, `Record` and `Answer` are the
-//! types that hold these; the contract of `Answer::new` is what ties a reply to a legal history.
-//! The laws in `tree_laws.rt` and `history_laws.rt` are those that crates above rest on; readers
-//! find more in `sf_laws`.
+//! This crate stores no files. Start with `specs/Tree.antt` (paths, inodes, handles) and
+//! `specs/Calls.antt`: `answer_to` defines the answer to each request by cases, and `apply` is the
+//! reply with the tree after it. `specs/Changes.antt` defines the effect of each change.
+//! `specs/Leaves.antt` lists the paths of a tree, with the objects that they name, as `Leaf` does.
+//! A history is a list of calls with their replies; `specs/Histories.antt` defines legal histories
+//! and the tree at the end of one. `Request`, `Record` and `Answer` are the Rust types; the
+//! contract of `Answer::new` ties a reply to a legal history. `tree_laws.rt` and `history_laws.rt`
+//! have laws that other crates use; `sf_laws` has those for readers.
 #![tactic(auto)]
 
 mod answer;

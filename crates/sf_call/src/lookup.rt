@@ -1,10 +1,12 @@
-//! Where a path leads.
+//! Results of lookups.
 
-/// A part of the path before its last is missing or is no directory; or nothing is there; or the
-/// object with a label.
+/// The result of a lookup.
 #[derive(Clone, Copy, Debug, PartialEq, Eq)]
 pub enum Lookup {
+    /// A component before the last is absent or no directory.
     NoWay,
+    /// The path is absent.
     Absent,
+    /// The inode number at the path.
     At(u64),
 }

@@ -1,11 +1,12 @@
-//! What is kept of a directory or a file, beside a file's bytes.
+//! The attributes of a directory or a file, apart from its size.
 
 ghost use Rattle.std.specs.Prelude.{◌≡◌};
 ghost use Rattle.sf_call.specs.Attributes.{new_metadata, modified_at, with_parts, sent, type_bits};
 
 use sf_field::{Attrs, Owner, Times};
 
-/// Of the permissions the lowest twelve bits count.
+/// The stored attributes of a directory or a file. Only the low twelve bits of the permissions
+/// count.
 #[derive(Clone, Copy, Debug, PartialEq, Eq)]
 pub struct Metadata {
     pub owner: Owner,
@@ -14,13 +15,14 @@ pub struct Metadata {
 }
 
 #[derive(Clone, Copy, Debug, PartialEq, Eq)]
+/// The type of a file, as in `st_mode` (POSIX).
 pub enum FileType {
     Directory,
     File,
 }
 
 impl FileType {
-    /// The bits that mark the type among the permissions (POSIX, `st_mode`).
+    /// The file type bits of `st_mode` (POSIX).
     pub fn bits(self) -> u32
         ensures { result ≡ type_bits self }
     {
@@ -32,8 +34,9 @@ impl FileType {
 }
 
 impl Metadata {
-    /// Of an object made at a moment, in seconds since 1970. The parts of `attrs` that are given
-    /// take the place of user 0, group 0, the permissions and the moment; a size is ignored.
+    /// The attributes of an object created at a timestamp, in seconds since 1970. The defaults are
+    /// user 0, group 0, `permissions`, and the timestamp as both times. Given `attrs` replace them;
+    /// a size is ignored.
     pub fn new_object(permissions: u32, moment: u32, attrs: &Attrs) -> Metadata
         ensures { result ≡ new_metadata permissions moment attrs.now }
     {
@@ -48,7 +51,7 @@ impl Metadata {
         made.with_parts(attrs)
     }
 
-    /// With the parts of `attrs` that are given; a size is ignored.
+    /// Replaces the attributes that `attrs` gives; a size is ignored.
     pub fn with_parts(self, attrs: &Attrs) -> Metadata
         ensures { result ≡ with_parts self attrs.now }
     {
@@ -61,7 +64,7 @@ impl Metadata {
         }
     }
 
-    /// Modified at a moment, in seconds since 1970.
+    /// Sets the modification time, in seconds since 1970.
     pub fn modified_at(self, moment: u32) -> Metadata
         ensures { result ≡ modified_at moment self }
     {
@@ -72,7 +75,7 @@ impl Metadata {
         Metadata { times, ..self }
     }
 
-    /// As it is sent: all four parts (draft-ietf-secsh-filexfer-02, section 5).
+    /// The attributes as sent: all four fields (draft-ietf-secsh-filexfer-02, section 5).
     pub fn sent(self, file_type: FileType, size: u64) -> Attrs
         ensures { result ≡ sent file_type size self }
     {

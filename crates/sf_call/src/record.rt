@@ -3,8 +3,8 @@
 use crate::request::Request;
 use sf_reply::Reply;
 
-/// A call that was made, with its reply, or a session that left. The moment is in seconds since
-/// 1970.
+/// A record: a call with its reply, or the end of a session. `moment` is a timestamp in seconds
+/// since 1970.
 #[derive(Debug, Drop)]
 pub enum Record {
     Did {

@@ -1,4 +1,4 @@
-//! What a call asks of the tree.
+//! Requests on the tree.
 
 ghost use Rattle.std.specs.Prelude.{◌≡◌, IfOk};
 
@@ -6,8 +6,8 @@ use sf_field::{Attrs, ByteString, OpenFlags};
 use sf_path::Path;
 use std::alloc::AllocError;
 
-/// LSTAT is `Stat` too: the tree has no symbolic links. A handle is the number of the call that
-/// opened it.
+/// A decoded request on the tree (draft-ietf-secsh-filexfer-02, section 6). LSTAT is `Stat` too, as
+/// the tree has no symbolic links. A handle is the number of the call that opened it.
 #[derive(Debug, PartialEq, Eq, Drop)]
 pub enum Request {
     Stat(Path),
@@ -20,7 +20,7 @@ pub enum Request {
     Close(u64),
     FStat(u64),
     FSetStat(u64, Attrs),
-    /// At most `len` bytes from `offset` on.
+    /// Up to `len` bytes from `offset` on.
     Read {
         handle: u64,
         offset: u64,
@@ -33,15 +33,15 @@ pub enum Request {
     },
     ReadDir(u64),
     Rename(Path, Path),
-    /// OpenSSH's rename, which replaces what the new path names.
+    /// `posix-rename@openssh.com`, which replaces the object at the new path.
     PosixRename(Path, Path),
-    /// OpenSSH's hardlink: the new path names the file that the old one names.
+    /// `hardlink@openssh.com`: the new path names the file that the old one names.
     Link(Path, Path),
 }
 
 impl Request {
-    /// The same request once more: its paths and the bytes of a WRITE are shared, which takes no
-    /// memory. It fails where the owners can't be counted: at 2^63 of them.
+    /// A copy that shares the paths and the bytes of a WRITE, so it allocates nothing. It fails
+    /// only if one of them already has 2^63 owners.
     pub fn share(&self) -> Result<Request, AllocError>
         ensures { IfOk result (λ copy. copy ≡ self.now) }
     {

@@ -1,4 +1,4 @@
-//! The paths that a call walks.
+//! Routes: the paths that a call resolves by lock coupling.
 
 ghost use Rattle.std.specs.Prelude.{◌≡◌, ◌≢◌, ◌⊎◌, true, false, []};
 ghost use Rattle.sf_call.specs.Routes.{are_nested, route_of, route_along, route_in, route_between, route_kind, walks_nothing};
@@ -6,18 +6,18 @@ ghost use Rattle.sf_call.specs.Routes.{are_nested, route_of, route_along, route_
 use crate::request::Request;
 use sf_path::Path;
 
-/// The paths that a call walks.
+/// The paths that a call resolves.
 #[derive(Clone, Copy)]
 pub enum RoutePaths<'a> {
-    /// It has none, or the root is one of two.
+    /// The request has no path, or one of its two paths is the root.
     NoPath,
-    /// Its path, or the old one of two of which one begins with the other.
+    /// The only path, or the old one of two if one is a prefix of the other.
     Along(&'a Path),
-    /// Both, which part.
+    /// Both paths; they diverge.
     Between(&'a Path, &'a Path),
 }
 
-/// Of which kind a route is.
+/// The kind of a route.
 #[derive(Clone, Copy, Debug, PartialEq, Eq)]
 pub enum RouteKind {
     NoPath,
@@ -57,7 +57,7 @@ impl Request {
         }
     }
 
-    /// Whether it walks no path: it has none, or the root is one of two.
+    /// Whether the route has no path: the request has none, or one of two is the root.
     pub fn walks_nothing(&self) -> bool
         ensures { result ≡ walks_nothing (route_of self.now) }
     {
@@ -68,7 +68,7 @@ impl Request {
         }
     }
 
-    /// Of which kind its route is. Two paths are compared once.
+    /// The kind of the request's route. Compares two paths once.
     pub fn route_kind(&self) -> RouteKind
         ensures { result ≡ route_kind (route_of self.now) }
     {
@@ -79,7 +79,7 @@ impl Request {
         }
     }
 
-    /// The paths of its route, which is of this kind.
+    /// The paths of the request's route, given its kind.
     pub fn route(&self, kind: RouteKind) -> RoutePaths<'_>
         requires { kind ≡ route_kind (route_of self.now) }
         ensures { route_in result ≡ route_of self.now }
@@ -92,7 +92,7 @@ impl Request {
     }
 }
 
-/// Of which kind the route of a request of two paths is.
+/// The kind of the route of a request on two paths.
 fn kind_between(old: &Path, new: &Path) -> RouteKind
     ensures { result ≡ route_kind (route_between old.now new.now) }
 {
@@ -105,7 +105,7 @@ fn kind_between(old: &Path, new: &Path) -> RouteKind
     RouteKind::Between
 }
 
-/// The paths of a route of this kind, of a request of two.
+/// The paths of the route of a request on two paths, given its kind.
 fn paths_between<'a>(old: &'a Path, new: &'a Path, kind: RouteKind) -> RoutePaths<'a>
     requires { kind ≡ route_kind (route_between old.now new.now) }
     ensures { route_in result ≡ route_between old.now new.now }
@@ -125,7 +125,7 @@ fn has_root(old: &Path, new: &Path) -> bool
     old.is_root() || new.is_root()
 }
 
-/// Whether one path begins with the other.
+/// Whether one path is a prefix of the other.
 fn are_nested(old: &Path, new: &Path) -> bool
     ensures { result ≡ are_nested old.now new.now }
 {

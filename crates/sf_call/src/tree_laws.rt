@@ -1,4 +1,4 @@
-//! Laws of the tree, which no call needs.
+//! Laws of trees, for proofs in other crates.
 
 ghost use Rattle.std.specs.Prelude.{T, ◌≡◌, ◌<◌, ◌≤◌, ◌↔◌, ℕ, nat_eq, true, false, List, [], ◌∷◌, ◌++◌, length, take, filter_map, count_by, Option, Some, None, IsSome, option_and_then};
 ghost use Rattle.sf_call.specs.declared.request.Request.{Request};
@@ -25,15 +25,14 @@ ghost use Rattle.sf_call.specs.Attributes.{Object, attrs_of};
 ghost use Rattle.sf_call.specs.Histories.{after, replay, IsLegal};
 ghost use Rattle.sf_call.specs.Leaves.{named_by, leaves_of};
 
-/// Trees are compared by what they map: each tree that a history leads to is in order, and two such
-/// trees that map alike are equal.
+/// The tree after each history is in key order, and two such trees that map alike are equal.
 pub fn ordered_trees()
     ensures alike { (s t : Tree) → IsOrderedTree s → IsOrderedTree t → MapsAlike s t → s ≡ t }
     ensures replayed { (history : List Record) → IsOrderedTree (replay history) }
 {}
 
-/// The leaves of a tree have each path once, in the order of paths, with the label and the object
-/// that it names. After a legal history no path is left out.
+/// The leaves of a tree have each path once, in the order of paths, with its inode number and its
+/// object. After a legal history no path is missing.
 #[tactic(auto, using(crate::proofs::Leaves::found_leaf, crate::proofs::Leaves::ordered_leaves, crate::proofs::Leaves::no_leaf_missing))]
 pub fn leaves_of_trees()
     ensures named { (t : Tree) (path : Path) → IsOrderedTree t
@@ -45,21 +44,21 @@ pub fn leaves_of_trees()
         → IsSome (lookup (same_path path) (leaves_of (replay history))) }
 {}
 
-/// A way is open where each proper front of the path is a directory.
+/// Path resolution succeeds if and only if each proper prefix of the path is a directory.
 pub fn open_ways()
     ensures { (tree : Tree) (path : Path) → (is_faulty_way tree path ≡ false)
         ↔ ((n : ℕ) → n < length path → is_directory tree (take n path) ≡ true) }
 {}
 
-/// What follows a front of a path.
+/// The suffix of a path after a prefix.
 pub fn fronts()
     ensures append { (front rest : Path) → after_front front (front ++ rest) ≡ Some rest }
     ensures front { (front path rest : Path) → after_front front path ≡ Some rest
         → path ≡ front ++ rest }
 {}
 
-/// A move brings what stood below the old path below the new one, in the place of what stood there,
-/// and nothing else changes.
+/// A move replaces all at or below the new path by what was at or below the old path. Nothing else
+/// changes.
 pub fn moved_names()
     ensures to_new { (names : List (Path × ℕ)) (old new rest : Path)
         → label_at (moved names old new) (new ++ rest) ≡ label_at names (old ++ rest) }
@@ -70,13 +69,13 @@ pub fn moved_names()
         → after_front new path ≡ None → label_at (moved names old new) path ≡ label_at names path }
 {}
 
-/// What a request may be answered.
+/// The kinds of reply to each request.
 pub fn kinds_of_replies()
     ensures { (tree : Tree) (session number moment : ℕ) (request : Request)
         → IsReplyTo number request (apply tree session number moment request).reply }
 {}
 
-/// A record with the tree's own reply leads to the tree after it.
+/// The tree after a record with the specified reply is the specified tree.
 pub fn told_replies()
     ensures { (tree : Tree) (session number moment : ℕ) (request : Request)
         → after tree (Did number session moment request
@@ -84,8 +83,7 @@ pub fn told_replies()
         ≡ (apply tree session number moment request).tree }
 {}
 
-/// The attributes that a listing shows of an object have all parts, and its type among the
-/// permissions, so that its line is there.
+/// Listed attributes have all four fields and the file type, and each entry has a long name.
 pub fn listed_attributes()
     ensures parts { (object : Object) → HasAllParts (attrs_of object) }
     ensures kind { (object : Object) → HasType (attrs_of object).permissions }
@@ -95,31 +93,31 @@ pub fn listed_attributes()
         → longname_text (attrs_of object) count name ≡ Some (entry_of name count object).longname }
 {}
 
-/// The limits in numbers: the most that passes, and what is refused.
+/// The limits as numbers: the largest value that is accepted, and what is rejected.
 pub fn limit_cases()
-    // A file has at most 1099511627776 bytes, by a size
+    // A file has at most 1099511627776 bytes after a change of its size
     ensures sized { (m : Metadata) (contents : List ℕ)
         → (refuses_size (File m contents) (Some 1099511627776) ≡ false)
         × (refuses_size (File m contents) (Some 1099511627777) ≡ true) }
-    // and by a byte that is written.
+    // and after a WRITE.
     ensures written { (moment byte : ℕ) (handle : Handle) (m : Metadata) (contents : List ℕ)
         → handle.write ≡ true → handle.append ≡ false
         → ((write moment 1099511627775 (byte ∷ []) (OpenFile handle m contents)).reply
         ≡ Status Success)
         × (write moment 1099511627776 (byte ∷ []) (OpenFile handle m contents) ≡ refuses Failure) }
-    // One READ gives at most 261120 bytes.
+    // One READ returns at most 261120 bytes.
     ensures read { (len : ℕ) (handle : Handle) (m : Metadata) (contents : List ℕ)
         → handle.read ≡ true → 0 < length contents → 261120 ≤ len
         → read 0 len (OpenFile handle m contents) ≡ tells (Data (take 261120 contents)) }
     // A session has at most 128 handles open.
     ensures open { (tree : Tree) (session : ℕ) → (has_all_handles tree session ≡ true)
         ↔ (128 ≤ count_by (λ e. nat_eq e.1.session session) tree.handles) }
-    // At most 1024 paths name one file.
+    // A file has at most 1024 links.
     ensures linked { (tree : Tree) (moment label : ℕ) (new : Path)
         → (links tree.names label < 1024
         → (link_to tree moment new label Absent).reply ≡ Status Success)
         × (1024 ≤ links tree.names label → link_to tree moment new label Absent ≡ refuses Failure) }
-    // One READDIR gives at most 32 names.
+    // One READDIR returns at most 32 entries.
     ensures listed { (tree : Tree) (last : Option Name) (directory : Path)
         → listing tree last directory
         ≡ take 32 (filter_map (listed_entry tree directory last) tree.names) }

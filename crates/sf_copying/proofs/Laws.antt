@@ -1,4 +1,4 @@
--- What keeps the facts about files that are being written.
+-- The changes that preserve the invariant of files being written.
 use Rattle.std.specs.Prelude.{◌≡◌, ◌≢◌, ◌<◌, ℕ, Some, None}
 use Rattle.std.proofs.Common.{sym, ap, subst, ◌∙◌, inl, inr}
 use Rattle.std.proofs.lemmas.Bool.{cases_eq}
@@ -15,7 +15,7 @@ pub one_writer : (s : Copiers) → AreCopies s → (n m : ℕ) (c d : Copying) �
 one_writer s copies n m c d at bt e = some_is n m (sym (copies.holds n c at) ∙ (ap s.writer e ∙ copies.holds m d bt))
 
 module _ (old new : Copiers) (n file : ℕ) (copies : AreCopies old) (changes : ChangesOneCall old new n file) (own : (f : ℕ) → old.writer f ≡ Some n → f ≡ file) (mine : (m : ℕ) → old.writer file ≡ Some m → m ≡ n) where
-  -- another call's file is another one
+  -- the file of another call differs
   apart : (m : ℕ) (c : Copying) → m ≢ n → old.copying_of m ≡ Some c → c.file ≢ file
   apart m c ne at e = ne (mine m (sym (ap old.writer e) ∙ copies.holds m c at))
 
@@ -82,11 +82,11 @@ module _ (old new : Copiers) (n : ℕ) (c : Copying) (copies : AreCopies old) (c
   pub copies_now : AreCopies new
   copies_now = record { some = some'; left = left'; holds = holds'; held = held'; settled = settled' }
 
--- no file is held by a call that copies nothing
+-- a call that does not copy holds no file
 holds_none : (s : Copiers) → AreCopies s → (n f : ℕ) → s.copying_of n ≡ None → s.writer f ≡ Some n → ⊥
 holds_none s copies n f none at = let w = copies.held f n at in none_some w.0 (sym none ∙ w.1)
 
--- a call that copies holds its own file alone
+-- a copying call holds its file alone
 holds_one : (s : Copiers) → AreCopies s → (n f : ℕ) (c : Copying) → s.copying_of n ≡ Some c → s.writer f ≡ Some n → f ≡ c.file
 holds_one s copies n f c is at = let w = copies.held f n at in sym w.2 ∙ ap (λ (x : Copying). x.file) (some_is w.0 c (sym w.1 ∙ is))
 

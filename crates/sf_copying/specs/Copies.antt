@@ -1,7 +1,7 @@
--- Files that are being written, and the calls that write them.
+-- Files being written, and the calls that write them.
 use Rattle.std.specs.Prelude.{◌≡◌, ◌≢◌, ◌<◌, ℕ, suc, Option, Some, None}
 
--- the file that a call copies into, and how many blocks are left
+-- the file that a call copies into, and the number of blocks left
 pub record Copying : Type 0 where
   pub file : ℕ
   pub left : ℕ
@@ -9,15 +9,15 @@ pub record Copying : Type 0 where
 abbrev pub copying : ℕ → ℕ → Copying
 copying file left = record { file = file; left = left }
 
--- what each call copies into, by its number; and of each file the call that holds it, and how many
--- blocks are still to be copied
+-- by call number, what each call copies into; by file, the call that writes it and the number of
+-- blocks left
 pub record Copiers : Type 0 where
   pub copying_of : ℕ → Option Copying
   pub writer : ℕ → Option ℕ
   pub left : ℕ → ℕ
 
--- A call that copies holds its file, and has as many blocks left as that; no other file is held;
--- and of a file that no call holds nothing is left.
+-- The invariant: a copying call holds its file and agrees with it on the number of blocks left. No
+-- other file is held, and a free file has no block left.
 pub record AreCopies (s : Copiers) : Type 0 where
   pub some : (n : ℕ) (c : Copying) → s.copying_of n ≡ Some c → 0 < c.left
   pub left : (n : ℕ) (c : Copying) → s.copying_of n ≡ Some c → s.left c.file ≡ c.left
@@ -26,13 +26,13 @@ pub record AreCopies (s : Copiers) : Type 0 where
       → (c : Copying) × (s.copying_of n ≡ Some c) × (c.file ≡ f)
   pub settled : (f : ℕ) → s.writer f ≡ None → s.left f ≡ 0
 
--- Of one call something changed, which is about one file: the others copy and hold as before.
+-- A change of one call and one file: the other calls and files are unchanged.
 pub record ChangesOneCall (old new : Copiers) (n file : ℕ) : Type 0 where
   pub calls : (m : ℕ) → m ≢ n → new.copying_of m ≡ old.copying_of m
   pub writers : (f : ℕ) → f ≢ file → new.writer f ≡ old.writer f
   pub lefts : (f : ℕ) → f ≢ file → new.left f ≡ old.left f
 
--- a call begins to copy into a file that no call held
+-- a call starts to copy into a free file
 pub record StartsToCopy (old new : Copiers) (n : ℕ) (c : Copying) : Type 0 where
   pub changes : ChangesOneCall old new n c.file
   pub was : old.copying_of n ≡ None
@@ -42,7 +42,7 @@ pub record StartsToCopy (old new : Copiers) (n : ℕ) (c : Copying) : Type 0 whe
   pub left : new.left c.file ≡ c.left
   pub some : 0 < c.left
 
--- it copies one block, and more are left
+-- it copies one block, with more left
 pub record CopiesOneBlock (old new : Copiers) (n : ℕ) (c : Copying) (k : ℕ) : Type 0 where
   pub changes : ChangesOneCall old new n c.file
   pub was : old.copying_of n ≡ Some c
@@ -52,7 +52,7 @@ pub record CopiesOneBlock (old new : Copiers) (n : ℕ) (c : Copying) (k : ℕ) 
   pub holds : new.writer c.file ≡ Some n
   pub left : new.left c.file ≡ k
 
--- All that is left is copied: by the last step of the call, or by another one that finishes it.
+-- The rest is copied: by the last step of the call, or by a call that helps it.
 pub record CopiesRest (old new : Copiers) (n : ℕ) (c : Copying) : Type 0 where
   pub changes : ChangesOneCall old new n c.file
   pub was : old.copying_of n ≡ Some c
@@ -60,9 +60,8 @@ pub record CopiesRest (old new : Copiers) (n : ℕ) (c : Copying) : Type 0 where
   pub free : new.writer c.file ≡ None
   pub left : new.left c.file ≡ 0
 
--- Another call was decided, or a session left: who copies goes on copying into the same file, of
--- which as much is left; and nothing is left of a file that no call holds, whether it was there or
--- not.
+-- Another call completed, or a session ended: copying calls keep their files and the blocks left. A
+-- file without writer has no block left, whether it is new or not.
 pub record Spares (old new : Copiers) : Type 0 where
   pub calls : (n : ℕ) → new.copying_of n ≡ old.copying_of n
   pub writers : (f n : ℕ) → old.writer f ≡ Some n → new.writer f ≡ Some n

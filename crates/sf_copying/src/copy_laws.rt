@@ -1,4 +1,4 @@
-//! The laws of files that are being written.
+//! Laws of block-by-block writes.
 
 ghost use Rattle.std.specs.Prelude.{◌≡◌, ℕ, Some};
 ghost use Rattle.sf_copying.specs.Copies.{Copying, Copiers, AreCopies, StartsToCopy, CopiesOneBlock, CopiesRest, Spares};
@@ -10,28 +10,28 @@ pub fn written_once()
         → s.copying_of m ≡ Some d → c.file ≡ d.file → n ≡ m }
 {}
 
-/// The facts are kept where a call begins to copy into a file that nobody held.
+/// A call that starts to copy into a free file preserves the invariant.
 #[tactic(auto, using(crate::proofs::Laws::starts_keeps))]
 pub fn start_kept()
     ensures { (old new : Copiers) (n : ℕ) (c : Copying) → AreCopies old → StartsToCopy old new n c
         → AreCopies new }
 {}
 
-/// And where it copies a block, and more are left.
+/// So does a call that copies a block with more left.
 #[tactic(auto, using(crate::proofs::Laws::goes_keeps))]
 pub fn block_kept()
     ensures { (old new : Copiers) (n : ℕ) (c : Copying) (k : ℕ) → AreCopies old
         → CopiesOneBlock old new n c k → AreCopies new }
 {}
 
-/// And where it copies the last block, or another call copies all that is left.
+/// So does a call that copies the last block, and a call that copies the rest for another one.
 #[tactic(auto, using(crate::proofs::Laws::ends_keeps))]
 pub fn end_kept()
     ensures { (old new : Copiers) (n : ℕ) (c : Copying) → AreCopies old → CopiesRest old new n c
         → AreCopies new }
 {}
 
-/// And where another call is decided, or a session leaves.
+/// So does the completion of another call, and the end of a session.
 #[tactic(auto, using(crate::proofs::Laws::spares_keeps))]
 pub fn others_kept()
     ensures { (old new : Copiers) → AreCopies old → Spares old new → AreCopies new }

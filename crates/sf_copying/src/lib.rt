@@ -1,11 +1,10 @@
-//! Files that are being written block by block, each held by the call that writes it. Definitions
-//! and their laws, and no code.
+//! The invariant of WRITEs that copy their data block by block: each file being written is held by
+//! its writer. Definitions and laws, no code.
 //!
-//! Start with `specs/Copies.antt`: `AreCopies` says of the `Copiers` (what each call copies into,
-//! who holds each file, and how many blocks are left to be copied into it) that a call that copies
-//! holds its file, that no other file is held, and that of a file that nobody holds nothing is
-//! left. The laws are what a reader may rest on; `proofs/Laws.antt` has those that crates above
-//! cite.
+//! Start with `specs/Copies.antt`. `Copiers` is the state: the file that each call copies into, the
+//! writer of each file, and the number of blocks left. `AreCopies` is the invariant: a copying call
+//! holds its file, no other file is held, and a free file has no block left. The laws are for
+//! readers; `proofs/Laws.antt` has those that other crates cite.
 #![tactic(auto)]
 
 mod copy_laws;

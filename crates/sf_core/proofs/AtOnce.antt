@@ -1,4 +1,4 @@
--- A call that walks nothing begins and is decided in one event.
+-- A call that looks up nothing begins and is decided in one event.
 use Rattle.std.specs.Prelude.{◌≡◌, ◌<◌, ◌≤◌, ◌+◌, ◌^◌, ◌&&◌, ℕ, Bool, true, false, not, if◌then◌else◌, List, [], length, Option, Some, None, is_none, refl}
 use Rattle.std.proofs.Common.{sym, ap, subst, ◌∙◌}
 use Rattle.std.specs.Option.{option_and_then}
@@ -44,7 +44,7 @@ use Rattle.sf_core.proofs.Starting.{begun_sound, begun_told}
 use Rattle.sf_core.proofs.Turns.{IsStep, IsTurn, core_after, sound_of, steps_on, turn_of}
 use Rattle.sf_core.proofs.Deciding.{decided_step, decided_given}
 
--- ---- a call that waits for nobody
+-- ---- a call that isn't blocked
 is_no_path : (r : Route) → walks_nothing r ≡ true → r ≡ NoPath
 is_no_path NoPath e = refl
 is_no_path (Along path) e = absurd (let z : ⊥ = cc in z)
@@ -71,7 +71,7 @@ module _ (s : StoreState) (session : ℕ) (request : Request) (once : is_at_once
   nobody : holder_by s session request ≡ None
   nobody = is_nobody (holder_by s session request) (both_true (not (is_write request)) (is_none (holder_by s session request)) (both_true (walks_nothing (route_of request)) (not (is_write request) && is_none (holder_by s session request)) once).1).1
 
-  -- nobody holds the file that its handle opens
+  -- no call holds the file that its handle opens
   unheld : (number : ℕ) (h : OpenHandle) → file_handle request ≡ Some number → open_handle_at s session number ≡ Some h → is_file_at s.nodes h.node ≡ true → holder_of s.nodes h.node ≡ None
   unheld number h by opens file =
       sym (ap (option_and_then (λ k. file_holder_of s.nodes (open_handle_at s session k))) by ∙ ap (file_holder_of s.nodes) opens ∙ ap (λ (b : Bool). if b then holder_of s.nodes h.node else None) file) ∙ nobody
@@ -88,7 +88,7 @@ module _ (s : StoreState) (session : ℕ) (request : Request) (once : is_at_once
     on_path = λ parent node cuts there. absurd (let z : ⊥ = cc in z);
   }
 
--- a session that has a call, and then none, is as it was
+-- a session that gets a call, and then none, is as before
 session_back : (sessions : List (ℕ × Option ℕ)) (session number : ℕ) → session_at sessions session ≡ Some None → session_set (session_set sessions session (Some number)) session None ≡ sessions
 session_back sessions session number idle =
     let test = is_at (nat_cmp session) in
@@ -125,7 +125,7 @@ module _ (p m : PartsView) (same : SameButRoom p m) (room : length p.calls + len
     calls = refl;
   }
 
--- ---- what is told of it
+-- ---- the result
 module _ (lane : LaneView) (p q : PartsView) (core : IsCore p) (request : Request) (moment : ℕ) (given : Reply) (once : is_at_once p.store lane.session request ≡ true) (idle : session_at p.sessions lane.session ≡ Some None) (unspent : p.drawn < last_number)
     (fits : p.store.look_ups < 2 ^ 64) (at : AtOnceState p q lane.session request moment given) where
   abbrev its : Call

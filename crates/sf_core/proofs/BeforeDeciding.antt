@@ -1,4 +1,4 @@
--- A core right before a call is decided: what it moves past was carried out.
+-- A core just before a call is decided: the calls that its move affects were helped.
 use Rattle.std.specs.Prelude.{◌≡◌, ◌≢◌, ◌⊎◌, ◌<◌, ◌≤◌, ◌+◌, ◌^◌, ℕ, not, nat_eq, nat_le, Bool, true, false, cond, if◌then◌else◌, ◌&&◌, ◌||◌, T, List, [], ◌∷◌, ◌++◌, length, take, drop, map, filter, filter_map, option_map, option_and_then, Option, Some, None, is_none, is_some, IsSome, refl}
 use Rattle.std.specs.Option.{option_map_or}
 use Rattle.std.proofs.Common.{sym, ap, subst, ◌∙◌, inl, inr, arith, append-nil, eqb-true, eq-eqb}
@@ -65,14 +65,14 @@ use Rattle.sf_core.proofs.Passing.{past_on, past_back, never_past, past_front, f
 use Rattle.sf_core.proofs.SettingBack.{back_if, calls_back, AreBack, all_back, stood}
 use Rattle.sf_core.proofs.Helping.{IsAside, IsClear, IsReady, HelpedAll, records_on, help_all}
 
--- where another call stands, a record of the call leaves the label
+-- a record of the call leaves the label that another call holds
 abbrev pub LeavesLabels : PartsView → List Record → Call → Type 0
 LeavesLabels m h c = (given : Reply) (mid : StoreState)
     → IsRefused m.store mid (replay h) given ⊎ IsCarriedOut mid (replay h) (answer_to (replay h) c.session c.number c.moment c.request) given → NodesStay c.number m.store mid
     → (path : Path) (l holder : ℕ) → walk (child_of m.store.nodes) m.store.root path ≡ Some l → walker_of m.store.nodes l ≡ Some holder → c.number ≢ holder
     → label_at (after (replay h) (did c given)).names path ≡ label_at (replay h).names path
 
--- what became of another call: it is as it was, or what it had left to copy was copied, or it was carried out
+-- another call is unchanged, or its remaining blocks were copied, or it was helped
 abbrev pub Became : PartsView → List Record → ℕ → Call → Type 0
 Became m helped k d = IsStill m (HasCut helped) k d ⊎ ((given : Reply) × (call_at m.calls k ≡ Some (with_reply given (at_stage stage.Fresh d))) × (waiting_reply d ≡ None) × IsAmong (did d given) helped)
 
@@ -94,7 +94,7 @@ pub record Prepared (p m : PartsView) (h : List Record) (c : Call) (ways : Ways)
   pub more : p.store.look_ups ≤ m.store.look_ups
   pub few : m.store.look_ups ≤ p.store.look_ups + names_in_records helped
 
--- a rename and a link touch no file's bytes
+-- a rename and a link change no file's bytes
 no_handle_by : (r : Request) (number : ℕ) (old new : Path) → target_of r ≡ OnPaths old new → file_handle r ≡ Some number → ⊥
 no_handle_by (request.Read handle offset len) number old new e f = let z : ⊥ = cc in z
 no_handle_by (request.Write handle offset bytes) number old new e f = let z : ⊥ = cc in z
@@ -216,7 +216,7 @@ apart_test k n ne = elim (nat_eq k n) as (λ b. nat_eq k n ≡ b → not b ≡ t
 pub same_test : (k n : ℕ) → not (nat_eq k n) ≡ true → k ≢ n
 same_test k n e same = let x : nat_eq k n ≡ true = eq-eqb k n same in let y : not (nat_eq k n) ≡ false = ap not x in let z : ⊥ = cc in z
 
--- what moves is the old path of a rename
+-- a rename moves its old path
 pub moved_is : (t : Tree) (session number moment : ℕ) (r : Request) (old : Path) → old_at (target_of r) ≡ Some old → is_some (moved_by (answer_to t session number moment r).changes) ≡ true
     → moved_by (answer_to t session number moment r).changes ≡ Some old
 moved_is t session number moment r old is moved = by_target (target_of r) refl is
@@ -230,13 +230,13 @@ moved_is t session number moment r old is moved = by_target (target_of r) refl i
           | Some p ↦ λ g h. ap Some ((moved_changes t session number moment r a b e p g).0 ∙ some_eq a old f)
         ] refl moved
 
--- those that are overtaken are no more than are undecided
+-- no more calls are helped than are undecided
 pub few_overtaken : (calls : List (ℕ × Call)) (n : ℕ) (old : Path) → length (overtaken calls n (Some old)) ≤ undecided_in calls
 few_overtaken calls n old =
     numbers_few (λ (e : ℕ × Call). not (nat_eq e.0 n) && is_none (waiting_reply e.1) && has_passed e.1 old) (λ (d : Call). is_none (waiting_reply d))
     (λ e t. (three_true (not (nat_eq e.0 n)) (is_none (waiting_reply e.1)) (has_passed e.1 old) t).1) calls
 
--- none of them is the call itself
+-- the call itself is not helped
 pub overtaken_other : (calls : List (ℕ × Call)) → T (is_sorted nat_cmp calls) → (n : ℕ) (o : Option Path) (k : ℕ) → is_one_of k (overtaken calls n o) ≡ true → k ≢ n
 overtaken_other calls rise n None k here = let z : ⊥ = cc in absurd z
 overtaken_other calls rise n (Some old) k here = by (lookup (is_at (nat_cmp k)) calls) (sym here ∙ among (λ (e : ℕ × Call). not (nat_eq e.0 n) && is_none (waiting_reply e.1) && has_passed e.1 old) calls rise k)
@@ -245,7 +245,7 @@ overtaken_other calls rise n (Some old) k here = by (lookup (is_at (nat_cmp k)) 
     by None e = let z : ⊥ = cc in absurd z
     by (Some d) e = same_test k n (three_true (not (nat_eq k n)) (is_none (waiting_reply d)) (has_passed d old) (sym e)).0
 
--- ---- a way that leads where it led
+-- ---- a path that leads to the same inode as before
 module _ (s s' : StoreState) (t t' : Tree) (keeps : Keeps s t) (keeps' : Keeps s' t') where
   way_on : (rest front : Path) (up x : ℕ) → walk (child_of s.nodes) s.root front ≡ Some x → walk (child_of s'.nodes) s'.root front ≡ Some x
       → ((q r : Path) → q ++ r ≡ front ++ rest → walk (child_of s'.nodes) s'.root q ≡ walk (child_of s.nodes) s.root q)
@@ -293,7 +293,7 @@ alone false e = e
 ends_are : (old new : Path) (common from to : Reached) → IsPosition (Between old new) (stage.Ends common from to) → AreEnds old new common from to
 ends_are old new common from to (IsApart o n c f t ends) = ends
 
--- Before they part, two paths have one way: what has passed a path lies below it.
+-- Two paths are equal until they part. So what has passed a path lies below it.
 both_below : (old from to : Path) (count walked : ℕ) → PartAt from to count → walked ≤ count → has_walked from walked old ≡ true → IsBelow old from × IsBelow old to
 both_below old from to count walked part few past =
     let past_count = past_on old from walked count few past in
@@ -329,7 +329,7 @@ module _ (p : PartsView) (h : List Record) (sound : Sound p h) (fits : p.store.l
   route_is : route_of c.request ≡ Between old new
   route_is = ap route_at paths ∙ (λ i. if not_rooted i then NoPath else if not_nested i then Along old else Between old new)
 
-  -- the old path leads to a node
+  -- the old path leads to an inode
   old_node : (l : ℕ) × (walk (child_of p.store.nodes) p.store.root old ≡ Some l)
   old_node = elim (walk (child_of p.store.nodes) p.store.root old) as (λ o. walk (child_of p.store.nodes) p.store.root old ≡ o → (l : ℕ) × (o ≡ Some l)) [
     | None ↦ λ e.
@@ -353,7 +353,7 @@ module _ (p : PartsView) (h : List Record) (sound : Sound p h) (fits : p.store.l
   free_new : IsFreeThere (holder_of p.store.nodes) c.number ways.new
   free_new = subst (λ (r : Route). AreFree (holder_of p.store.nodes) c.number r ways) route_is free
 
-  -- it holds the old path's parent, with an end
+  -- it holds the old path's parent, by one of its ends
   at_parent : (common : Reached) × (from : Reached) × (to : Reached) × (c.stage ≡ stage.Ends common from to) × (from.walked + 1 ≡ length old)
   at_parent = subst (λ (r : Route). HoldsParent r c.stage ways) route_is holds old_there
 
@@ -381,7 +381,7 @@ module _ (p : PartsView) (h : List Record) (sound : Sound p h) (fits : p.store.l
           never true = refl
           never false = refl
 
-  -- ---- those that it overtakes are back
+  -- ---- the calls to be helped start again
   one_is : (k : ℕ) (d : Call) → call_at p.calls k ≡ Some d → is_one_of k numbers ≡ test (k, d)
   one_is k d is = among test p.calls sound.ledger.calls_rise k ∙ ap (λ (o : Option Call). option_map_or (λ (x : Call). test (k, x)) o false) is
 
@@ -406,9 +406,9 @@ module _ (p : PartsView) (h : List Record) (sound : Sound p h) (fits : p.store.l
   in_p : (k : ℕ) (s : HeldPath) → Holds (held_paths_in b.calls k) s → Holds (held_paths_in p.calls k) s
   in_p k s hold = stood (is_one_of k numbers) (call_at p.calls k) s (subst (λ (o : Option Call). Holds (option_map_or held_paths_at o []) s) (calls_back numbers p k) hold)
 
-  -- ---- who has passed the old path lies below it
-  -- Where another call has passed it with an end, so has its common directory: that lies on the way of the end, and this call
-  -- holds the directory above the old path.
+  -- ---- a call that has passed the old path lies below it
+  -- If an end of another call has passed the old path, then so has its common directory. Otherwise
+  -- that directory lies on the way of the end, where this call holds the parent of the old path.
   module _ (k : ℕ) (other : k ≢ c.number) (from to : Path) (common e1 e2 : Reached) (is : held_paths_in p.calls k ≡ held_paths_of (Between from to) (stage.Ends common e1 e2)) (ends : AreEnds from to common e1 e2) where
     common_past : (path : Path) (w : ℕ) → w < length path → IsPrefix (take common.walked from) (take w path) → has_walked path w old ≡ true
         → ((q : Path) → IsPrefix q (take w path) → IsOnWayTo (held_path_on from e1 ∷ held_path_on to e2 ∷ []) q) → length old ≤ common.walked
@@ -463,8 +463,8 @@ module _ (p : PartsView) (h : List Record) (sound : Sound p h) (fits : p.store.l
         below = lies_by k t.0 (route_of d.0.request) d.0.stage (sound.coupled.positions k d.0 d.1 t.1) (ap (λ (o : Option Call). option_map_or held_paths_at o []) d.1) t.2;
       }
 
-  -- ---- nobody is left at the old path or below it
-  -- a call that holds a directory, and is not overtaken, has not passed the old path
+  -- ---- no call is left at the old path or below it
+  -- a call that holds a directory and isn't helped has not passed the old path
   behind_by : (k : ℕ) (d : Call) → call_at p.calls k ≡ Some d → test (k, d) ≡ false → (s : HeldPath) → Holds (held_paths_at d) s → has_passed d old ≡ false
   behind_by k d is e s hold = elim (same_or_not k c.number) [
     | inl same ↦ ap (λ (x : Call). has_passed x old) (some_eq d c (sym is ∙ ap (call_at p.calls) same ∙ at)) ∙ own_behind
@@ -504,7 +504,7 @@ module _ (p : PartsView) (h : List Record) (sound : Sound p h) (fits : p.store.l
   now : Sound m (h ++ all.helped)
   now = all.led.sound
 
-  -- where another call stands, nothing is moved
+  -- nothing moves where another call holds a directory
   module _ (given : Reply) (mid : StoreState)
       (served : IsRefused m.store mid (replay (h ++ all.helped)) given ⊎ IsCarriedOut mid (replay (h ++ all.helped)) (answer_to (replay (h ++ all.helped)) c.session c.number c.moment c.request) given)
       (stays : NodesStay c.number m.store mid)
@@ -540,7 +540,7 @@ module _ (p : PartsView) (h : List Record) (sound : Sound p h) (fits : p.store.l
         label_after m.store mid (h ++ all.helped) c.number c.session c.moment c.request given now.history.legal above fresh now.history.tree served stays path
         (spared_labels (record { history = h ++ all.helped; session = c.session; number = c.number; moment = c.moment; request = c.request; legal = now.history.legal; above = above; fresh = fresh }) old new path paths label_some (ap (after_front old) (sym same_path) ∙ clear holder the.held_path held_in_b) not_new)
 
-  -- ---- both paths lead where they led
+  -- ---- both paths lead to the same inodes as before
   aside_old : (q r : Path) → q ++ r ≡ old → IsAside old q
   aside_old q r e name rest f =
       let a = ap (λ (x : Path). length x) (append-after_front old q (name ∷ rest) f) in
@@ -604,7 +604,7 @@ module _ (p : PartsView) (h : List Record) (sound : Sound p h) (fits : p.store.l
   }
 
 -- ---- both
--- what is so of an undecided call that may be decided where its walk ends
+-- an undecided call that may be decided at the end of its lookups
 pub record MayPrepare (p : PartsView) (h : List Record) (c : Call) (ways : Ways) : Type 0 where
   pub sound : Sound p h
   pub fits : p.store.look_ups < 2 ^ 64

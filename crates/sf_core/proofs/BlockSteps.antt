@@ -1,4 +1,4 @@
--- A WRITE that copies a block more, or all that is left: the core stays sound.
+-- A WRITE copies one more block, or all that remain: the core stays sound.
 use Rattle.std.specs.Prelude.{◌≡◌, ◌≢◌, ◌<◌, ◌+◌, ℕ, zero, suc, true, false, if◌then◌else◌, List, [], option_map, option_and_then, Option, Some, None, refl}
 use Rattle.std.specs.Option.{option_map_or}
 use Rattle.std.proofs.Common.{sym, ap, subst, ◌∙◌, inl, inr, arith}
@@ -39,7 +39,7 @@ use Rattle.sf_core.proofs.Ledgers.Follows.{Stays}
 use Rattle.sf_core.proofs.Unrecorded.{unrecorded}
 use Rattle.sf_core.proofs.Unrecorded.IsKept.{Same}
 
--- ---- what copying leaves of a store
+-- ---- what copying leaves unchanged in a store
 entry_by : (k : ℕ) (n : Name) (o : Option Node) → option_and_then (λ (node : Node). child_in node.content n) (option_map (with_content (with_left k)) o) ≡ option_and_then (λ (node : Node). child_in node.content n) o
 entry_by k n None = refl
 entry_by k n (Some node) = elim node.content as (λ c. child_in (with_left k c) n ≡ child_in c n) [ content.Directory es ↦ refl | content.File contents ↦ refl ]
@@ -71,14 +71,14 @@ module _ (k : ℕ) (s : StoreState) (id : ℕ) where
   pub file_left : is_file_at (left_set s id k).nodes id ≡ is_file_at s.nodes id
   file_left = ap (λ (o : Option Node). option_map_or (λ (node : Node). is_file_content node.content) o false) (edited_itself (with_content (with_left k)) s id) ∙ file_by k (node_in s.nodes id)
 
--- a node that is the same one has the same holder
+-- an unchanged inode has the same holder
 pub writer_apart : (s t : StoreState) (f : ℕ) → node_in t.nodes f ≡ node_in s.nodes f → writer_of_file t.nodes f ≡ writer_of_file s.nodes f
 writer_apart s t f e = ap (λ (o : Option Node). if option_map_or (λ (node : Node). is_file_content node.content) o false then option_and_then (λ (node : Node). node.holder) o else None) e
 
 walker_apart : (s t : StoreState) (f : ℕ) → node_in t.nodes f ≡ node_in s.nodes f → walker_of t.nodes f ≡ walker_of s.nodes f
 walker_apart s t f e = ap (λ (o : Option Node). if option_map_or (λ (node : Node). is_directory_content node.content) o false then option_and_then (λ (node : Node). node.holder) o else None) e
 
--- who holds a file walks not
+-- the holder of a file holds no directory
 no_walker : (nodes : List (Option Node)) (f : ℕ) → is_file_at nodes f ≡ true → walker_of nodes f ≡ None
 no_walker nodes f file = elim (is_directory_at nodes f) as (λ b. is_directory_at nodes f ≡ b → (if b then holder_of nodes f else None) ≡ None) [
   | true ↦ λ e. absurd (no_directory nodes f file e)
@@ -89,7 +89,7 @@ pub staged_reply : (c : Call) (g : Stage) → waiting_reply (at_stage g c) ≡ w
 unfolding waiting_reply
 staged_reply c g = refl
 
--- ---- a call whose reply waits comes to another stage, on a store of which one file alone is another
+-- ---- a decided call gets another stage, and one file of the store changes
 module _ (p : PartsView) (h : List Record) (sound : Sound p h) (c : Call) (at : call_at p.calls c.number ≡ Some c) (given : Reply) (decided : waiting_reply c ≡ Some given) (rested : IsAtRest c.stage) (node : ℕ) (file_was : is_file_at p.store.nodes node ≡ true)
     (s : StoreState) (after : Stage) (keeps : Keeps s (replay h)) (ground : IsSameGround p.store s) (apart : (i : ℕ) → i ≢ node → node_in s.nodes i ≡ node_in p.store.nodes i) (file : is_file_at s.nodes node ≡ true)
     (sessions : s.sessions ≡ p.store.sessions) (rests : IsAtRest after) (copies : AreCopies (copying_scene s (staged p.calls c.number after))) (writes : (f k : ℕ) → after ≡ stage.Copies f k → IsWriting s (at_stage after c) f) where
@@ -147,7 +147,7 @@ module _ (p : PartsView) (h : List Record) (sound : Sound p h) (c : Call) (at : 
         ];
       })
 
--- of other calls and files nothing changes
+-- no other call or file changes
 pub changes_by : (p : PartsView) (c : Call) → call_at p.calls c.number ≡ Some c → (node : ℕ) (s : StoreState) (after : Stage) → ((i : ℕ) → i ≢ node → node_in s.nodes i ≡ node_in p.store.nodes i)
     → ChangesOneCall (copying_scene p.store p.calls) (copying_scene s (staged p.calls c.number after)) c.number node
 changes_by p c at node s after apart = record {
@@ -156,7 +156,7 @@ changes_by p c at node s after apart = record {
   lefts = λ f ne. ap (λ (o : Option Node). option_map_or (λ (x : Node). blocks_left_in x.content) o 0) (apart f ne);
 }
 
--- ---- a call that copies
+-- ---- a call that is copying
 module _ (p : PartsView) (h : List Record) (sound : Sound p h) (c : Call) (at : call_at p.calls c.number ≡ Some c) (node left : ℕ) (is : c.stage ≡ stage.Copies node left) where
   copying_it : copying_in p.calls c.number ≡ Some (copying node left)
   copying_it = copying_is p.calls c.number c node left at is
@@ -173,7 +173,7 @@ module _ (p : PartsView) (h : List Record) (sound : Sound p h) (c : Call) (at : 
   rested : IsAtRest c.stage
   rested = inr (subst IsCopying (sym is) tt)
 
-  -- ---- a block more, and more are left
+  -- ---- one more block, and more remain
   module _ (k : ℕ) (more : left ≡ suc k + 1) where
     abbrev part : StoreState
     part = left_set p.store node (suc k)
@@ -208,7 +208,7 @@ module _ (p : PartsView) (h : List Record) (sound : Sound p h) (c : Call) (at : 
           decided = staged_reply c (stage.Copies node (suc k)) ∙ writes_it.decided;
         }))
 
-  -- ---- all that is left
+  -- ---- all that remain
   abbrev ended : StoreState
   ended = edited (with_holder None) (left_set p.store node 0) node
 
@@ -234,7 +234,7 @@ module _ (p : PartsView) (h : List Record) (sound : Sound p h) (c : Call) (at : 
       }))
       (λ f j e. absurd (let z : ⊥ = cc in z))
 
-  -- with a step
+  -- by a step
   pub block_sound : (k : ℕ) → left ≡ k + 1 → Sound (block_copied p c.number node k) h
   block_sound zero e = end_sound
   block_sound (suc k) e = part_sound k e

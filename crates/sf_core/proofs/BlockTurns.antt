@@ -1,4 +1,4 @@
--- What a step that copies a block makes of a core, and several of them.
+-- The effect on a core of a step that copies a block, and of several such steps.
 use Rattle.std.specs.Prelude.{◌≡◌, ◌<◌, ◌≤◌, ◌+◌, ◌^◌, ℕ, zero, suc, List, [], length, Option, Some, None, refl}
 use Rattle.std.proofs.Common.{sym, ap, subst, ◌∙◌, inl, inr, arith}
 use Rattle.sf_reply.specs.declared.reply.Reply.{Reply}
@@ -28,7 +28,7 @@ use Rattle.sf_core.proofs.BlockSteps.{staged_reply, block_sound, end_sound}
 use Rattle.sf_core.proofs.LaneStates.{slot_busy, slot_idle, slots_kept, own_call, same_book, left_copying}
 use Rattle.sf_core.proofs.Turns.{IsStep, adds_none, core_after, places_after, steps_on}
 
--- the call of the number is the lane's, and look-ups are counted still
+-- the call of this number is the lane's, and the lookup count doesn't overflow
 pub record OnTurn (p : PartsView) (lane : LaneView) (n : ℕ) : Type 0 where
   pub core : IsCore p
   pub fits : p.store.look_ups < 2 ^ 64
@@ -36,7 +36,7 @@ pub record OnTurn (p : PartsView) (lane : LaneView) (n : ℕ) : Type 0 where
 
 module _ (lane : LaneView) (n : ℕ) (call : lane.call ≡ Some n) where
   module _ (p : PartsView) (on : OnTurn p lane n) where
-    -- ---- a block more
+    -- ---- one more block
     module _ (left : ℕ) (q : PartsView) (b : CopiedBlock p q n (suc left)) where
       abbrev c : Call
       c = b.was.call
@@ -112,7 +112,7 @@ module _ (lane : LaneView) (n : ℕ) (call : lane.call ≡ Some n) where
             ap (λ (y : Call). y.session) (sym same) ∙ session;
       }
 
-    -- ---- the last one, after which its reply is fetched
+    -- ---- the last block, after which the reply is fetched
     module _ (mid q : PartsView) (b : CopiedBlock p mid n 0) (fetched : FetchState mid q lane.session n) where
       abbrev e : Call
       e = b.was.call

@@ -46,7 +46,7 @@ module _ (n : ℕ) where
         sym (ap (λ (p : Option Node). option_map_or (λ (x : Node). blocks_left_in x.content) p 0) at) ∙ (left ∙ sym was),
       )
 
-  -- where it copies all, each node is as before
+  -- if it copies all blocks, each inode is as before
   pub stays_started : (s new : StoreState) (h : OpenHandle) (offset : ℕ) (bytes : List ℕ) → blocks_left_at s.nodes h.node ≡ 0 → blocks_left_at new.nodes h.node ≡ 0 → StartsWriting s new h offset bytes → NodesStay n s new
   stays_started s new h offset bytes was left starts = record {
     node = λ id node at. elim (same_or_not id h.node) [
@@ -99,11 +99,11 @@ write_is r write = let w = is_a_write r write in ap is_write w.3
 pub no_write : (r : Request) → is_write r ≡ false → IsWriteRequest r → ⊥
 no_write r not write = let is = write_is r write in cc
 
--- a call that reads and sets no file by its handle is none
+-- a call that reads or sets no file by its handle isn't one
 pub path_no_write : (r : Request) → file_handle r ≡ None → IsWriteRequest r → ⊥
 path_no_write r none write = let w = is_a_write r write in let is = ap file_handle w.3 in cc
 
--- the first step of a WRITE after which nothing is left to be copied
+-- the first step of a WRITE, if it copies the last block
 module _ (s new : StoreState) (c : Call) (write : IsWriteRequest c.request) (settled : IsSettled s c.session c.request NoWay)
     (starts : (number offset : ℕ) (bytes : List ℕ) (h : OpenHandle) → c.request ≡ request.Write number offset bytes → open_handle_at s c.session number ≡ Some h → StartsWriting s new h offset bytes)
     (none : (number offset : ℕ) (bytes : List ℕ) → c.request ≡ request.Write number offset bytes → open_handle_at s c.session number ≡ None → new ≡ s)
@@ -129,11 +129,11 @@ file_left (Some node) some = elim node.content as (λ c. 0 < blocks_left_in c �
   | content.File contents ↦ λ h. refl
 ] some
 
--- blocks are left of a file alone
+-- only a file has blocks left to copy
 pub is_file : (s : StoreState) (id left : ℕ) → blocks_left_at s.nodes id ≡ left → 0 < left → is_file_at s.nodes id ≡ true
 is_file s id left e some = file_left (node_in s.nodes id) (subst (λ (k : ℕ). 0 < k) (sym e) some)
 
--- a call that copied a block, which wasn't the last one, copies on
+-- a call that copied a block, but not the last one, is still copying
 pub copies_on : (p q : PartsView) (number left : ℕ) → CopiedBlock p q number (suc left) → IsCopyingOn q number
 copies_on p q number left b =
     let file : is_file_at p.store.nodes b.node ≡ true = is_file p.store b.node (suc left + 1) b.was.left_is b.was.some in (
@@ -150,7 +150,7 @@ copies_on p q number left b =
       }),
     )
 
--- what a step that copies tells, of a call that copies
+-- the result of a step that copies
 pub block_of : (p q : PartsView) (number left : ℕ) → IsCopyingOn p number → ((node k : ℕ) → CopiesNow p number node k → (left + 1 ≡ k) × (q ≡ block_copied p number node left)) → CopiedBlock p q number left
 block_of p q number left on law =
     let w = law on.0 on.1 on.2 in
@@ -160,7 +160,7 @@ pub more_left : (p q : PartsView) (number left : ℕ) → (left ≡ 0 → ⊥) �
 more_left p q number zero some b = absurd (some refl)
 more_left p q number (suc k) some b = (k, b)
 
--- with the last block its reply waits still
+-- with the last block its reply is still pending
 pub waits_on : (p q : PartsView) (number : ℕ) → (b : CopiedBlock p q number 0) → option_and_then (λ (c : Call). c.reply) (call_at q.calls number) ≡ Some b.was.given
 waits_on p q number b =
     ap (λ (x : PartsView). option_and_then (λ (c : Call). c.reply) (call_at x.calls number)) b.now
@@ -190,7 +190,7 @@ left_held : (h : Option ℕ) (o : Option Node) → option_map_or (λ (x : Node).
 left_held h None = refl
 left_held h (Some node) = refl
 
--- a WRITE that has begun copies
+-- a WRITE that has started is copying
 pub begun_copies : (p q : PartsView) (c : Call) (number : ℕ) → call_at p.calls number ≡ Some c → HasBegunWrite p q c number → IsCopyingOn q number
 begun_copies p q c number at b =
     let given : Reply = b.0 in
@@ -220,7 +220,7 @@ pub call_there : (o : Option Call) → IsSome o → (c : Call) × (o ≡ Some c)
 call_there None h = absurd (let z : ⊥ = cc in z)
 call_there (Some c) h = (c, refl)
 
--- a WRITE that has begun was copied on, up to its end or up to there
+-- a WRITE that has started copied further blocks, to its end or not
 pub record CopiesOn (p q : PartsView) (c : Call) (session number most : ℕ) (o : Option Reply) : Type 0 where
   pub mid : PartsView
   pub begun : HasBegunWrite p mid c number

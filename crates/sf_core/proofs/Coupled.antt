@@ -1,4 +1,4 @@
--- The facts about walks after a step.
+-- Lock coupling after a step.
 use Rattle.std.specs.Prelude.{◌≡◌, ◌≢◌, ◌⊎◌, ℕ, true, List, [], Option, Some}
 use Rattle.std.proofs.Common.{sym, ap, subst, ◌∙◌, inl, inr}
 use Rattle.sf_call.specs.declared.call.Stage.{Stage}
@@ -20,7 +20,7 @@ use Rattle.sf_core.specs.Sound.{walker_of, writer_of_file}
 use Rattle.sf_core.proofs.Walkers.{walker_holds, free_walks, walks_hands}
 use Rattle.sf_core.proofs.Writers.{SameFiles, no_directory, files_let_go, writers_stay}
 
--- walks are coupled where all paths that are held lead as before
+-- the invariant is kept if all held paths lead to the same inodes as before
 pub walks_on : (t u : Namespace) (f : ℕ → List HeldPath) (k : ℕ → Option ℕ) → ((held_path : HeldPath) → LeadsTo t held_path → LeadsTo u held_path) → AreWalks (walkers_at t f k) → AreWalks (walkers_at u f k)
 walks_on t u f k on walks = record { shaped = walks.shaped; leads = λ n s h. on s (walks.leads n s h); held = walks.held; holds = walks.holds; apart = walks.apart }
 
@@ -76,14 +76,14 @@ module _ (old new : StoreState) (history : List Record) (keeps : Keeps old (repl
       let leads = walks.leads w.number h.held_path (subst (λ (x : List HeldPath). Holds x h.held_path) (sym own) h.holds) in
       no_directory old.nodes l file (ap (is_directory_at old.nodes) (sym h.node) ∙ leads.directory)
 
-  -- who holds a file holds it still
+  -- a call that holds a file still holds it
   pub moved_writers : SameFiles old new → (id : ℕ) → writer_of_file new.nodes id ≡ writer_of_file old.nodes id
   moved_writers same =
       writers_stay old new w.number (held_paths_of w.route w.at) (held_paths_of w.route after) same
       (record { before = no_file_was; after = λ l h file. no_directory old.nodes l file (sym ((ground_stays old new w (Moved after) moves).directory l) ∙ is_directory l h) }) hands
 
--- ---- a call is set back: nothing is asked of it
--- a call that holds paths of its route, and holds none then
+-- ---- a call starts again at the root: nothing is required of it
+-- a call that holds paths of its route, and then none
 pub record LetsGo (f f' : ℕ → List HeldPath) (n : ℕ) : Type 0 where
   pub route : Route
   pub at : Stage

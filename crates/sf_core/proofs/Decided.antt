@@ -1,4 +1,5 @@
--- The facts about walks after a decision that leaves the labels of all paths at which other calls stand.
+-- Lock coupling after a decision that preserves the labels of all paths at which other calls hold
+-- directories.
 use Rattle.std.specs.Prelude.{◌≡◌, ◌≢◌, ◌⊎◌, ◌<◌, ℕ, true, false, if◌then◌else◌, List, [], option_and_then, Option, Some, None, refl}
 use Rattle.std.proofs.Common.{sym, ap, subst, ◌∙◌, inl, inr}
 use Rattle.sf_path.specs.Names.{Path}
@@ -37,7 +38,7 @@ module _ (old mid : StoreState) (history : List Record) (n session moment : ℕ)
     → label_at (after (replay history) (Did n session moment r given)).names q ≡ label_at (replay history).names q)
     (files : (l m : ℕ) → writer_of_file old.nodes l ≡ Some m → is_directory_at mid.nodes l ≡ true → ⊥)
     (at : Stage) (is : IsPosition (route_of r) at) (f : ℕ → List HeldPath) (walks : AreWalks (walkers_at (namespace old) f (walker_of old.nodes))) (own : f n ≡ held_paths_of (route_of r) at) where
-  -- a node's holder after the decision is the one that it had
+  -- an inode's holder after the decision is as before
   holder_was : (l m : ℕ) (o : Option Node) (node : Node) → node_in old.nodes l ≡ o → IsAsBefore (λ holder label. (holder ≡ None) × (label ≡ n)) o node → node.holder ≡ Some m → holder_of old.nodes l ≡ Some m
   holder_was l m None node e is h = let x : None ≡ Some m = sym is.0.0 ∙ h in absurd (let z : ⊥ = cc in z)
   holder_was l m (Some was) node e is h = ap (option_and_then (λ (x : Node). x.holder)) e ∙ sym is.0 ∙ h
@@ -53,7 +54,7 @@ module _ (old mid : StoreState) (history : List Record) (n session moment : ℕ)
   holder_is l m None node e is h = let x : None ≡ Some m = sym (ap (option_and_then (λ (x : Node). x.holder)) e) ∙ h in absurd (let z : ⊥ = cc in z)
   holder_is l m (Some was) node e is h = is.0 ∙ sym (ap (option_and_then (λ (x : Node). x.holder)) e) ∙ h
 
-  -- where another call stands
+  -- the directories that another call holds
   module _ (m : ℕ) (s : HeldPath) (other : n ≢ m) (hold : Holds (f m) s) where
     leads : LeadsTo (namespace old) s
     leads = walks.leads m s hold
@@ -77,7 +78,7 @@ module _ (old mid : StoreState) (history : List Record) (n session moment : ℕ)
         walker_is mid.nodes s.node m directory
         (ap (option_and_then (λ (x : Node). x.holder)) still.1.1 ∙ holder_is s.node m (node_in old.nodes s.node) still.1.0 refl (stays.node s.node still.1.0 still.1.1) (walker_holds old.nodes s.node m (walks.held m s hold)).1)
 
-  -- nobody comes to hold a directory
+  -- no call acquires a directory
   none_more : (l m : ℕ) → walker_of old.nodes l ≡ None → walker_of mid.nodes l ≡ Some m → ⊥
   none_more l m none some =
       let h = walker_holds mid.nodes l m some in
@@ -87,7 +88,7 @@ module _ (old mid : StoreState) (history : List Record) (n session moment : ℕ)
         | false ↦ λ e. files l m (file_there old.nodes l m e before) h.0
       ] refl
 
-  -- what is held by none of the call's own has the holder that it had
+  -- the holder is unchanged for inodes that the call's paths don't hold
   mid_same : (l : ℕ) → (IsNodeOf (f n) l → ⊥) → walker_of mid.nodes l ≡ walker_of old.nodes l
   mid_same l not =
       elim (walker_of old.nodes l) as (λ o. walker_of old.nodes l ≡ o → walker_of mid.nodes l ≡ o) [
@@ -110,7 +111,7 @@ module _ (old mid : StoreState) (history : List Record) (n session moment : ℕ)
         rest = λ l not none. (λ i. if (same_let_go [] (nodes_of at) mid).directory l i then freeing.rest l (λ h. not (subst (λ (x : List HeldPath). IsNodeOf x l) (sym own) h)) none i else None) ∙ mid_same l not;
       }
 
-  -- the other calls' walks are what they were, and what is left of the call holds nothing
+  -- other calls hold what they held, and the call's remainder holds nothing
   pub decided_keeps : (f' : ℕ → List HeldPath) → f' n ≡ [] → ((m : ℕ) → n ≢ m → f' m ≡ f m) → AreWalks (walkers_at (namespace (freed at mid)) f' (walker_of (freed at mid).nodes))
   decided_keeps f' none same =
       let nothing : (s : HeldPath) → Holds (f' n) s → ⊥ = λ s h. subst (λ (x : List HeldPath). Holds x s) none h in

@@ -1,4 +1,4 @@
--- A call is decided: the core stays sound, and what is told of it.
+-- A call is decided: the core stays sound, and the decision is as `Decides` says.
 use Rattle.std.specs.Prelude.{◌≡◌, ◌≢◌, ◌⊎◌, ◌<◌, ◌+◌, ℕ, zero, suc, nat_eq, ◌||◌, true, false, List, [], ◌∷◌, ◌++◌, length, take, slice_get, option_map, option_and_then, Option, Some, None, is_some, refl}
 use Rattle.std.specs.Option.{option_map_or}
 use Rattle.std.proofs.Common.{sym, ap, subst, ◌∙◌, inl, inr, arith, add-one, append-nil, eq-eqb}
@@ -67,7 +67,7 @@ use Rattle.sf_core.specs.Writing.{CopiesOne}
 use Rattle.sf_core.proofs.OneBlock.{one_block}
 use Rattle.sf_core.proofs.Turns.{IsStep, IsTurn, apart}
 
--- ---- where a call may decide, in the tree
+-- ---- when a call may be decided, by the tree
 no_label : (t : Tree) (q : Path) → label_at t.names q ≡ None → is_directory t q ≡ false
 no_label t q e = ap (λ (o : Option ℕ). is_some {T = ℕ × Metadata} (option_and_then (λ label. option_map (λ (m : Metadata). (label, m)) (option_and_then directory_metadata (object_of t.objects label))) o)) e
 
@@ -81,11 +81,11 @@ no_directory t q label o e f g =
     ∙ ap (λ (x : Option Object). is_some {T = ℕ × Metadata} (option_map (λ (m : Metadata). (label, m)) (option_and_then directory_metadata x))) f
     ∙ ap (λ (x : Option Metadata). is_some {T = ℕ × Metadata} (option_map (λ (m : Metadata). (label, m)) x)) g
 
--- one name further
+-- one component further
 take_next : (p : Path) (i : ℕ) (n : Name) → i < length p → slice_get p i ≡ Some n → take (i + 1) p ≡ take i p ++ n ∷ []
 take_next p i n h g = ap (λ j. take j p) (add-one i) ∙ take-suc p i [] h ∙ ap (λ (x : Name). take i p ++ x ∷ []) (get_or_from_slice_get p i n [] g)
 
--- the name of a path behind so many
+-- the component after a prefix of a path
 record NameBehind (path : Path) (walked : ℕ) : Type 0 where
   name : Name
   short : walked < length path
@@ -130,7 +130,7 @@ unfolding AreSure
 sure_more h [] r a s = (subst (λ (x : List Record). IsSure x r) (append-nil h) s, tt)
 sure_more h (x ∷ rs) r a s = (a.0, sure_more (h ++ x ∷ []) rs r a.1 (subst (λ (y : List Record). IsSure y r) (sym (append_assoc h (x ∷ []) rs)) s))
 
--- ---- where a call stands
+-- ---- the directories that a call holds
 pub stands : (p : PartsView) (h : List Record) → Sound p h → (n : ℕ) (c : Call) → call_at p.calls n ≡ Some c → waiting_reply c ≡ None → HoldsWay p.store (route_of c.request) c.stage
 stands p h sound n c at undecided = record {
   position = sound.coupled.positions n c at undecided;
@@ -149,7 +149,7 @@ module _ (p : PartsView) (lane : LaneView) (c : Call) (turn : IsTurn p lane c) (
   free_q : AreFree (holder_of q.store.nodes) c.number (route_of c.request) ways
   free_q = subst (λ (ns : List (Option Node)). AreFree (holder_of ns) c.number (route_of c.request) ways) (sym (looked_nodes p.store q.store 2 w.advances.looked)) w.advances.free
 
-  -- nothing is left to be copied into the files that it uses
+  -- the files that it uses have no blocks left to copy
   pub ready_settled : (h : List Record) → Sound p h → IsSettled q.store c.session c.request ways.path
   ready_settled h sound = settled_free q h (ready_sound h sound) c at_q undecided (file_free_looked p.store q.store 2 c w.advances.looked free) ways w.advances.located free_q
 
@@ -201,7 +201,7 @@ module _ (p : PartsView) (lane : LaneView) (c : Call) (turn : IsTurn p lane c) (
         m_sessions : m.sessions ≡ p.sessions
         m_sessions = it.sessions ∙ w.sessions
 
-        -- another session's WRITE that was finished
+        -- another session's WRITE was completed
         finished_told : (s k : ℕ) (d after : Call) → session_at p.sessions s ≡ Some (Some k) → call_at p.calls k ≡ Some d → session_at r.sessions s ≡ Some (Some k) → IsCopying d.stage → after ≡ at_stage stage.Fresh d
             → after.stage ≡ stage.Fresh → call_at r.calls k ≡ Some after → HasCut (made h sound).helped → IsFinished (core_of p) (core_of r) s (made h sound).helped
         finished_told s k d after was_at at_d now_at copies after_is fresh at_r cut =
@@ -231,7 +231,7 @@ module _ (p : PartsView) (lane : LaneView) (c : Call) (turn : IsTurn p lane c) (
               less = omega (arith, many, one, some);
             }
 
-        -- what there is for another session
+        -- the state of another session
         other_slot : (s : ℕ) → s ≢ lane.session → (lane_state (core_of r) s ≡ lane_state (core_of p) s) ⊎ IsHelped (core_of p) (core_of r) s (made h sound).helped ⊎ IsFinished (core_of p) (core_of r) s (made h sound).helped
         other_slot s ne = by (session_at p.sessions s) refl (sessions.rest s (λ e. ne (e ∙ turn.session)) ∙ ap (λ x. session_at x s) m_sessions)
           where

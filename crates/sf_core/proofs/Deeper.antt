@@ -1,4 +1,5 @@
--- Who is waited for looks further down: it is waited for at the first of its paths.
+-- A call that blocks another looks further down: the other waits for the first directory that it
+-- holds.
 use Rattle.std.specs.Prelude.{◌≡◌, ◌≢◌, ◌<◌, ◌+◌, ℕ, nat_le, true, false, if◌then◌else◌, List, [], ◌∷◌, ◌++◌, length, take, refl}
 use Rattle.std.proofs.Common.{sym, ap, subst, ◌∙◌, inl, inr, arith, get_or, add-one}
 use Rattle.std.proofs.Math.Seq.{take-suc}
@@ -33,14 +34,14 @@ goes_first len old new less = elim (nat_le len (old + 1)) as (λ b. nat_le len (
 goes_last : (len old new : ℕ) → old + 1 ≡ len → (if nat_le len (old + 1) then new + 1 else old + 1) ≡ new + 1
 goes_last len old new same = ap (λ b. if b then new + 1 else old + 1) (le-leb len (old + 1) (omega (arith, same)))
 
--- where a call goes on from, it holds a directory, and names are left
+-- a call that looks up a next component holds a directory, and components remain
 pub on_way : (r : Route) (at : Stage) (path : Path) (from : Reached) → GoesFrom r at path from → IsPosition r at → (from.walked < length path) × Holds (held_paths_of r at) (held_path_on path from)
 on_way r at path from (OnOne p w n) (IsOn o v m less) = (less, inl refl)
 on_way r at path from (Together old new w n) (IsBefore o u v m count part less) = let short = part.short in (omega (arith, less, short), inl refl)
 on_way r at path from (OldEnd old new c a b more) (IsApart o u d f g ends) = (ends.short, inr (inl refl))
 on_way r at path from (NewEnd old new c a b parent) (IsApart o u d f g ends) = (ends.short_new, inr (inr (inl refl)))
 
--- what a call looks up next is the root, or one name past what it holds
+-- what a call looks up next is the root, or one component past a directory that it holds
 looks_from : (r : Route) (at : Stage) (to : Path) → LooksUp r at to → IsPosition r at → (held_path : HeldPath) → held_path.path ≡ to → IsFrom (held_paths_of r at) held_path
 looks_from r at to (Root o path rest paths) is held_path e = inl e
 looks_from r at to (Next o g path from goes) is held_path e = let way = on_way r at path from goes is in inr (held_path_on path from, way.1, next_to path from held_path way.0 e)
@@ -52,12 +53,12 @@ goes_depth r at path from (OldEnd old new c a b more) (IsApart o u d f g ends) =
 goes_depth r at path from (NewEnd old new c a b parent) (IsApart o u d f g ends) =
     let x = length-take (from.walked + 1) path in let y = ends.short_new in omega (arith, x, y, goes_last (length old) a.walked from.walked parent)
 
--- so far down it looks
+-- the depth at which it looks
 looks_depth : (r : Route) (at : Stage) (to : Path) → LooksUp r at to → IsPosition r at → length to ≡ depth_at r at
 looks_depth r at to (Root o path rest paths) is = refl
 looks_depth r at to (Next o g path from goes) is = goes_depth r at path from goes is
 
--- and further down than its first path
+-- it looks further down than its first path
 first_depth : (r : Route) (at : Stage) → IsPosition r at → (top : HeldPath) (ends : List HeldPath) → held_paths_of r at ≡ top ∷ ends → length top.path < depth_at r at
 first_depth r at (Starts o is) top ends e = let x : ⊥ = cc in absurd x
 first_depth r at (IsOn path w n less) top ends e =
@@ -81,8 +82,8 @@ first_depth r at (IsApart old new c f g is) top ends e =
       | false ↦ omega (arith, a, b, x)
     ]
 
--- a call that wants what another holds looks less far down
--- a call that walks, and what it holds: its number, its route and where it is on it
+-- a call that needs what another holds looks less far down
+-- a call that holds paths: its number, its route and its stage
 pub record WalkingCall (s : Walkers) : Type 0 where
   pub number : ℕ
   pub route : Route

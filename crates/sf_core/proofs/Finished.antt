@@ -1,4 +1,4 @@
--- What a WRITE has left is copied by another call, before that touches its file.
+-- Another call copies the remaining blocks of a WRITE before it changes the length of that file.
 use Rattle.std.specs.Prelude.{◌≡◌, ◌⊎◌, ℕ, zero, suc, true, List, [], Option, Some, None, refl}
 use Rattle.std.specs.Option.{option_map_or}
 use Rattle.std.proofs.Common.{sym, ap, subst, ◌∙◌, inl, inr}
@@ -29,7 +29,7 @@ use Rattle.sf_core.proofs.SparedFiles.{file_writer}
 use Rattle.sf_core.proofs.Unrecorded.{looked_sound}
 use Rattle.sf_core.proofs.BlockSteps.{end_ground, end_sound}
 
--- what became of a call: it is as it was, or what it had left to copy was copied, for a reason
+-- a call is unchanged, or its remaining blocks were copied, for a reason
 abbrev pub IsStill : PartsView → Type 0 → ℕ → Call → Type 0
 IsStill q why m d = (call_at q.calls m ≡ Some d) ⊎ (IsCopying d.stage × (call_at q.calls m ≡ Some (at_stage stage.Fresh d)) × why)
 
@@ -37,7 +37,7 @@ pub still_on : (q s : PartsView) (one other : Type 0) (m : ℕ) (d : Call) → I
 still_on q s one other m d (inl at) next = elim (next d at) [ inl there ↦ inl there | inr x ↦ inr (x.0, x.1, inr x.2) ]
 still_on q s one other m d (inr x) next = elim (next (at_stage stage.Fresh d) x.1) [ inl at ↦ inr (x.0, at, inl x.2) | inr y ↦ absurd y.0 ]
 
--- it was so for one reason, and so for another that follows from it
+-- a reason may be replaced by one that follows from it
 pub still_for : (s : PartsView) (one other : Type 0) → (one → other) → (m : ℕ) (d : Call) → IsStill s one m d → IsStill s other m d
 still_for s one other f m d (inl at) = inl at
 still_for s one other f m d (inr x) = inr (x.0, x.1, f x.2)
@@ -48,11 +48,11 @@ copies_not (stage.At walked node) none copies = copies
 copies_not (stage.Ends common from to) none copies = copies
 copies_not (stage.Copies node left) none copies = let z : ⊥ = cc in z
 
--- one that is undecided copies nothing
+-- an undecided call is not copying
 pub not_copying : (p : PartsView) (h : List Record) → Sound p h → (m : ℕ) (d : Call) → call_at p.calls m ≡ Some d → waiting_reply d ≡ None → IsCopying d.stage → ⊥
 not_copying p h sound m d at undecided copies = copies_not d.stage (none_copied (route_of d.request) d.stage (sound.coupled.positions m d at undecided)) copies
 
--- a call that is undecided
+-- an undecided call
 pub record UndecidedCall (p : PartsView) (m : ℕ) : Type 0 where
   pub call : Call
   pub at : call_at p.calls m ≡ Some call
@@ -62,7 +62,8 @@ pub still_undecided : (p q : PartsView) (h : List Record) → Sound p h → (why
 still_undecided p q h sound why m d (inl e) = e
 still_undecided p q h sound why m d (inr f) = absurd (not_copying p h sound m d.call d.at d.undecided f.0)
 
--- look-ups were made for a call, and at most one WRITE was finished, where the call cuts a file
+-- lookups were made for a call, and at most one WRITE was completed, if the call sets a file's
+-- length
 pub record Readied (p q : PartsView) (h : List Record) (most : ℕ) (r : Request) : Type 0 where
   pub sound : Sound q h
   pub ground : IsSameGround p.store q.store
@@ -101,7 +102,7 @@ module _ (p : PartsView) (h : List Record) (sound : Sound p h) (looked : StoreSt
     looks = looks_of_looked p.store looked most looks;
   }
 
-  -- the WRITE that holds a file is finished
+  -- the WRITE that holds a file is completed
   module _ (d : Call) (left : ℕ) (at : call_at p.calls d.number ≡ Some d) (node : ℕ) (is : d.stage ≡ stage.Copies node left) (cuts : cuts_file r ≡ true) where
     abbrev q : PartsView
     q = write_finished m d.number node

@@ -1,4 +1,4 @@
--- Of a file that no other call holds nothing is left to be copied.
+-- A file that no other call holds has no blocks left to copy.
 use Rattle.std.specs.Prelude.{◌≡◌, ℕ, zero, suc, true, false, List, [], ◌∷◌, option_map, option_and_then, is_some, Option, Some, None, refl}
 use Rattle.std.specs.Option.{option_map_or}
 use Rattle.std.proofs.Common.{sym, ap, subst, ◌∙◌}
@@ -52,7 +52,7 @@ root_kept s t keeps = by_node (node_in s.nodes s.root) keeps.shows.by.sound.root
         by_content m (content.Directory entries) is = refl
         by_content m (content.File contents) is = is
 
--- where it is asked of a file alone
+-- if it is required of a file alone
 pub left_where : (s : StoreState) (node : ℕ) → (is_file_at s.nodes node ≡ true → blocks_left_at s.nodes node ≡ 0) → blocks_left_at s.nodes node ≡ 0
 left_where s node each = elim (is_file_at s.nodes node) as (λ b. is_file_at s.nodes node ≡ b → blocks_left_at s.nodes node ≡ 0) [
   | true ↦ λ e. each e
@@ -66,7 +66,7 @@ file_free_counted (suc k) s c h = let w = file_free_counted k s c h in record { 
 pub file_free_looked : (s t : StoreState) (most : ℕ) (c : Call) → LookedUp s t most → IsFileFree s c → IsFileFree t c
 file_free_looked s t most c looked h = subst (λ (x : StoreState). IsFileFree x c) (sym looked.state) (file_free_counted looked.count s c h)
 
--- ---- a call that walks uses no file by a handle
+-- ---- a call on a path uses no file by a handle
 pub only_fresh : (r : Route) (g : Stage) → r ≡ NoPath → IsPosition r g → g ≡ stage.Fresh
 only_fresh r g e (Starts o is) = refl
 only_fresh r g e (IsOn path walked node less) = absurd (let z : ⊥ = cc in z)
@@ -141,7 +141,7 @@ module _ (p : PartsView) (h : List Record) (sound : Sound p h) (c : Call) (at : 
   on_path_by (request.PosixRename old new) ways w free parent node cuts there = absurd (let z : ⊥ = cc in z)
   on_path_by (request.Link old new) ways w free parent node cuts there = absurd (let z : ⊥ = cc in z)
 
-  -- so a call that decides finds its files whole
+  -- so a call that is decided finds its files complete
   pub settled_free : IsFileFree p.store c → (ways : Ways) → AreWays p.store (route_of c.request) ways → AreFree (holder_of p.store.nodes) c.number (route_of c.request) ways → IsSettled p.store c.session c.request ways.path
   settled_free file ways w free = record {
     by_handle = λ number x own opens. left_where p.store x.node (λ is. left_free x.node (file.free number x own opens is));

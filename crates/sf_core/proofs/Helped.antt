@@ -1,4 +1,4 @@
--- A call that is carried out from the root, once it was found where its paths lead.
+-- A call that is helped, after its paths were resolved from the root.
 use Rattle.std.specs.Prelude.{◌≡◌, ◌⊎◌, ◌&&◌, ◌||◌, ℕ, Bool, true, false, not, nat_eq, is_none, List, [], ◌∷◌, option_map, Option, Some, None, refl}
 use Rattle.std.specs.Option.{option_map_or}
 use Rattle.std.proofs.Common.{sym, ap, subst, ◌∙◌, inl, inr, eq-eqb}
@@ -30,7 +30,7 @@ use Rattle.sf_core.proofs.SettingBack.{back_if, calls_back, AreBack, all_back}
 use Rattle.sf_core.proofs.BeforeDeciding.{three_true, none_of}
 use Rattle.sf_core.proofs.Updates.{updates_staged, updates_answered}
 
--- the same call, or set to where it started
+-- the same call, unchanged or at its start again
 abbrev pub IsBackOr : Call → Call → Type 0
 IsBackOr y x = (y ≡ x) ⊎ (y ≡ at_stage stage.Fresh x)
 
@@ -78,7 +78,7 @@ staged_none calls k n none =
       | Some z ↦ λ e. (updates_staged calls k z stage.Fresh e).rest n (λ same. none_some z (sym none ∙ ap (call_at calls) same ∙ e)) ∙ none
     ] refl
 
--- each call is as it was, or set to where it started
+-- each call is unchanged, or at its start again
 module _ (p q : PartsView) (c : Call) (fin : FinishesWriter p q c) where
   finished_none : (n : ℕ) → call_at p.calls n ≡ None → call_at q.calls n ≡ None
   finished_none n none = elim fin.finished [
@@ -92,7 +92,7 @@ module _ (p q : PartsView) (c : Call) (fin : FinishesWriter p q c) where
     | Some x ↦ λ e. let f = finished_call p q c fin n x e in (x, refl, back_request d x (subst (λ (y : Call). IsBackOr y x) (some_eq f.0 d (sym f.1 ∙ at_q)) f.2))
   ] refl
 
--- a reply leaves requests
+-- a reply preserves requests
 pub answered_request : (calls : List (ℕ × Call)) (k n : ℕ) (given : Reply) (d : Call) → call_at (answered calls k given) n ≡ Some d → (x : Call) × (call_at calls n ≡ Some x) × (d.request ≡ x.request)
 answered_request calls k n given d at =
     elim (call_at calls k) as (λ o. call_at calls k ≡ o → (x : Call) × (call_at calls n ≡ Some x) × (d.request ≡ x.request)) [
@@ -129,7 +129,7 @@ module _ (p q : PartsView) (n : ℕ) (ways : Ways) (ready : (c : Call) → call_
   pub still_none : call_at q.calls n ≡ None → (c : Call) → call_at p.calls n ≡ Some c → ⊥
   still_none gone c at = let f = finished_call p q c (ready c at).finishes n c at in none_some f.0 (sym gone ∙ f.1)
 
-  -- the call then, from the one before
+  -- the call after the event, from the one before
   pub same_call : (x y : Call) → call_at p.calls n ≡ Some x → call_at q.calls n ≡ Some y → IsBackOr y x
   same_call x y at at_q = let f = finished_call p q x (ready x at).finishes n x at in subst (λ (z : Call). IsBackOr z x) (some_eq f.0 y (sym f.1 ∙ at_q)) f.2
 
@@ -163,7 +163,7 @@ paths_later p q n ns kept paths m d here at =
     let x = kept m d at in
     ap file_handle x.2 ∙ paths m x.0 (or_later (nat_eq m n) (is_one_of m ns) here) x.1
 
--- a call that has passed a path walks one
+-- a call that has passed a path holds one
 passed_walks : (r : Request) (at : Stage) (old : Path) → are_past (reached_at at) (paths_on (route_of r)) old ≡ true → file_handle r ≡ None
 passed_walks (request.Read handle offset len) at old e = absurd (never at old e)
   where
@@ -200,7 +200,7 @@ passed_walks (request.Rename from to) at old e = refl
 passed_walks (request.PosixRename from to) at old e = refl
 passed_walks (request.Link from to) at old e = refl
 
--- those that a call overtakes are undecided, and have passed the path
+-- the calls to be helped are undecided, and have passed the path
 module _ (p : PartsView) (h : List Record) (sound : Sound p h) (n : ℕ) (old : Path) where
   overtaken_is : (k : ℕ) (d : Call) → is_one_of k (overtaken p.calls n (Some old)) ≡ true → call_at p.calls k ≡ Some d → (waiting_reply d ≡ None) × (has_passed d old ≡ true)
   overtaken_is k d here at =

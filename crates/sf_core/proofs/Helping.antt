@@ -1,4 +1,4 @@
--- Calls that another one carries out while their sessions wait.
+-- Helping: a call decides other sessions' calls, whose replies are then pending.
 use Rattle.std.specs.Prelude.{◌≡◌, ◌≢◌, ◌⊎◌, ◌<◌, ◌≤◌, ◌+◌, ◌^◌, ◌||◌, ℕ, nat_eq, Bool, true, false, if◌then◌else◌, is_some, List, [], ◌∷◌, ◌++◌, map, option_map, option_and_then, filter_map, Option, Some, None, refl}
 use Rattle.std.specs.Option.{option_map_or}
 use Rattle.std.proofs.Common.{sym, ap, subst, ◌∙◌, inl, inr, arith, append-nil, IsSome, eqb-true, eq-eqb}
@@ -52,15 +52,15 @@ use Rattle.sf_core.proofs.Recorded.{new_to, helped_sound}
 use Rattle.sf_core.proofs.Numbers.{AreApart}
 use Rattle.sf_core.proofs.Passing.{LiesBelow, begins_below, or_false}
 
--- the path leads not strictly below the other
+-- the path doesn't lead strictly below the other
 abbrev pub IsAside : Path → Path → Type 0
 IsAside old path = (name : Name) (rest : Path) → after_front old path ≢ Some (name ∷ rest)
 
--- nobody holds what is at the path or below it
+-- no call holds the path or anything below it
 abbrev pub IsClear : PartsView → Path → Type 0
 IsClear p old = (m : ℕ) (s : HeldPath) → Holds (held_paths_in p.calls m) s → after_front old s.path ≡ None
 
--- the call of a number is undecided, holds nothing, and lies below a path
+-- the call of this number is undecided, holds nothing, and lies below a path
 pub record IsReady (p : PartsView) (old : Path) (number : ℕ) : Type 0 where
   pub call : Call
   pub at : call_at p.calls number ≡ Some call
@@ -68,7 +68,7 @@ pub record IsReady (p : PartsView) (old : Path) (number : ℕ) : Type 0 where
   pub fresh : call.stage ≡ stage.Fresh
   pub below : LiesBelow old (route_of call.request)
 
--- these records were added by carrying calls out whose paths lead strictly below a path
+-- these records were added by helping calls whose paths lead strictly below a path
 pub record AreLed (old : Path) (p q : PartsView) (h helped : List Record) : Type 0 where
   pub sound : Sound q (h ++ helped)
   pub sure : AreSure h helped
@@ -95,7 +95,7 @@ nested_either from to nested =
       | false ↦ λ e f. inr f
     ] refl nested
 
--- a request that lies below a path leaves the labels of paths that don't lead strictly below it
+-- a request below a path leaves the labels of all paths that don't lead strictly below it
 module _ (h : List Record) (number session moment : ℕ) (r : Request) (old x : Path) (legal : IsLegal h) (above : 0 < number) (fresh : IsNewNumber number h) (aside : IsAside old x) where
   lies_labels : (g : Target) → target_of r ≡ g → LiesBelow old (route_at g) → label_at (apply (replay h) session number moment r).tree.names x ≡ label_at (replay h).names x
   lies_labels (ByHandle handle) e below = absurd below
@@ -121,7 +121,7 @@ module _ (h : List Record) (number session moment : ℕ) (r : Request) (old x : 
 aside_none : (old x : Path) → after_front old x ≡ None → IsAside old x
 aside_none old x e n r f = none_some (n ∷ r) (sym e ∙ f)
 
--- what walks is there twice
+-- a call on a path has a second copy of its request
 copied : (old : Path) (r : Route) (request : Request) → LiesBelow old r → copy_of r request ≡ Some request
 copied old NoPath request below = absurd below
 copied old (Along path) request below = refl
@@ -142,7 +142,7 @@ module _ (old : Path) (p : PartsView) (history : List Record) (sound : Sound p h
   served : IsRefused p.store q.store (replay history) given ⊎ IsCarriedOut q.store (replay history) (answer_to (replay history) c.session c.number c.moment c.request) given
   served = serves.served (replay history) sound.history.tree (new_to p history c sound at undecided)
 
-  -- the labels of paths aside stay
+  -- the labels of other paths are unchanged
   label_aside : (x : Path) → IsAside old x → label_at (after (replay history) (did c given)).names x ≡ label_at (replay history).names x
   label_aside x aside = elim served [
     | inl e ↦ ap (λ (g : Reply). label_at (after (replay history) (did c g)).names x) e.told
@@ -164,7 +164,7 @@ module _ (old : Path) (p : PartsView) (history : List Record) (sound : Sound p h
   calls_now : Updates p.calls q.calls c.number (Some c) (Some (with_reply given c))
   calls_now = subst (λ cs. Updates p.calls cs c.number (Some c) (Some (with_reply given c))) (sym helped.calls) (updates_answered p.calls c.number c given at)
 
-  -- a path aside leads where it led
+  -- another path leads to the same inode as before
   leads_aside : (x : Path) (l : ℕ) → IsAside old x → walk (child_of p.store.nodes) p.store.root x ≡ Some l → (walk (child_of q.store.nodes) q.store.root x ≡ Some l) × ((node : Node) × (node_in q.store.nodes l ≡ Some node))
   leads_aside x l aside w = leads_still p.store q.store history c.number c.session c.moment c.request given sound.history.legal above new_number sound.history.tree served serves.nodes x l w (label_aside x aside)
 
@@ -229,11 +229,11 @@ pub or_right : (a b : Bool) → b ≡ true → (a || b) ≡ true
 or_right true b e = refl
 or_right false b e = e
 
--- one of some numbers is none that isn't among them
+-- a number in a list is not one that isn't in it
 pub not_there : (k n : ℕ) (ns : List ℕ) → is_one_of k ns ≡ true → is_one_of n ns ≡ false → k ≢ n
 not_there k n ns here gone same = let x = sym here ∙ ap (λ i. is_one_of i ns) same ∙ gone in let z : ⊥ = cc in z
 
--- records of calls that are elsewhere, too
+-- also for records of calls that are elsewhere
 pub records_on : (old new : List (ℕ × Call)) (ns : List ℕ) (rs : List Record) → ((n : ℕ) (c : Call) → is_one_of n ns ≡ true → call_at new n ≡ Some c → waiting_reply c ≡ None → (d : Call) × (call_at old n ≡ Some d) × (waiting_reply d ≡ None) × ((g : Reply) → did c g ≡ did d g))
     → AreRecordsOf new ns rs → AreRecordsOf old ns rs
 unfolding AreRecordsOf
@@ -281,8 +281,8 @@ nothing_led old p h sound fits = record {
   few = omega arith;
 }
 
--- look-ups were made before, so many as the record's paths have names, and perhaps a WRITE was finished
--- a core that was made ready for a call: what is left of a WRITE that it cuts was copied
+-- lookups were made before, one for each name of the record's paths; perhaps a WRITE was completed
+-- a core that is ready to help a call: the file that it cuts has no blocks left
 record ReadiedFor (p : PartsView) (h : List Record) (c : Call) : Type 0 where
   mid : PartsView
   fits : p.store.look_ups < 2 ^ 64
@@ -308,11 +308,11 @@ readied_led old p q h c given x led e =
       few = let b = looks.1 in omega (arith, b, e, names_more (did c given) []);
     }
 
--- the call of a number was carried out, and its record is among these
+-- the call of this number was helped, and its record is among these
 abbrev pub WasHelped : PartsView → PartsView → List Record → ℕ → Type 0
 WasHelped p q helped n = (c : Call) → call_at p.calls n ≡ Some c → (given : Reply) × (call_at q.calls n ≡ Some (with_reply given c)) × IsAmong (did c given) helped
 
--- what carrying out the calls of these numbers leaves
+-- what helping the calls of these numbers leaves
 pub record HelpedAll (old : Path) (p q : PartsView) (h : List Record) (ns : List ℕ) : Type 0 where
   pub helped : List Record
   pub led : AreLed old p q h helped
@@ -337,13 +337,13 @@ among_later : (r x : Record) (rs : List Record) → IsAmong r rs → IsAmong r (
 unfolding IsAmong
 among_later r x rs a = inr a
 
--- a call that held nothing is as it was
+-- a call that held nothing is unchanged
 still_fresh : (q : PartsView) (why : Type 0) (m : ℕ) (d : Call) → d.stage ≡ stage.Fresh → IsStill q why m d → call_at q.calls m ≡ Some d
 still_fresh q why m d fresh (inl at) = at
 still_fresh q why m d fresh (inr f) = absurd (subst IsCopying fresh f.0)
 
--- what the helped calls' events ask of a core: a sound history, nobody at the old path, and numbers
--- for the look-ups
+-- what helping requires of a core: a sound history, no call at the old path, and a lookup count
+-- that fits
 pub record MayHelp (old : Path) (p : PartsView) (h : List Record) : Type 0 where
   pub sound : Sound p h
   pub clear : IsClear p old

@@ -1,4 +1,4 @@
--- The history grows by one record.
+-- The history is extended by one record.
 use Rattle.std.specs.Prelude.{◌≡◌, ◌≢◌, ◌<◌, ◌≤◌, ◌+◌, ◌-◌, ◌^◌, ℕ, min, is_none, Bool, List, [], ◌∷◌, ◌++◌, length, Option, Some, None, refl}
 use Rattle.std.specs.List.{AllByRecursion, count_by}
 use Rattle.std.proofs.Common.{sym, ap, subst, ◌∙◌, inl, inr, arith}
@@ -38,8 +38,8 @@ among_last r [] = inl refl
 among_last r (x ∷ h) = inr (among_last r h)
 
 -- ---- the book
--- what is counted of a history of so many calls, when it has one record more: those that the book
--- has let go, before and now, and those that it still has
+-- the counts of calls after one more record: those whose records were dropped, before and after,
+-- and those retained
 record Counts (all : ℕ) : Type 0 where
   folded : ℕ
   gone : ℕ
@@ -62,7 +62,7 @@ few all c =
     let small = c.small in
     omega (arith, as_gone, as_before, parts, whole, small)
 
--- the book has the history's last records, and counts those before
+-- the book has the history's last records, and counts the earlier ones
 pub record IsWritten (b : BookView) (h : List Record) : Type 0 where
   pub records : b.records ≡ kept_of b.keep h
   pub folded : b.folded ≡ count_by is_call (gone_of b.keep h)
@@ -119,7 +119,7 @@ module _ (p q : PartsView) (h g : List Record) (is : IsHistory (core_of p) h) (n
     few = few;
   }
 
--- what is left of a call after its record: nothing, or the same call with its reply
+-- a call after its record: it is removed, or is the same call with its reply
 pub data IsLeft (c : Call) (given : Reply) : Option Call → Type 0 where
   Gone : IsLeft c given None
   Waits : (d : Call) → waiting_reply d ≡ Some given → did d given ≡ did c given → IsLeft c given (Some d)
@@ -145,7 +145,7 @@ module _ (p q : PartsView) (h : List Record) (is : IsHistory (core_of p) h) (c :
   present_after : (s : ℕ) → IsPresent s h → IsPresent s (h ++ r ∷ [])
   present_after s k = all_push (IsNoLeaving s) h r k tt
 
-  -- one undecided call less
+  -- one undecided call fewer
   pub fewer : undecided_in q.calls + 1 ≡ undecided_in p.calls
   fewer =
       let a = calls.passes is_undecided in

@@ -1,4 +1,4 @@
--- The states of lanes, and what is left of a call: words in which the layer above is told of events.
+-- The states of sessions and their remaining steps, as the layer above sees them.
 use Rattle.std.specs.Prelude.{◌≡◌, ◌≢◌, ◌<◌, ◌≤◌, ◌+◌, ℕ, true, false, if◌then◌else◌, length, Option, Some, None, refl}
 use Rattle.std.proofs.Common.{sym, ap, ◌∙◌, arith}
 use Rattle.sf_reply.specs.declared.reply.Reply.{Reply}
@@ -25,7 +25,7 @@ use Rattle.sf_core.specs.Parts.{PartsView, core_of}
 use Rattle.sf_core.specs.Sound.{Ledger}
 use Rattle.sf_core.proofs.Maps.{some_eq, reply_is}
 
--- ---- the states of lanes
+-- ---- the states of sessions
 pub slot_busy : (v : CoreView) (s n : ℕ) (c : Call) → session_at v.sessions s ≡ Some (Some n) → call_at v.calls n ≡ Some c → lane_state v s ≡ Busy c
 slot_busy v s n c e f = ap (lane_state_by v.calls) e ∙ ap busy_with f
 
@@ -44,18 +44,18 @@ busy_by v s c (Some (Some n)) e f = (n, e, busy_call (call_at v.calls n) c f)
 pub busy_slot : (v : CoreView) (s : ℕ) (c : Call) → lane_state v s ≡ Busy c → (n : ℕ) × (session_at v.sessions s ≡ Some (Some n)) × (call_at v.calls n ≡ Some c)
 busy_slot v s c e = busy_by v s c (session_at v.sessions s) refl e
 
--- a session whose entry and whose call stay has the lane state that it had
+-- a session whose entry and call are unchanged has the same state
 pub slot_kept : (v w : CoreView) (s : ℕ) (o : Option (Option ℕ)) → session_at v.sessions s ≡ o → session_at w.sessions s ≡ o → ((m : ℕ) → o ≡ Some (Some m) → call_at w.calls m ≡ call_at v.calls m) → lane_state w s ≡ lane_state v s
 slot_kept v w s None e f same = ap (lane_state_by w.calls) f ∙ sym (ap (lane_state_by v.calls) e)
 slot_kept v w s (Some None) e f same = ap (lane_state_by w.calls) f ∙ sym (ap (lane_state_by v.calls) e)
 slot_kept v w s (Some (Some m)) e f same = ap (lane_state_by w.calls) f ∙ ap busy_with (same m refl) ∙ sym (ap (lane_state_by v.calls) e)
 
--- where one call and the entry of one session are others, all other lane states stay
+-- if one call and its session's entry change, all other states are unchanged
 pub slots_kept : (v w : CoreView) (n session : ℕ) → ((m : ℕ) → m ≢ n → call_at w.calls m ≡ call_at v.calls m) → ((s : ℕ) → s ≢ session → session_at w.sessions s ≡ session_at v.sessions s)
     → ((s m : ℕ) → s ≢ session → session_at v.sessions s ≡ Some (Some m) → m ≢ n) → (s : ℕ) → s ≢ session → lane_state w s ≡ lane_state v s
 slots_kept v w n session calls sessions others s ne = slot_kept v w s (session_at v.sessions s) refl (sessions s ne) (λ m e. calls m (others s m ne e))
 
--- the lane's call is the one of its number
+-- the lane's call is the one with its number
 pub own_call : (p : PartsView) → Ledger p → (lane : LaneView) (n : ℕ) (c : Call) → call_at p.calls n ≡ Some c → c.session ≡ lane.session → lane.call ≡ Some n → OwnCall (core_of p) lane c
 own_call p ledger lane n c at session call =
     let is = ledger.calls n c at in
@@ -69,14 +69,14 @@ no_stranger p ledger lane n call never c own =
     never c (ap (call_at p.calls) (sym same) ∙ b.2) own.session
 
 -- ---- records
--- a book that has another room alone shows the same records
+-- books that differ only in their room have the same records
 pub same_records : (p q : PartsView) → q.book ≡ record p.book { room = q.book.room } → KeepsRecords (core_of p) (core_of q)
 same_records p q e = record { records = ap (λ (b : BookView). b.records) e; keep = ap (λ (b : BookView). b.keep) e; folded = ap (λ (b : BookView). b.folded) e }
 
 pub same_book : (p q : PartsView) → q.book ≡ p.book → KeepsRecords (core_of p) (core_of q)
 same_book p q e = record { records = ap (λ (b : BookView). b.records) e; keep = ap (λ (b : BookView). b.keep) e; folded = ap (λ (b : BookView). b.folded) e }
 
--- ---- what is left
+-- ---- remaining steps
 pub left_is : (c : Call) → waiting_reply c ≡ None → left_of c ≡ steps_left_at c.request c.stage
 unfolding left_of
 left_is c e = ap (left_by c.request c.stage) e
@@ -108,7 +108,7 @@ fit_by (OnPaths old new) = elim (is_rooted old new) as (λ a. names_on (if a the
 pub names_fit : (r : Request) → names_on (route_of r) ≤ request_names r
 names_fit r = fit_by (target_of r)
 
--- how many names a call has walked, on both ways
+-- the number of components that a call has resolved, on both paths
 abbrev pub walked_in : Stage → ℕ
 walked_in stage.Fresh = 0
 walked_in (stage.At walked node) = walked
@@ -124,7 +124,7 @@ walked_on r at (IsApart old new common from to is) = let a = is.short in let b =
 pub walked_few : (c : Call) (at : Stage) → IsPosition (route_of c.request) at → walked_in at ≤ request_names c.request
 walked_few c at is = let a = walked_on (route_of c.request) at is in let b = names_fit c.request in omega (arith, a, b)
 
--- some steps are left, and fewer after each one
+-- some steps remain, and fewer after each one
 some_by : (r : Request) (g : Route) (at : Stage) → IsPosition g at → walked_in at ≤ request_names r → 0 < steps_left_at r at
 some_by r g at (Starts o is) few = omega arith
 some_by r g at (IsOn path walked node less) few = omega (arith, few)

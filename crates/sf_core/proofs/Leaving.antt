@@ -43,7 +43,7 @@ use Rattle.sf_core.proofs.Ledgers.{ledger_changed}
 use Rattle.sf_core.proofs.Starting.{no_call, has_call}
 use Rattle.sf_core.proofs.Histories.{IsWritten, written_put, history_changed, all_push, call_count_push, among_more}
 
--- ---- walks
+-- ---- lock coupling
 module _ (old new : StoreState) (t u : Tree) (keeps : Keeps old t) (keeps' : Keeps new u) (nodes : KeepsNodes old new) (names : u.names ≡ t.names)
     (f : ℕ → List HeldPath) (walks : AreWalks (walkers_at (namespace old) f (walker_of old.nodes))) where
   still : (q : Path) (l : ℕ) → walk (child_of old.nodes) old.root q ≡ Some l → (walk (child_of new.nodes) new.root q ≡ Some l) × ((node : Node) × (node_in new.nodes l ≡ Some node))
@@ -53,7 +53,7 @@ module _ (old new : StoreState) (t u : Tree) (keeps : Keeps old t) (keeps' : Kee
   same_kind l node None e h dir = absurd h
   same_kind l node (Some x) e h dir = ap (λ (o : Option Node). option_map_or (λ (y : Node). is_directory_content y.content) o false) e ∙ ap is_directory_content (sym h.2) ∙ dir
 
-  -- what is a directory was one
+  -- what is a directory was a directory
   directory_was : (l : ℕ) (o : Option Node) → node_in new.nodes l ≡ o → option_map_or (λ (x : Node). is_directory_content x.content) o false ≡ true → is_directory_at old.nodes l ≡ true
   directory_was l None e dir = absurd (let z : ⊥ = cc in z)
   directory_was l (Some node) e dir = same_kind l node (node_in old.nodes l) refl (nodes.node l node e) dir
@@ -77,7 +77,7 @@ kept_by : (n : ℕ) (o : Option Node) (node : Node) → WasThere o node → IsAs
 kept_by n None node h = absurd h
 kept_by n (Some x) node h = (h.0, h.1, ap blocks_left_in h.2)
 
--- no node is new, whatever number a new one would have
+-- no inode is new, for any number that a new one would have
 stays_kept : (n : ℕ) (old new : StoreState) → KeepsNodes old new → NodesStay n old new
 stays_kept n old new nodes = record { node = λ id node at. kept_by n (node_in old.nodes id) node (nodes.node id node at) }
 
@@ -92,7 +92,7 @@ each_sessions : (handles : List (ℕ × OpenHandle)) (s : StoreState) → (each_
 each_sessions [] s = refl
 each_sessions (e ∷ handles) s = each_sessions handles (after_close s e.1.node) ∙ let_go_sessions s e.1.node
 
--- the handles of other sessions are open still
+-- the handles of other sessions are still open
 handles_other : (s : StoreState) (session other handle : ℕ) → other ≢ session → T (is_sorted nat_cmp s.sessions) → open_handle_at (closed_all s session) other handle ≡ open_handle_at s other handle
 handles_other s session other handle ne rise = by (handles_of s session)
   where

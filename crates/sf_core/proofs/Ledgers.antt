@@ -1,4 +1,4 @@
--- The ledger after an event of one call and of one session.
+-- The ledger after an event that changes one call and one session.
 use Rattle.std.specs.Prelude.{◌≡◌, ◌≢◌, ◌≤◌, ◌+◌, ℕ, length, Option, Some, None, refl}
 use Rattle.std.proofs.Common.{sym, ap, subst, ◌∙◌, inl, inr, arith}
 use Rattle.sf_call.specs.declared.call.Call.{Call}
@@ -13,7 +13,7 @@ use Rattle.sf_core.specs.Sound.{IsCallOf, IsSessionOf, Ledger}
 use Rattle.sf_core.proofs.Maps.{some_eq, none_some}
 use Rattle.sf_core.proofs.Updates.{Updates}
 
--- the call of the number n, and the entry of the session, are others; the other calls are other sessions'
+-- the call n and its session's entry change; the other calls belong to other sessions
 module _ (p q : PartsView) (ledger : Ledger p) (n session : ℕ) (was now : Option Call) (before after : Option (Option ℕ)) (calls : Updates p.calls q.calls n was now) (sessions : Updates p.sessions q.sessions session before after)
     (apart : (m : ℕ) (d : Call) → m ≢ n → call_at p.calls m ≡ Some d → d.session ≢ session) (others : (s m : ℕ) → s ≢ session → session_at p.sessions s ≡ Some (Some m) → m ≢ n)
     (call : (d : Call) → now ≡ Some d → IsCallOf q.sessions q.drawn n d) (busy : (o : Option ℕ) → after ≡ Some o → IsSessionOf q.calls q.joins session o)
@@ -52,9 +52,9 @@ module _ (p q : PartsView) (ledger : Ledger p) (n session : ℕ) (was now : Opti
     sessions_rise = sessions.rises ledger.sessions_rise;
   }
 
--- ---- of a call that is there
+-- ---- of a call that exists
 module _ (p : PartsView) (ledger : Ledger p) (n : ℕ) (c : Call) (at : call_at p.calls n ≡ Some c) where
-  -- another call is another session's
+  -- another call belongs to another session
   pub other_session : (m : ℕ) (d : Call) → m ≢ n → call_at p.calls m ≡ Some d → d.session ≢ c.session
   other_session m d ne there e = ne (some_eq m n (some_eq (Some m) (Some n) (sym (ledger.calls m d there).session ∙ ap (session_at p.sessions) e ∙ (ledger.calls n c at).session)))
 
@@ -62,7 +62,8 @@ module _ (p : PartsView) (ledger : Ledger p) (n : ℕ) (c : Call) (at : call_at 
   pub other_call : (s m : ℕ) → s ≢ c.session → session_at p.sessions s ≡ Some (Some m) → m ≢ n
   other_call s m ne there e = let b = (ledger.sessions s (Some m) there).busy m refl in ne (sym b.2 ∙ ap (λ (y : Call). y.session) (some_eq b.0 c (sym b.1 ∙ ap (call_at p.calls) e ∙ at)))
 
--- the call is the same one further on, and its session has it; or it is gone, and its session has none
+-- the call is the same at a later stage, and its session has it; or it is removed, and its session
+-- has none
 pub data Follows (c : Call) (n : ℕ) : Option Call → Option ℕ → Type 0 where
   Stays : (d : Call) → SameCall c d → (waiting_reply d ≡ None → d.copy ≡ copy_of (route_of d.request) d.request) → Follows c n (Some d) (Some n)
   Goes : Follows c n None None

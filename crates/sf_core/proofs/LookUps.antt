@@ -1,4 +1,4 @@
--- What look-ups leave of a store.
+-- What lookups leave unchanged in a store.
 use Rattle.std.specs.Prelude.{◌<◌, ◌≤◌, ◌+◌, ◌-◌, ◌^◌, ℕ, zero, suc, min}
 use Rattle.std.proofs.Common.{ap, arith}
 use Rattle.sf_inode.specs.Stores.{StoreState}
@@ -27,6 +27,6 @@ looks_between s new most fits looks =
 pub looks_fit : (s new : StoreState) (most : ℕ) → MakesLookUps s new most → s.look_ups < 2 ^ 64 → new.look_ups < 2 ^ 64
 looks_fit s new most looks fits = let f = fits_more looks.count s fits in let e = looks.look_ups in omega (arith, f, e)
 
--- nothing but look-ups were made
+-- only lookups were made
 pub looks_of_looked : (s new : StoreState) (most : ℕ) → LookedUp s new most → MakesLookUps s new most
 looks_of_looked s new most looked = record { count = looked.count; few = looked.few; look_ups = ap (λ (x : StoreState). x.look_ups) looked.state }

@@ -1,4 +1,4 @@
--- Maps from numbers: look-ups and lengths after each change.
+-- Maps from numbers: lookups and lengths after each change.
 use Rattle.std.specs.Prelude.{◌≡◌, ◌≢◌, ◌+◌, ℕ, nat_eq, Bool, true, false, cond, T, List, [], ◌∷◌, length, filter, Option, Some, None, IsSome, refl}
 use Rattle.std.proofs.Common.{sym, ap, ◌∙◌, arith, eqb-true}
 use Rattle.std.specs.declared.cmp.Ordering.TheVariants.{Less, Equal, Greater}
@@ -25,7 +25,7 @@ itself k = nat_at_itself k
 pub apart_at : (k q : ℕ) → k ≢ q → is_at (nat_cmp k) q ≡ false
 apart_at k q ne = at_is k q ∙ elim (nat_eq k q) as (λ b. nat_eq k q ≡ b → b ≡ false) [ true ↦ λ e. absurd (ne (eqb-true k q e)) | false ↦ λ e. refl ] refl
 
--- 1 for what passes
+-- 1 for an entry that passes
 abbrev pub one_if : Bool → ℕ
 one_if true = 1
 one_if false = 0
@@ -71,7 +71,7 @@ module _ {X : Type 0} where
         | Greater ↦ λ h. let r = count_put es k v h in omega (arith, r)
       ] e
 
-  -- what was put where nothing stood, and then taken out, leaves what was there
+  -- inserting a new entry and then removing it changes nothing
   pub put_removed : (es : List (ℕ × X)) (k : ℕ) (v : X) → lookup (is_at (nat_cmp k)) es ≡ None → remove_entry (is_at (nat_cmp k)) (insert_entry nat_cmp es k v) ≡ es
   put_removed [] k v e = ap (λ b. cond {A = List (ℕ × X)} b [] ((k, v) ∷ [])) (itself k)
   put_removed (x ∷ es) k v e =
@@ -84,7 +84,7 @@ module _ {X : Type 0} where
             ∙ ap (λ (rest : List (ℕ × X)). x ∷ rest) (put_removed es k v none)
       ] refl
 
-  -- set twice, it has the second value
+  -- of two values set in turn the second remains
   pub set_twice : (test : ℕ → Bool) (es : List (ℕ × X)) (v w : X) → set_value test (set_value test es v) w ≡ set_value test es w
   set_twice test [] v w = refl
   set_twice test (x ∷ es) v w =
@@ -105,7 +105,7 @@ module _ {X : Type 0} where
   pub rise_set : (test : ℕ → Bool) (v : X) (es : List (ℕ × X)) → T (is_sorted nat_cmp es) → T (is_sorted nat_cmp (set_value test es v))
   rise_set test v es h = sorted_set nat_cmp test v es h
 
-  -- how many entries pass a test of their values
+  -- the number of entries whose values pass a test
   module _ (passes : X → Bool) where
     first_more : (b : Bool) (x : ℕ × X) (ys : List (ℕ × X)) → length (cond b (x ∷ ys) ys) ≡ length ys + one_if b
     first_more true x ys = omega arith
@@ -150,7 +150,7 @@ module _ {X : Type 0} where
           | false ↦ λ h. let r = passing_set test es v w h in let a = more x es in let b = more x (set_value test es v) in omega (arith, r, a, b)
         ] e
 
--- ---- words on a call
+-- ---- fields of calls
 pub reply_is : (c : Call) → waiting_reply c ≡ c.reply
 unfolding waiting_reply
 reply_is c = refl

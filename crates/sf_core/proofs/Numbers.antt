@@ -18,7 +18,7 @@ use Rattle.sf_keeps.proofs.Laws.{at_is}
 use Rattle.sf_walk.specs.Steps.{is_one_of}
 use Rattle.sf_core.proofs.Maps.{apart_at}
 
--- no number is there twice
+-- no number occurs twice
 abbrev pub AreApart : List ℕ → Type 0
 AreApart [] = Unit {0}
 AreApart (n ∷ ns) = (is_one_of n ns ≡ false) × AreApart ns
@@ -31,7 +31,7 @@ is_less Less h = refl
 is_less Equal h = absurd h
 is_less Greater h = absurd h
 
--- a key below all is none of these
+-- a key below all of these is none of them
 none_below : (x : ℕ) (es : List (ℕ × Call)) → T (below_all nat_cmp x es) → lookup (is_at (nat_cmp x)) es ≡ None
 none_below x [] h = refl
 none_below x (e ∷ es) h =
@@ -42,7 +42,7 @@ module _ (test : ℕ × Call → Bool) where
   abbrev numbers : List (ℕ × Call) → List ℕ
   numbers es = map (λ (e : ℕ × Call). e.0) (filter test es)
 
-  -- a number is one of them exactly where its call is there and passes
+  -- a number is in the list exactly if its call exists and passes
   pub among : (es : List (ℕ × Call)) → T (is_sorted nat_cmp es) → (k : ℕ)
       → is_one_of k (map (λ (e : ℕ × Call). e.0) (filter test es)) ≡ option_map_or (λ (c : Call). test (k, c)) (lookup (is_at (nat_cmp k)) es) false
   among [] s k = refl
@@ -72,7 +72,7 @@ module _ (test : ℕ × Call → Bool) where
         | false ↦ rest
       ]
 
-  -- they rise
+  -- the list is ascending
   pub numbers_rise : (es : List (ℕ × Call)) → T (is_sorted nat_cmp es) → IsStrictlySortedBy nat_cmp (map (λ (e : ℕ × Call). e.0) (filter test es))
   unfolding IsStrictlySortedBy
   numbers_rise [] s = tt
@@ -83,7 +83,7 @@ module _ (test : ℕ × Call → Bool) where
         | false ↦ rest
       ]
 
-  -- and are no more than pass another test that they pass
+  -- it is no longer than the list for a weaker test
   pub numbers_few : (passes : Call → Bool) → ((e : ℕ × Call) → test e ≡ true → passes e.1 ≡ true) → (es : List (ℕ × Call))
       → length (map (λ (e : ℕ × Call). e.0) (filter test es)) ≤ length (filter (λ (e : ℕ × Call). passes e.1) es)
   numbers_few passes h [] = omega arith
@@ -98,7 +98,7 @@ module _ (test : ℕ × Call → Bool) where
         ]
       ] refl
 
--- numbers that rise are apart
+-- ascending numbers are distinct
 not_above : (x : ℕ) (ns : List ℕ) → AllByRecursion (λ y. nat_cmp x y ≡ Less) ns → is_one_of x ns ≡ false
 not_above x [] h = refl
 not_above x (n ∷ ns) h = elim (nat_eq x n) as (λ b. nat_eq x n ≡ b → (b || is_one_of x ns) ≡ false) [

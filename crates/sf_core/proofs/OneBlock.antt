@@ -1,4 +1,4 @@
--- A WRITE that is carried out by its first step writes one block at most.
+-- A WRITE that its first step answers writes at most one block.
 use Rattle.std.specs.Prelude.{if◌then◌else◌, ◌≡◌, ◌≤◌, ℕ, true, false, List, [], ◌∷◌, length, option_map, Option, Some, None, refl}
 use Rattle.std.specs.Option.{option_map_or}
 use Rattle.std.proofs.Common.{sym, ap, ◌∙◌, arith}
@@ -24,8 +24,8 @@ use Rattle.sf_core.specs.Progress.{is_write}
 use Rattle.sf_core.specs.Events.{IsOfOneBlock}
 use Rattle.sf_core.specs.Writing.{CopiesOne}
 
--- what a handle opens in the tree
--- a handle that is open in a tree, and what its label leads to
+-- the file that a handle opens in the tree
+-- an open handle of a tree, and what its label leads to
 record HandleTo (t : Tree) (session number : ℕ) : Type 0 where
   handle : Handle
   metadata : Metadata
@@ -52,7 +52,7 @@ module _ (s : StoreState) (t : Tree) (keeps : Keeps s t) (session number : ℕ) 
       let stored : contents ≡ bytes_of s.nodes x.node = f.1 ∙ sym (ap (λ (o : Option Node). option_map_or (λ (y : Node). bytes_in y.content) o []) node.1.0) in
       ap (λ (y : Handle). start_of y contents offset) f.0 ∙ ap (λ (b : List ℕ). if x.marks.append then length b else offset) stored
 
-  -- what is open in the tree is so in the store
+  -- a file that is open in the tree is open in the store
   open_there : open_handle_at s session number ≡ None → (handle : Handle) (m : Metadata) (contents : List ℕ) → opened t session number ≡ OpenFile handle m contents → ⊥
   open_there none handle m contents opens =
       let here : handle_in t session number ≡ None = keeps.shows.by.handles session number ∙ ap (option_map (shown_handle session)) none in

@@ -1,4 +1,4 @@
--- Whose calls there are.
+-- Which session each call belongs to.
 use Rattle.std.proofs.Common.{◌≡◌, ◌<◌, ◌≤◌, ℕ, Option, Some, None, refl, sym, ap, ◌∙◌, arith}
 use Rattle.sf_call.specs.declared.call.Call.{Call}
 use Rattle.sf_core.specs.Cores.{CoreView, call_at, session_at, lane_state_by, lane_state}

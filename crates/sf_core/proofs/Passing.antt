@@ -1,4 +1,4 @@
--- What passing a path says of names.
+-- Facts about paths that a call has passed.
 use Rattle.std.specs.Prelude.{◌≡◌, ◌<◌, ◌≤◌, ◌+◌, ◌-◌, ℕ, zero, suc, nat_le, Bool, true, false, cond, ◌&&◌, ◌||◌, List, [], ◌∷◌, ◌++◌, length, take, drop, ◌↔◌, IsTrue, Option, Some, None, IsSome, is_some, refl}
 use Rattle.std.proofs.Common.{sym, ap, ◌∙◌, inl, inr, arith, append-nil}
 use Rattle.std.proofs.lemmas.Bool.{leb-true, le-leb}
@@ -22,7 +22,7 @@ both_true true b e = (refl, e)
 both_true false b e = absurd (let z : ⊥ = cc in z)
 
 -- ---- passing a path
--- what begins the walked names begins the path
+-- a prefix of the walked names is a prefix of the path
 front_taken : (old path : Path) (w : ℕ) (rest : Path) → after_front old (take w path) ≡ Some rest → (length old ≤ w) × (is_some (after_front old path) ≡ true)
 front_taken [] path w rest e = (omega arith, refl)
 front_taken (n ∷ old) [] zero rest e = absurd (let z : ⊥ = cc in z)
@@ -34,7 +34,7 @@ front_taken (n ∷ old) (m ∷ path) (suc w) rest e =
       | false ↦ λ f. absurd (let z : ⊥ = cc in z)
     ] e
 
--- a path that isn't past another is neither there nor below
+-- a path that hasn't passed another is neither at it nor below it
 pub stands_aside : (old path : Path) (w : ℕ) → has_walked path w old ≡ false → after_front old (take w path) ≡ None
 stands_aside old path w never =
     elim (after_front old (take w path)) as (λ o. after_front old (take w path) ≡ o → o ≡ None) [
@@ -45,14 +45,14 @@ stands_aside old path w never =
           let y : false ≡ true = sym never ∙ x in absurd (let z : ⊥ = cc in z)
     ] refl
 
--- what is past a path is so after more names
+-- what has passed a path has passed it after more names
 pub past_on : (old path : Path) (v w : ℕ) → v ≤ w → has_walked path v old ≡ true → has_walked path w old ≡ true
 past_on old path v w more past =
     let both = both_true (nat_le (length old) v) (is_some (after_front old path)) past in
     let many = leb-true (length old) v both.0 in
     ap (λ b. b && is_some (after_front old path)) (le-leb (length old) w (omega (arith, many, more))) ∙ both.1
 
--- and after fewer, no fewer than it has
+-- and after fewer names, if they are no fewer than the path's
 pub past_back : (old path : Path) (v w : ℕ) → length old ≤ v → has_walked path w old ≡ true → has_walked path v old ≡ true
 past_back old path v w many past =
     let both = both_true (nat_le (length old) w) (is_some (after_front old path)) past in
@@ -67,7 +67,7 @@ never_past old path w less = elim (has_walked path w old) as (λ b. has_walked p
   | false ↦ λ e. refl
 ] refl
 
--- the walked names of what is past a path begin with it
+-- the walked names of what has passed a path begin with it
 pub past_front : (old path : Path) (w : ℕ) → has_walked path w old ≡ true → w ≤ length path → (rest : Path) × (take w path ≡ old ++ rest)
 past_front old path w past within =
     let both = both_true (nat_le (length old) w) (is_some (after_front old path)) past in
@@ -80,7 +80,7 @@ past_front old path w past within =
           (take (w - length old) rest, ap (λ (k : ℕ). take k path) (sym cut) ∙ ap (take (length old + (w - length old))) is ∙ take-append-add old rest (w - length old))
     ] refl both.1
 
--- names that begin with a path are past it
+-- names that begin with a path have passed it
 pub front_past : (old path : Path) (w : ℕ) (rest : Path) → take w path ≡ old ++ rest → has_walked path w old ≡ true
 front_past old path w rest is =
     let r = front_taken old path w rest (ap (after_front old) is ∙ after_front-append old rest) in
@@ -93,7 +93,7 @@ behind old path (Some []) e t less =
     absurd (omega (arith, l, length-append old [], less))
 behind old path (Some (name ∷ rest)) e t less = (name, rest, e)
 
--- fewer names begin more
+-- a shorter prefix is a prefix, too
 pub begins_more : (path : Path) (v w : ℕ) → v ≤ w → IsPrefix (take v path) (take w path)
 begins_more path v w few = record { rest = drop v (take w path); is = sym (take-append-drop v (take w path)) ∙ ap (λ (x : Path). x ++ drop v (take w path)) (twice path v w few) }
   where
@@ -104,7 +104,7 @@ begins_more path v w few = record { rest = drop v (take w path); is = sym (take-
     twice (n ∷ x) (suc a) zero few = absurd (omega (arith, few))
     twice (n ∷ x) (suc a) (suc b) few = ap (λ (y : Path). n ∷ y) (twice x a b (omega (arith, few)))
 
--- of two fronts of a path the one that begins the other not is the longer one
+-- of two prefixes of a path, one that isn't a prefix of the other is longer
 pub longer_front : (c p e : Path) → IsPrefix c e → IsPrefix p e → (IsPrefix c p → ⊥) → length p < length c
 longer_front c p e begins other never = elim (fronts_meet c p e begins other) [
   | inl b ↦ absurd (never b)
@@ -122,14 +122,14 @@ longer_front c p e begins other never = elim (fronts_meet c p e begins other) [
 abbrev pub IsBelow : Path → Path → Type 0
 IsBelow old path = (name : Name) × (rest : Path) × (after_front old path ≡ Some (name ∷ rest))
 
--- a path of which a proper front is past another leads strictly below it
+-- a path with a proper prefix that has passed another leads strictly below it
 pub passed_below : (old path : Path) (w : ℕ) → has_walked path w old ≡ true → w < length path → IsBelow old path
 passed_below old path w passed short =
     let both = both_true (nat_le (length old) w) (is_some (after_front old path)) passed in
     let many = leb-true (length old) w both.0 in
     behind old path (after_front old path) refl both.1 (omega (arith, many, short))
 
--- what begins with a path that leads strictly below another does so too
+-- what begins with a path that leads strictly below another also does so
 pub begins_below : (old path q : Path) → IsBelow old path → IsSome (after_front path q) → IsBelow old q
 begins_below old path q below some =
     elim (after_front path q) as (λ o. after_front path q ≡ o → IsSome o → IsBelow old q) [
@@ -140,7 +140,7 @@ begins_below old path q below some =
           (below.0, below.1 ++ more, ap (after_front old) is ∙ after_front-append old (below.0 ∷ (below.1 ++ more)))
     ] refl some
 
--- a call on a route lies below a path: all that it can change does, unless it moves nothing
+-- a call on a route lies below a path: all paths that it can change do, unless it moves nothing
 abbrev pub LiesBelow : Path → Route → Type 0
 LiesBelow old NoPath = ⊥
 LiesBelow old (Along path) = IsBelow old path
@@ -150,14 +150,14 @@ pub or_false : (x y : Bool) → (x || y) ≡ false → (x ≡ false) × (y ≡ f
 or_false true y e = absurd (let z : ⊥ = cc in z)
 or_false false y e = (refl, e)
 
--- who has not passed a path holds nothing there or below it
+-- a call that hasn't passed a path holds nothing at it or below it
 pub held_aside : (old : Path) (at : List Reached) (paths : List Path) → are_past at paths old ≡ false → (s : HeldPath) → Holds (held_paths_on at paths) s → after_front old s.path ≡ None
 held_aside old [] paths never s hold = absurd hold
 held_aside old (r ∷ at) [] never s hold = absurd hold
 held_aside old (r ∷ at) (path ∷ paths) never s (inl e) = ap (λ (x : HeldPath). after_front old x.path) e ∙ stands_aside old path r.walked (or_false (has_walked path r.walked old) (are_past at paths old) never).0
 held_aside old (r ∷ at) (path ∷ paths) never s (inr hold) = held_aside old at paths (or_false (has_walked path r.walked old) (are_past at paths old) never).1 s hold
 
--- a test that tells whether a path begins with another
+-- a test of whether a path is a prefix of another
 pub begins_is : (path old : Path) (b : Bool) → (IsTrue b ↔ BeginsWith path old) → b ≡ is_some (after_front old path)
 begins_is path old true h =
     let front = h.0 refl in

@@ -1,4 +1,5 @@
--- Before a call is carried out from the root: where its paths lead, and that nothing is left to be copied into what it cuts.
+-- Before a call is helped from the root: its paths are resolved, and no blocks are left to copy
+-- into the file whose length it sets.
 use Rattle.std.specs.Prelude.{◌≡◌, ◌≢◌, ℕ, true, Bool, if◌then◌else◌, List, [], ◌∷◌, option_and_then, Option, Some, None, refl}
 use Rattle.std.specs.Option.{option_map_or}
 use Rattle.std.proofs.Common.{sym, ap, ◌∙◌, inl, inr}
@@ -27,7 +28,7 @@ use Rattle.sf_core.proofs.BlockSteps.{ground_left, writer_apart}
 use Rattle.sf_core.proofs.Finished.{ground_looked}
 use Rattle.sf_core.proofs.FreeFiles.{left_where}
 
--- ---- ways where the ground is the same
+-- ---- paths in two stores with the same directories
 module _ (s t : StoreState) (g : IsSameGround s t) where
   way_same : (path : Path) (up x : ℕ) → way_from t.nodes up x path ≡ way_from s.nodes up x path
   way_same [] up x = refl
@@ -88,7 +89,7 @@ module _ (p : PartsView) (c : Call) (ways : Ways) (looked : StoreState) (settled
       ];
     }
 
--- ---- a decision leaves what is free settled
+-- ---- after a decision, files that are not held have no blocks left to copy
 module _ (s t : StoreState) (n : ℕ) (stays : NodesStay n s t) (settled : IsSettledWhereFree s) where
   held_still : (id m : ℕ) (node : Node) → node_in t.nodes id ≡ Some node → (o : Option Node) → node_in s.nodes id ≡ o → IsAsBefore (λ holder label. (holder ≡ None) × (label ≡ n)) o node → holder_of s.nodes id ≡ Some m → holder_of t.nodes id ≡ Some m
   held_still id m node at None e is held = absurd (none_some m (sym (ap (option_and_then (λ (x : Node). x.holder)) e) ∙ held))

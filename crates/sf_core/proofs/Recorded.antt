@@ -1,4 +1,5 @@
--- A call's record is written: the history grows by it, and the call goes, or its reply waits.
+-- A call's record is written: the history is extended, and the call is removed, or its reply is
+-- pending.
 use Rattle.std.specs.Prelude.{◌≡◌, ◌≢◌, ◌⊎◌, ℕ, Bool, true, false, if◌then◌else◌, List, [], ◌∷◌, ◌++◌, Option, Some, None, refl}
 use Rattle.std.specs.Option.{option_map_or}
 use Rattle.std.proofs.Common.{sym, ap, subst, ◌∙◌, inl, inr, arith}
@@ -46,7 +47,7 @@ use Rattle.sf_core.proofs.Ledgers.Follows.{Stays, Goes}
 use Rattle.sf_core.proofs.Histories.{IsLeft, fewer, history_recorded}
 use Rattle.sf_core.proofs.Histories.IsLeft.{Gone, Waits}
 
--- letting go leaves the tree that the store keeps
+-- releasing keeps the tree that the store represents
 pub let_go_keeps : (kept nodes : List ℕ) (s : StoreState) (t : Tree) → Keeps s t → Keeps (let_go kept nodes s) t
 let_go_keeps kept [] s t k = k
 let_go_keeps kept (node ∷ nodes) s t k = let_go_keeps kept nodes (free_unless kept node s) t (by (is_one_of node kept))
@@ -142,7 +143,7 @@ module _ (p q : PartsView) (h : List Record) (sound : Sound p h) (c : Call) (giv
       handles_stay kinds_stay p.calls sound.copied.copies sound.copied.writing apart l m e in
       no_directory records.mid.nodes l (writer_holds records.mid.nodes l m kept.0).0 dir
 
-  -- the call's own nodes were directories
+  -- the call's inodes were directories
   no_own : (l : ℕ) → IsNodeOf (held_paths_of (route_of c.request) c.stage) l → is_file_at records.mid.nodes l ≡ true → ⊥
   no_own l own file =
       let held = sound.coupled.walks.leads c.number own.held_path (subst (λ (o : Option Call). Holds (option_map_or held_paths_at o []) own.held_path) (sym at) own.holds) in
@@ -213,14 +214,14 @@ module _ (p q : PartsView) (h : List Record) (sound : Sound p h) (c : Call) (giv
         omega (arith, a, b, d, e));
   }
 
--- ---- its two cases
+-- ---- the two cases
 module _ (p q : PartsView) (h : List Record) (sound : Sound p h) (c : Call) (at : call_at p.calls c.number ≡ Some c) (undecided : waiting_reply c ≡ None) (given : Reply)
     (labels : (path : Path) (l holder : ℕ) → walk (child_of p.store.nodes) p.store.root path ≡ Some l → walker_of p.store.nodes l ≡ Some holder → c.number ≢ holder
     → label_at (after (replay h) (did c given)).names path ≡ label_at (replay h).names path) where
   busy : session_at p.sessions c.session ≡ Some (Some c.number)
   busy = (sound.ledger.calls c.number c at).session
 
-  -- it was decided: it goes, and its session has none
+  -- it was answered: it is removed, and its session has no call
   pub finished : FinishState p q c c.number given → Sound q (h ++ did c given ∷ [])
   finished fin =
       recorded p q h sound c given fin.records None None
@@ -232,7 +233,7 @@ module _ (p q : PartsView) (h : List Record) (sound : Sound p h) (c : Call) (at 
   unfolding waiting_reply
   reply_now = refl
 
-  -- it was carried out by another: its reply waits
+  -- it was helped by another: its reply is pending
   pub helped_sound : c.stage ≡ stage.Fresh → HelpState p q c c.number given → Sound q (h ++ did c given ∷ [])
   helped_sound fresh help =
       recorded p q h sound c given help.records (Some (with_reply given c)) (Some c.number)

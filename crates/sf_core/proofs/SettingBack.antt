@@ -1,4 +1,4 @@
--- Calls that are set back: they hold nothing, and all else is as it was.
+-- Calls release what they hold, before they are helped; all else is unchanged.
 use Rattle.std.specs.Prelude.{◌≡◌, ℕ, nat_eq, Bool, true, false, ◌||◌, if◌then◌else◌, List, [], ◌∷◌, option_map, Option, Some, None, refl}
 use Rattle.std.specs.Option.{option_map_or}
 use Rattle.std.proofs.Common.{sym, ap, subst, ◌∙◌, eqb-true, eq-eqb}
@@ -21,7 +21,7 @@ use Rattle.sf_core.proofs.Maps.{some_eq, none_some, reply_is}
 use Rattle.sf_core.proofs.Updates.{updates_staged}
 use Rattle.sf_core.proofs.Starting.{set_back_sound}
 
--- what became of a call: it is back where it started, or as it was
+-- a call starts again at the root, or is unchanged
 abbrev pub back_if : Bool → Option Call → Option Call
 back_if true o = option_map (at_stage stage.Fresh) o
 back_if false o = o
@@ -45,12 +45,12 @@ back_one p n m = elim (call_at p.calls n) as (λ o. call_at p.calls n ≡ o → 
       ] refl
 ] refl
 
--- the calls of these numbers are back
+-- the calls with these numbers start again
 pub calls_back : (ns : List ℕ) (p : PartsView) (m : ℕ) → call_at (all_set_back p ns).calls m ≡ back_if (is_one_of m ns) (call_at p.calls m)
 calls_back [] p m = refl
 calls_back (n ∷ ns) p m = calls_back ns (set_back p n) m ∙ ap (back_if (is_one_of m ns)) (back_one p n m) ∙ back_twice (nat_eq m n) (is_one_of m ns) (call_at p.calls m)
 
--- and nothing else changed but who holds what
+-- nothing else changed, except the holders
 pub record AreBack (p q : PartsView) (history : List Record) : Type 0 where
   pub sound : Sound q history
   pub ground : IsSameGround p.store q.store
@@ -68,7 +68,7 @@ let_go_looks kept (node ∷ nodes) s = let_go_looks kept nodes (free_unless kept
     by true = refl
     by false = refl
 
--- an undecided call was so before
+-- an undecided call was undecided before
 was_undecided : (b : Bool) (o : Option Call) (c : Call) → back_if b o ≡ Some c → ((d : Call) → o ≡ Some d → waiting_reply d ≡ None) → waiting_reply c ≡ None
 was_undecided true None c e h = absurd (none_some c e)
 was_undecided true (Some d) c e h = ap waiting_reply (sym (some_eq (at_stage stage.Fresh d) c e)) ∙ reply_is (at_stage stage.Fresh d) ∙ sym (reply_is d) ∙ h d refl
@@ -113,7 +113,7 @@ book_one : (p : PartsView) (n : ℕ) (o : Option Call) → (set_back_by p n o).b
 book_one p n None = refl
 book_one p n (Some c) = refl
 
--- the book is as it was
+-- the book is unchanged
 pub book_back : (ns : List ℕ) (p : PartsView) → (all_set_back p ns).book ≡ p.book
 book_back [] p = refl
 book_back (n ∷ ns) p = book_back ns (set_back p n) ∙ book_one p n (call_at p.calls n)

@@ -1,4 +1,5 @@
--- A decision leaves the ways of all other calls as they were: no node that another call holds goes, and none takes its place.
+-- A decision preserves the paths of all other calls: no inode that another call holds is removed or
+-- replaced.
 use Rattle.std.specs.Prelude.{◌≡◌, ◌≢◌, ◌⊎◌, ◌<◌, ℕ, true, false, cond, List, [], ◌∷◌, option_map, option_and_then, Option, Some, None, IsSome, refl}
 use Rattle.std.specs.Option.{option_map_or}
 use Rattle.std.proofs.Common.{sym, ap, subst, ◌∙◌, inl, inr, is_some}
@@ -47,7 +48,7 @@ on_paths old new h e = cc
 path_paths : (p old new : Path) → OnPath p ≡ OnPaths old new → ⊥
 path_paths p old new e = cc
 
--- what a rename changes begins with one of its paths
+-- the paths that a rename changes begin with one of its paths
 pub own_either : (r : Request) (old new q : Path) → target_of r ≡ OnPaths old new → IsOwnPath r q → IsSome (after_front old q) ⊎ IsSome (after_front new q)
 own_either (request.Stat p) old new q e own = absurd own
 own_either (request.SetStat p attrs) old new q e own = absurd own
@@ -67,7 +68,7 @@ own_either (request.PosixRename a b) old new q e own = let f : a ≡ old = cc in
 own_either (request.Link a b) old new q e own =
     let g : b ≡ new = cc in inr (subst (λ (x : Path). IsSome (after_front x q)) g (ap (λ (o : Option Path). is_some o) (ap (after_front b) own ∙ front_itself b)))
 
--- the own path of a request with one path is that one
+-- a request on one path has this path
 by_path : (r : Request) (q path : Path) → target_of r ≡ OnPath path → IsOwnPath r q → q ≡ path
 by_path (request.Stat p) q path e own = absurd own
 by_path (request.SetStat p attrs) q path e own = absurd own
@@ -92,7 +93,7 @@ own_is r q path e own = by_path r q path e own
 some_root : (x : Name) (p : Path) → OnPath (x ∷ p) ≡ OnPath [] → ⊥
 some_root x p e = cc
 
--- a call by handle has no path of its own
+-- a call by handle has no path
 by_handle : (r : Request) (handle : ℕ) (q : Path) → target_of r ≡ ByHandle handle → IsOwnPath r q → ⊥
 by_handle (request.Stat p) h q e own = own
 by_handle (request.SetStat p attrs) h q e own = own
@@ -134,7 +135,7 @@ root_by t session number moment (request.Rename old new) e = absurd (path_paths 
 root_by t session number moment (request.PosixRename old new) e = absurd (path_paths [] old new (sym e))
 root_by t session number moment (request.Link old new) e = absurd (path_paths [] old new (sym e))
 
--- what walking finds is located there
+-- an inode that path resolution finds is located there
 pub located_at : (nodes : List (Option Node)) (q : Path) (above x l : ℕ) → walk (child_of nodes) x q ≡ Some l → (parent : ℕ) × (way_from nodes above x q ≡ located.At parent l)
 located_at nodes [] above x l e = (above, let same : x ≡ l = cc in ap (located.At above) same)
 located_at nodes (n ∷ q) above x l e =
@@ -174,7 +175,7 @@ module _ (old mid : StoreState) (history : List Record) (n session moment : ℕ)
       let was = reached_node old (replay history) keeps q l w in
       (was.0, was.1, label_found old (replay history) keeps q ∙ ap (λ (o : Option ℕ). option_map (λ (x : Node). x.label) (option_and_then (node_in old.nodes) o)) w ∙ ap (option_map (λ (x : Node). x.label)) was.1)
 
-  -- a node that has the label of one that was there is that one
+  -- an inode with the label of an earlier inode is that inode
   same_node : (l id : ℕ) (was node : Node) → node_in old.nodes l ≡ Some was → node.label ≡ was.label → (o : Option Node) → node_in old.nodes id ≡ o → IsAsBefore (λ holder label. (holder ≡ None) × (label ≡ n)) o node → id ≡ l
   same_node l id was node at label None e is =
       let some = object_there old (replay history) keeps l was at in
@@ -197,7 +198,7 @@ module _ (old mid : StoreState) (history : List Record) (n session moment : ℕ)
             (ap Some same, (node, ap (node_in mid.nodes) (sym same) ∙ f, label))
       ] refl e
 
-  -- a path that keeps its label leads to the same node
+  -- a path with the same label leads to the same inode
   pub leads_still : (q : Path) (l : ℕ) → walk (child_of old.nodes) old.root q ≡ Some l → label_at (after (replay history) (Did n session moment r given)).names q ≡ label_at (replay history).names q
       → (walk (child_of mid.nodes) mid.root q ≡ Some l) × ((node : Node) × (node_in mid.nodes l ≡ Some node))
   leads_still q l w same =
@@ -206,7 +207,7 @@ module _ (old mid : StoreState) (history : List Record) (n session moment : ℕ)
       (sym (label_found mid (after (replay history) (Did n session moment r given)) keeps_after q) ∙ same ∙ was.2) in
       (f.0, (f.1.0, f.1.1))
 
-  -- what was a directory is one
+  -- what was a directory is a directory
   pub directory_still : (l : ℕ) (was node : Node) → node_in old.nodes l ≡ Some was → node_in mid.nodes l ≡ Some node → is_directory_at old.nodes l ≡ true → is_directory_at mid.nodes l ≡ true
   directory_still l was node at now dir = elim served [
     | inl e ↦ ap (λ (o : Option Node). option_map_or (λ (x : Node). is_directory_content x.content) o false) (e.alike.nodes l) ∙ dir
@@ -219,7 +220,7 @@ module _ (old mid : StoreState) (history : List Record) (n session moment : ℕ)
         directory_is mid.nodes l node now ∙ directory_kind node.metadata node.content (kind ∙ kind_directory was.metadata was.content content_was)
   ]
 
-  -- what the tree's answer leaves, the record leaves
+  -- what the tree's answer preserves, the record preserves
   pub label_after : (q : Path) → label_at (apply (replay history) session n moment r).tree.names q ≡ label_at (replay history).names q
       → label_at (after (replay history) (Did n session moment r given)).names q ≡ label_at (replay history).names q
   label_after q same = elim served [
@@ -233,7 +234,7 @@ module _ (old mid : StoreState) (history : List Record) (n session moment : ℕ)
   pub label_by_handle : (handle : ℕ) → target_of r ≡ ByHandle handle → (q : Path) → label_at (after (replay history) (Did n session moment r given)).names q ≡ label_at (replay history).names q
   label_by_handle handle e q = label_after q (other_labels (replay history) session n moment r q (λ own. by_handle r handle q e own))
 
-  -- the path that another call stands at is not the call's own, or nothing happens there
+  -- the path that another call holds isn't the call's, or nothing changes there
   module _ (path : Path) (is_path : target_of r ≡ OnPath path) (ways : Ways) (way : ways.path ≡ way_from old.nodes old.root old.root path) (free : AreFree (holder_of old.nodes) n (Along path) ways) where
     apart : (l holder : ℕ) → walk (child_of old.nodes) old.root path ≡ Some l → holder_of old.nodes l ≡ Some holder → n ≢ holder → path ≡ []
     apart l holder w held other = by path w way free

@@ -1,4 +1,4 @@
--- A decision of one call, or a session's leaving, spares the files that other calls copy into.
+-- A decision, or a session's leaving, preserves the files that other calls copy into.
 use Rattle.std.specs.Prelude.{◌≡◌, ◌≢◌, ◌⊎◌, ℕ, true, false, List, option_map, option_and_then, Option, Some, None, refl}
 use Rattle.std.specs.Option.{option_map_or}
 use Rattle.std.proofs.Common.{sym, ap, subst, ◌∙◌, inl, inr}
@@ -33,7 +33,7 @@ stage_copies (stage.At walked node) cp e = absurd (none_some cp e)
 stage_copies (stage.Ends common from to) cp e = absurd (none_some cp e)
 stage_copies (stage.Copies node left) cp e = ap (λ (x : Copying). stage.Copies x.file x.left) (some_eq (copying node left) cp e)
 
--- who copies is a call that is there
+-- a call that is copying exists
 pub the_writer : (calls : List (ℕ × Call)) (m : ℕ) (cp : Copying) → copying_in calls m ≡ Some cp → (c : Call) × (call_at calls m ≡ Some c) × (c.stage ≡ stage.Copies cp.file cp.left)
 the_writer calls m cp e =
     elim (call_at calls m) as (λ o. call_at calls m ≡ o → copied_by o ≡ Some cp → (c : Call) × (o ≡ Some c) × (c.stage ≡ stage.Copies cp.file cp.left)) [
@@ -41,7 +41,7 @@ the_writer calls m cp e =
       | Some c ↦ λ at is. (c, refl, stage_copies c.stage cp is)
     ] refl e
 
--- what a call that copies copies into
+-- the file that a call is copying into
 pub copying_stage : (g : Stage) → IsCopying g → (node : ℕ) × (left : ℕ) × (g ≡ stage.Copies node left)
 copying_stage stage.Fresh copies = absurd copies
 copying_stage (stage.At walked node) copies = absurd copies
@@ -51,14 +51,14 @@ copying_stage (stage.Copies node left) copies = (node, left, refl)
 pub copying_is : (calls : List (ℕ × Call)) (m : ℕ) (c : Call) (node left : ℕ) → call_at calls m ≡ Some c → c.stage ≡ stage.Copies node left → copying_in calls m ≡ Some (copying node left)
 copying_is calls m c node left at is = ap copied_by at ∙ ap copying_at is
 
--- who holds a file copies into it
+-- the holder of a file copies into it
 pub file_writer : (s : StoreState) (calls : List (ℕ × Call)) → AreCopies (copying_scene s calls) → (f m : ℕ) → writer_of_file s.nodes f ≡ Some m → (c : Call) × (left : ℕ) × (call_at calls m ≡ Some c) × (c.stage ≡ stage.Copies f left)
 file_writer s calls copies f m e =
     let h = copies.held f m e in
     let w = the_writer calls m h.0 h.1 in
     (w.0, h.0.left, w.1, subst (λ (x : ℕ). w.0.stage ≡ stage.Copies x h.0.left) h.2 w.2)
 
--- the files into which blocks are still to be copied are held
+-- files with blocks left to copy are held
 pub no_file : (o : Option Node) → option_map_or (λ (x : Node). is_file_content x.content) o false ≡ false → option_map_or (λ (x : Node). blocks_left_in x.content) o 0 ≡ 0
 no_file None e = refl
 no_file (Some node) e = elim node.content as (λ c. is_file_content c ≡ false → blocks_left_in c ≡ 0) [
@@ -72,7 +72,7 @@ some_node nodes id n e = elim (node_in nodes id) as (λ o. node_in nodes id ≡ 
   | Some node ↦ λ at held. (node, refl)
 ] refl e
 
--- what is a directory is there, and so is a file
+-- a directory's inode exists, and so does a file's
 pub node_there : (nodes : List (Option Node)) (id : ℕ) → is_directory_at nodes id ≡ true → (node : Node) × (node_in nodes id ≡ Some node)
 node_there nodes id e = elim (node_in nodes id) as (λ o. option_map_or (λ (x : Node). is_directory_content x.content) o false ≡ true → (node : Node) × (o ≡ Some node)) [
   | None ↦ λ none. absurd (let z : ⊥ = cc in z)
@@ -89,7 +89,7 @@ file_or_directory : (c : Content) → is_directory_content c ≡ false → is_fi
 file_or_directory (content.Directory es) e = absurd (let z : ⊥ = cc in z)
 file_or_directory (content.File b) e = refl
 
--- what is held and is no directory is a file
+-- a held inode that is no directory is a file
 pub file_there : (nodes : List (Option Node)) (l m : ℕ) → is_directory_at nodes l ≡ false → holder_of nodes l ≡ Some m → writer_of_file nodes l ≡ Some m
 file_there nodes l m none held =
     let x = some_node nodes l m held in
@@ -101,7 +101,7 @@ module _ (old mid : StoreState) (t u : Tree) (n session : ℕ) (keeps : Keeps ol
     (kinds : (l : ℕ) (node : Node) → node_in mid.nodes l ≡ Some node → is_directory_at old.nodes l ≡ true → is_directory_at mid.nodes l ≡ true)
     (calls : List (ℕ × Call)) (copies : AreCopies (copying_scene old calls)) (writing : (m : ℕ) (c : Call) (node left : ℕ) → call_at calls m ≡ Some c → c.stage ≡ stage.Copies node left → IsWriting old c node)
     (apart : (m : ℕ) (c : Call) (node left : ℕ) → call_at calls m ≡ Some c → c.stage ≡ stage.Copies node left → c.session ≢ session) where
-  -- a call that copies: its file is there still
+  -- the file that a call is copying into still exists
   module _ (m : ℕ) (c : Call) (node left : ℕ) (at : call_at calls m ≡ Some c) (is : c.stage ≡ stage.Copies node left) where
     w : IsWriting old c node
     w = writing m c node left at is
@@ -155,7 +155,7 @@ module _ (old mid : StoreState) (t u : Tree) (n session : ℕ) (keeps : Keeps ol
     pub writer_still : (writer_of_file mid.nodes node ≡ Some m) × (blocks_left_at mid.nodes node ≡ left) × (blocks_left_at old.nodes node ≡ left)
     writer_still = (held_now, left_now, copies.left m (copying node left) copying_it)
 
-  -- a file that is held is so by the same call, and as much of it is left
+  -- a held file has the same holder, and as many blocks left to copy
   pub file_kept : (f m : ℕ) → writer_of_file old.nodes f ≡ Some m → (writer_of_file mid.nodes f ≡ Some m) × (blocks_left_at mid.nodes f ≡ blocks_left_at old.nodes f)
   file_kept f m e =
       let h = file_writer old calls copies f m e in
@@ -166,13 +166,13 @@ module _ (old mid : StoreState) (t u : Tree) (n session : ℕ) (keeps : Keeps ol
   holder_by l m node None e is h = absurd (none_some m (sym is.0.0 ∙ h))
   holder_by l m node (Some x) e is h = ap (option_and_then (λ (y : Node). y.holder)) e ∙ sym is.0 ∙ h
 
-  -- who holds a node held it before
+  -- the holder of an inode held it before
   pub holder_before : (l m : ℕ) → holder_of mid.nodes l ≡ Some m → holder_of old.nodes l ≡ Some m
   holder_before l m h =
       let x = some_node mid.nodes l m h in
       holder_by l m x.0 (node_in old.nodes l) refl (stays.node l x.0 x.1) (sym (ap (option_and_then (λ (y : Node). y.holder)) x.1) ∙ h)
 
-  -- and a file that is held then was one before
+  -- and a file that is held then was a file before
   pub no_more : (f m : ℕ) → writer_of_file mid.nodes f ≡ Some m → writer_of_file old.nodes f ≡ Some m
   no_more f m e =
       let h = writer_holds mid.nodes f m e in
@@ -188,7 +188,7 @@ module _ (old mid : StoreState) (t u : Tree) (n session : ℕ) (keeps : Keeps ol
   left_by f node None e is = inl is.1
   left_by f node (Some x) e is = inr (is.2 ∙ sym (ap (λ (o : Option Node). option_map_or (λ (y : Node). blocks_left_in y.content) o 0) e))
 
-  -- of a file that nobody holds nothing is left
+  -- a file that is not held has no blocks left to copy
   pub settled_still : (f : ℕ) → writer_of_file mid.nodes f ≡ None → blocks_left_at mid.nodes f ≡ 0
   settled_still f free =
       elim (node_in mid.nodes f) as (λ o. node_in mid.nodes f ≡ o → blocks_left_at mid.nodes f ≡ 0) [
@@ -202,7 +202,7 @@ module _ (old mid : StoreState) (t u : Tree) (n session : ℕ) (keeps : Keeps ol
         ]
       ] refl
 
-  -- the same calls copy as before, on a store where other nodes are free
+  -- the same calls are copying as before, on a store in which other inodes are free
   pub files_spared : (new : StoreState) (calls' : List (ℕ × Call)) → SameFiles mid new → ((f : ℕ) → writer_of_file new.nodes f ≡ writer_of_file mid.nodes f) → ((m : ℕ) → copying_in calls' m ≡ copying_in calls m)
       → AreCopies (copying_scene new calls')
   files_spared new calls' files writers same = spares_keeps (copying_scene old calls) (copying_scene new calls') copies (record {

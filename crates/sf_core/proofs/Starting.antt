@@ -1,4 +1,4 @@
--- A call begins, and a call is set back.
+-- A call begins, and a call starts again at the root.
 use Rattle.std.specs.Prelude.{◌≡◌, ◌≢◌, ◌<◌, ◌≤◌, ◌+◌, ℕ, true, false, cond, is_none, List, [], ◌∷◌, length, filter, Option, Some, None, refl}
 use Rattle.std.specs.Option.{option_map_or}
 use Rattle.std.proofs.Common.{sym, ap, subst, ◌∙◌, inl, inr, arith}
@@ -32,7 +32,7 @@ use Rattle.sf_core.proofs.Histories.{IsWritten, is_undecided, history_changed}
 use Rattle.sf_core.proofs.Writers.{copied_still}
 use Rattle.sf_core.proofs.Unrecorded.{reset_sound}
 
--- a call that is set back
+-- a call that starts again
 pub set_back_sound : (p : PartsView) (h : List Record) → Sound p h → (c : Call) → call_at p.calls c.number ≡ Some c → waiting_reply c ≡ None → Sound (set_back p c.number) h
 set_back_sound p h sound c at undecided =
     subst (λ (x : PartsView). Sound x h) (sym (ap (set_back_by p c.number) at)) (reset_sound p h sound c at undecided (starts c.request))
@@ -55,11 +55,11 @@ no_call p ledger = elim (call_at p.calls (p.drawn + 1)) as (λ o. call_at p.call
   | Some d ↦ λ e. let m = (ledger.calls (p.drawn + 1) d e).most in absurd (omega (arith, m))
 ] refl
 
--- and no session has it
+-- and no session has this call
 pub has_call : (p : PartsView) → Ledger p → (session s m : ℕ) → s ≢ session → session_at p.sessions s ≡ Some (Some m) → m ≢ p.drawn + 1
 has_call p ledger session s m ne at e = let b = (ledger.sessions s (Some m) at).busy m refl in none_some b.0 (sym (no_call p ledger) ∙ ap (call_at p.calls) (sym e) ∙ b.1)
 
--- no more than there are
+-- there are no more calls than numbers
 pub undecided_few : (calls : List (ℕ × Call)) → undecided_in calls ≤ length calls
 undecided_few [] = omega arith
 undecided_few (e ∷ calls) =

@@ -1,4 +1,5 @@
--- A call that is behind none isn't blocked; and what is left to the calls falls with each step that isn't blocked.
+-- A call that is behind no other isn't blocked; and the remaining steps decrease with each step
+-- that isn't blocked.
 use Rattle.std.specs.Prelude.{◌≡◌, ◌≢◌, ◌⊎◌, ◌<◌, ◌≤◌, ◌+◌, ℕ, zero, suc, true, List, Some, refl}
 use Rattle.std.proofs.Common.{sym, ap, subst, ◌∙◌, inl, inr, arith}
 use Rattle.std.proofs.lemmas.Bool.{cases_lt}
@@ -21,8 +22,8 @@ use Rattle.sf_core.specs.Stuck.{is_onward, CanGoOn, IsNeverStuck, steps_left_in,
 use Rattle.sf_core.proofs.Maps.{some_eq}
 use Rattle.sf_core.proofs.LaneStates.{busy_slot}
 
--- ---- who is behind whom
--- All that is said of it: it is so or not, it goes on, and no call is behind itself.
+-- ---- which call is behind which
+-- The order `IsBehind`: it is decidable and transitive, and no call is behind itself.
 copying_or_not : (g : Stage) → IsCopying g ⊎ (IsCopying g → ⊥)
 copying_or_not stage.Fresh = inr (λ copies. copies)
 copying_or_not (stage.At walked node) = inr (λ copies. copies)
@@ -53,11 +54,11 @@ behind_on c d e h k = (
 not_behind_itself : (c : Call) → IsBehind c c → ⊥
 not_behind_itself c h = elim h.1 [ inl copies ↦ h.0 copies | inr less ↦ omega (arith, less) ]
 
--- of the sessions below a number none has a call
+-- no session below this number has a call
 abbrev pub NoCall : CoreView → ℕ → Type 0
 NoCall v n = (s : ℕ) (c : Call) → s < n → lane_state v s ≡ Busy c → ⊥
 
--- of their calls this one is behind none
+-- one of these sessions' calls is behind none of the others
 pub record Furthest (v : CoreView) (n : ℕ) : Type 0 where
   pub session : ℕ
   pub call : Call
@@ -126,7 +127,7 @@ pub furthest : (v : CoreView) (n : ℕ) → NoCall v n ⊎ Furthest v n
 furthest v zero = inl (λ s c below busy. absurd (omega (arith, below)))
 furthest v (suc n) = one_more v n (lane_state v n) refl (furthest v n)
 
--- ---- it goes on
+-- ---- progress
 onward : (b : Before) (n : ℕ) → ((s : ℕ) (c : Call) → lane_state b.core s ≡ Busy c → s < n) → (f : Furthest b.core n) → OwnCall b.core b.lane f.call → (s : Step) (a : After) → TakesStep b s a → is_onward s ≡ true
 onward b n fit f own Moved a steps = refl
 onward b n fit f own (Blocked holder) a steps =
@@ -157,8 +158,8 @@ never_stuck p core session call at =
               onward (record { core = core_of p; history = core.history; lane = lane }) (p.joins + 1) fit f own s (record { core = w; added = g.0; lane = lane' }) g.2;
         }
 
--- ---- what is left
--- it falls where it falls for one session, and rises for none
+-- ---- remaining steps
+-- the sum decreases if it decreases for one session and increases for none
 pub left_stays : (v w : CoreView) (n : ℕ) → ((s : ℕ) → steps_left_in (lane_state w s) ≤ steps_left_in (lane_state v s)) → left_below w n ≤ left_below v n
 left_stays v w zero each = omega arith
 left_stays v w (suc n) each = let rest = left_stays v w n each in let one = each n in omega (arith, rest, one)
@@ -187,7 +188,7 @@ idle_left v s at = ap (λ (z : LaneState Call). steps_left_in z) at
 pub gone_left : (v : CoreView) (s : ℕ) → lane_state v s ≡ NoLane → steps_left_in (lane_state v s) ≡ 0
 gone_left v s at = ap (λ (z : LaneState Call). steps_left_in z) at
 
--- one session's lane state is another, with less left
+-- one session's state changes, and fewer steps remain to it
 set_falls : (v w : CoreView) (n s : ℕ) → steps_left_in (lane_state w s) < steps_left_in (lane_state v s) → ((i : ℕ) → i ≢ s → steps_left_in (lane_state w i) ≤ steps_left_in (lane_state v i)) → s < n → left_below w n < left_below v n
 set_falls v w n s less others below = left_falls v w n s each below less
   where
@@ -200,7 +201,7 @@ set_falls v w n s less others below = left_falls v w n s each below less
       | inr ne ↦ others i ne
     ]
 
--- with a step that moves
+-- after a step that moves
 pub goes_falls : (v w : CoreView) (lane : LaneView) (c d : Call) (n : ℕ) → Goes v w lane c d → lane.session < n → left_below w n < left_below v n
 goes_falls v w lane c d n g below =
     let old = busy_left v lane.session c g.own.slot in
@@ -208,7 +209,7 @@ goes_falls v w lane c d n g below =
     let less = g.less in
     set_falls v w n lane.session (omega (arith, old, new, less)) (λ i ne. same_left (lane_state w i) (lane_state v i) (g.slot.others i ne)) below
 
--- with the first step of a WRITE, and with one that copies a block
+-- after the first step of a WRITE, and after one that copies a block
 pub writes_falls : (b : Before) (a : After) (c d : Call) (given : Reply) (n : ℕ) → StartsToWrite b a c d given → b.lane.session < n → left_below a.core n < left_below b.core n
 writes_falls b a c d given n w below =
     let old = busy_left b.core b.lane.session c w.own.slot in
@@ -223,7 +224,7 @@ copies_falls v w lane c d n b below =
     let one = b.one in
     set_falls v w n lane.session (omega (arith, old, new, one)) (λ i ne. same_left (lane_state w i) (lane_state v i) (b.slot.others i ne)) below
 
--- and with one that answers
+-- after one that answers
 pub fetches_falls : (b : Before) (a : After) (c : Call) (given : Reply) (n : ℕ) → Fetches b a c given → b.lane.session < n → left_below a.core n < left_below b.core n
 fetches_falls b a c given n f below =
     let old = busy_left b.core b.lane.session c f.own.slot in

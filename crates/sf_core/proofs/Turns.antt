@@ -1,4 +1,4 @@
--- What a step makes of a core, of its history and of the lane.
+-- The effect of a step on a core, on its history and on the lane.
 use Rattle.std.specs.Prelude.{◌≡◌, ◌≢◌, ◌⊎◌, ◌<◌, ◌≤◌, ◌+◌, ◌-◌, ◌^◌, ℕ, min, true, false, List, [], ◌++◌, length, Option, Some, None, refl}
 use Rattle.std.specs.Option.{option_map_or}
 use Rattle.std.proofs.Common.{sym, ap, subst, ◌∙◌, inl, inr, arith, append-nil}
@@ -46,11 +46,11 @@ use Rattle.sf_core.proofs.SettingBack.{let_go_looks}
 use Rattle.sf_core.proofs.LaneStates.{slot_busy, slot_idle, slots_kept, slot_kept, own_call, no_stranger, same_book, left_is, left_one, walked_few, some_left, less_left}
 
 -- ---- histories
--- parts that are a core's are sound by each history that it has
+-- the parts of a core are sound with each history that the core has
 pub sound_of : (p : PartsView) → IsCore p → (h : List Record) → IsHistory (core_of p) h → Sound p h
 sound_of p core h is = record { history = is; coupled = core.sound.coupled; copied = core.sound.copied; ledger = core.sound.ledger }
 
--- an event adds records, and a sound core is sound by its history with them
+-- an event adds records, and a sound core is sound with the extended history
 abbrev pub Adds : PartsView → PartsView → ((h added : List Record) → Type 0) → Type 0
 Adds p q Told = (h : List Record) → Sound p h → (added : List Record) × Sound q (h ++ added) × Told h added
 
@@ -58,7 +58,7 @@ module _ (p q : PartsView) (Told : (h added : List Record) → Type 0) (core : I
   pub core_after : IsCore q
   core_after = let a = adds core.history core.sound in record { history = core.history ++ a.0; sound = a.1 }
 
-  -- no more calls are undecided, where no number was drawn
+  -- no more calls are undecided, if no call began
   pub places_after : q.drawn ≡ p.drawn → (places : ℕ) → undecided_in p.calls ≤ places → undecided_in q.calls ≤ places
   places_after drawn places fit =
       let a = adds core.history core.sound in
@@ -77,12 +77,12 @@ IsStep p lane s q lane' = Adds p q (λ h added. TakesStep (record { core = core_
 pub steps_on : (p q : PartsView) (lane lane' : LaneView) (s : Step) → IsCore p → IsStep p lane s q lane' → StepsOn (core_of p) lane s (core_of q) lane'
 steps_on p q lane lane' s core adds h is = let a = adds h (sound_of p core h is) in (a.0, a.1.history, a.2)
 
--- ---- a lane of no call of this core
+-- ---- a lane without a call of this core
 pub foreign_step : (p q : PartsView) (lane : LaneView) (n : ℕ) → lane.call ≡ Some n → ((c : Call) → call_at p.calls n ≡ Some c → c.session ≡ lane.session → ⊥) → q ≡ p → IsStep p lane step.Stranger q lane
 foreign_step p q lane n call never same = adds_none p q _ (λ h sound.
     (subst (λ (x : PartsView). Sound x h) (sym same) sound, ((λ c own. no_stranger p sound.ledger lane n call never c own), ap core_of same, record { none = refl; lane = refl })))
 
--- ---- look-ups
+-- ---- lookups
 one_more : (s : StoreState) → s.look_ups < 2 ^ 64 → (s.look_ups ≤ min (s.look_ups + 1) (2 ^ 64 - 1)) × (min (s.look_ups + 1) (2 ^ 64 - 1) ≤ s.look_ups + 2)
 one_more s fits = (omega (arith, fits), omega arith)
 
@@ -99,14 +99,14 @@ moved_looks n was now node s fits =
     let f = let_go_looks (nodes_of now) (nodes_of was) (edited (with_holder (Some n)) (entered was s) node) in
     (let a = e.0 in omega (arith, a, f), let b = e.1 in omega (arith, b, f))
 
--- a call that walks is no WRITE
+-- a call that looks up is no WRITE
 not_write : (r : Request) (g after : Stage) → IsPosition (route_of r) after → AdvancesOne g after → is_write r ≡ false
 not_write r g after is on = elim (is_write r) as (λ b. is_write r ≡ b → b ≡ false) [
   | true ↦ λ e. let w = is_a_write r (is_write_by r e) in absurd (no_handle_moved r g after is on w.0 (ap file_handle w.3))
   | false ↦ λ e. refl
 ] refl
 
--- ---- the lane's call has its turn
+-- ---- a step of the lane's call
 pub record IsTurn (p : PartsView) (lane : LaneView) (c : Call) : Type 0 where
   pub at : call_at p.calls c.number ≡ Some c
   pub session : c.session ≡ lane.session
@@ -129,7 +129,7 @@ module _ (p : PartsView) (lane : LaneView) (c : Call) (turn : IsTurn p lane c) w
   pub apart : (h : List Record) → Sound p h → (s m : ℕ) → s ≢ lane.session → session_at p.sessions s ≡ Some (Some m) → m ≢ c.number
   apart h sound s m ne at = other_call p sound.ledger c.number c turn.at s m (λ e. ne (e ∙ turn.session)) at
 
-  -- ---- a reply is fetched
+  -- ---- a pending reply is fetched
   module _ (given : Reply) (decided : waiting_reply c ≡ Some given) (fresh : c.stage ≡ stage.Fresh) (q : PartsView) (fetched : FetchState p q lane.session c.number) (a : AnswerView) (is : a ≡ record { number = c.number; session = lane.session; reply = given }) where
     fetched_told : (h : List Record) → Sound p h → Fetches (record { core = core_of p; history = h; lane = lane }) (record { core = core_of q; added = []; lane = at_rest lane }) c given
     fetched_told h sound =
@@ -202,7 +202,7 @@ module _ (p : PartsView) (lane : LaneView) (c : Call) (turn : IsTurn p lane c) w
         inl ((c, at_stage after c, moved_told h sound), record { none = refl; lane = refl }),
       ))
 
-    -- ---- it waits
+    -- ---- it is blocked
     told_by : (h : List Record) → Sound p h → (holder : ℕ) (d : Call) → call_at p.calls holder ≡ Some d → c.number ≢ holder → (waiting_reply d ≡ None) ⊎ IsCopying d.stage → HoldsWanted p.store c d ⊎ HoldsFile p.store c d → IsBehind c d
         → LooksOnly (core_of p) (core_of q) 2 → IsBlocked (core_of p) (core_of q) lane c holder
     told_by h sound holder d at_d other holds wanted deeper looks =
@@ -221,7 +221,7 @@ module _ (p : PartsView) (lane : LaneView) (c : Call) (turn : IsTurn p lane c) w
           looks = looks;
         }
 
-    -- for a node that the next name leads to
+    -- for an inode that the next component leads to
     module _ (holder : ℕ) (w : Walked p q c c.number (walked.Blocked holder)) where
       the_holder : (held_path : HeldPath) → Holds (held_paths_in p.calls holder) held_path → (d : Call) × (call_at p.calls holder ≡ Some d) × Holds (held_paths_at d) held_path
       the_holder held_path hold = elim (call_at p.calls holder) as (λ o. call_at p.calls holder ≡ o → Holds (option_map_or held_paths_at o []) held_path → (d : Call) × (o ≡ Some d) × Holds (held_paths_at d) held_path) [
@@ -229,7 +229,7 @@ module _ (p : PartsView) (lane : LaneView) (c : Call) (turn : IsTurn p lane c) w
         | Some d ↦ λ e h. (d, refl, h)
       ] refl hold
 
-      -- who holds a directory hasn't its reply yet
+      -- the holder of a directory is undecided
       not_decided : (h : List Record) → Sound p h → (d : Call) (held_path : HeldPath) → call_at p.calls holder ≡ Some d → Holds (held_paths_at d) held_path → waiting_reply d ≡ None
       not_decided h sound d held_path at hold = elim (waiting_reply d) as (λ o. waiting_reply d ≡ o → o ≡ None) [
         | None ↦ λ e. refl

@@ -1,4 +1,4 @@
--- A call that goes on from a stage, and whose last stage alone is noted.
+-- Steps of a call from one stage; only the last stage is stored.
 use Rattle.std.specs.Prelude.{◌≡◌, ◌<◌, ◌^◌, ℕ, List, Some, refl}
 use Rattle.std.proofs.Common.{sym, ap, subst, ◌∙◌}
 use Rattle.std.specs.Ordering.{nat_cmp}
@@ -22,7 +22,7 @@ use Rattle.sf_core.specs.Stepping.{HasComeTo, CallStep, come_to, stage_after, wa
 use Rattle.sf_core.proofs.Maps.{set_same, set_twice}
 use Rattle.sf_core.proofs.Updates.{staged_is}
 
--- ---- stages that are noted
+-- ---- stored stages
 staged_same : (calls : List (ℕ × Call)) (n : ℕ) (c : Call) → call_at calls n ≡ Some c → staged calls n c.stage ≡ calls
 staged_same calls n c at = staged_is calls n c.stage c at ∙ set_value_same (is_at (nat_cmp n)) calls c at
 
@@ -70,11 +70,11 @@ module _ (n : ℕ) (c : Call) where
     );
   }
 
-  -- it stands where it stood
+  -- the directories that it holds
   pub come_same : (p : PartsView) (s : StoreState) (g : Stage) → HasComeTo p n s c g → come_to p n s g ≡ p
   come_same p s g on = λ i. record p { store = sym on.store i; calls = staged_same p.calls n (at_stage g c) on.call i }
 
-  -- ---- a step more
+  -- ---- one more step
   pub under_way : (p : PartsView) (s t : StoreState) (g h : Stage) → HasComeTo p n s c g → IsCore (come_to p n t h) → IsFileFree t c → HasComeTo (come_to p n t h) n t c h
   under_way p s t g h on core free = record {
     core = core;

@@ -1,4 +1,5 @@
--- An event of one call that adds no record: a step, its setting back, the fetching of its reply.
+-- An event of one call that adds no record: a step, its start from the root again, or the fetch of
+-- its reply.
 use Rattle.std.specs.Prelude.{◌≡◌, ◌≢◌, ◌⊎◌, ◌≤◌, ℕ, true, false, is_none, List, [], Option, Some, None, refl}
 use Rattle.std.specs.Option.{option_map_or}
 use Rattle.std.proofs.Common.{sym, ap, subst, ◌∙◌, inl, inr, arith}
@@ -43,7 +44,7 @@ use Rattle.sf_core.proofs.Ledgers.Follows.{Stays, Goes}
 use Rattle.sf_core.proofs.Histories.{IsWritten, is_undecided, history_changed}
 use Rattle.sf_core.proofs.Recorded.{let_go_keeps}
 
--- the call is the same one with the same reply, or its reply was there and it is gone
+-- the call is at a later stage with the same reply, or its reply was pending and it is removed
 pub data IsKept (c : Call) : Option Call → Type 0 where
   Same : (d : Call) → waiting_reply d ≡ waiting_reply c → ((g : Reply) → did d g ≡ did c g) → IsKept c (Some d)
   Fetch : (g : Reply) → waiting_reply c ≡ Some g → IsKept c None
@@ -88,7 +89,7 @@ module _ (p q : PartsView) (h : List Record) (sound : Sound p h) (n : ℕ) (c : 
         omega (arith, a, b, d, e));
   }
 
--- ---- the store and the book alone are others
+-- ---- only the store and the book change
 module _ (p : PartsView) (h : List Record) (sound : Sound p h) (s : StoreState) (b : BookView) (records : b.records ≡ p.book.records) (keep : b.keep ≡ p.book.keep) (folded : b.folded ≡ p.book.folded) (room : p.book.room ≤ b.room)
     (tree : Keeps s (replay h)) (walks : AreWalks (walkers_at (namespace s) (held_paths_in p.calls) (walker_of s.nodes)))
     (copied : Copied (record { store = s; book = b; sessions = p.sessions; calls = p.calls; drawn = p.drawn; joins = p.joins })) where
@@ -127,7 +128,7 @@ roomy p q h sound same =
     (calls_stay p h sound p.store q.book (ap (λ (b : BookView). b.records) same.book) (ap (λ (b : BookView). b.keep) same.book) (ap (λ (b : BookView). b.folded) same.book) same.more sound.history.tree sound.coupled.walks
     (copied_same p (record { store = p.store; book = q.book; sessions = p.sessions; calls = p.calls; drawn = p.drawn; joins = p.joins }) sound.copied refl refl))
 
--- look-ups were made
+-- lookups were made
 pub looked_sound : (p : PartsView) (h : List Record) → Sound p h → (s : StoreState) (most : ℕ) → LookedUp p.store s most → IsSameGround p.store s
     → Sound (record { store = s; book = p.book; sessions = p.sessions; calls = p.calls; drawn = p.drawn; joins = p.joins }) h
 looked_sound p h sound s most looked ground =
@@ -137,7 +138,7 @@ looked_sound p h sound s most looked ground =
     (let files = files_looked p.store s most looked in
     copied_on p (record { store = s; book = p.book; sessions = p.sessions; calls = p.calls; drawn = p.drawn; joins = p.joins }) sound.copied (λ m. refl) (λ m c node left at is. at) files.0 files.1)
 
--- ---- a call that comes to another stage
+-- ---- a call reaches another stage
 module _ (p : PartsView) (h : List Record) (sound : Sound p h) (c : Call) (at : call_at p.calls c.number ≡ Some c) (undecided : waiting_reply c ≡ None) (s : StoreState) (after : Stage) where
   abbrev q : PartsView
   q = record { store = s; book = p.book; sessions = p.sessions; calls = staged p.calls c.number after; drawn = p.drawn; joins = p.joins }
@@ -183,7 +184,7 @@ module _ (p : PartsView) (h : List Record) (sound : Sound p h) (c : Call) (at : 
       copied_on p q sound.copied (same_copying p.calls (staged p.calls c.number after) c.number (Some c) (Some (at_stage after c)) staged_updates was now)
       (λ m d node left there is. (still_copying p.calls (staged p.calls c.number after) c.number (Some c) (Some (at_stage after c)) staged_updates was now m d node left there is).1) files writers)
 
--- looking up leaves the tree that the store keeps
+-- a lookup keeps the tree that the store represents
 entered_keeps : (at : Stage) (s : StoreState) (t : Tree) → Keeps s t → Keeps (entered at s) t
 entered_keeps stage.Fresh s t k = k
 entered_keeps (stage.At walked node) s t k = keeps_looked s t k
@@ -208,7 +209,7 @@ module _ (p : PartsView) (h : List Record) (sound : Sound p h) (c : Call) (at : 
       (moved_writers p.store s h sound.history.tree (held_paths_in p.calls) sound.coupled.walks (walker c.number (route_of c.request) c.stage) after (held_paths_were p h sound c at undecided s after) (sound.coupled.positions c.number c at undecided) moves
       (files s after moves))
 
-  -- setting back: the call's route is one
+  -- starting again: the call has a route
   pub reset_sound : IsPosition (route_of c.request) stage.Fresh
       → Sound (record { store = freed c.stage p.store; book = p.book; sessions = p.sessions; calls = staged p.calls c.number stage.Fresh; drawn = p.drawn; joins = p.joins }) h
   reset_sound start =
@@ -225,8 +226,8 @@ module _ (p : PartsView) (h : List Record) (sound : Sound p h) (c : Call) (at : 
       start (files_let_go [] (nodes_of c.stage) p.store)
       (reset_writers p.store (held_paths_in p.calls) c.number (route_of c.request) c.stage sound.coupled.walks (sound.coupled.positions c.number c at undecided) (held_paths_were p h sound c at undecided s stage.Fresh))
 
-  -- who waits, waits for a path that another call holds, the one that its next names lead to; or for
-  -- a file that another call copies into
+  -- a blocked call waits for a directory that another call holds, which its next components lead
+  -- to; or for a file that another call is copying into
   pub blocked_wants : (new : StoreState) (holder : ℕ) → (waits : WaitsFor p.store new (walker c.number (route_of c.request) c.stage) holder)
       → ((held_path : HeldPath) × LooksUp (route_of c.request) c.stage held_path.path × (walk (child_of p.store.nodes) p.store.root held_path.path ≡ Some held_path.node)
       × (holder_of p.store.nodes held_path.node ≡ Some holder) × Holds (held_paths_in p.calls holder) held_path)
@@ -250,7 +251,7 @@ module _ (p : PartsView) (h : List Record) (sound : Sound p h) (c : Call) (at : 
         | false ↦ λ e. inr (file_writer p.store p.calls sound.copied.copies waits.node holder (file_there p.store.nodes waits.node holder e waits.held))
       ] refl
 
--- ---- a reply that waited is fetched
+-- ---- a pending reply is fetched
 module _ (p q : PartsView) (h : List Record) (sound : Sound p h) (c : Call) (at : call_at p.calls c.number ≡ Some c) (given : Reply) (decided : waiting_reply c ≡ Some given) (fresh : c.stage ≡ stage.Fresh) (fetched : FetchState p q c.session c.number) where
   busy : session_at p.sessions c.session ≡ Some (Some c.number)
   busy = (sound.ledger.calls c.number c at).session

@@ -1,4 +1,4 @@
--- One entry of a map is another, or goes: what is true of the map then.
+-- One entry of a map changes or is removed: what holds of the map then.
 use Rattle.std.specs.Prelude.{◌≡◌, ◌≢◌, ◌+◌, ℕ, Bool, T, List, length, filter, Option, Some, None, refl}
 use Rattle.std.proofs.Common.{sym, ap, subst, arith}
 use Rattle.std.specs.Ordering.{nat_cmp}
@@ -23,7 +23,7 @@ one_there (Some v) = 1
 abbrev pub passing : {X : Type 0} → (X → Bool) → List (ℕ × X) → ℕ
 passing {X} passes es = length (filter (λ (e : ℕ × X). passes e.1) es)
 
--- the entry of k was this and is that now, and all others are as they were
+-- the entry of k was this and is that now, and all others are unchanged
 pub record Updates {X : Type 0} (old new : List (ℕ × X)) (k : ℕ) (was now : Option X) : Type 0 where
   pub was_is : lookup (is_at (nat_cmp k)) old ≡ was
   pub now_is : lookup (is_at (nat_cmp k)) new ≡ now
@@ -57,17 +57,17 @@ module _ {X : Type 0} (es : List (ℕ × X)) (k : ℕ) (w : X) (at : lookup (is_
   pub updates_none : Updates es es k (Some w) (Some w)
   updates_none = record { was_is = at; now_is = at; rest = λ q ne. refl; size = refl; passes = λ test. refl; rises = λ h. h }
 
--- nor was anything there
+-- and k had no entry
 pub updates_nothing : {X : Type 0} (es : List (ℕ × X)) (k : ℕ) → lookup (is_at (nat_cmp k)) es ≡ None → Updates es es k None None
 updates_nothing es k none = record { was_is = none; now_is = none; rest = λ q ne. refl; size = refl; passes = λ test. refl; rises = λ h. h }
 
--- a call came to a stage
+-- a call reached a stage
 pub staged_is : (calls : List (ℕ × Call)) (n : ℕ) (after : Stage) (c : Call) → call_at calls n ≡ Some c → staged calls n after ≡ set_value (is_at (nat_cmp n)) calls (at_stage after c)
 staged_is calls n after c at = ap (staged_by calls n after) at
 
 pub updates_staged : (calls : List (ℕ × Call)) (n : ℕ) (c : Call) (after : Stage) → call_at calls n ≡ Some c → Updates calls (staged calls n after) n (Some c) (Some (at_stage after c))
 updates_staged calls n c after at = subst (λ cs. Updates calls cs n (Some c) (Some (at_stage after c))) (sym (staged_is calls n after c at)) (updates_set calls n c at (at_stage after c))
 
--- a call's reply waits
+-- a call's reply is pending
 pub updates_answered : (calls : List (ℕ × Call)) (n : ℕ) (c : Call) (given : Reply) → call_at calls n ≡ Some c → Updates calls (answered calls n given) n (Some c) (Some (with_reply given c))
 updates_answered calls n c given at = subst (λ cs. Updates calls cs n (Some c) (Some (with_reply given c))) (sym (ap (answered_by calls n given) at)) (updates_set calls n c at (with_reply given c))

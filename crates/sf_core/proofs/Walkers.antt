@@ -1,4 +1,4 @@
--- Who holds a directory, where it is told who holds each node.
+-- The holders of directories, from the holders of all inodes.
 use Rattle.std.specs.Prelude.{◌≡◌, ℕ, Bool, true, false, if◌then◌else◌, List, [], Option, Some, None, refl}
 use Rattle.std.proofs.Common.{ap, ◌∙◌, inl, inr}
 use Rattle.sf_inode.specs.declared.node.Node.{Node}
@@ -19,19 +19,19 @@ if_some : (b : Bool) (o : Option ℕ) (n : ℕ) → (if b then o else None) ≡ 
 if_some true o n e = (refl, e)
 if_some false o n e = absurd (let z : ⊥ = cc in z)
 
--- who holds a directory walks
+-- `walker_of` a directory is its holder
 pub walker_is : (nodes : List (Option Node)) (id n : ℕ) → is_directory_at nodes id ≡ true → holder_of nodes id ≡ Some n → walker_of nodes id ≡ Some n
 walker_is nodes id n directory held = ap (λ (b : Bool). if b then holder_of nodes id else None) directory ∙ held
 
--- who walks holds a directory
+-- `walker_of` an inode is its holder, and the inode is a directory
 pub walker_holds : (nodes : List (Option Node)) (id n : ℕ) → walker_of nodes id ≡ Some n → (is_directory_at nodes id ≡ true) × (holder_of nodes id ≡ Some n)
 walker_holds nodes id n e = if_some (is_directory_at nodes id) (holder_of nodes id) n e
 
--- a node that nobody holds is no other call's directory
+-- an inode that is not held is no other call's directory
 pub free_walks : (nodes : List (Option Node)) (n id : ℕ) → IsFree (holder_of nodes) n id → IsFree (walker_of nodes) n id
 free_walks nodes n id free = λ m e. free m (walker_holds nodes id m e).1
 
--- what is handed over of nodes is so of directories
+-- what is handed over for inodes is handed over for directories
 pub walks_hands : (s t : StoreState) (n : ℕ) (was now : List HeldPath) → ((l : ℕ) → is_directory_at t.nodes l ≡ is_directory_at s.nodes l) → ((l : ℕ) → IsNodeOf now l → is_directory_at t.nodes l ≡ true)
     → HandsOver (holder_of s.nodes) (holder_of t.nodes) n was now → HandsOver (walker_of s.nodes) (walker_of t.nodes) n was now
 walks_hands s t n was now same directories hands = record {
@@ -40,7 +40,7 @@ walks_hands s t n was now same directories hands = record {
   rest = λ l before not. λ i. if same l i then hands.rest l before not i else None;
 }
 
--- a call that rests holds no directory
+-- a decided call holds no directory
 copying_none : (r : Route) (g : Stage) → IsCopying g → held_paths_of r g ≡ []
 copying_none r stage.Fresh copying = absurd copying
 copying_none r (stage.At walked node) copying = absurd copying

@@ -1,4 +1,4 @@
--- What steps of the lane's call come to, one after the other.
+-- The outcomes of several steps of the lane's call.
 use Rattle.std.specs.Prelude.{◌≡◌, ◌<◌, ◌≤◌, ◌+◌, ℕ, zero, suc, true, false, option_and_then, is_none, IsSome, Option, Some, None, refl}
 use Rattle.std.proofs.Common.{sym, ap, subst, ◌∙◌, arith}
 use Rattle.std.specs.Ordering.{nat_cmp}
@@ -100,13 +100,13 @@ module _ (lane : LaneView) (n : ℕ) (call : lane.call ≡ Some n) where
   moved_free p q outcome.Writes it is d at = absurd cc
   moved_free p q (outcome.FileHeld holder) it is d at = absurd cc
 
-  -- ---- a whole walk, of so many steps at most
+  -- ---- at most `most` steps
   module _ (p : PartsView) (most places : ℕ) (fit : undecided_in p.calls ≤ places) (v : CoreView) (ev : core_of p ≡ v) (l : LaneView) (el : lane ≡ l) where
-    -- what it leaves
+    -- the state after them
     abbrev pub Ends : PartsView → Step → LaneView → Type 0
     Ends q s lane' = IsCore q × (undecided_in q.calls ≤ places) × Walks v l most (walk_end s (core_of q) lane')
 
-    -- after steps that moved, one more
+    -- one more step, after steps that moved
     pub ended_by : (k : ℕ) (mid r : PartsView) (s : Step) (lane' : LaneView) → k < most → TakesMoves k (core_of p) lane (core_of mid) → IsCore mid → undecided_in mid.calls ≤ places → IsStep mid lane s r lane' → r.drawn ≡ mid.drawn → (s ≡ step.Moved → k + 1 ≡ most)
         → Ends r s lane'
     ended_by k mid r s lane' few moved core fits last drawn full = (
@@ -152,7 +152,7 @@ module _ (lane : LaneView) (n : ℕ) (call : lane.call ≡ Some n) where
         subst (λ (x : LaneView). Ends q (step.Blocked holder) x) el
         (ended (outcome.FileHeld holder) q w (step.Blocked holder) q lane (file_blocked_step w.mid lane c.1 t.0 (reply_is c.1 ∙ c.4) q holder c.0 c.5) (ap (λ (x : PartsView). x.drawn) c.0) (λ e. absurd cc))
 
-    -- ---- a reply waits
+    -- ---- a reply is pending
     module _ (q : PartsView) (w : WalkState p lane.session n most (ending outcome.Waits q)) (r : PartsView) (given : Reply) (waits : Some given ≡ option_and_then (λ (c : Call). c.reply) (call_at q.calls n)) (fetched : FetchState q r lane.session n) where
       there : IsTurn w.mid lane w.last.comes.1 × (w.last.comes.1.number ≡ n)
       there = let x = w.last.comes in turn_of w.mid w.last.core lane n x.1 x.2 x.3 call w.last.fits
@@ -177,7 +177,7 @@ module _ (lane : LaneView) (n : ℕ) (call : lane.call ≡ Some n) where
           (is ∙ ap (λ k. record { number = k; session = lane.session; reply = given }) (sym there.1)))
           (fetched.drawn ∙ ap (λ (x : PartsView). x.drawn) same) (λ e. absurd cc)
 
-    -- ---- a call decides
+    -- ---- a call is decided
     module _ (ways : Ways) (q : PartsView) (w : WalkState p lane.session n most (ending (outcome.Walked (walked.Ready ways)) q)) where
       abbrev its : Call
       its = w.last.comes.0
@@ -200,7 +200,7 @@ module _ (lane : LaneView) (n : ℕ) (call : lane.call ≡ Some n) where
       at_q : call_at q.calls n ≡ Some w.last.comes.0
       at_q = let x = w.last.comes in ap (λ cs. call_at cs n) x.5.calls ∙ x.1
 
-      -- what overtaking asks
+      -- what helping requires
       pub ready_core : IsCore q
       ready_core = record { history = w.last.core.history; sound = sound_q }
 
@@ -220,7 +220,7 @@ module _ (lane : LaneView) (n : ℕ) (call : lane.call ≡ Some n) where
         at_m : call_at m.calls n ≡ Some w.last.comes.0
         at_m = ap (call_at m.calls) (sym its_turn.1) ∙ makes.at
 
-        -- what deciding asks
+        -- what deciding requires
         pub made_there : IsSome (call_at m.calls n)
         made_there = subst (λ (o : Option Call). IsSome o) (sym at_m) refl
 

@@ -1,4 +1,4 @@
--- The first step of a WRITE of several blocks: its record is written, and it copies on.
+-- The first step of a WRITE of several blocks: its record is written, and copying continues.
 use Rattle.std.specs.Prelude.{◌≡◌, ◌≢◌, ℕ, true, List, [], ◌∷◌, ◌++◌, option_map, Option, Some, None, refl}
 use Rattle.std.specs.Option.{option_map_or}
 use Rattle.std.proofs.Common.{sym, ap, subst, ◌∙◌, inl, inr, arith}
@@ -78,7 +78,7 @@ module _ (p q : PartsView) (h : List Record) (sound : Sound p h) (c : Call) (at 
   pub new_number : IsNewNumber c.number h
   new_number = sound.history.undecided c.number c at undecided
 
-  -- it is carried out: else nothing would be left
+  -- it succeeds: otherwise no block would remain
   pub carried : IsCarriedOut w.mid (replay h) (answer_to (replay h) c.session c.number c.moment c.request) given
   carried = elim (w.begins.served (replay h) sound.history.tree) [
     | inl e ↦
@@ -89,7 +89,7 @@ module _ (p q : PartsView) (h : List Record) (sound : Sound p h) (c : Call) (at 
     | inr e ↦ e
   ]
 
-  -- ---- as if it had been made whole
+  -- ---- as if all of it had been written
   abbrev whole : StoreState
   whole = left_set w.mid w.copied.handle.node 0
 

@@ -1,4 +1,5 @@
--- What the first step of a WRITE of several blocks makes of a core, of its history and of the lane.
+-- The effect of the first step of a WRITE of several blocks on a core, on its history and on the
+-- lane.
 use Rattle.std.specs.Prelude.{◌≡◌, ◌<◌, ◌+◌, ℕ, List, [], ◌∷◌, ◌++◌, length, Option, Some, None, refl}
 use Rattle.std.proofs.Common.{sym, ap, subst, ◌∙◌, inl, inr, arith}
 use Rattle.sf_reply.specs.declared.reply.Reply.{Reply}
@@ -53,7 +54,7 @@ use Rattle.sf_core.proofs.OneBlock.{start_told}
 pub write_route : (r : Request) → IsWriteRequest r → route_of r ≡ NoPath
 write_route r write = let w = is_a_write r write in ap route_of w.3
 
--- a WRITE decides where it starts
+-- a WRITE is decided at its start
 pub write_fresh : (c : Call) → IsWriteRequest c.request → IsPosition (route_of c.request) c.stage → c.stage ≡ stage.Fresh
 write_fresh c write is = only_fresh (route_of c.request) c.stage (write_route c.request write) is
 
@@ -87,7 +88,7 @@ module _ (p : PartsView) (lane : LaneView) (c : Call) (turn : IsTurn p lane c) (
     sound_now : Sound r (h ++ did c begun.0 ∷ [])
     sound_now = written_sound q r h ready c at undecided fresh write settled begun.0 begun.1 begun.2
 
-    -- ---- how many blocks are left
+    -- ---- the number of remaining blocks
     abbrev handle : OpenHandle
     handle = begun.2.copied.handle
 

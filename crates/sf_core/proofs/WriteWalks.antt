@@ -1,4 +1,4 @@
--- What steps of a WRITE come to, one after the other.
+-- The outcomes of several steps of a WRITE.
 use Rattle.std.specs.Prelude.{◌≡◌, ◌<◌, ◌≤◌, ◌+◌, ◌-◌, ℕ, zero, suc, true, [], Option, Some, None, IfSome, IfNone, refl}
 use Rattle.std.proofs.Common.{sym, ap, subst, ◌∙◌, arith}
 use Rattle.sf_reply.specs.declared.reply.Reply.{Reply}
@@ -46,7 +46,7 @@ use Rattle.sf_core.proofs.Deciding.{ready_sound, ready_settled, stands}
 use Rattle.sf_core.specs.Writing.{CopiesOne}
 use Rattle.sf_core.proofs.Walks.{Ends, ended_by, its_turn, undecided, walk, made_room, decided_end, its_given}
 
--- ---- words on steps
+-- ---- facts about steps
 -- the last block of several
 copied_last : (most : ℕ) (n : ℕ) (p q : PartsView) → 0 < most → CopiedOn most p n q → (k : ℕ) × (k + 1 ≡ most) × (mid : PartsView) × CopiedOn k p n mid × ((left : ℕ) × CopiedBlock mid q n (suc left))
 unfolding CopiedOn
@@ -86,11 +86,11 @@ unfolding Moved
 unmoved zero p q session n it c at never = (refl, it)
 unmoved (suc k) p q session n it c at never = let m = moved_last k p q session n it c at in absurd (never m.0 m.1)
 
--- its request is there twice
+-- it has a second copy of its request
 copied_twice : (r : Request) → IsWriteRequest r → copy_of (route_of r) r ≡ Some r
 copied_twice r write = let w = is_a_write r write in ap (λ (x : Request). copy_of (route_of x) x) w.3 ∙ ap Some (sym w.3)
 
--- a WRITE overtakes nobody
+-- a WRITE helps no call
 overtakes_none : (q : PartsView) (c : Call) → IsWriteRequest c.request → Overtakes q q c
 overtakes_none q c write t keeps =
     let w = is_a_write c.request write in
@@ -102,7 +102,7 @@ module _ (lane : LaneView) (n : ℕ) (call : lane.call ≡ Some n) (p : PartsVie
   abbrev Done : PartsView → Step → LaneView → Type 0
   Done r s lane' = Ends lane n call p most places fit v ev l el r s lane'
 
-  -- ---- blocks after some steps
+  -- ---- blocks after several steps
   module _ (k : ℕ) (mid : PartsView) (on : OnTurn mid lane n) (fits : undecided_in mid.calls ≤ places) (moved : (j : ℕ) (w : CoreView) → TakesMoves j (core_of mid) lane w → TakesMoves (k + j) (core_of p) lane w) (r : PartsView) where
     more_done : (steps : ℕ) → 0 < steps → k + steps ≡ most → CopiedOn steps mid n r → Done r step.Moved lane
     more_done steps some all it =
@@ -131,7 +131,7 @@ module _ (lane : LaneView) (n : ℕ) (call : lane.call ≡ Some n) (p : PartsVie
   rest_lane : (r : PartsView) (s t : Step) (lane' other : LaneView) → t ≡ s → other ≡ lane' → Done r s lane' → Done r t other
   rest_lane r s t lane' other e f done = subst (λ (x : Step). Done r x other) (sym e) (subst (λ (x : LaneView). Done r s x) (sym f) done)
 
-  -- ---- a call that copies
+  -- ---- a call that is copying
   module _ (q : PartsView) (w : WalkState p lane.session n most (ending outcome.Copies q)) where
     there : call_at q.calls n ≡ Some w.last.comes.1
     there = ap (λ (x : PartsView). call_at x.calls n) w.last.comes.0 ∙ w.last.comes.2
@@ -192,7 +192,7 @@ module _ (lane : LaneView) (n : ℕ) (call : lane.call ≡ Some n) (p : PartsVie
           subst (λ (y : LaneView). IsGiven n y.session given) el (subst (λ (g : Reply). IsGiven n lane.session g) (some_eq x given e) (over_given 0 q turn fits moved r most x ends))
 
   -- ---- a WRITE starts
-  -- one that may start has walked nothing, and decides where it is
+  -- a WRITE that may start has resolved no component, and is decided at its start
   module _ (q : PartsView) (w : WalkState p lane.session n most (ending outcome.Writes q)) where
     abbrev nowhere : Ways
     nowhere = no_path
@@ -260,7 +260,7 @@ module _ (lane : LaneView) (n : ℕ) (call : lane.call ≡ Some n) (p : PartsVie
     ready_q : Sound q w.last.core.history
     ready_q = ready_sound w.mid lane its its_own.0 none q ways step_on w.last.comes.4 w.last.core.history w.last.core.sound
 
-    -- what writing asks
+    -- what writing requires
     pub writes_ready : (c : Call) → call_at q.calls n ≡ Some c → IsReadyToWrite q c n
     writes_ready c at =
         let s = ready_settled w.mid lane its its_own.0 none q ways step_on w.last.comes.4 w.last.core.history w.last.core.sound in

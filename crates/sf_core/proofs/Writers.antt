@@ -1,4 +1,4 @@
--- Files that are being written: what other events leave of them.
+-- Files that are being written: what other events preserve.
 use Rattle.std.specs.Prelude.{◌≡◌, ◌≢◌, ℕ, zero, suc, Bool, true, false, if◌then◌else◌, List, [], ◌∷◌, option_map, option_and_then, Option, Some, None, refl}
 use Rattle.std.specs.Option.{option_map_or}
 use Rattle.std.proofs.Common.{sym, ap, subst, ◌∙◌, inl, inr}
@@ -29,7 +29,7 @@ use Rattle.sf_core.specs.Sound.{writer_of_file, copying_at, copying_in, IsWritin
 use Rattle.sf_core.proofs.Updates.{Updates}
 
 -- ---- calls
--- a call on its way copies nothing
+-- a call that holds paths is not copying
 pub none_copied : (r : Route) (g : Stage) → IsPosition r g → copying_at g ≡ None
 none_copied r g (Starts o is) = refl
 none_copied r g (IsOn path walked node less) = refl
@@ -42,7 +42,8 @@ copied_by o = option_and_then (λ (c : Call). copying_at c.stage) o
 pub some_copied : (g : Stage) (node left : ℕ) → g ≡ stage.Copies node left → copying_at g ≡ None → ⊥
 some_copied g node left e none = let x = sym (ap copying_at e) ∙ none in let z : ⊥ = cc in z
 
--- where one call is another, and copies neither before nor after, the same calls copy as before
+-- if one call changes, and is copying neither before nor after, the same calls are copying as
+-- before
 module _ (old new : List (ℕ × Call)) (n : ℕ) (was now : Option Call) (u : Updates old new n was now) (was_none : copied_by was ≡ None) (now_none : copied_by now ≡ None) where
   pub same_copying : (m : ℕ) → copying_in new m ≡ copying_in old m
   same_copying m = elim (same_or_not m n) [
@@ -82,7 +83,7 @@ writer_is nodes id n file held = ap (λ (b : Bool). if b then holder_of nodes id
 pub writer_holds : (nodes : List (Option Node)) (id n : ℕ) → writer_of_file nodes id ≡ Some n → (is_file_at nodes id ≡ true) × (holder_of nodes id ≡ Some n)
 writer_holds nodes id n e = if_holds (is_file_at nodes id) (holder_of nodes id) n e
 
--- the same nodes are files, as much is left of each, and the same handles are open
+-- the same inodes are files, with as many blocks left, and the same handles are open
 pub record SameFiles (s t : StoreState) : Type 0 where
   pub file : (id : ℕ) → is_file_at t.nodes id ≡ is_file_at s.nodes id
   pub left : (id : ℕ) → blocks_left_at t.nodes id ≡ blocks_left_at s.nodes id
@@ -137,8 +138,8 @@ files_moved n was now node s =
     files_trans s (entered was s) (handed_over n was now node (entered was s)) (files_entered was s)
     (files_trans (entered was s) held (handed_over n was now node (entered was s)) (files_held (Some n) (entered was s) node) (files_let_go (nodes_of now) (nodes_of was) held))
 
--- what is handed over are no files: each file has the holder that it had
--- no file is among what a call holds, before and after
+-- what is handed over is no file: each file has the same holder
+-- a call holds no file, before and after
 pub record HoldsNoFile (s : StoreState) (was now : List HeldPath) : Type 0 where
   pub before : (l : ℕ) → IsNodeOf was l → is_file_at s.nodes l ≡ true → ⊥
   pub after : (l : ℕ) → IsNodeOf now l → is_file_at s.nodes l ≡ true → ⊥
@@ -176,8 +177,8 @@ copied_on p q copied same still files writers = record {
   writing = λ m c node left at is. writing_on p.store q.store c node files.sessions (copied.writing m c node left (still m c node left at is) is);
 }
 
--- nor does one that leaves the store, and no call but one that copies neither before nor after
--- an event of one call that copies nothing, before and after it, and that leaves the store
+-- nor does one that preserves the store and all calls, except one that isn't copying
+-- an event of one call that isn't copying, before and after it, and that preserves the store
 pub record CopiesNothing (p q : PartsView) (n : ℕ) : Type 0 where
   pub was : Option Call
   pub now : Option Call
@@ -198,7 +199,7 @@ copied_same p q copied store calls =
     copied_on p q copied (λ m. ap (λ cs. copying_in cs m) calls) (λ m c node left at is. ap (λ cs. call_at cs m) (sym calls) ∙ at)
     (subst (SameFiles p.store) (sym store) (files_itself p.store)) (λ id. ap (λ (s : StoreState). writer_of_file s.nodes id) store)
 
--- look-ups were made
+-- lookups were made
 files_counted : (k : ℕ) (s : StoreState) → SameFiles s (after_look_ups k s) × ((id : ℕ) → writer_of_file (after_look_ups k s).nodes id ≡ writer_of_file s.nodes id)
 files_counted zero s = (files_itself s, λ id. refl)
 files_counted (suc k) s =

@@ -1,4 +1,4 @@
--- What a contract sees of a core.
+-- A core as contracts see it.
 use Rattle.std.specs.Prelude.{ℕ, ◌-◌, ◌^◌, List, [], length, Option, Some, None}
 use Rattle.std.specs.Ordering.{nat_cmp}
 use Rattle.std.specs.Map.{lookup}
@@ -7,11 +7,11 @@ use Rattle.sf_call.specs.declared.call.Call.{Call}
 use Rattle.sf_call.specs.declared.record.Record.{Record}
 use Rattle.sf_inode.specs.Stores.{StoreState}
 
--- the records that are kept, the oldest first; how many are kept at most, if not all; and how many
--- calls' records went; how many call numbers and session numbers were given, from 1 on; the joined
--- sessions by rising number, each with the number of its unanswered call; the unanswered calls by
--- rising number; how many look-ups were made; and the store, of which no clauses but those of the
--- history and of a blocked step speak
+-- A core. `records` are the retained records, the oldest first, and at most `keep` if that is set.
+-- `folded` counts the dropped call records. `drawn` and `joins` count the calls and the sessions so
+-- far, which are numbered from 1. `sessions` has the joined sessions in ascending order, each with
+-- the number of its unanswered call, and `calls` the unanswered calls. `look_ups` counts the
+-- lookups. Only the clauses about the history and about a blocked step speak of `store`.
 pub record CoreView : Type 0 where
   pub records : List Record
   pub keep : Option ℕ
@@ -23,8 +23,8 @@ pub record CoreView : Type 0 where
   pub look_ups : ℕ
   pub store : StoreState
 
--- how far a session is with a core, and what is known of its call: it never joined or has left, it
--- rests, or it has an unanswered call
+-- the state of a session: it never joined or has left; it is idle; or it has an unanswered call,
+-- with something `Known` about it
 pub data LaneState (Known : Type 0) : Type 0 where
   NoLane : LaneState Known
   Idle : LaneState Known
@@ -36,7 +36,7 @@ call_at calls number = lookup (is_at (nat_cmp number)) calls
 abbrev pub session_at : List (ℕ × Option ℕ) → ℕ → Option (Option ℕ)
 session_at sessions session = lookup (is_at (nat_cmp session)) sessions
 
--- no core has a number without its call
+-- no core has a session with the number of a call that doesn't exist
 abbrev pub busy_with : Option Call → LaneState Call
 busy_with None = NoLane
 busy_with (Some call) = Busy call
@@ -49,7 +49,7 @@ lane_state_by calls (Some (Some number)) = busy_with (call_at calls number)
 abbrev pub lane_state : CoreView → ℕ → LaneState Call
 lane_state v session = lane_state_by v.calls (session_at v.sessions session)
 
--- how many sessions are joined
+-- the number of joined sessions
 abbrev pub joined : CoreView → ℕ
 joined v = length v.sessions
 
@@ -57,7 +57,7 @@ joined v = length v.sessions
 abbrev pub last_number : ℕ
 last_number = 2 ^ 63 - 1
 
--- how many sessions may be joined at once
+-- the most sessions that may be joined at once
 abbrev pub most_sessions : ℕ
 most_sessions = 256
 

@@ -1,4 +1,4 @@
--- What each event does to a core.
+-- The step relation: what each event does to a core.
 use Rattle.std.specs.Prelude.{◌≡◌, ◌≢◌, ◌⊎◌, ◌<◌, ◌≤◌, ◌+◌, ◌-◌, ◌^◌, ℕ, zero, suc, min, true, false, List, [], ◌∷◌, ◌++◌, filter_map, Some, None}
 use Rattle.std.specs.Ordering.{nat_cmp}
 use Rattle.std.specs.List.{AllByRecursion}
@@ -46,14 +46,13 @@ pub record OwnCall (v : CoreView) (lane : LaneView) (c : Call) : Type 0 where
   pub session : c.session ≡ lane.session
   pub number : lane.call ≡ Some c.number
 
--- the same records are kept
+-- the same records are retained
 pub record KeepsRecords (v w : CoreView) : Type 0 where
   pub records : w.records ≡ v.records
   pub keep : w.keep ≡ v.keep
   pub folded : w.folded ≡ v.folded
 
--- nothing but the count of look-ups differs, by so many at most; what there is for each session is
--- as it was
+-- only the count of lookups differs, by `most` at most; every session's state is as before
 pub record LooksOnly (v w : CoreView) (most : ℕ) : Type 0 where
   pub records : KeepsRecords v w
   pub drawn : w.drawn ≡ v.drawn
@@ -65,8 +64,8 @@ pub record LooksOnly (v w : CoreView) (most : ℕ) : Type 0 where
   pub more : v.look_ups ≤ w.look_ups
   pub few : w.look_ups ≤ v.look_ups + most
 
--- the state of one session's lane is another; those of all others, and the counts of sessions and
--- calls, stay
+-- One session's state is set. All other sessions, and the counts of sessions and calls, are
+-- unchanged.
 pub record SetsSlot (v w : CoreView) (session : ℕ) (slot : LaneState Call) : Type 0 where
   pub own : lane_state w session ≡ slot
   pub others : (s : ℕ) → s ≢ session → lane_state w s ≡ lane_state v s
@@ -74,7 +73,7 @@ pub record SetsSlot (v w : CoreView) (session : ℕ) (slot : LaneState Call) : T
   pub drawn : w.drawn ≡ v.drawn
   pub joins : w.joins ≡ v.joins
 
--- the call moves: it took the root, or walked one name further
+-- the call advances: it acquired the root, or resolved one more component
 pub record Goes (v w : CoreView) (lane : LaneView) (c d : Call) : Type 0 where
   pub own : OwnCall v lane c
   pub same : SameCall c d
@@ -89,8 +88,8 @@ pub record Goes (v w : CoreView) (lane : LaneView) (c d : Call) : Type 0 where
   pub more : v.look_ups ≤ w.look_ups
   pub few : w.look_ups ≤ v.look_ups + 2
 
--- The names that a call looks up next lead to a node, and another call holds it: its number stands
--- at the node, and it has come there by the same names, or copies into it.
+-- The components that the call c looks up next lead to an inode that the call d holds: d's number
+-- is its holder. Either d resolved the same components, or it copies into that inode.
 pub record HoldsWanted (s : StoreState) (c d : Call) : Type 0 where
   pub held_path : HeldPath
   pub looks : LooksUp (route_of c.request) c.stage held_path.path
@@ -99,13 +98,13 @@ pub record HoldsWanted (s : StoreState) (c d : Call) : Type 0 where
   pub stands : Holds (held_paths_of (route_of d.request) d.stage) held_path
       ⊎ CopiesInto d.stage held_path.node
 
--- another call copies into the file that the call's handle opens
+-- the call d copies into the file that c's handle opens
 pub record HoldsFile (s : StoreState) (c d : Call) : Type 0 where
   pub waits : WaitsForFile s c d.number
   pub copies : CopiesInto d.stage waits.handle.node
 
--- another session's call, which is undecided and looks further down, or copies, holds what the call
--- wants
+-- The call is blocked: another session's call holds what it needs. That call is undecided and looks
+-- further down, or it is copying.
 pub record IsBlocked (v w : CoreView) (lane : LaneView) (c : Call) (holder : ℕ) : Type 0 where
   pub own : OwnCall v lane c
   pub undecided : waiting_reply c ≡ None
@@ -119,8 +118,7 @@ pub record IsBlocked (v w : CoreView) (lane : LaneView) (c : Call) (holder : ℕ
   pub deeper : IsBehind c call
   pub looks : LooksOnly v w 2
 
--- a core with its history, and a lane, before a step; and after it, with the records that were
--- added
+-- a core with its history, and a lane: before a step, and after it with the records that it added
 pub record Before : Type 0 where
   pub core : CoreView
   pub history : List Record
@@ -131,7 +129,8 @@ pub record After : Type 0 where
   pub added : List Record
   pub lane : LaneView
 
--- the record was there: a fetch, after the last block of a WRITE
+-- The call's record was already in the history, and its pending reply is fetched. A WRITE copies
+-- its last block first.
 pub record Fetches (b : Before) (a : After) (c : Call) (given : Reply) : Type 0 where
   pub own : OwnCall b.core b.lane c
   pub decided : waiting_reply c ≡ Some given
@@ -142,7 +141,7 @@ pub record Fetches (b : Before) (a : After) (c : Call) (given : Reply) : Type 0 
   pub records : KeepsRecords b.core a.core
   pub look_ups : a.core.look_ups ≡ b.core.look_ups
 
--- as many blocks are left as the call writes, but for the first
+-- the blocks that remain are all blocks that the call writes, except the first
 abbrev pub LeavesBlocks : Tree → Call → ℕ → Type 0
 LeavesBlocks t c left =
     (number offset : ℕ) (bytes : List ℕ) → c.request ≡ request.Write number offset bytes
@@ -150,7 +149,7 @@ LeavesBlocks t c left =
     → opened t c.session number ≡ OpenFile handle m contents
     → left + 1 ≡ blocks_of (start_of handle contents offset) bytes
 
--- a WRITE that succeeds writes one block at most
+-- a WRITE that succeeds writes at most one block
 abbrev pub IsOfOneBlock : Tree → Call → Reply → Type 0
 IsOfOneBlock t c given =
     (number offset : ℕ) (bytes : List ℕ) → c.request ≡ request.Write number offset bytes
@@ -158,8 +157,8 @@ IsOfOneBlock t c given =
     → opened t c.session number ≡ OpenFile handle m contents
     → blocks_of (start_of handle contents offset) bytes ≤ 1
 
--- The first step of a WRITE of more than one block: its record is the one that is added, its reply
--- waits, and it has copied its first block. It holds its file from now on.
+-- The first step of a WRITE of more than one block. Its record is added, its reply is pending, and
+-- its first block is copied. From now on it holds its file.
 pub record StartsToWrite (b : Before) (a : After) (c d : Call) (given : Reply) : Type 0 where
   pub own : OwnCall b.core b.lane c
   pub same : SameCall c d
@@ -182,7 +181,7 @@ pub record StartsToWrite (b : Before) (a : After) (c d : Call) (given : Reply) :
   pub few : a.core.look_ups ≤ b.core.look_ups + 2
   pub lane : a.lane ≡ b.lane
 
--- a WRITE copies one block more, which isn't its last
+-- a WRITE copies one more block, which isn't its last
 pub record CopiesBlock (v w : CoreView) (lane : LaneView) (c d : Call) : Type 0 where
   pub own : OwnCall v lane c
   pub same : SameCall c d
@@ -197,7 +196,7 @@ pub record CopiesBlock (v w : CoreView) (lane : LaneView) (c d : Call) : Type 0 
   pub records : KeepsRecords v w
   pub look_ups : w.look_ups ≡ v.look_ups
 
--- the call of a record cuts a file, or fills it up
+-- the record's call sets the length of a file: it truncates or extends it
 abbrev pub CutsFile : Record → Type 0
 CutsFile (Did number session moment request given) = cuts_file request ≡ true
 CutsFile (Left session) = ⊥
@@ -205,8 +204,8 @@ CutsFile (Left session) = ⊥
 abbrev pub HasCut : List Record → Type 0
 HasCut records = (r : Record) × IsAmong r records × CutsFile r
 
--- what is left of another session's WRITE was copied, since a call that is helped cuts a file: its
--- reply waits still
+-- The remaining blocks of another session's WRITE were copied, since a helped call sets the length
+-- of its file. Its reply is still pending.
 pub record IsFinished (v w : CoreView) (session : ℕ) (helped : List Record) : Type 0 where
   pub cut : HasCut helped
   pub before : Call
@@ -221,8 +220,7 @@ pub record IsFinished (v w : CoreView) (session : ℕ) (helped : List Record) : 
   pub rests : after.stage ≡ stage.Fresh
   pub less : left_of after ≤ left_of before
 
--- an undecided call was carried out by another session's: its record is among these, and its reply
--- waits
+-- another session's undecided call was helped: its record is among these, and its reply is pending
 pub record IsHelped (v w : CoreView) (session : ℕ) (helped : List Record) : Type 0 where
   pub before : Call
   pub after : Call
@@ -236,7 +234,7 @@ pub record IsHelped (v w : CoreView) (session : ℕ) (helped : List Record) : Ty
   pub less : left_of after ≤ left_of before
   pub recorded : IsAmong (did before given) helped
 
--- the records of the undecided calls with these numbers, one for each and in this order
+-- the records of the undecided calls with these numbers, one for each, in this order
 unfoldable pub AreRecordsOf : List (ℕ × Call) → List ℕ → List Record → Type 0
 AreRecordsOf calls [] [] = Unit {0}
 AreRecordsOf calls [] (r ∷ rs) = ⊥
@@ -244,8 +242,8 @@ AreRecordsOf calls (n ∷ ns) [] = ⊥
 AreRecordsOf calls (n ∷ ns) (r ∷ rs) = ((c : Call) × (given : Reply) × (call_at calls n ≡ Some c)
     × (waiting_reply c ≡ None) × (r ≡ did c given)) × AreRecordsOf calls ns rs
 
--- Who is helped by a decision: where its case is the move, each other undecided call that has
--- passed the old path, in the order of their numbers; else nobody.
+-- The calls that a decision helps. If the call moves an entry, these are all other undecided calls
+-- that have passed the old path, in ascending order of their numbers. Otherwise there are none.
 pub record HelpsInOrder (v : CoreView) (h : List Record) (c : Call)
     (helped : List Record) : Type 0 where
   pub records : AreRecordsOf v.calls (overtaken v.calls c.number
@@ -259,9 +257,9 @@ IsOfOther v session (Did number s moment request given) = (c : Call) × (s ≢ s
     × (Did number s moment request given ≡ did c given)
 IsOfOther v session (Left s) = ⊥
 
--- The call is decided: its record is the last of those added. A WRITE that is carried out so has
--- one block at most. Want of memory is told in place of a reply of the tree, after the records
--- before it, only where that takes memory.
+-- The linearization point: the call is decided. The records of the helped calls are added, then its
+-- own. A WRITE decided by one step has at most one block. A call's reply is "Out of memory" in
+-- place of the tree's reply only if the call allocates.
 pub record Decides (b : Before) (a : After) (c : Call) (given : Reply) : Type 0 where
   pub own : OwnCall b.core b.lane c
   pub undecided : waiting_reply c ≡ None
@@ -285,25 +283,25 @@ pub record Decides (b : Before) (a : After) (c : Call) (given : Reply) : Type 0 
   pub more : b.core.look_ups ≤ a.core.look_ups
   pub few : a.core.look_ups ≤ b.core.look_ups + (2 + names_in_records helped)
 
--- no record was added, and the lane is as it was
+-- no record was added, and the lane is unchanged
 pub record AddsNothing (b : Before) (a : After) : Type 0 where
   pub none : a.added ≡ []
   pub lane : a.lane ≡ b.lane
 
--- the answer is the lane's call's, and the lane is at rest
+-- the answer is to the lane's call, and the lane is idle
 pub record Answers (b : Before) (given : AnswerView) (a : After) : Type 0 where
   pub session : given.session ≡ b.lane.session
   pub number : b.lane.call ≡ Some given.number
   pub lane : a.lane ≡ at_rest b.lane
 
--- The call took the root or walked one name further; or it is a WRITE, and copied its first block,
--- or another one that isn't its last.
+-- The call acquired the root or resolved one more component; or it is a WRITE that copied its first
+-- block, or a further one that isn't its last.
 abbrev pub MovesOn : Before → After → Type 0
 MovesOn b a = (((c : Call) × (d : Call) × Goes b.core a.core b.lane c d) × AddsNothing b a)
     ⊎ ((c : Call) × (d : Call) × (given : Reply) × StartsToWrite b a c d given)
     ⊎ (((c : Call) × (d : Call) × CopiesBlock b.core a.core b.lane c d) × AddsNothing b a)
 
--- what a step does to a core and to the lane, and the records that it adds
+-- what a step does to a core and its lane, and the records that it adds
 abbrev pub TakesStep : Before → Step → After → Type 0
 TakesStep b Moved a = MovesOn b a
 TakesStep b (Blocked holder) a =
@@ -313,7 +311,7 @@ TakesStep b (Answered given) a =
 TakesStep b Stranger a =
     ((c : Call) → OwnCall b.core b.lane c → ⊥) × (a.core ≡ b.core) × AddsNothing b a
 
--- a step, whatever the history was: it adds records to it so
+-- a step from any history: it extends the history by the added records
 abbrev pub StepsOn : CoreView → LaneView → Step → CoreView → LaneView → Type 0
 StepsOn v lane s w lane' =
     (h : List Record) → IsHistory v h → (added : List Record) × IsHistory w (h ++ added)
@@ -323,7 +321,7 @@ StepsOn v lane s w lane' =
       lane = lane';
     })
 
--- what steps come to: the last one, and the core and the session's lane after it
+-- the outcome of the last of several steps, and the core and the lane after it
 pub record WalkEnd : Type 0 where
   pub step : Step
   pub core : CoreView
@@ -332,14 +330,14 @@ pub record WalkEnd : Type 0 where
 abbrev pub walk_end : Step → CoreView → LaneView → WalkEnd
 walk_end s w lane = record { step = s; core = w; lane = lane }
 
--- so many steps, one after the other, each of which moved
+-- n steps in sequence, all of which moved
 unfoldable pub TakesMoves : ℕ → CoreView → LaneView → CoreView → Type 0
 TakesMoves zero v lane w = w ≡ v
 TakesMoves (suc n) v lane w =
     (mid : CoreView) × TakesMoves n v lane mid × StepsOn mid lane Moved w lane
 
--- Walking on, by so many steps at most: all moved but the last, and this one too only where no more
--- were to be made.
+-- At most `most` steps: all but the last one moved, and the last one moved only if it is number
+-- `most`.
 pub record Walks (v : CoreView) (lane : LaneView) (most : ℕ) (c : WalkEnd) : Type 0 where
   pub moves : ℕ
   pub mid : CoreView
@@ -367,7 +365,7 @@ RefusesJoin v fault.Sessions = most_sessions ≤ joined v
 RefusesJoin v fault.NumbersSpent = (joined v < most_sessions) × (v.joins ≡ last_number)
 RefusesJoin v fault.Stranger = ⊥
 
--- the call begins, under the next number; it has walked nothing
+-- a call begins, under the next number; it has resolved no component
 pub record CallBegins (v w : CoreView) (lane : LaneView) (request : Request) (moment : ℕ)
     : Type 0 where
   pub idle : lane_state v lane.session ≡ Idle
@@ -382,7 +380,7 @@ pub record CallBegins (v w : CoreView) (lane : LaneView) (request : Request) (mo
   pub records : KeepsRecords v w
   pub look_ups : w.look_ups ≡ v.look_ups
 
--- the lane with the call of a number
+-- the lane with this call
 abbrev pub begun : LaneView → ℕ → LaneView
 begun lane number =
     record { session = lane.session; call = Some number; begun = min (lane.begun + 1) (2 ^ 64 - 1) }

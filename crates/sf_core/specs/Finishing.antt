@@ -1,5 +1,5 @@
 -- No public clause cites this module.
--- A call is carried out by another one from the root: what a WRITE has left is copied first.
+-- A call is helped from the root; the remaining blocks of a WRITE are copied first.
 use Rattle.std.specs.Prelude.{◌≡◌, ◌⊎◌, ℕ, true, List, Some, None}
 use Rattle.sf_call.specs.declared.call.Call.{Call}
 use Rattle.sf_call.specs.declared.call.Stage.TheVariants as stage
@@ -17,29 +17,29 @@ use Rattle.sf_core.specs.Cores.{call_at}
 use Rattle.sf_core.specs.Parts.{PartsView}
 use Rattle.sf_core.specs.Sound.{writer_of_file}
 
--- all that was left was copied into a file, which nobody holds any more; the call's reply waits
+-- the remaining blocks were copied, the file is released, and the call's reply is still pending
 abbrev pub write_finished : PartsView → ℕ → ℕ → PartsView
 write_finished p number node = record p {
   store = edited (with_holder None) (left_set p.store node 0) node;
   calls = staged p.calls number stage.Fresh;
 }
 
--- of a file that no call holds nothing is left to be copied
+-- a file that no call holds has no blocks left to copy
 abbrev pub IsSettledWhereFree : StoreState → Type 0
 IsSettledWhereFree s = (id : ℕ) → writer_of_file s.nodes id ≡ None → blocks_left_at s.nodes id ≡ 0
 
--- each call's request is the one that it was
+-- each call's request is unchanged
 abbrev pub KeepsRequests : PartsView → PartsView → Type 0
 KeepsRequests p q = (n : ℕ) (d : Call) → call_at q.calls n ≡ Some d → (c : Call)
     × (call_at p.calls n ≡ Some c) × (d.request ≡ c.request)
 
--- the calls of these numbers read, write and set no file by a handle
+-- the calls with these numbers have no handle of a file
 abbrev pub AreOnPaths : PartsView → List ℕ → Type 0
 AreOnPaths p numbers = (n : ℕ) (c : Call) → is_one_of n numbers ≡ true
     → call_at p.calls n ≡ Some c → file_handle c.request ≡ None
 
--- A call is carried out from the root: where it cuts a file or fills it up that another one holds,
--- what that one has left is copied first.
+-- Before a call is helped its paths are resolved from the root. If it sets the length of a file
+-- that another call holds, the remaining blocks of that WRITE are copied first.
 pub record FinishesWriter (p q : PartsView) (c : Call) : Type 0 where
   pub ways : Ways
   pub looked : StoreState
@@ -49,8 +49,8 @@ pub record FinishesWriter (p q : PartsView) (c : Call) : Type 0 where
       ⊎ ((w : Writer) × IsWriter looked c.request ways.path w
       × (q ≡ write_finished (record p { store = looked }) w.number w.node))
 
--- where its paths lead was found then, and nothing is left to be copied into a file that it cuts or
--- fills up
+-- the paths were resolved before the remaining blocks were copied; now a file has no blocks left if
+-- the call sets its length
 pub record IsReadyToHelp (p q : PartsView) (c : Call) (ways : Ways) : Type 0 where
   pub finishes : FinishesWriter p q c
   pub same : finishes.ways ≡ ways

@@ -1,5 +1,5 @@
--- The history of a core: all records that were ever added. It is a value of the proof, handed in
--- and handed on; a core keeps an end of it alone.
+-- The history of a core: all records ever added, in order. It is ghost state, and the core retains
+-- only its last records.
 use Rattle.std.specs.Prelude.{◌≡◌, ◌<◌, ◌≤◌, ◌+◌, ℕ, List, Option, Some, None}
 use Rattle.std.specs.List.{count_by}
 use Rattle.sf_reply.specs.declared.reply.Reply.{Reply}
@@ -11,10 +11,10 @@ use Rattle.sf_keeps.specs.Keeps.{Keeps}
 use Rattle.sf_core.specs.Cores.{CoreView, call_at, session_at, joined, most_sessions}
 use Rattle.sf_core.specs.Progress.{waiting_reply, did, undecided_in}
 
--- The last records of the history are kept, those of calls before them are counted, and the store
--- keeps the tree at its end. The numbers drawn are those of its calls and of the undecided ones,
--- which are in no record; so are numbers to come. A session that is joined or to come hasn't left,
--- and no more are joined than may be at once. The record of a call whose reply waits is there.
+-- The core retains the last records of the history, and counts the calls of the earlier ones. The
+-- store represents the tree at the history's end. The calls so far are those with a record and the
+-- undecided ones. Undecided and future calls have no record; a call with a pending reply has one. A
+-- session that is joined or will join hasn't left. At most `most_sessions` are joined.
 pub record IsHistory (v : CoreView) (h : List Record) : Type 0 where
   pub legal : IsLegal h
   pub records : v.records ≡ kept_of v.keep h

@@ -1,12 +1,13 @@
 -- No public clause cites this module.
--- What a core is made of.
+-- The parts of a core.
 use Rattle.std.specs.Prelude.{ℕ, List, Option}
 use Rattle.sf_book.specs.Books.{BookView}
 use Rattle.sf_call.specs.declared.call.Call.{Call}
 use Rattle.sf_inode.specs.Stores.{StoreState}
 use Rattle.sf_core.specs.Cores.{CoreView}
 
--- the store; the book of records; the sessions and the calls; and how many numbers were given
+-- the store; the book of records; the sessions and the calls; and the numbers of calls and sessions
+-- so far
 pub record PartsView : Type 0 where
   pub store : StoreState
   pub book : BookView

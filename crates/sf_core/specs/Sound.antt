@@ -1,6 +1,6 @@
 -- No public clause cites this module.
--- What is true of every core between two events: its history, its walks, its files that are being
--- written, and its numbers.
+-- The invariant of a core: its history, its lock coupling, its files that are being written, and
+-- its numbers.
 use Rattle.std.specs.Prelude.{◌≡◌, ◌⊎◌, ◌<◌, ◌≤◌, ◌+◌, ℕ, T, if◌then◌else◌, List, [], length, Option, Some, None, option_and_then}
 use Rattle.std.specs.Option.{option_map_or}
 use Rattle.std.specs.Ordering.{nat_cmp}
@@ -24,26 +24,26 @@ use Rattle.sf_core.specs.Progress.{waiting_reply, undecided_in, copy_of, IsCopyi
 use Rattle.sf_core.specs.Histories.{IsHistory}
 use Rattle.sf_core.specs.Parts.{PartsView, core_of}
 
--- what a call holds
+-- the directories that a call holds
 abbrev pub held_paths_at : Call → List HeldPath
 held_paths_at c = held_paths_of (route_of c.request) c.stage
 
 abbrev pub held_paths_in : List (ℕ × Call) → ℕ → List HeldPath
 held_paths_in calls number = option_map_or held_paths_at (call_at calls number) []
 
--- who holds a directory, and who a file
+-- the call that holds a directory, and the call that holds a file
 abbrev pub walker_of : List (Option Node) → ℕ → Option ℕ
 walker_of nodes id = if is_directory_at nodes id then holder_of nodes id else None
 
 abbrev pub writer_of_file : List (Option Node) → ℕ → Option ℕ
 writer_of_file nodes id = if is_file_at nodes id then holder_of nodes id else None
 
--- a call whose reply waits stands nowhere, or copies
+-- a call with a pending reply holds nothing, or is copying
 abbrev pub IsAtRest : Stage → Type 0
 IsAtRest at = (at ≡ stage.Fresh) ⊎ IsCopying at
 
--- The calls' walks are coupled, and each undecided one is on its route; one whose reply waits holds
--- no directory.
+-- Lock coupling: what the calls hold is as `AreWalks` says, and each undecided call is on its
+-- route. A call with a pending reply holds no directory.
 pub record Coupled (p : PartsView) : Type 0 where
   pub walks : AreWalks
       (walkers_at (namespace p.store) (held_paths_in p.calls) (walker_of p.store.nodes))
@@ -52,7 +52,7 @@ pub record Coupled (p : PartsView) : Type 0 where
   pub waiting : (number : ℕ) (c : Call) (given : Reply) → call_at p.calls number ≡ Some c
       → waiting_reply c ≡ Some given → IsAtRest c.stage
 
--- what a call copies into
+-- the file that a call copies into
 abbrev pub copying_at : Stage → Option Copying
 copying_at (stage.Copies node left) = Some (copying node left)
 copying_at at = None
@@ -67,7 +67,7 @@ copying_scene s calls = record {
   left = blocks_left_at s.nodes;
 }
 
--- a WRITE that copies: its own session's handle opens the file, and its reply waits
+-- a WRITE that is copying: its session's handle opens the file, and its reply is pending
 pub record IsWriting (s : StoreState) (c : Call) (file : ℕ) : Type 0 where
   pub handle : ℕ
   pub offset : ℕ
@@ -79,14 +79,14 @@ pub record IsWriting (s : StoreState) (c : Call) (file : ℕ) : Type 0 where
   pub given : Reply
   pub decided : waiting_reply c ≡ Some given
 
--- Each call that copies holds its file, which is a WRITE's; no other file is held, and of one that
--- nobody holds nothing is left to be copied.
+-- Each call that is copying is a WRITE and holds its file. No other file is held, and a file that
+-- is not held has no blocks left to copy.
 pub record Copied (p : PartsView) : Type 0 where
   pub copies : AreCopies (copying_scene p.store p.calls)
   pub writing : (number : ℕ) (c : Call) (node left : ℕ) → call_at p.calls number ≡ Some c
       → c.stage ≡ stage.Copies node left → IsWriting p.store c node
 
--- an unanswered call, and its session's
+-- an unanswered call, which its session has
 pub record IsCallOf (sessions : List (ℕ × Option ℕ)) (drawn number : ℕ) (c : Call) : Type 0 where
   pub is_number : c.number ≡ number
   pub above : 0 < number
@@ -102,8 +102,8 @@ pub record IsSessionOf (calls : List (ℕ × Call)) (joins session : ℕ)
   pub busy : (n : ℕ) → number ≡ Some n → (c : Call) × (call_at calls n ≡ Some c)
       × (c.session ≡ session)
 
--- Each call is a session's, and each session's call is there; numbers are in their bounds, and
--- there is room for the record of each undecided call and of each leaving.
+-- Each call belongs to a session, and each session's call exists. Numbers are in bounds. There is
+-- room for the record of each undecided call and of each leaving.
 pub record Ledger (p : PartsView) : Type 0 where
   pub calls : (number : ℕ) (c : Call) → call_at p.calls number ≡ Some c
       → IsCallOf p.sessions p.drawn number c
@@ -121,7 +121,7 @@ pub record Sound (p : PartsView) (h : List Record) : Type 0 where
   pub copied : Copied p
   pub ledger : Ledger p
 
--- some history is the whole one
+-- the invariant holds for some history
 pub record IsCore (p : PartsView) : Type 0 where
   pub history : List Record
   pub sound : Sound p history

@@ -33,7 +33,7 @@ use Rattle.sf_core.specs.Parts.{PartsView}
 use Rattle.sf_core.specs.Sound.{IsCore}
 use Rattle.sf_core.specs.Finishing.{FinishesWriter}
 
--- a session has this call, or none, if it is joined
+-- sets or clears the call of a session, if it is joined
 abbrev pub session_set_by : List (ℕ × Option ℕ) → ℕ → Option ℕ → Option (Option ℕ)
     → List (ℕ × Option ℕ)
 session_set_by sessions session number None = sessions
@@ -55,7 +55,7 @@ pub record IsNewParts (p : PartsView) : Type 0 where
   pub drawn : p.drawn ≡ 0
   pub joins : p.joins ≡ 0
 
--- all but the room is as it was, and there is no less of it
+-- all but the book's room is unchanged, and the room is no smaller
 pub record SameButRoom (p q : PartsView) : Type 0 where
   pub store : q.store ≡ p.store
   pub book : q.book ≡ record p.book { room = q.book.room }
@@ -93,7 +93,7 @@ walked_calls calls number (walk.Moved after) = staged calls number after
 walked_calls calls number (walk.Blocked holder) = calls
 walked_calls calls number (walk.Ready found) = calls
 
--- a call made a step, or came to where it decides
+-- a call took a step, or reached the point at which it decides
 pub record Walked (p q : PartsView) (c : Call) (number : ℕ) (step : Walk) : Type 0 where
   pub advances : Advances p.store q.store (walker c.number (route_of c.request) c.stage) step
   pub book : q.book ≡ p.book
@@ -102,8 +102,9 @@ pub record Walked (p q : PartsView) (c : Call) (number : ℕ) (step : Walk) : Ty
   pub drawn : q.drawn ≡ p.drawn
   pub joins : q.joins ≡ p.joins
 
--- A session's call was to go on: it is none of the session's; or its reply waits, or it is still to
--- copy; or another call holds its file; or it is a WRITE that is to start; or it made a step.
+-- The outcome of a session's call that is to proceed. It isn't the session's; its reply is pending,
+-- with or without blocks to copy; another call holds its file; it is a WRITE that is to start; or
+-- it took a step.
 abbrev pub WalkComesTo : PartsView → PartsView → ℕ → ℕ → WalkOutcome → Type 0
 WalkComesTo p q session number outcome.Foreign =
     (q ≡ p) × ((c : Call) → call_at p.calls number ≡ Some c → c.session ≡ session → ⊥)
@@ -128,7 +129,7 @@ stage_after (walk.Moved after) at = after
 stage_after (walk.Blocked holder) at = at
 stage_after (walk.Ready found) at = at
 
--- a sound core on this store, where the call of the number is under way and has come to this stage
+-- a sound core with this store; its call of this number is undecided and at this stage
 pub record HasComeTo (p : PartsView) (number : ℕ) (s : StoreState) (c : Call)
     (at : Stage) : Type 0 where
   pub core : IsCore p
@@ -137,11 +138,11 @@ pub record HasComeTo (p : PartsView) (number : ℕ) (s : StoreState) (c : Call)
   pub undecided : c.reply ≡ None
   pub free : IsFileFree s c
 
--- the parts where the call of the number has come to a stage, on this store
+-- the parts with the call of this number at this stage, and with this store
 abbrev pub come_to : PartsView → ℕ → StoreState → Stage → PartsView
 come_to p number s at = record p { store = s; calls = staged p.calls number at }
 
--- it made a step, or came to where it decides
+-- the call took a step, or reached the point at which it decides
 abbrev pub IsWalked : WalkOutcome → Type 0
 IsWalked (outcome.Walked walk) = Unit {0}
 IsWalked _ = ⊥
@@ -158,13 +159,13 @@ pub record CallStep (p : PartsView) (session number : ℕ) (result : WalkOutcome
   pub fits : p.store.look_ups < 2 ^ 64
   pub comes : WalkComesTo p q session number result
 
--- so many steps, one after the other, each of which moved
+-- n steps in sequence, all of which moved
 unfoldable pub Moved : ℕ → PartsView → ℕ → ℕ → PartsView → Type 0
 Moved zero p session number q = q ≡ p
 Moved (suc n) p session number q = (mid : PartsView) × Moved n p session number mid
     × ((after : Stage) × CallStep mid session number (outcome.Walked (walk.Moved after)) q)
 
--- what steps came to: the last one, and the core's parts after it
+-- the outcome of the last of several steps, and the core's parts after it
 pub record Ending : Type 0 where
   pub outcome : WalkOutcome
   pub parts : PartsView
@@ -172,8 +173,8 @@ pub record Ending : Type 0 where
 abbrev pub ending : WalkOutcome → PartsView → Ending
 ending result q = record { outcome = result; parts = q }
 
--- Walking on, by so many steps at most: all moved but the last, and this one too only where no more
--- were to be made.
+-- At most `most` steps: all but the last one moved, and the last one moved only if it is number
+-- `most`.
 pub record WalkState (p : PartsView) (session number most : ℕ) (e : Ending) : Type 0 where
   pub moves : ℕ
   pub mid : PartsView
@@ -182,7 +183,7 @@ pub record WalkState (p : PartsView) (session number most : ℕ) (e : Ending) : 
   pub last : CallStep mid session number e.outcome e.parts
   pub full : (after : Stage) → e.outcome ≡ outcome.Walked (walk.Moved after) → moves + 1 ≡ most
 
--- the store where a call holds nothing any more
+-- the store after a call releases all that it holds
 abbrev pub freed : Stage → StoreState → StoreState
 freed at s = let_go [] (nodes_of at) s
 
@@ -195,7 +196,7 @@ pub record ServesCall (old new : StoreState) (c : Call) (given : Reply) : Type 0
       → IsCarriedOut new t (answer_to t c.session c.number c.moment c.request) given
   pub nodes : NodesStay c.number old new
 
--- A call was answered on the store: its record is the next one, and it holds nothing any more.
+-- A call was answered on the store: its record is the next one, and it releases all that it holds.
 pub record Records (p q : PartsView) (c : Call) (given : Reply) : Type 0 where
   pub mid : StoreState
   pub serves : ServesCall p.store mid c given
@@ -204,7 +205,7 @@ pub record Records (p q : PartsView) (c : Call) (given : Reply) : Type 0 where
   pub drawn : q.drawn ≡ p.drawn
   pub joins : q.joins ≡ p.joins
 
--- a call goes, and its record is the next one
+-- a call is removed, and its record is the next one
 abbrev pub gone : PartsView → Call → ℕ → Reply → PartsView
 gone p c number given = record p {
   book = put p.book (did c given);
@@ -212,14 +213,14 @@ gone p c number given = record p {
   calls = remove_entry (is_at (nat_cmp number)) p.calls;
 }
 
--- A call was decided: it goes.
+-- A call was decided, and is removed.
 pub record FinishState (p q : PartsView) (c : Call) (number : ℕ) (given : Reply) : Type 0 where
   pub records : Records p q c given
   pub look_ups : q.store.look_ups ≡ p.store.look_ups
   pub sessions : q.sessions ≡ session_set p.sessions c.session None
   pub calls : q.calls ≡ remove_entry (is_at (nat_cmp number)) p.calls
 
--- a call began, and was decided by its first step: it was never among those under way
+-- a call began and its first step decided it: it was never among the unanswered calls
 pub record AtOnceState (p q : PartsView) (session : ℕ) (request : Request) (moment : ℕ)
     (given : Reply) : Type 0 where
   pub mid : PartsView
@@ -228,7 +229,7 @@ pub record AtOnceState (p q : PartsView) (session : ℕ) (request : Request) (mo
       given
   pub calls : q.calls ≡ p.calls
 
--- a call was set back: it holds nothing, and has walked nothing
+-- a call released all that it holds, and starts again at the root
 abbrev pub set_back_by : PartsView → ℕ → Option Call → PartsView
 set_back_by p number None = p
 set_back_by p number (Some c) =
@@ -241,34 +242,35 @@ abbrev pub all_set_back : PartsView → List ℕ → PartsView
 all_set_back p [] = p
 all_set_back p (number ∷ numbers) = all_set_back (set_back p number) numbers
 
--- A call that held nothing was carried out for its session to fetch: its reply waits.
+-- A call that held nothing was helped: it is decided, and its reply is pending until its session
+-- fetches it.
 pub record HelpState (p q : PartsView) (c : Call) (number : ℕ) (given : Reply) : Type 0 where
   pub records : Records p q c given
   pub look_ups : q.store.look_ups ≡ p.store.look_ups
   pub sessions : q.sessions ≡ p.sessions
   pub calls : q.calls ≡ answered p.calls number given
 
--- so was the call of a number, if its request is there twice
+-- the call of this number was helped, if it has the second copy of its request
 abbrev pub Helps : PartsView → PartsView → ℕ → Type 0
 Helps p q number = (c : Call) → call_at p.calls number ≡ Some c → c.stage ≡ stage.Fresh
     → c.copy ≡ Some c.request
     → (mid : PartsView) × FinishesWriter p mid c
     × ((given : Reply) × HelpState mid q c number given)
 
--- so were the calls of all these numbers, one after the other
+-- the calls of all these numbers were helped, one after the other
 abbrev pub HelpsAll : PartsView → List ℕ → PartsView → Type 0
 HelpsAll p [] q = q ≡ p
 HelpsAll p (number ∷ numbers) q = (mid : PartsView) × Helps p mid number × HelpsAll mid numbers q
 
--- before a call is decided: where its case is a move, the calls that it overtakes were set back,
--- and then carried out
+-- Before a call is decided that moves an entry, the calls that it helps release all that they hold,
+-- and are then helped.
 abbrev pub Overtakes : PartsView → PartsView → Call → Type 0
 Overtakes p q c = (t : Tree) → Keeps p.store t → (numbers : List ℕ)
     × (numbers ≡ overtaken p.calls c.number
     (moved_by (answer_to t c.session c.number c.moment c.request).changes))
     × HelpsAll (all_set_back p numbers) numbers q
 
--- a reply that waited was fetched
+-- a pending reply was fetched
 pub record FetchState (p q : PartsView) (session number : ℕ) : Type 0 where
   pub store : q.store ≡ p.store
   pub book : q.book ≡ p.book

@@ -30,8 +30,8 @@ use Rattle.sf_core.specs.Cores.{call_at}
 use Rattle.sf_core.specs.Finishing.{write_finished}
 use Rattle.sf_core.specs.Stepping.{FinishState, FetchState}
 
--- a WRITE that may make its first step: it is the call of the number, and no other one has left
--- anything to be copied into its file
+-- A WRITE that may take its first step. It is the call of this number, and no other call has blocks
+-- left to copy into its file.
 pub record IsReadyToWrite (p : PartsView) (c : Call) (number : ℕ) : Type 0 where
   pub write : IsWriteRequest c.request
   pub settled : IsSettled p.store c.session c.request located.NoWay
@@ -39,7 +39,7 @@ pub record IsReadyToWrite (p : PartsView) (c : Call) (number : ℕ) : Type 0 whe
   pub is_number : c.number ≡ number
   pub fresh : c.stage ≡ stage.Fresh
 
--- the first step of a WRITE: what it leaves of the store
+-- the store after the first step of a WRITE
 pub record StartsWrite (old new : StoreState) (c : Call) (given : Reply) : Type 0 where
   pub served : (t : Tree) → Keeps old t → IsRefused old new t given
       ⊎ IsCarriedOut new t (answer_to t c.session c.number c.moment c.request) given
@@ -49,8 +49,8 @@ pub record StartsWrite (old new : StoreState) (c : Call) (given : Reply) : Type 
   pub sessions : new.sessions ≡ old.sessions
   pub look_ups : new.look_ups ≡ old.look_ups
 
--- A WRITE has begun, and blocks are left: its record is the next one, its reply waits, and it holds
--- its file.
+-- A WRITE has started, and blocks remain. Its record is the next one, its reply is pending, and it
+-- holds its file.
 pub record WriteState (p q : PartsView) (c : Call) (number : ℕ) (given : Reply)
     (into : Copying) : Type 0 where
   pub mid : StoreState
@@ -64,7 +64,7 @@ pub record WriteState (p q : PartsView) (c : Call) (number : ℕ) (given : Reply
   pub drawn : q.drawn ≡ p.drawn
   pub joins : q.joins ≡ p.joins
 
--- a call copied one block into a file, and so many are left
+-- a call copied one block into a file, and `left` blocks remain
 abbrev pub part_copied : PartsView → ℕ → ℕ → ℕ → PartsView
 part_copied p number node left = record p {
   store = left_set p.store node left;
@@ -74,7 +74,7 @@ part_copied p number node left = record p {
 abbrev pub HasBegunWrite : PartsView → PartsView → Call → ℕ → Type 0
 HasBegunWrite p q c number = (given : Reply) × (into : Copying) × WriteState p q c number given into
 
--- the WRITE of the number holds its file: its record is the next one, and its reply waits
+-- the WRITE of this number holds its file: its record is the next one, and its reply is pending
 abbrev pub file_held : PartsView → Call → ℕ → Reply → Reply → Copying → PartsView
 file_held p c number given copy into = record p {
   store = edited (with_holder (Some number)) p.store into.node;
@@ -82,13 +82,13 @@ file_held p c number given copy into = record p {
   calls = staged (answered p.calls number copy) number (stage.Copies into.node into.left);
 }
 
--- one block was copied, and so many are left: with none the file is nobody's any more
+-- one block was copied; the file is released if no block remains
 abbrev pub block_copied : PartsView → ℕ → ℕ → ℕ → PartsView
 block_copied p number node zero = write_finished p number node
 block_copied p number node (suc k) = part_copied p number node (suc k)
 
--- the call of the number copies: as much is left of its file as its stage tells, and its reply
--- waits
+-- The call of this number is copying: its stage and its file have the same number of blocks left,
+-- and its reply is pending.
 pub record CopiesNow (p : PartsView) (number node left : ℕ) : Type 0 where
   pub call : Call
   pub there : call_at p.calls number ≡ Some call
@@ -101,19 +101,19 @@ pub record CopiesNow (p : PartsView) (number node left : ℕ) : Type 0 where
 abbrev pub IsCopyingOn : PartsView → ℕ → Type 0
 IsCopyingOn p number = (node : ℕ) × (left : ℕ) × CopiesNow p number node left
 
--- it copied one block, and so many are left
+-- the call copied one block, and `left` blocks remain
 pub record CopiedBlock (p q : PartsView) (number left : ℕ) : Type 0 where
   pub node : ℕ
   pub was : CopiesNow p number node (left + 1)
   pub now : q ≡ block_copied p number node left
 
--- so many blocks were copied, one after the other, and more are left
+-- n blocks were copied, one after the other, and more remain
 unfoldable pub CopiedOn : ℕ → PartsView → ℕ → PartsView → Type 0
 CopiedOn zero p number q = q ≡ p
 CopiedOn (suc n) p number q = (mid : PartsView) × CopiedOn n p number mid
     × ((left : ℕ) × CopiedBlock mid q number (suc left))
 
--- all blocks were copied, in so many steps at most, and this reply was fetched
+-- all blocks were copied, in at most `most` steps, and this reply was fetched
 pub record EndsCopying (p q : PartsView) (session number most : ℕ) (given : Reply) : Type 0 where
   pub count : ℕ
   pub few : count < most
@@ -124,15 +124,15 @@ pub record EndsCopying (p q : PartsView) (session number most : ℕ) (given : Re
   pub told : ends.was.given ≡ given
   pub fetched : FetchState last q session number
 
--- a WRITE of some bytes that succeeds writes one block
+-- a WRITE of at least one byte that succeeds writes one block
 abbrev pub CopiesOne : StoreState → Call → Reply → Type 0
 CopiesOne s c given = (number offset : ℕ) (bytes : List ℕ) (h : OpenHandle)
     → c.request ≡ request.Write number offset bytes → open_handle_at s c.session number ≡ Some h
     → is_nil bytes ≡ false → given ≡ reply.Status Success
     → blocks_of (start_by s h offset) bytes ≡ 1
 
--- A WRITE made its first step, and as many more as it might: it was decided with the first one; or
--- it copied on, and ended, or has more to copy.
+-- A WRITE took its first step and up to `most - 1` further ones. The first step answered it; or it
+-- copied all blocks and was answered; or blocks remain.
 pub data WritesOn (p q : PartsView) (c : Call) (session number most : ℕ)
     : Option Reply → Type 0 where
   ByFirstStep : (given : Reply) → FinishState p q c number given → CopiesOne p.store c given
@@ -143,7 +143,7 @@ pub data WritesOn (p q : PartsView) (c : Call) (session number most : ℕ)
   UpToThere : (mid : PartsView) → HasBegunWrite p mid c number → CopiedOn (most - 1) mid number q
       → WritesOn p q c session number most None
 
--- a step moved the lane's call, or answered it and left the lane at rest
+-- the last step moved the lane's call, or answered it and left the lane idle
 abbrev pub ReportsStep : ℕ → LaneView → Option Reply → Step → LaneView → Type 0
 ReportsStep number lane None step after = (step ≡ Moved) × (after ≡ lane)
 ReportsStep number lane (Some given) step after = (step ≡ Answered (record {

@@ -1,4 +1,4 @@
-//! All calls of all sessions, on one tree.
+//! The core of the server.
 
 ghost use Rattle.std.specs.Prelude.{◌≡◌, ◌≢◌, ◌<◌, ◌+◌, ◌++◌, ◌∷◌, [], List, None, Some, false, IsSome, IfOk, IfErr, IfSome, IfNone, OnOk, OnErr};
 ghost use Rattle.sf_call.specs.declared.record.Record.{Record};
@@ -26,21 +26,21 @@ use sf_walk::Walk;
 use std::alloc::{AllocError, Global};
 use std::marker::Model;
 
-/// How many sessions may be joined at once.
+/// The most sessions that may be joined at once.
 const MOST_SESSIONS: usize = 256;
 
 /// The last number of a call and of a session.
 const LAST_NUMBER: u64 = u64::MAX / 2;
 
-/// One tree, and the calls of all sessions on it, each taken on by steps.
+/// One tree, and the calls of all sessions on it. Each call advances by steps.
 pub struct Core {
     parts: Parts,
-    // The numbers of the calls that a rename overtakes: there is room for all.
+    // The numbers of the calls that a rename helps. It has room for all undecided calls.
     overtaken: Vec<u64>,
 }
 
 impl Drop for Core {
-    // By hand: where a core is dropped, a proof then sees one call and not the core's parts.
+    // By hand: a proof about dropping a core then has one call, and not the drops of its parts.
     fn drop(self) {
         let Core {
             parts: _parts,
@@ -66,7 +66,8 @@ impl Model for Core {
 }
 
 impl Core {
-    /// The root alone; no session, no call and no record. All records are kept.
+    /// A core with an empty root directory, no session, no call and no record. It retains all
+    /// records.
     pub fn new(alloc: Global) -> Result<Core, AllocError>
         ensures core { IfOk result (λ core. core ≡ new_core None core.store) }
         ensures history { IfOk result (λ core. IsHistory core []) }
@@ -77,7 +78,7 @@ impl Core {
         })
     }
 
-    /// As `new`, but of the records the last `n` are kept. What the core answers is the same.
+    /// As `new`, but the core retains only the last `n` records. Its replies are the same.
     pub fn with_keep(alloc: Global, n: usize) -> Result<Core, AllocError>
         requires { 0 < n }
         ensures core { IfOk result (λ core. core ≡ new_core (Some n) core.store) }
@@ -89,7 +90,7 @@ impl Core {
         })
     }
 
-    /// Why no session can join, other than for want of memory.
+    /// Returns why no session can join, except for an allocation failure.
     pub fn join_fault(&self) -> Option<CoreFault>
         ensures some { IfSome result (λ fault. (fault ≢ CoreFault.OutOfMemory)
             × RefusesJoin self.now fault) }
@@ -105,7 +106,10 @@ impl Core {
         None
     }
 
-    /// A session joins. Room is made for the record of its leaving.
+    /// A session joins. Room for the record of its leaving is reserved.
+    ///
+    /// Errors: `Sessions` if 256 sessions are joined, `NumbersSpent` after 2^63 - 1 joins, and
+    /// `OutOfMemory`.
     pub fn join(&mut self) -> Result<Lane, CoreFault>
         ensures lane { IfOk result (λ lane. lane
             ≡ record { session = self.old.joins + 1; call = None; begun = 0 }) }
@@ -131,8 +135,12 @@ impl Core {
         })
     }
 
-    /// A call of the lane begins, under the next number. It has made no step. Room is made for its
-    /// record, and for its number where it is overtaken.
+    /// Begins a call of the lane, under the next number, at the timestamp `moment` (seconds since
+    /// 1970). It takes no step yet. Room for its record is reserved, and in the list of helped
+    /// calls.
+    ///
+    /// Errors: `Stranger` if the lane's session isn't joined and idle, `NumbersSpent` if all
+    /// 2^63 - 1 call numbers are used, and `OutOfMemory`.
     pub fn begin(&mut self, lane: &mut Lane, request: Request, moment: u32) -> Result<(), CoreFault>
         requires { lane.old.call ≡ None }
         ensures ok { OnOk result (CallBegins self.old self.new lane.old request moment) }
@@ -160,8 +168,8 @@ impl Core {
         Ok(())
     }
 
-    /// A call of the lane, under the next number. One that walks nothing and waits for nobody, and
-    /// is no WRITE, is answered at once, by the one step that it takes; any other begins, as by
+    /// Begins a call as `begin` does, or answers it at once. A call is answered at once if it looks
+    /// up nothing, is no WRITE, and no other call holds its file: one step decides it. Errors as
     /// `begin`.
     pub fn call(
         &mut self,
@@ -201,8 +209,8 @@ impl Core {
         Ok(Some(answer))
     }
 
-    /// One step of the lane's call. It needs no memory where it moves or blocks, but for a WRITE's
-    /// first step.
+    /// Takes one step of the lane's call. A step that moves or blocks allocates nothing, except a
+    /// WRITE's first step.
     pub fn step(&mut self, lane: &mut Lane) -> Step
         requires { IsSome lane.old.call }
         ensures { StepsOn self.old lane.old result self.new lane.new }
@@ -210,23 +218,23 @@ impl Core {
         self.walk(lane, 1)
     }
 
-    /// A law, for readers: where a call is unanswered, some session's call can go on. Whatever its
-    /// next step comes to, it moves the call or answers it.
+    /// A law: if any call is unanswered, then some session's call can proceed. Its next step moves
+    /// it or answers it.
     pub fn never_stuck(&self)
         ensures { IsNeverStuck self.now }
     {
         let _parts = &self.parts;
     }
 
-    /// A law, for readers: whose calls there are.
+    /// A law: each unanswered call belongs to the session that has it.
     pub fn owners(&self)
         ensures { OwnsCalls self.now }
     {
         let _parts = &self.parts;
     }
 
-    /// Steps of the lane's call, one after the other, up to one that doesn't move, and `most` at
-    /// most: what came of the last one is told. Between them nothing comes from other sessions.
+    /// Takes up to `most` steps of the lane's call, until one doesn't move it. Returns the last
+    /// step's outcome. No other session's step is interleaved.
     #[inline(always)]
     pub fn walk(&mut self, lane: &mut Lane, most: u64) -> Step
         requires call { IsSome lane.old.call }
@@ -265,8 +273,8 @@ impl Core {
         }
     }
 
-    /// The session leaves, and its share of the calls is told. The lane comes back where it is a
-    /// stranger's. Takes no memory.
+    /// The session leaves, and its handles are closed. Returns the number of calls that it began.
+    /// If the lane's session isn't joined and idle, the lane is returned. Allocates nothing.
     pub fn leave(&mut self, lane: Lane) -> Result<Share, Lane>
         requires { lane.call ≡ None }
         ensures share { IfOk result (λ share. share ≡ lane.begun) }
@@ -289,7 +297,7 @@ impl Core {
         Ok(Share::of(begun))
     }
 
-    /// The records that are kept, the oldest first: all of the history, or its last ones.
+    /// The retained records, the oldest first: the history, or its last `n` records.
     pub fn history(&self) -> &[Record]
         ensures records { result.now ≡ self.now.records }
         ensures whole { (h : List Record) × IsHistory self.now h }
@@ -297,10 +305,10 @@ impl Core {
         self.parts.records()
     }
 
-    /// Every path of the tree once, in the order of paths, with the label, the attributes and, of a
-    /// file, the contents of what it names, and nothing else: exactly the tree at the end of the
-    /// history, also while calls are under way. A WRITE that still copies counts as copied. The
-    /// contents' bytes are shared and not copied. Nothing is changed, also where memory is wanting.
+    /// A snapshot of the tree at the end of the history, also while calls are unanswered. It has
+    /// every path once, in the order of paths, with the label and the attributes of its inode, and
+    /// a file's contents. A WRITE that is still copying counts as complete. The contents are
+    /// shared, not copied. The core doesn't change.
     pub fn tree(&self, alloc: Global) -> Result<Vec<Leaf>, AllocError>
         ensures { IfOk result (λ leaves. (h : List Record) → IsHistory self.now h
             → leaves.items ≡ leaves_of (replay h)) }
@@ -308,22 +316,21 @@ impl Core {
         self.parts.leaves(alloc)
     }
 
-    /// How many calls have records that are kept no more.
+    /// The number of dropped call records.
     pub fn folded(&self) -> u64
         ensures { result ≡ self.now.folded }
     {
         self.parts.folded()
     }
 
-    /// How many calls there are: those that are recorded, whether or not their records are kept,
-    /// and those under way.
+    /// The number of calls that ever began.
     pub fn calls(&self) -> u64
         ensures { result ≡ self.now.drawn }
     {
         self.parts.drawn()
     }
 
-    /// How many look-ups were made, up to 2^64 - 1.
+    /// The number of lookups, saturating at 2^64 - 1.
     pub fn look_ups(&self) -> u64
         ensures { result ≡ self.now.look_ups }
     {
@@ -331,7 +338,7 @@ impl Core {
     }
 }
 
-/// What steps of a WRITE came to: it is answered, and the lane is at rest; or it has more to copy.
+/// The outcome of steps of a WRITE: `Answered`, and the lane is idle, or `Moved`.
 fn reported(lane: &mut Lane, number: u64, reply: Option<Reply>) -> Step
     requires { (given : Reply) → reply ≡ Some given → IsGiven number lane.old.session given }
     ensures { ReportsStep number lane.old reply result lane.new }

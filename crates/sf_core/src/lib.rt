@@ -1,13 +1,19 @@
-//! All calls of all sessions, on one tree.
+//! The concurrent core of the server: one directory tree in memory, and the calls of all sessions
+//! on it.
 //!
-//! Start with `Core`: sessions join it and get a `Lane`; a call begins in a lane and is taken on by
-//! steps, side by side with the calls of other sessions, until it is answered. What a step does is
-//! said by `TakesStep` in `specs/Events.antt`. The records of all calls are the core's history:
-//! `IsHistory` in `specs/Histories.antt` says when a core has one, and each event hands it on; of
-//! its records a core keeps all, or the last so many. `Core::tree` is the tree at its end, whole.
-//! Inside, `Parts` has the store, the book, the
-//! sessions and the calls, and `Sound` in `specs/Sound.antt` is what is true of them between two
-//! events.
+//! Start with `Core`. A session joins it and gets a `Lane`. A call begins in a lane and advances by
+//! steps, interleaved with the steps of other sessions' calls, until it is answered. `TakesStep` in
+//! `specs/Events.antt` is the step relation.
+//!
+//! The records of all decided calls, in order of their linearization points, are the core's
+//! history. `IsHistory` in `specs/Histories.antt` relates a core to its history, and each event
+//! extends it. A core retains all records or the last `n`. `Core::tree` is a snapshot of the tree
+//! at the history's end.
+//!
+//! Path resolution uses lock coupling. A call that moves a directory helps the calls that have
+//! passed it. Some unanswered call can always proceed (`Core::never_stuck`). Inside, `Parts` has
+//! the store, the book of records, the sessions and the calls. `Sound` in `specs/Sound.antt` is
+//! their invariant.
 #![tactic(auto)]
 
 mod cores;

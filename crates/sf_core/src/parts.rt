@@ -1,4 +1,4 @@
-//! What a core is made of, and what each event does to it.
+//! The parts of a core, and what each event does to them.
 
 ghost use Rattle.std.specs.Prelude.{◌≡◌, ◌<◌, ◌≤◌, ◌+◌, ◌-◌, ◌^◌, ◌↔◌, [], ◌∷◌, ℕ, true, false, length, Some, None, IsTrue, IsSome, IfOk, OnOk, OnErr, IfSome, IfNone};
 ghost use Rattle.std.specs.Option.{option_and_then};
@@ -30,23 +30,23 @@ use sf_walk::{Walk, Ways, advance, decide, file_holder, holder_by, let_go};
 use std::alloc::{AllocError, Global};
 use std::marker::Model;
 
-/// What a call came to that was to go on.
+/// The outcome of steps of a call.
 #[derive(Clone, Copy, Debug)]
 pub(crate) enum WalkOutcome {
-    /// It is no call of the session.
+    /// The call isn't the session's.
     Foreign,
-    /// Its reply waits for the session.
+    /// Its reply is pending.
     Waits,
-    /// Its reply waits, and blocks are still to be copied into its file.
+    /// Its reply is pending, and blocks remain to be copied into its file.
     Copies,
-    /// The call of this number holds the file that it reads, writes or sets.
+    /// The call with this number holds the file that it reads, writes or sets.
     FileHeld(u64),
     /// It is a WRITE that may start.
     Writes,
     Walked(Walk),
 }
 
-/// The store, the history, and the sessions and calls by their numbers.
+/// The store, the history, and the sessions and calls by number.
 #[derive(Drop)]
 pub(crate) struct Parts {
     store: Store,
@@ -89,21 +89,21 @@ impl Parts {
         })
     }
 
-    /// The records that are kept.
+    /// The retained records.
     pub(crate) fn records(&self) -> &[Record]
         ensures { result.now ≡ self.now.book.records }
     {
         self.book.records()
     }
 
-    /// How many calls' records went.
+    /// The number of dropped call records.
     pub(crate) fn folded(&self) -> u64
         ensures { result ≡ self.now.book.folded }
     {
         self.book.folded()
     }
 
-    /// Every path of the tree, with what it names.
+    /// Every path of the tree, with its inode's contents and attributes.
     pub(crate) fn leaves(&self, alloc: Global) -> Result<Vec<Leaf>, AllocError>
         ensures { IfOk result (λ leaves. AreLeaves self.now.store.nodes
             (([], self.now.store.root) ∷ []) leaves.items) }
@@ -111,21 +111,21 @@ impl Parts {
         self.store.leaves(alloc)
     }
 
-    /// How many call numbers were drawn.
+    /// The number of calls that began.
     pub(crate) fn drawn(&self) -> u64
         ensures { result ≡ self.now.drawn }
     {
         self.drawn
     }
 
-    /// How many session numbers were given.
+    /// The number of sessions that ever joined.
     pub(crate) fn joins(&self) -> u64
         ensures { result ≡ self.now.joins }
     {
         self.joins
     }
 
-    /// How many look-ups were made.
+    /// The number of lookups.
     pub(crate) fn look_ups(&self) -> u64
         ensures count { result ≡ self.now.store.look_ups }
         ensures fits { self.now.store.look_ups < 2 ^ 64 }
@@ -133,14 +133,14 @@ impl Parts {
         self.store.look_ups()
     }
 
-    /// How many sessions are joined.
+    /// The number of joined sessions.
     pub(crate) fn joined(&self) -> usize
         ensures { result ≡ length self.now.sessions }
     {
         self.sessions.len()
     }
 
-    /// How many calls are unanswered.
+    /// The number of unanswered calls.
     pub(crate) fn unanswered(&self) -> usize
         ensures count { result ≡ length self.now.calls }
         ensures small { result < 2 ^ 63 }
@@ -158,7 +158,7 @@ impl Parts {
         }
     }
 
-    /// Makes room for one more record than calls and sessions may still bring.
+    /// Reserves room for the records of all calls and sessions that exist, and for one more.
     fn make_room(&mut self) -> Result<(), AllocError>
         ensures same { SameButRoom self.old self.new }
         ensures room { OnOk result (length self.old.calls + length self.old.sessions + 1
@@ -218,7 +218,7 @@ impl Parts {
         holder_by(&self.store, session, request).is_none()
     }
 
-    /// A session's call that walks nothing is decided at once, under the next number.
+    /// Decides a session's call that looks up nothing, under the next number.
     pub(crate) fn answer_at_once(
         &mut self,
         session: u64,
@@ -252,8 +252,8 @@ impl Parts {
         Ok(copy)
     }
 
-    /// Takes a session's call on, up to a step that doesn't move it, by so many steps at most,
-    /// unless its reply waits. The stage that it has come to is noted once.
+    /// Takes up to `most` steps of a session's call, until one doesn't move it. A call with a
+    /// pending reply takes none. The stage is stored once, after the last step.
     pub(crate) fn walk_on(&mut self, session: u64, number: u64, most: u64) -> WalkOutcome
         requires core { IsCore self.old }
         requires some { 0 < most }
@@ -286,7 +286,7 @@ impl Parts {
         WalkOutcome::Walked(walk)
     }
 
-    /// Takes the call of a number out, where its reply waits for the session.
+    /// Removes the call with this number if its reply is pending, and returns the reply.
     pub(crate) fn fetch(&mut self, session: u64, number: u64) -> Option<Reply>
         ensures reply { result
             ≡ option_and_then (λ (c : Call). c.reply) (call_at self.old.calls number) }
@@ -332,7 +332,7 @@ impl Parts {
     }
 }
 
-/// A call's record, with the reply that it was given.
+/// The record of a call with this reply.
 fn record_of(call: Call, reply: Reply) -> Record
     ensures { result ≡ did call reply }
 {
@@ -354,8 +354,8 @@ fn record_of(call: Call, reply: Reply) -> Record
     }
 }
 
-/// Takes a call on from a stage, up to a step that doesn't move it, by so many steps at most: what
-/// came of the last one is told.
+/// Takes up to `most` steps of a call from a stage, until one doesn't move it. Returns the last
+/// step's outcome.
 fn go_on(
     store: &mut Store,
     call: &Call,
@@ -381,7 +381,7 @@ fn go_on(
     step(store, call.number, route, stage)
 }
 
-/// Takes a call one step on from a stage.
+/// Takes one step of a call from a stage.
 fn step(store: &mut Store, number: u64, route: RoutePaths<'_>, stage: &mut Stage) -> Walk
     requires root { is_directory_at store.old.nodes store.old.root ≡ true }
     requires stands { HoldsWay store.old (route_in route) stage.old }
@@ -398,8 +398,8 @@ fn step(store: &mut Store, number: u64, route: RoutePaths<'_>, stage: &mut Stage
     walk
 }
 
-/// A call that walks may be carried out by another one while its session waits, and a WRITE's
-/// record may stand before its session is answered: so its request is there twice.
+/// The second copy of a request, for its record. A call on a path may be helped by another call,
+/// and a WRITE's record is written before its last block.
 fn copy_of(request: &Request) -> Result<Option<Request>, AllocError>
     ensures { IfOk result (λ copy. copy ≡ copy_of (route_of request.now) request.now) }
 {

@@ -1,4 +1,4 @@
--- Laws of fronts.
+-- Laws of prefixes.
 use Rattle.std.specs.Prelude.{◌≡◌, ◌⊎◌, [], ◌∷◌, ◌++◌, refl}
 use Rattle.std.proofs.Common.{sym, ap, ◌∙◌, append_assoc, append-nil, inl, inr}
 use Rattle.sf_path.specs.Names.{Name, Path}
@@ -16,7 +16,7 @@ begins_trans p q s b d = record { rest = b.rest ++ d.rest; is = d.is ∙ (ap (λ
 pub begins_cons : (a b : Name) (p q : Path) → a ≡ b → IsPrefix p q → IsPrefix (a ∷ p) (b ∷ q)
 begins_cons a b p q e d = record { rest = d.rest; is = λ i. sym e i ∷ d.is i }
 
--- one more name: a front of it is a front of the rest, or is all of it
+-- one more name: a prefix of it is a prefix of the rest, or is all of it
 pub begins_snoc : (p q : Path) (n : Name) → IsPrefix p (q ++ n ∷ []) → IsPrefix p q ⊎ (p ≡ q ++ n ∷ [])
 begins_snoc [] q n b = inl (begins_root q)
 begins_snoc (a ∷ []) [] n b = let e = b.is in let h : n ≡ a = cc in inr (λ i. sym h i ∷ [])
@@ -30,7 +30,7 @@ begins_snoc (a ∷ p) (m ∷ q) n b =
       | inr d ↦ inr (λ i. sym h i ∷ d i)
     ]
 
--- of two fronts of one path one begins with the other
+-- of two prefixes of one path, one is a prefix of the other
 pub fronts_meet : (p q s : Path) → IsPrefix p s → IsPrefix q s → IsPrefix p q ⊎ IsPrefix q p
 fronts_meet [] q s b d = inl (begins_root q)
 fronts_meet (a ∷ p) [] s b d = inr (begins_root (a ∷ p))
@@ -49,7 +49,7 @@ pub begins_nothing : (p : Path) → IsPrefix p [] → p ≡ []
 begins_nothing [] b = refl
 begins_nothing (a ∷ p) b = let e = b.is in absurd (cc)
 
--- two paths that begin with each other are one
+-- two paths that are prefixes of each other are equal
 pub begins_both : (p q : Path) → IsPrefix p q → IsPrefix q p → p ≡ q
 begins_both [] q b d = sym (begins_nothing q d)
 begins_both (a ∷ p) [] b d = begins_nothing (a ∷ p) b

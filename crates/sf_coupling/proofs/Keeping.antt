@@ -1,4 +1,4 @@
--- What keeps the facts about walks.
+-- The changes that preserve the invariant of lock coupling.
 use Rattle.std.specs.Prelude.{◌≡◌, ◌≢◌, ◌⊎◌, ℕ, true, false, nat_eq, List, [], ◌∷◌, Option, Some, None, refl}
 use Rattle.std.proofs.Common.{sym, ap, subst, ◌∙◌, inl, inr, eqb-true}
 use Rattle.std.proofs.lemmas.Bool.{eqb-false}
@@ -17,7 +17,7 @@ some_same n m e = cc
 none_is : (n : ℕ) → None ≡ Some n → ⊥
 none_is n e = cc
 
--- a node is one of the held paths', or of none
+-- an inode is that of a held path, or of none
 pub node_or_not : (held_paths : List HeldPath) (l : ℕ) → IsNodeOf held_paths l ⊎ (IsNodeOf held_paths l → ⊥)
 node_or_not [] l = inr (λ h. h.holds)
 node_or_not (p ∷ held_paths) l = elim (same_or_not p.node l) [
@@ -31,11 +31,11 @@ node_or_not (p ∷ held_paths) l = elim (same_or_not p.node l) [
   ]
 ]
 
--- the call that holds a node of its paths
+-- the holder of an inode of its paths
 pub holder_is : (s : Walkers) → AreWalks s → (n l : ℕ) → IsNodeOf (s.held_paths n) l → s.holder l ≡ Some n
 holder_is s walks n l h = ap s.holder (sym h.node) ∙ walks.held n h.held_path h.holds
 
--- two calls that hold one node are one call
+-- two holders of one inode are equal
 pub held_by_one : (s : Walkers) → AreWalks s → (n m : ℕ) (a b : HeldPath) → Holds (s.held_paths n) a → Holds (s.held_paths m) b → a.node ≡ b.node → n ≡ m
 held_by_one s walks n m a b x y e = some_same n m (sym (walks.held n a x) ∙ (ap s.holder e ∙ walks.held m b y))
 
@@ -113,11 +113,11 @@ module _ (old new : Walkers) (n : ℕ) (walks : AreWalks old) (goes : HoldsOther
         ]
   ]
 
-  -- such a change keeps the facts about walks
+  -- such a change preserves the invariant
   pub keeps_walks : AreWalks new
   keeps_walks = record { shaped = shaped'; leads = leads'; held = held'; holds = holds'; apart = apart' }
 
--- a call that lets go of all that it holds keeps them: nothing is asked of it
+-- releasing all that a call holds preserves it
 module _ (t : Namespace) (f f' : ℕ → List HeldPath) (k k' : ℕ → Option ℕ) (n : ℕ) (walks : AreWalks (walkers_at t f k)) (none : f' n ≡ []) (same : (m : ℕ) → n ≢ m → f' m ≡ f m) (hands : HandsOver k k' n (f n) []) where
   holds_none : (s : HeldPath) → Holds (f' n) s → ⊥
   holds_none s h = subst (λ (x : List HeldPath). Holds x s) none h

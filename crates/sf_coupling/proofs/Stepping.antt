@@ -9,7 +9,7 @@ use Rattle.sf_coupling.specs.Stepping.TakesPath.{Comes, GoesOnWith}
 use Rattle.sf_coupling.proofs.Fronts.{begins_itself, begins_trans, begins_snoc, begins_both, begins_nothing}
 use Rattle.sf_coupling.proofs.Keeping.{keeps_walks, holder_is}
 
--- ---- what a step does to lists of held paths
+-- ---- the effect of a step on lists of held paths
 all_held : (q : HeldPath) (now : List HeldPath) (s : HeldPath) → AreAllAt q now → Holds now s → s ≡ q
 all_held q [] s all h = absurd h
 all_held q (p ∷ now) s all (inl e) = e ∙ all.0
@@ -47,7 +47,7 @@ kept_below : (top : Path) (q p : HeldPath) → IsNextTo p q → (front rest : Li
 kept_below top q p next [] rest below = (begins_trans top p.path q.path below.0 (up p q next), below.1)
 kept_below top q p next (a ∷ front) rest below = (below.0, kept_below top q p next front rest below.1)
 
--- what is held after the step is new, or was held
+-- a path held after the step is new or was held
 pub takes_held : (q : HeldPath) (was now : List HeldPath) (s : HeldPath) → TakesPath q was now → Holds now s → (s ≡ q) ⊎ Holds was s
 takes_held q was now s (Comes w n from some all) h = inl (all_held q n s all h)
 takes_held q was now s (GoesOnWith top front p rest next) (inl e) = inr (inl e)
@@ -85,7 +85,7 @@ module _ (t : Namespace) (f : ℕ → List HeldPath) (k : ℕ → Option ℕ) (n
       let y : s.node ≡ q.node = cc in
       other (is_free m (ap k (sym y) ∙ walks.held m s hold))
 
-  -- the first of what another call holds isn't at q, so it is further up
+  -- the first path of another call isn't at q, so it is above
   above : (m : ℕ) (top : HeldPath) (ends : List HeldPath) → n ≢ m → f m ≡ top ∷ ends → top.path ≡ q.path → ⊥
   above m top ends other is = not_there m top other (subst (λ (x : List HeldPath). Holds x top) (sym is) (inl refl))
 
@@ -94,7 +94,7 @@ module _ (t : Namespace) (f : ℕ → List HeldPath) (k : ℕ → Option ℕ) (n
   on_way_up (s ∷ held_paths) p path b (inl c) = inl (begins_trans p path s.path b c)
   on_way_up (s ∷ held_paths) p path b (inr h) = inr (on_way_up held_paths p path b h)
 
-  -- no other call's way leads through q
+  -- no other call's path resolves through q
   pub q_aside : IsFrom (f n) q → (m : ℕ) → n ≢ m → (held_paths : List HeldPath) → f m ≡ held_paths → IsBetween held_paths q.path → ⊥
   q_aside from m other [] is b = b
   q_aside (inl root) m other (top ∷ ends) is b = above m top ends other is (begins_nothing top.path (subst (IsPrefix top.path) root b.0) ∙ sym root)
@@ -105,7 +105,7 @@ module _ (t : Namespace) (f : ℕ → List HeldPath) (k : ℕ → Option ℕ) (n
         | inl e ↦ walks.apart m n p (λ i. other (sym i)) next.1 (subst (λ (x : List HeldPath). IsBetween x p.path) (sym is) (e, on_way_up ends p.path q.path (up p q next.2) b.1))
       ]
 
-  -- a step that takes a free directory keeps the facts
+  -- a step to a free directory preserves the invariant
   pub step_keeps : (f' : ℕ → List HeldPath) (k' : ℕ → Option ℕ) → TakesPath q (f n) (f' n) → ((m : ℕ) → n ≢ m → f' m ≡ f m) → HandsOver k k' n (f n) (f' n) → AreWalks (walkers_at t f' k')
   step_keeps f' k' takes same hands =
       keeps_walks (walkers_at t f k) (walkers_at t f' k') n walks (record {
@@ -131,7 +131,7 @@ module _ (t : Namespace) (f : ℕ → List HeldPath) (k : ℕ → Option ℕ) (n
         ];
       })
 
--- ---- who is waited for
+-- ---- waiting
 below_held : (top : Path) (ends : List HeldPath) (s : HeldPath) → AreBelow top ends → Holds ends s → IsPrefix top s.path
 below_held top [] s below h = absurd h
 below_held top (e ∷ ends) s below (inl i) = subst (λ (x : HeldPath). IsPrefix top x.path) (sym i) below.0
@@ -142,7 +142,7 @@ held_on_way [] s q b h = absurd h
 held_on_way (e ∷ held_paths) s q b (inl i) = inl (subst (λ (x : HeldPath). IsPrefix q x.path) i b)
 held_on_way (e ∷ held_paths) s q b (inr h) = inr (held_on_way held_paths s q b h)
 
--- who wants the root, or a path one name past its own, wants the first one of its holder's
+-- a call that wants the root, or an entry of a held directory, wants the first path of its holder
 pub waits_at_top : {s : Walkers} → AreWalks s → {n m : ℕ} → n ≢ m → (held_path : HeldPath) → IsFrom (s.held_paths n) held_path → {top : HeldPath} {ends : List HeldPath} → s.held_paths m ≡ top ∷ ends → Holds (top ∷ ends) held_path → held_path.path ≡ top.path
 waits_at_top walks other held_path from is (inl e) = ap (λ (x : HeldPath). x.path) e
 waits_at_top walks {m = m} other held_path (inl root) {top = top} {ends = ends} is (inr h) =

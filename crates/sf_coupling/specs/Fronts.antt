@@ -1,4 +1,4 @@
--- Fronts of paths.
+-- Prefixes of paths.
 use Rattle.std.specs.Prelude.{◌≡◌, ◌++◌}
 use Rattle.sf_path.specs.Names.{Path}
 

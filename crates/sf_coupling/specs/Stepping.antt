@@ -1,14 +1,14 @@
--- What a step takes, and what it leaves.
+-- The steps of a call that resolves paths.
 use Rattle.std.specs.Prelude.{◌≡◌, ◌⊎◌, ℕ, List, [], ◌∷◌, ◌++◌}
 use Rattle.sf_path.specs.Names.{Name}
 use Rattle.sf_coupling.specs.Walks.{HeldPath, Holds}
 
--- the path is one name past the other
+-- the path is the other one with one more name
 pub record IsNextTo (p q : HeldPath) : Type 0 where
   pub name : Name
   pub is : q.path ≡ p.path ++ name ∷ []
 
--- the root, or one name past a path that is held
+-- the root, or an entry of a held directory
 abbrev pub IsFrom : List HeldPath → HeldPath → Type 0
 IsFrom was q = (q.path ≡ []) ⊎ ((p : HeldPath) × Holds was p × IsNextTo p q)
 
@@ -21,8 +21,8 @@ abbrev pub AreSome : List HeldPath → Type 0
 AreSome [] = ⊥
 AreSome (s ∷ held_paths) = Unit {0}
 
--- What a step of a call that doesn't decide does to what it holds, where the directory q is new: it
--- comes to q with all that it holds, or one of the paths behind the first goes on to q.
+-- The effect of a step to the new directory q on the held paths, for a call that does not complete:
+-- all of them move to q, or one after the first moves on to q.
 pub data TakesPath (q : HeldPath) : List HeldPath → List HeldPath → Type 0 where
   Comes : (was now : List HeldPath) → IsFrom was q → AreSome now → AreAllAt q now
       → TakesPath q was now

@@ -1,36 +1,36 @@
--- Calls on their way through the tree, and what is true of all of them between two events.
+-- Calls that resolve paths with lock coupling, and the invariant between two events.
 use Rattle.std.specs.Prelude.{◌≡◌, ◌≢◌, ◌⊎◌, ℕ, Bool, true, List, [], ◌∷◌, Option, Some, None}
 use Rattle.sf_path.specs.Names.{Path}
 use Rattle.sf_coupling.specs.Fronts.{IsPrefix}
 
--- where paths lead, and which nodes are directories
+-- the inode of each path, and which inodes are directories
 pub record Namespace : Type 0 where
   pub leads : Path → Option ℕ
   pub is_directory : ℕ → Bool
 
--- a directory that a call holds, or goes to: the names from the root, and the node
+-- a directory that a call holds or moves to: its path from the root, and its inode
 pub record HeldPath : Type 0 where
   pub path : Path
   pub node : ℕ
 
--- A call holds a list of paths: none; the directory that it has come to; or, on two paths, the last
--- directory that they have in common, and one on the way of each.
+-- A call holds a list of paths: none; the directory that it has reached; or, for two paths, their
+-- last common directory and one on each path.
 abbrev pub Holds : List HeldPath → HeldPath → Type 0
 Holds [] s = ⊥
 Holds (p ∷ held_paths) s = (s ≡ p) ⊎ Holds held_paths s
 
--- the node of one of the paths that are held
+-- the inode of one of the held paths
 pub record IsNodeOf (held_paths : List HeldPath) (l : ℕ) : Type 0 where
   pub held_path : HeldPath
   pub holds : Holds held_paths held_path
   pub node : held_path.node ≡ l
 
--- the path leads to one of those that are held, or to a directory on its way
+-- the path is a prefix of a held one, or equal to it
 abbrev pub IsOnWayTo : List HeldPath → Path → Type 0
 IsOnWayTo [] q = ⊥
 IsOnWayTo (p ∷ held_paths) q = IsPrefix q p.path ⊎ IsOnWayTo held_paths q
 
--- the paths from the first one that is held down to the others, both ends included
+-- the paths from the first held one to the others, both ends included
 abbrev pub IsBetween : List HeldPath → Path → Type 0
 IsBetween [] q = ⊥
 IsBetween (top ∷ ends) q = IsPrefix top.path q × IsOnWayTo ends q
@@ -39,18 +39,17 @@ abbrev pub AreBelow : Path → List HeldPath → Type 0
 AreBelow p [] = Unit {0}
 AreBelow p (s ∷ held_paths) = IsPrefix p s.path × AreBelow p held_paths
 
--- the others lie at or below the first
+-- the others are at or below the first
 abbrev pub IsShaped : List HeldPath → Type 0
 IsShaped [] = Unit {0}
 IsShaped (top ∷ ends) = AreBelow top.path ends
 
--- its names lead to its node, which is a directory
+-- its path resolves to its inode, which is a directory
 pub record LeadsTo (t : Namespace) (s : HeldPath) : Type 0 where
   pub names : t.leads s.path ≡ Some s.node
   pub directory : t.is_directory s.node ≡ true
 
--- calls on their way: where paths lead, what each call holds, by its number, and the call that
--- holds each node
+-- the namespace, the paths that each call holds, by call number, and the holder of each inode
 pub record Walkers : Type 0 where
   pub namespace : Namespace
   pub held_paths : ℕ → List HeldPath
@@ -60,8 +59,8 @@ abbrev pub walkers_at : Namespace → (ℕ → List HeldPath) → (ℕ → Optio
 walkers_at namespace held_paths holder =
     record { namespace = namespace; held_paths = held_paths; holder = holder }
 
--- Walks are coupled: what a call has walked leads to what it holds, nothing else is held, and no
--- other call holds a directory between the first path of a call and its others.
+-- The invariant of lock coupling: held paths resolve to held inodes, nothing else is held, and no
+-- call holds a directory between the first path of another call and its others.
 pub record AreWalks (s : Walkers) : Type 0 where
   pub shaped : (n : ℕ) → IsShaped (s.held_paths n)
   pub leads : (n : ℕ) (at : HeldPath) → Holds (s.held_paths n) at → LeadsTo s.namespace at
@@ -70,11 +69,11 @@ pub record AreWalks (s : Walkers) : Type 0 where
   pub apart : (n m : ℕ) (at : HeldPath) → n ≢ m → Holds (s.held_paths m) at
       → IsBetween (s.held_paths n) at.path → ⊥
 
--- no other call holds the node
+-- no other call holds the inode
 abbrev pub IsFree : (ℕ → Option ℕ) → ℕ → ℕ → Type 0
 IsFree holder n node = (m : ℕ) → holder node ≡ Some m → n ≡ m
 
--- Hand over hand: the call n holds the nodes of its paths now, and has let go of all others that it
+-- Hand over hand: call n holds the inodes of its current paths, and has released all others that it
 -- held.
 pub record HandsOver (holder holder' : ℕ → Option ℕ) (n : ℕ) (was now : List HeldPath)
     : Type 0 where
@@ -82,8 +81,8 @@ pub record HandsOver (holder holder' : ℕ → Option ℕ) (n : ℕ) (was now : 
   pub gone : (l : ℕ) → IsNodeOf was l → (IsNodeOf now l → ⊥) → holder' l ≡ None
   pub rest : (l : ℕ) → (IsNodeOf was l → ⊥) → (IsNodeOf now l → ⊥) → holder' l ≡ holder l
 
--- The call n holds other paths, or none, and the tree may be another. No other call's way changed,
--- and what the call holds now is apart from the others' ways as before.
+-- Call n holds other paths, or none, and the namespace may have changed. The other calls hold the
+-- same paths, still resolved, and the new paths are apart from theirs.
 pub record HoldsOthers (old new : Walkers) (n : ℕ) : Type 0 where
   pub same : (m : ℕ) → n ≢ m → new.held_paths m ≡ old.held_paths m
   pub hands : HandsOver old.holder new.holder n (old.held_paths n) (new.held_paths n)

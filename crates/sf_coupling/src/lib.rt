@@ -1,11 +1,12 @@
-//! When walks through one tree are coupled: each call on its way holds the directory that it has
-//! come to, and takes the next one before it frees that. Definitions and their laws, and no code.
+//! The invariant of lock coupling (hand-over-hand locking): a call that resolves a path locks the
+//! next directory before it unlocks the last. Definitions and laws, no code.
 //!
-//! Start with `specs/Walks.antt`: `AreWalks` says of the `Walkers` (where paths lead, how far each
-//! call has come, who holds each node) that what a call has walked leads to what it holds, and that
-//! nothing else is held. `HoldsOthers` is one call's change, and `TakesPath` in
-//! `specs/Stepping.antt` each kind of step. The laws in `walk_laws.rt` are what a reader may rest
-//! on; `proofs/Laws.antt` has those that crates above cite.
+//! Start with `specs/Walks.antt`. `Walkers` is the state: the namespace, the directories that each
+//! call holds, and the holder of each. `AreWalks` is the invariant: the paths of each call lead to
+//! the directories that it holds, and nothing else is held. Also, no call holds a directory between
+//! those of another. `HoldsOthers` is a change of one call, and `TakesPath` in
+//! `specs/Stepping.antt` each kind of step. `walk_laws.rt` has the laws for readers;
+//! `proofs/Laws.antt` has those that other crates cite.
 #![tactic(auto)]
 
 mod walk_laws;

@@ -1,4 +1,4 @@
-//! The bytes of a file, without its gaps.
+//! The bytes of a file, without its holes.
 
 use crate::listing::{ReadFault, opened};
 use libc::{lseek, pread};
@@ -6,42 +6,43 @@ use sf_field::Attrs;
 use std::alloc::Global;
 use std::os::fd::{AsRawFd, OwnedFd};
 
-/// How many bytes are read at once.
+/// The most bytes that one read returns.
 const PIECE: u64 = 131072;
 
-/// Linux's `lseek`: the next place from an offset on that has bytes, or is in a gap.
+/// The `whence` of Linux's `lseek` for the next data at or after an offset.
 const SEEK_DATA: i32 = 3;
 
 const SEEK_HOLE: i32 = 4;
 
-/// There are no bytes from the offset on.
+/// The error of `lseek` if no data follows.
 const ENXIO: i32 = 6;
 
-/// A file, which is read from its front.
+/// A file that is read from its start.
 #[derive(Drop)]
 pub(crate) struct LocalFile {
     file: OwnedFd,
     pub(crate) attrs: Attrs,
     size: u64,
-    /// How far it was read.
+    /// The offset of the next read.
     at: u64,
 }
 
-/// Bytes of a file, from an offset on.
+/// Bytes of a file at an offset.
 #[derive(Drop)]
 pub(crate) struct Piece {
     pub(crate) offset: u64,
     pub(crate) bytes: Vec<u8>,
 }
 
-/// The place that the system tells; nothing where it tells none, or one before the offset.
+/// The offset that `lseek` returns, unless it fails or returns an earlier one.
 fn place_from(file: &OwnedFd, offset: u64, what: i32) -> Option<u64> {
     let found = lseek(file.as_raw_fd(), i64::try_from(offset).ok()?, what);
     let place = u64::try_from(found).ok()?;
     if place < offset { None } else { Some(place) }
 }
 
-/// Where the next bytes begin, from an offset on; all of the rest where the system can't tell.
+/// The offset of the next data, or the file's size. If the system can't find holes, all bytes are
+/// data.
 fn data_from(file: &OwnedFd, offset: u64, size: u64) -> u64 {
     match place_from(file, offset, SEEK_DATA) {
         Some(place) => place,
@@ -50,7 +51,7 @@ fn data_from(file: &OwnedFd, offset: u64, size: u64) -> u64 {
 }
 
 impl LocalFile {
-    /// Opens a file of which the system told this size.
+    /// Opens a file. `size` is from `stat`.
     pub(crate) fn open(path: &[u8], attrs: Attrs, size: u64) -> Result<LocalFile, ReadFault> {
         let file = opened(os::open_read(path))?;
         Ok(LocalFile {
@@ -61,7 +62,7 @@ impl LocalFile {
         })
     }
 
-    /// The next bytes; nothing at the end.
+    /// The next bytes, or `None` at the end.
     pub(crate) fn next(&mut self, alloc: Global) -> Result<Option<Piece>, ReadFault> {
         let from = data_from(&self.file, self.at, self.size);
         if from >= self.size {
@@ -82,7 +83,8 @@ impl LocalFile {
         }))
     }
 
-    /// Up to so many bytes; none where the file ends, as it does if it was cut meanwhile.
+    /// Reads up to `count` bytes; none at the file's end, which may come early if the file was
+    /// truncated meanwhile.
     fn read(&self, alloc: Global, offset: u64, count: u64) -> Result<Vec<u8>, ReadFault> {
         let Ok(offset) = i64::try_from(offset) else {
             return Ok(Vec::new(alloc));

@@ -1,9 +1,9 @@
-//! A folder of the local system, as what a tree is made of.
+//! Reads a local folder, as the contents of a new tree.
 //!
-//! Start with `LocalFolder`: it walks a folder in the order of its names, by `listing.rt`,
-//! `stat.rt` and `file.rt`, and tells on standard error what it leaves out, what it can't read and,
-//! on a terminal, how far it is. No contract can say what the system's files give; that all of it
-//! is made is the promise of `load` of `sf_loading`, and that all of it is given is tested.
+//! Start with `LocalFolder`, which walks a folder in the order of its names (`listing.rt`,
+//! `stat.rt`, `file.rt`). On standard error it reports what it leaves out, what it can't read and,
+//! on a terminal, its progress. No contract can describe the system's files. `load` of `sf_loading`
+//! makes all that is read; that all is read is tested.
 #![tactic(auto)]
 
 mod file;

@@ -5,11 +5,11 @@ use os::FromRawFd;
 use std::alloc::{AllocError, Global};
 use std::os::fd::{AsRawFd, OwnedFd};
 
-/// Why a directory, or a file, isn't read.
+/// Why a directory or a file can't be read.
 #[derive(Clone, Copy, Debug, PartialEq, Eq)]
 pub(crate) enum ReadFault {
     OutOfMemory,
-    /// By the system's error.
+    /// With the system's error number.
     System(i32),
 }
 
@@ -19,7 +19,7 @@ impl From<AllocError> for ReadFault {
     }
 }
 
-/// A descriptor that a call has just given, or its error.
+/// The descriptor that a system call returned, or its error.
 pub(crate) fn opened(fd: i32) -> Result<OwnedFd, ReadFault> {
     if fd < 0 {
         return Err(ReadFault::System(os::errno()));
@@ -27,7 +27,7 @@ pub(crate) fn opened(fd: i32) -> Result<OwnedFd, ReadFault> {
     Ok(unsafe { OwnedFd::from_raw_fd(fd) })
 }
 
-/// Adds names, each with a 0 behind it, but for `.` and `..`.
+/// Adds names from a buffer in which each ends with a 0 byte, except `.` and `..`.
 fn add_names(alloc: Global, names: &mut Vec<Vec<u8>>, packed: &[u8]) -> Result<(), AllocError> {
     let mut rest = packed;
     for _ in 0..packed.len() {
@@ -46,8 +46,8 @@ fn add_names(alloc: Global, names: &mut Vec<Vec<u8>>, packed: &[u8]) -> Result<(
     Ok(())
 }
 
-/// The names in the directory at a path, the last one first. No symbolic link that the path ends in
-/// is followed.
+/// The names in the directory at a path, in reverse order. A symbolic link at the end of the path
+/// isn't followed.
 pub(crate) fn names_in(alloc: Global, path: &[u8]) -> Result<Vec<Vec<u8>>, ReadFault> {
     let directory = opened(os::open_dir_at(AT_FDCWD, path))?;
     let mut names = Vec::new(alloc);

@@ -1,4 +1,4 @@
-//! What the system tells of a path.
+//! The type and the attributes of a path.
 
 use crate::listing::opened;
 use libc::{S_IFBLK, S_IFCHR, S_IFDIR, S_IFIFO, S_IFLNK, S_IFMT, S_IFREG, S_IFSOCK};
@@ -8,16 +8,16 @@ use std::fs::{self, Metadata};
 use std::io;
 use std::os::unix::fs::MetadataExt;
 
-/// What a path names.
+/// The type of a file.
 #[derive(Clone, Copy, Debug, PartialEq, Eq)]
 pub(crate) enum Kind {
     File,
     Directory,
-    /// Something else, by its name.
+    /// Another type, by its name.
     Other(&'static str),
 }
 
-/// What a path names, and its attributes; of a directory these are without a size.
+/// The type, size and attributes of a path. A directory's attributes have no size.
 #[derive(Clone, Copy, Debug)]
 pub(crate) struct Found {
     pub(crate) kind: Kind,
@@ -52,7 +52,7 @@ fn other_kind(kind: u32) -> &'static str {
     }
 }
 
-/// Whole seconds since 1970: 0 before, and at most 2^32 - 1.
+/// Whole seconds since 1970, from 0 to 2^32 - 1.
 fn seconds(time: i64) -> u32 {
     match u64::try_from(time) {
         Ok(seconds) => u32::try_from(seconds).unwrap_or(u32::MAX),
@@ -86,7 +86,7 @@ fn found_of(found: &Metadata) -> Found {
     }
 }
 
-/// What was found, or the system's error.
+/// The result of `stat`, or the system's error number.
 fn settled(found: io::Result<Metadata>) -> Result<Found, i32> {
     match found {
         Ok(found) => Ok(found_of(&found)),
@@ -94,8 +94,8 @@ fn settled(found: io::Result<Metadata>) -> Result<Found, i32> {
     }
 }
 
-/// What a path names, or the system's error. A symbolic link that the path ends in is followed if
-/// it is to be.
+/// The type and attributes of a path, or the system's error number. A symbolic link at the end of
+/// the path is followed if `follow`.
 pub(crate) fn look_at(rt: &HostRuntime, path: &[u8], follow: bool) -> Result<Found, i32> {
     match str::from_utf8(path) {
         Ok(text) if follow => settled(fs::metadata(rt, text)),
@@ -104,7 +104,7 @@ pub(crate) fn look_at(rt: &HostRuntime, path: &[u8], follow: bool) -> Result<Fou
     }
 }
 
-/// The path from the system's root, so that it means the same from anywhere.
+/// The path as an absolute one.
 fn from_root(alloc: Global, path: &[u8]) -> Result<Vec<u8>, AllocError> {
     let mut whole = Vec::new(alloc);
     if !path.starts_with(b"/") {
@@ -114,8 +114,8 @@ fn from_root(alloc: Global, path: &[u8]) -> Result<Vec<u8>, AllocError> {
     Ok(whole)
 }
 
-/// The same of a path that isn't UTF-8, which `std::fs` doesn't take: it looks through a symbolic
-/// link of its own in `/tmp`.
+/// As `look_at`, for a path that isn't UTF-8, which `std::fs` doesn't accept. It uses a temporary
+/// symbolic link in `/tmp`.
 fn look_by_link(rt: &HostRuntime, path: &[u8]) -> Result<Found, i32> {
     let mut target = [0u8; 1];
     if os::readlink(path, &mut target) >= 0 {
@@ -129,7 +129,7 @@ fn look_by_link(rt: &HostRuntime, path: &[u8]) -> Result<Found, i32> {
         return Err(libc::ENOMEM);
     };
     let mut name = *b"/tmp/sftpd.XXXXXX";
-    // The file is there only so that the name is nobody else's.
+    // The file only reserves the name.
     if opened(os::create_temp(&mut name)).is_err() || os::unlink(&name) < 0 {
         return Err(os::errno());
     }

@@ -1,4 +1,4 @@
-//! What is told of a load on standard error, each in one line.
+//! Messages of a load on standard error, one line each.
 
 use std::alloc::{AllocError, Global};
 use std::io::{IsTerminal, Write};
@@ -9,7 +9,7 @@ fn octal(number: u8) -> char {
     char::from(b'0' + number % 8)
 }
 
-/// A backslash, and a byte in three octal digits.
+/// A backslash, and a byte as three octal digits.
 fn push_octal(text: &mut String, byte: u8) -> Result<(), AllocError> {
     text.push('\\')?;
     text.push(octal(byte / 64))?;
@@ -18,8 +18,8 @@ fn push_octal(text: &mut String, byte: u8) -> Result<(), AllocError> {
     Ok(())
 }
 
-/// Text of a path: a byte that isn't printable ASCII as a backslash and three octal digits, and a
-/// backslash as two.
+/// The text of a path. A byte that isn't printable ASCII becomes a backslash and three octal
+/// digits, and a backslash becomes two.
 pub fn shown(alloc: Global, path: &[u8]) -> Result<String, AllocError> {
     let mut text = String::new(alloc);
     for byte in path {
@@ -32,20 +32,20 @@ pub fn shown(alloc: Global, path: &[u8]) -> Result<String, AllocError> {
     Ok(text)
 }
 
-/// Writes a line of what is the matter with a path, and why.
+/// Writes a line about a path.
 fn tell(rt: &HostRuntime, what: &str, path: &[u8], why: &str) {
-    // What can't be told on standard error is still told by the status.
+    // If standard error can't be written, the exit status still reports the error.
     if let Ok(text) = shown(rt.alloc(), path) {
         let _ = writeln!(rt.stderr(), "sftpd: {what}: {text}: {why}");
     }
 }
 
-/// Tells of something that isn't made.
+/// Reports something that is left out.
 pub(crate) fn tell_left_out(rt: &HostRuntime, path: &[u8], kind: &str) {
     tell(rt, "left out", path, kind);
 }
 
-/// Tells of something that can't be read, by the system's error.
+/// Reports something that can't be read, with the system's error.
 pub(crate) fn tell_unreadable(rt: &HostRuntime, path: &[u8], error: i32) {
     let mut buffer = [0u8; 128];
     let len = os::error_text(error, &mut buffer);
@@ -53,7 +53,7 @@ pub(crate) fn tell_unreadable(rt: &HostRuntime, path: &[u8], error: i32) {
     tell(rt, "cannot read", path, why);
 }
 
-/// How far a load is, which is told once a second where standard error is a terminal.
+/// The progress of a load, which is written once a second if standard error is a terminal.
 #[derive(Drop)]
 pub(crate) struct Progress {
     last: Option<Instant>,
@@ -62,7 +62,7 @@ pub(crate) struct Progress {
 }
 
 impl Progress {
-    /// Nothing was given yet.
+    /// No progress yet.
     pub(crate) fn begin(rt: &HostRuntime) -> Progress {
         let last = if rt.stderr().is_terminal() {
             Instant::now(rt).ok()
@@ -76,17 +76,17 @@ impl Progress {
         }
     }
 
-    /// One more file or directory.
+    /// Counts one more file or directory.
     pub(crate) fn add_object(&mut self) {
         self.objects = self.objects.saturating_add(1);
     }
 
-    /// So many more bytes.
+    /// Counts `count` more bytes.
     pub(crate) fn add_bytes(&mut self, count: usize) {
         self.bytes = self.bytes.saturating_add(count as u64);
     }
 
-    /// Tells how far it is, if the last time is a second ago.
+    /// Writes the progress, if the last time was at least a second ago.
     pub(crate) fn tell(&mut self, rt: &HostRuntime) {
         let Some(last) = self.last else {
             return;

@@ -9,31 +9,31 @@ use sf_loading::{Folder, FolderFault, Item};
 use std::alloc::{AllocError, Global};
 use std::mem;
 
-/// A directory, in which the walk is.
+/// A directory that the walk is in.
 #[derive(Drop)]
 struct Level {
     /// The length of its local path.
     len: usize,
-    /// The names that it hasn't come to, the next one last.
+    /// The names that remain, the next one last.
     names: Vec<Vec<u8>>,
     attrs: Attrs,
 }
 
-/// What comes next of the file at which the walk is.
+/// The state of the current file.
 #[derive(Drop)]
 enum Stage {
-    /// There is no such file.
+    /// There is no current file.
     Nothing,
     Bytes(LocalFile),
     End,
 }
 
-/// A local folder, of which files and directories are given, in the order of their names. It tells
-/// on standard error what else is there, and what can't be read.
+/// A local folder as a `Folder`: its files and directories, in the order of their names. Other
+/// things are left out. These, and what can't be read, are reported on standard error.
 #[derive(Drop)]
 pub struct LocalFolder<'a> {
     rt: &'a HostRuntime,
-    /// The local path of what was given last.
+    /// The local path of the last item.
     path: Vec<u8>,
     /// The length of the folder's own path.
     root: usize,
@@ -42,7 +42,7 @@ pub struct LocalFolder<'a> {
     progress: Progress,
 }
 
-/// The system's error for a path that ends in no directory.
+/// The system's error for a path that isn't a directory's.
 const ENOTDIR: i32 = libc::ENOTDIR;
 
 fn copied(alloc: Global, bytes: &[u8]) -> Result<Vec<u8>, AllocError> {
@@ -51,7 +51,7 @@ fn copied(alloc: Global, bytes: &[u8]) -> Result<Vec<u8>, AllocError> {
     Ok(copy)
 }
 
-/// The path with a slash behind it.
+/// The path with a slash appended.
 fn slashed(alloc: Global, path: &[u8]) -> Result<Vec<u8>, AllocError> {
     let mut copy = copied(alloc, path)?;
     copy.push(b'/')?;
@@ -63,7 +63,7 @@ fn go_into(levels: &mut Vec<Level>, level: Level) -> Result<(), AllocError> {
     Ok(())
 }
 
-/// The folder itself, at a path that may be a symbolic link to it.
+/// The folder itself. Its path may be a symbolic link's.
 fn root_level(rt: &HostRuntime, path: &[u8]) -> Result<Level, ReadFault> {
     let alloc = rt.alloc();
     let found = match look_at(rt, path, true) {
@@ -73,7 +73,7 @@ fn root_level(rt: &HostRuntime, path: &[u8]) -> Result<Level, ReadFault> {
     if found.kind != Kind::Directory {
         return Err(ReadFault::System(ENOTDIR));
     }
-    // With a slash behind it a link is followed.
+    // With a slash appended a link is followed.
     let inside = slashed(alloc, path)?;
     Ok(Level {
         len: path.len(),
@@ -82,7 +82,7 @@ fn root_level(rt: &HostRuntime, path: &[u8]) -> Result<Level, ReadFault> {
     })
 }
 
-/// Tells of what can't be read.
+/// Reports what can't be read.
 fn unreadable(rt: &HostRuntime, path: &[u8], fault: ReadFault) -> FolderFault {
     match fault {
         ReadFault::OutOfMemory => FolderFault::OutOfMemory,
@@ -94,7 +94,7 @@ fn unreadable(rt: &HostRuntime, path: &[u8], fault: ReadFault) -> FolderFault {
 }
 
 impl<'a> LocalFolder<'a> {
-    /// The folder at a path, of which nothing was given.
+    /// Opens the folder at a path.
     pub fn open(rt: &'a HostRuntime, path: &str) -> Result<LocalFolder<'a>, FolderFault> {
         let alloc = rt.alloc();
         let bytes = path.as_bytes();
@@ -114,7 +114,7 @@ impl<'a> LocalFolder<'a> {
         })
     }
 
-    /// The path, in the tree, of what was given last.
+    /// The path of the last item in the tree.
     pub fn path(&self) -> &[u8] {
         match self.path.get(self.root..) {
             Some(path) if !path.is_empty() => path,
@@ -130,7 +130,7 @@ impl<'a> LocalFolder<'a> {
         unreadable(self.rt, &self.path, fault)
     }
 
-    /// The next bytes of the file at which the walk is, or its attributes at the end.
+    /// The next bytes of the current file, or its attributes at the end.
     fn next_of_file(&mut self, file: LocalFile) -> Result<Item, FolderFault> {
         let mut file = file;
         match file.next(self.rt.alloc()) {
@@ -147,7 +147,7 @@ impl<'a> LocalFolder<'a> {
         }
     }
 
-    /// Goes to the next name of the innermost directory; false where there is none.
+    /// Moves to the next name of the innermost directory. Returns false if there is none.
     fn go_on(&mut self) -> Result<bool, AllocError> {
         let Some(level) = self.levels.last_mut() else {
             return Ok(false);
@@ -161,8 +161,8 @@ impl<'a> LocalFolder<'a> {
         Ok(true)
     }
 
-    /// Leaves the innermost directory; nothing is left at the end. The folder itself is the root,
-    /// which has attributes of its own.
+    /// Leaves the innermost directory. Returns its attributes, or `None` at the end. The folder
+    /// itself becomes `/`; the attributes of `/` aren't set.
     fn leave(&mut self) -> Result<Option<Item>, FolderFault> {
         match self.levels.pop() {
             Some(level) if !self.levels.is_empty() => Ok(Some(Item::DirectoryAttributes(
@@ -197,7 +197,7 @@ impl<'a> LocalFolder<'a> {
         Ok(Item::File(self.own_path()?))
     }
 
-    /// What the path names; nothing where that is left out.
+    /// The item at the current path; `None` if it is left out.
     fn at_path(&mut self) -> Result<Option<Item>, FolderFault> {
         let found = match look_at(self.rt, &self.path, false) {
             Ok(found) => found,
@@ -213,7 +213,7 @@ impl<'a> LocalFolder<'a> {
         }
     }
 
-    /// The next file or directory, or the end of one.
+    /// The next file or directory, or the end of a directory.
     fn walk(&mut self) -> Result<Option<Item>, FolderFault> {
         for _ in 0..u64::MAX {
             if !self.go_on()? {
@@ -230,7 +230,7 @@ impl<'a> LocalFolder<'a> {
 impl Folder for LocalFolder<'_> {
     ghost use Rattle.std.specs.Prelude.{None};
 
-    // What the system's files give isn't told.
+    // The system's files are unspecified.
     ghost items = { λ _. None };
 
     fn next(&mut self) -> Result<Option<Item>, FolderFault> {

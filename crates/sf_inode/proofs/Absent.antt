@@ -1,4 +1,4 @@
--- Taking out an entry that isn't there changes nothing.
+-- Removing an absent entry changes nothing.
 use Rattle.std.specs.Prelude.{◌≡◌, cond, Bool, true, false, List, [], ◌∷◌, Some, None}
 use Rattle.std.specs.Map.{lookup, remove_entry}
 use Rattle.std.proofs.Common.{refl, ap}

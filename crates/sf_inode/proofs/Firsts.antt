@@ -1,4 +1,4 @@
--- The first of a list, taken one after the other.
+-- The first elements of a list, taken one by one.
 use Rattle.std.specs.Prelude.{◌≡◌, ℕ, suc, ◌+◌, List, [], ◌∷◌, ◌++◌, take}
 use Rattle.std.proofs.Common.{sym, ap, ◌∙◌, arith}
 

@@ -1,4 +1,4 @@
--- Paths one after another, each with what it names.
+-- Paths one after another, each with its object.
 use Rattle.std.specs.Prelude.{◌≡◌, ℕ, List, [], ◌∷◌, ◌++◌, length, drop, Option, Some, None, refl}
 use Rattle.std.proofs.Common.{sym, ap, subst, arith}
 use Rattle.sf_path.specs.Names.{Path}
@@ -18,7 +18,7 @@ append_on [] y ys = refl
 append_on (x ∷ xs) y ys = λ i. x ∷ append_on xs y ys i
 
 module _ (nodes : List (Option Node)) (all : List (Path × ℕ)) where
-  -- what the waiting paths still give completes what there is
+  -- the leaves of the pending paths complete the list
   abbrev pub GoesOn : List (Path × ℕ) → List Leaf → Type 0
   GoesOn waiting leaves = (rest : List Leaf) → AreLeaves nodes waiting rest → AreLeaves nodes all (leaves ++ rest)
 

@@ -1,4 +1,4 @@
--- What a node is, and its changes.
+-- Inodes (nodes) and their changes.
 use Rattle.std.specs.Prelude.{ℕ, ◌+◌, ◌-◌, ◌^◌, min, nat_eq, ◌&&◌, Bool, true, false, filter, List, [], Option, None}
 use Rattle.std.specs.Map.{lookup, remove_entry}
 use Rattle.std.specs.BTreeMap.{insert_entry}
@@ -17,14 +17,14 @@ use Rattle.sf_inode.specs.declared.node.NewNode.{NewNode}
 use Rattle.sf_inode.specs.declared.node.Content.{Content}
 use Rattle.sf_inode.specs.declared.node.Content.TheVariants as content
 
--- ---- what a node has
--- A directory's entries are the list of its names with the nodes that they lead to, in the order
--- of the names and each once. A file has none.
+-- ---- the parts of an inode
+-- A directory's entries are a list of names with the slots of their inodes, in name order, without
+-- duplicates. A file has none.
 abbrev pub entries_in : Content → List (Name × ℕ)
 entries_in (content.Directory entries) = entries
 entries_in (content.File contents) = []
 
--- the node that a name leads to
+-- the inode of an entry
 abbrev pub child_in : Content → Name → Option ℕ
 child_in (content.Directory entries) n = lookup (same_name n) entries
 child_in (content.File contents) n = None
@@ -41,35 +41,35 @@ abbrev pub is_bare_content : Content → Bool
 is_bare_content (content.Directory entries) = is_nil entries
 is_bare_content (content.File contents) = true
 
--- a file's bytes; a directory has none
+-- the bytes of a file; a directory has none
 abbrev pub bytes_in : Content → List ℕ
 bytes_in (content.Directory entries) = []
 bytes_in (content.File contents) = contents.bytes
 
--- how many blocks of a file are still to be copied
+-- the number of blocks of a file that are still to be copied
 abbrev pub blocks_left_in : Content → ℕ
 blocks_left_in (content.Directory entries) = 0
 blocks_left_in (content.File contents) = contents.left
 
--- what is still to be copied counts as copied
+-- the object of an inode; bytes still to be copied count as copied
 abbrev pub object_in : Metadata → Content → Object
 object_in m (content.Directory entries) = Directory m
 object_in m (content.File contents) = File m contents.bytes
 
--- no name and no handle leads to it
+-- whether an inode has neither link nor open handle
 abbrev pub is_unused : Node → Bool
 is_unused node = nat_eq node.names 0 && nat_eq node.opens 0
 
--- the entries whose names come after the last one that was given
+-- the entries after the last one that was listed
 abbrev pub entries_past : Option Name → List (Name × ℕ) → List (Name × ℕ)
 entries_past last entries = filter (λ e. is_past last e.0) entries
 
--- ---- new nodes
+-- ---- new inodes
 abbrev pub new_content : FileType → Content
 new_content file_type.Directory = content.Directory []
 new_content file_type.File = content.File (complete [])
 
--- a node with one name, which nothing holds and no handle opens
+-- an inode with one link, no holder and no open handle
 abbrev pub new_node : NewNode → Node
 new_node made = record {
   label = made.label;
@@ -80,19 +80,19 @@ new_node made = record {
   opens = 0;
 }
 
--- ---- changes of a directory's entries; a file stays
--- a name leads to a node, whether it is there or not
+-- ---- changes of a directory's entries; a file is unchanged
+-- inserts or replaces an entry
 abbrev pub more_content : Name → ℕ → Content → Content
 more_content n id (content.Directory entries) =
     content.Directory (insert_entry name_cmp entries n id)
 more_content n id (content.File contents) = content.File contents
 
--- without a name
+-- removes an entry
 abbrev pub less_content : Name → Content → Content
 less_content n (content.Directory entries) = content.Directory (remove_entry (same_name n) entries)
 less_content n (content.File contents) = content.File contents
 
--- ---- changes of a file's bytes; a directory stays
+-- ---- changes of a file's bytes; a directory is unchanged
 abbrev pub with_file : FileBytes → Content → Content
 with_file new (content.Directory entries) = content.Directory entries
 with_file new (content.File contents) = content.File new
@@ -100,13 +100,13 @@ with_file new (content.File contents) = content.File new
 abbrev pub with_bytes : List ℕ → Content → Content
 with_bytes new = with_file (complete new)
 
--- so many blocks are left
+-- sets the number of blocks still to be copied
 abbrev pub with_left : ℕ → Content → Content
 with_left left (content.Directory entries) = content.Directory entries
 with_left left (content.File contents) =
     content.File (record { bytes = contents.bytes; left = left })
 
--- ---- changes of a node
+-- ---- changes of an inode
 abbrev pub with_content : (Content → Content) → Node → Node
 with_content f node = record node { content = f node.content }
 
@@ -116,11 +116,11 @@ with_metadata f node = record node { metadata = f node.metadata }
 abbrev pub with_holder : Option ℕ → Node → Node
 with_holder holder node = record node { holder = holder }
 
--- one name more leads to it
+-- one more link
 abbrev pub with_name : Node → Node
 with_name node = record node { names = min (node.names + 1) (2 ^ 64 - 1) }
 
--- one name less leads to it
+-- one link fewer
 abbrev pub without_name : Node → Node
 without_name node = record node { names = node.names - 1 }
 

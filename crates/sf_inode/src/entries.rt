@@ -16,7 +16,7 @@ use std::collections::BTreeMap;
 use std::marker::Model;
 use std::ops::Bound;
 
-/// The names of a directory with the nodes that they lead to, in the order of the names.
+/// The names of a directory with the slots of their inodes, in name order.
 #[derive(Drop)]
 pub(crate) struct Entries {
     nodes: BTreeMap<Name, NodeId>,
@@ -31,7 +31,7 @@ impl Model for Entries {
 }
 
 impl Entries {
-    /// No entry, and no memory taken.
+    /// No entries. Allocates nothing.
     pub(crate) fn new(alloc: Global) -> Entries
         ensures { result ≡ [] }
     {
@@ -47,14 +47,14 @@ impl Entries {
         self.nodes.is_empty()
     }
 
-    /// The node that a name leads to.
+    /// The inode of a name.
     pub(crate) fn find(&self, name: &Name) -> Option<NodeId>
         ensures { result ≡ lookup (same_name name.now) self.now }
     {
         self.nodes.get(name).copied()
     }
 
-    /// A name leads to a node from now on, whether it is there or not.
+    /// Inserts or replaces an entry.
     pub(crate) fn insert(&mut self, name: Name, node: NodeId) -> Result<(), AllocError>
         ensures ok { OnOk result (self.new ≡ insert_entry name_cmp self.old name node) }
         ensures err { OnErr result (self.new ≡ self.old) }
@@ -63,8 +63,7 @@ impl Entries {
         Ok(())
     }
 
-    /// Takes a name out, and gives the node that it led to. A directory without names has no
-    /// memory.
+    /// Removes a name and returns its inode. An empty directory uses no memory.
     #[tactic(auto, using(crate::proofs::Absent::absent_removed))]
     pub(crate) fn remove(&mut self, name: &Name) -> Option<NodeId>
         ensures node { result ≡ lookup (same_name name.now) self.old }
@@ -78,7 +77,7 @@ impl Entries {
         node
     }
 
-    /// All entries of the directory at a path, by their paths.
+    /// The entries of the directory at a path, as paths.
     pub(crate) fn below(
         &self,
         alloc: Global,
@@ -93,8 +92,8 @@ impl Entries {
         Ok(children)
     }
 
-    /// The first entries whose names come after the last one that was given, so many at most. Takes
-    /// memory for these alone.
+    /// The first entries after the last one that was listed, at most `most`. Allocates for these
+    /// alone.
     pub(crate) fn first_past(
         &self,
         alloc: Global,

@@ -1,4 +1,4 @@
-//! What a session has open.
+//! The open handles of a session.
 
 ghost use Rattle.std.specs.Prelude.{◌≡◌, ℕ, [], ◌∷◌, length, IfOk, OnOk, OnErr, IfSome, IfNone};
 ghost use Rattle.std.specs.Option.{option_copied};
@@ -12,7 +12,7 @@ use std::alloc::{AllocError, Global};
 use std::collections::BTreeMap;
 use std::marker::Model;
 
-/// What a handle may be used for.
+/// The access mode of a handle.
 #[derive(Clone, Copy, Debug, PartialEq, Eq)]
 pub struct Marks {
     pub read: bool,
@@ -20,17 +20,17 @@ pub struct Marks {
     pub append: bool,
 }
 
-/// An open handle. `label` is the node's.
+/// An open handle. `label` is its inode's number.
 #[derive(Debug, Drop)]
 pub struct OpenHandle {
     pub node: NodeId,
     pub label: u64,
     pub marks: Marks,
-    /// The last name that a listing gave.
+    /// The last name that READDIR returned, if any.
     pub listed: Option<Name>,
 }
 
-/// A session's handles by their numbers.
+/// The handles of a session by number.
 #[derive(Drop)]
 pub(crate) struct SessionHandles {
     handles: BTreeMap<u64, OpenHandle>,
@@ -48,7 +48,7 @@ impl Model for SessionHandles {
 ghost use Rattle.sf_inode.specs.Stores.{listed_of};
 
 impl SessionHandles {
-    /// The first handle of a session.
+    /// A session with one handle.
     pub(crate) fn of_one(
         alloc: Global,
         number: u64,
@@ -61,7 +61,7 @@ impl SessionHandles {
         Ok(SessionHandles { handles })
     }
 
-    /// One handle more. A refused one changes nothing.
+    /// Inserts a handle. On failure nothing changes.
     pub(crate) fn insert(&mut self, number: u64, handle: OpenHandle) -> Result<(), AllocError>
         ensures ok { OnOk result (self.new ≡ insert_entry nat_cmp self.old number handle) }
         ensures err { OnErr result (self.new ≡ self.old) }
@@ -70,7 +70,7 @@ impl SessionHandles {
         Ok(())
     }
 
-    /// Takes a handle out, if it is there.
+    /// Removes a handle, if it is open.
     #[tactic(auto, using(crate::proofs::Absent::absent_removed))]
     pub(crate) fn remove(&mut self, number: u64) -> Option<OpenHandle>
         ensures value { result ≡ lookup (is_at (nat_cmp number)) self.old }
@@ -80,14 +80,14 @@ impl SessionHandles {
         self.handles.remove(&number)
     }
 
-    /// The handle of a number.
+    /// The handle with this number.
     pub(crate) fn get(&self, number: u64) -> Option<&OpenHandle>
         ensures { option_copied result ≡ lookup (is_at (nat_cmp number)) self.now }
     {
         self.handles.get(&number)
     }
 
-    /// Sets the last name that a listing by a handle gave, if the handle is there.
+    /// Sets the last name that a handle's listing returned, if the handle is open.
     pub(crate) fn set_listed(&mut self, number: u64, name: Name)
         ensures { self.new ≡ listed_of number name self.old }
     {
@@ -96,14 +96,14 @@ impl SessionHandles {
         }
     }
 
-    /// How many handles there are.
+    /// The number of handles.
     pub(crate) fn len(&self) -> usize
         ensures { result ≡ length self.now }
     {
         self.handles.len()
     }
 
-    /// Takes out the handle of the least number.
+    /// Removes the handle with the least number.
     pub(crate) fn pop_first(&mut self) -> Option<OpenHandle>
         ensures some { IfSome result (λ handle. (number : ℕ)
             × (self.old ≡ (number, handle) ∷ self.new)) }

@@ -1,11 +1,11 @@
-//! Nodes, entries and handles: the tree as a file system keeps it.
+//! Inodes, directory entries and open handles: the file system's state.
 //!
-//! Start with `Store` in `store`: each of its methods is one definition of `specs/Stores.antt` on
-//! the abstract store, which is a list of nodes by number and the handles of each session. A node
-//! (`specs/Nodes.antt`) has a label, attributes, a holder, counts of its names and handles, and a
-//! file's bytes or a directory's entries; the entries are a list in the order of names (`entries`
-//! keeps them in an ordered map). A method that is refused memory changes nothing. `Store::leaves`
-//! goes through all paths in their order (`specs/Leaves.antt`).
+//! Start with `Store` in `store`: each method has its definition on the abstract store in
+//! `specs/Stores.antt`, which has inodes by slot and open handles by session. An inode (`Node`,
+//! `specs/Nodes.antt`) has a number (`label`), attributes, a holder (the call that locks it), and
+//! counts of its links and open handles. It also has the contents of a file or the entries of a
+//! directory. Entries are an ordered map (`entries`). A method that fails to allocate changes
+//! nothing. `Store::leaves` lists all paths in order (`specs/Leaves.antt`).
 #![tactic(auto)]
 
 mod entries;
@@ -17,5 +17,5 @@ pub use handle::{Marks, OpenHandle};
 pub use node::NewNode;
 pub use store::Store;
 
-/// The number of a node. It is given out again once the node is gone.
+/// The slot of an inode in the store. It is reused after the inode is deleted.
 pub type NodeId = usize;

@@ -1,4 +1,4 @@
-//! A file, or a directory with its entries.
+//! Inodes: files, and directories with their entries.
 
 ghost use Rattle.std.specs.Prelude.{◌≡◌, ◌+◌, ◌-◌, ◌<◌, ◌≤◌, ◌^◌, [], Some, None, true, false, length, take, IfSome, IfNone, IsOk, IfOk, OnOk, OnErr};
 ghost use Rattle.std.specs.Option.{option_copied};
@@ -17,10 +17,10 @@ use sf_field::{Attrs, ByteString};
 use sf_path::{Name, Path};
 use std::alloc::{AllocError, Global};
 
-/// A new directory without entries, or a new file without bytes.
+/// A new empty directory or file.
 #[derive(Clone, Copy, Debug)]
 pub struct NewNode {
-    /// Above 0, and no other node's.
+    /// The inode number: unique, and above 0.
     pub label: u64,
     pub file_type: FileType,
     pub metadata: Metadata,
@@ -34,20 +34,19 @@ pub(crate) enum Content {
 
 #[derive(Drop)]
 pub(crate) struct Node {
-    // What a walk, a STAT and a listing look at comes first, side by side.
+    // The fields that lookups, STAT and listings read come first, next to each other.
     pub(crate) holder: Option<u64>,
     pub(crate) metadata: Metadata,
-    /// How many names lead to it.
+    /// The number of links.
     pub(crate) names: u64,
     pub(crate) content: Content,
     pub(crate) label: u64,
-    /// How many handles open it.
+    /// The number of open handles.
     pub(crate) opens: u64,
 }
 
 impl Node {
-    /// A new file or directory, which a name is about to lead to; nothing holds it and no handle
-    /// opens it.
+    /// A new file or directory with one link, no holder and no open handle.
     pub(crate) fn new(alloc: Global, made: NewNode) -> Node
         ensures { result ≡ new_node made }
     {
@@ -65,7 +64,7 @@ impl Node {
         }
     }
 
-    /// Whether it is a directory, and not a file.
+    /// Whether it is a directory.
     pub(crate) fn is_directory(&self) -> bool
         ensures { result ≡ is_directory_content self.now.content }
     {
@@ -82,7 +81,7 @@ impl Node {
         }
     }
 
-    /// The node that a name leads to; a file has no entries.
+    /// The inode of an entry; a file has no entries.
     pub(crate) fn entry(&self, name: &Name) -> Option<NodeId>
         ensures { result ≡ child_in self.now.content name.now }
     {
@@ -92,7 +91,7 @@ impl Node {
         }
     }
 
-    /// The first entries whose names come after the last one that was given, so many at most.
+    /// The first entries after the last one that was listed, at most `most`.
     pub(crate) fn first_past(
         &self,
         alloc: Global,
@@ -110,7 +109,7 @@ impl Node {
         }
     }
 
-    /// All entries of a directory at a path, by their paths; a file has none.
+    /// The entries of a directory at a path, as paths; a file has none.
     pub(crate) fn below(
         &self,
         alloc: Global,
@@ -125,7 +124,7 @@ impl Node {
         }
     }
 
-    /// A path that leads to the node, with what the node shows. A file's bytes are shared.
+    /// A path to the inode, with its object. The bytes of a file are shared.
     pub(crate) fn leaf(&self, alloc: Global, path: Path) -> Result<Leaf, AllocError>
         ensures { IfOk result (λ leaf. leaf ≡ (path, shown_node self.now)) }
     {
@@ -136,7 +135,7 @@ impl Node {
         Ok(Leaf::new(path, self.label, self.metadata, contents))
     }
 
-    /// All attributes, as they are sent; the size of a directory is 0.
+    /// All attributes as sent; the size of a directory is 0.
     pub(crate) fn attrs(&self) -> Attrs
         ensures { result ≡ attrs_of (object_in self.now.metadata self.now.content) }
     {
@@ -146,8 +145,7 @@ impl Node {
         }
     }
 
-    /// Takes a name out of a directory, and gives the node that it led to; of a file nothing
-    /// changes.
+    /// Removes an entry of a directory and returns its inode; a file is unchanged.
     pub(crate) fn remove_entry(&mut self, name: &Name) -> Option<NodeId>
         ensures node { result ≡ child_in self.old.content name.now }
         ensures rest { self.new ≡ with_content (less_content name.now) self.old }
@@ -159,7 +157,7 @@ impl Node {
         }
     }
 
-    /// A name of a directory leads to a node from now on; of a file nothing changes.
+    /// Inserts or replaces an entry of a directory; a file is unchanged.
     pub(crate) fn insert_entry(&mut self, name: Name, node: NodeId) -> Result<(), AllocError>
         ensures ok { OnOk result (self.new ≡ with_content (more_content name node) self.old) }
         ensures err { OnErr result (self.new ≡ self.old) }
@@ -170,21 +168,21 @@ impl Node {
         Ok(())
     }
 
-    /// Sets the parts that are given, all but a size.
+    /// Sets the given attributes, except the size.
     pub(crate) fn set(&mut self, attrs: &Attrs)
         ensures { self.new ≡ with_metadata (λ m. with_parts m attrs.now) self.old }
     {
         self.metadata = self.metadata.with_parts(attrs);
     }
 
-    /// Sets the time of change, in seconds since 1970.
+    /// Sets the modification time, in seconds since 1970.
     pub(crate) fn touch(&mut self, moment: u32)
         ensures { self.new ≡ with_metadata (modified_at moment) self.old }
     {
         self.metadata = self.metadata.modified_at(moment);
     }
 
-    /// The bytes, if it is a file.
+    /// The contents, if it is a file.
     pub(crate) fn file(&self) -> Option<&Contents>
         ensures some { IfSome result (λ file. (is_file_content self.now.content ≡ true)
             × (file.now.bytes ≡ bytes_in self.now.content)
@@ -197,7 +195,7 @@ impl Node {
         }
     }
 
-    /// How many blocks of a file are still to be copied.
+    /// The number of blocks of a file that are still to be copied.
     pub(crate) fn left(&self) -> usize
         ensures { result ≡ blocks_left_in self.now.content }
     {
@@ -207,8 +205,8 @@ impl Node {
         }
     }
 
-    /// Begins to replace bytes from an offset on; a gap before them is filled with zeros. It takes
-    /// all memory that this wants, and copies no block.
+    /// Starts a write at an offset; a gap before it is filled with zeros. Makes all its
+    /// allocations, and copies no block.
     pub(crate) fn start_write(
         &mut self,
         alloc: Global,
@@ -229,7 +227,7 @@ impl Node {
         }
     }
 
-    /// Copies one block of a file that is being written. It needs no memory.
+    /// Copies one block of the pending write of a file. Allocates nothing.
     pub(crate) fn copy_block(&mut self)
         requires { 0 < blocks_left_in self.old.content }
         ensures { self.new
@@ -240,7 +238,7 @@ impl Node {
         }
     }
 
-    /// Copies all blocks of a file that are left. It needs no memory.
+    /// Copies the rest of the pending write of a file. Allocates nothing.
     pub(crate) fn copy_rest(&mut self)
         ensures { self.new ≡ with_content (with_left 0) self.old }
     {
@@ -249,7 +247,7 @@ impl Node {
         }
     }
 
-    /// Cuts the bytes at a size, or fills them up to it with zeros. It takes no memory.
+    /// Truncates a file to a size, or extends it with zeros. Allocates nothing.
     pub(crate) fn set_len(&mut self, n: u64)
         requires { blocks_left_in self.old.content ≡ 0 }
         ensures { self.new ≡ with_content (with_bytes (resized (bytes_in self.old.content) n))
@@ -260,7 +258,7 @@ impl Node {
         }
     }
 
-    /// Whether no name and no handle leads to it.
+    /// Whether it has neither link nor open handle.
     pub(crate) fn is_unused(&self) -> bool
         ensures { result ≡ is_unused self.now }
     {

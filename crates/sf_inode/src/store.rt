@@ -1,4 +1,4 @@
-//! The nodes, and what is open.
+//! The store of inodes and open handles.
 
 ghost use Rattle.std.specs.Prelude.{◌≡◌, ◌≤◌, ℕ, ◌+◌, ◌-◌, ◌<◌, ◌^◌, [], true, false, length, take, Some, None, IfSome, IfNone, IsOk, IfOk, OnOk, OnErr, is_some, option_map};
 ghost use Rattle.std.specs.Option.{option_map_or};
@@ -24,10 +24,10 @@ use std::marker::Model;
 
 mod leaves;
 
-/// Room for fewer nodes isn't given back.
+/// A store with fewer slots is not shrunk.
 const MANY: usize = 64;
 
-/// Files, directories and what is open.
+/// All inodes, and the open handles of all sessions.
 #[derive(Drop)]
 pub struct Store {
     alloc: Global,
@@ -35,7 +35,7 @@ pub struct Store {
     root: NodeId,
     sessions: BTreeMap<u64, SessionHandles>,
     look_ups: u64,
-    /// How often the store was trimmed since room for nodes was last given back.
+    /// The calls of `trim` since slots were last freed.
     trims: usize,
 }
 
@@ -53,7 +53,7 @@ impl Model for Store {
 }
 
 impl Store {
-    /// A directory alone, the root.
+    /// A store with an empty root directory.
     pub fn new(alloc: Global) -> Result<Store, AllocError>
         ensures { IfOk result (λ store. IsFirst store) }
     {
@@ -82,16 +82,16 @@ impl Store {
         })
     }
 
-    /// What the store takes its memory from; there is one `Global`.
+    /// The allocator of the store; there is one `Global`.
     pub fn alloc(&self) -> Global
         ensures { (any : Global) → result ≡ any }
     {
         self.alloc
     }
 
-    /// Gives back the room of nodes that are gone, where few are left of many: at most once in as
-    /// many calls as a sixteenth of the room, so that a call of it after each change costs little.
-    /// Nodes keep their numbers, so the room up to the greatest of them stays.
+    /// Frees unused slots if few of many are used. It shrinks at most once per n / 16 calls, for n
+    /// slots, so a call after each change is cheap. Inodes keep their slots, so slots up to the
+    /// last used one stay.
     pub fn trim(&mut self)
         ensures nodes { (id : ℕ) → node_in self.new.nodes id ≡ node_in self.old.nodes id }
         ensures rest { self.new ≡ with_nodes self.old self.new.nodes }
@@ -107,21 +107,21 @@ impl Store {
         }
     }
 
-    /// The root's number, which stays.
+    /// The slot of the root, which never changes.
     pub fn root(&self) -> NodeId
         ensures { result ≡ self.now.root }
     {
         self.root
     }
 
-    /// How many look-ups were made, up to 2^64 - 1.
+    /// The number of lookups, up to 2^64 - 1.
     pub fn look_ups(&self) -> u64
         ensures { result ≡ self.now.look_ups }
     {
         self.look_ups
     }
 
-    /// The node that a name of a directory leads to. It counts as one look-up.
+    /// Looks up a name in a directory. Counts as one lookup.
     pub fn find(&mut self, dir: NodeId, name: &Name) -> Option<NodeId>
         ensures found { result ≡ child_of self.old.nodes dir name.now }
         ensures counted { self.new ≡ looked_up self.old }
@@ -139,7 +139,7 @@ impl Store {
         }
     }
 
-    /// The attributes of a node, as they are sent.
+    /// The attributes of an inode as sent.
     pub fn attrs(&self, node: NodeId) -> Option<Attrs>
         ensures { result
             ≡ option_map (λ it. attrs_of (object_in it.metadata it.content))
@@ -151,7 +151,7 @@ impl Store {
         }
     }
 
-    /// Whether a node is there and is a directory.
+    /// Whether an inode exists and is a directory.
     pub fn is_directory(&self, node: NodeId) -> bool
         ensures { result ≡ is_directory_at self.now.nodes node }
     {
@@ -161,7 +161,7 @@ impl Store {
         }
     }
 
-    /// Whether a node is there and has no entries; a file has none.
+    /// Whether an inode exists and has no entries; a file has none.
     pub fn is_empty(&self, node: NodeId) -> bool
         ensures { result ≡ is_bare_at self.now.nodes node }
     {
@@ -171,7 +171,7 @@ impl Store {
         }
     }
 
-    /// The number of the call that holds a node.
+    /// The number of the call that holds an inode, if any.
     pub fn holder(&self, node: NodeId) -> Option<u64>
         ensures { result ≡ holder_of self.now.nodes node }
     {
@@ -181,7 +181,7 @@ impl Store {
         }
     }
 
-    /// A call holds a node from now on.
+    /// Makes a call the holder of an inode.
     pub fn hold(&mut self, node: NodeId, number: u64)
         ensures { self.new ≡ edited (with_holder (Some number)) self.old node }
     {
@@ -190,7 +190,7 @@ impl Store {
         }
     }
 
-    /// No call holds a node from now on.
+    /// Clears the holder of an inode.
     pub fn free(&mut self, node: NodeId)
         ensures { self.new ≡ edited (with_holder None) self.old node }
     {
@@ -199,7 +199,7 @@ impl Store {
         }
     }
 
-    /// Sets the parts that are given, all but a size.
+    /// Sets the given attributes, except the size.
     pub fn set(&mut self, node: NodeId, attrs: &Attrs)
         ensures { self.new ≡ edited (with_metadata (λ m. with_parts m attrs.now)) self.old node }
     {
@@ -208,7 +208,7 @@ impl Store {
         }
     }
 
-    /// Sets the time of change alone, in seconds since 1970.
+    /// Sets the modification time alone, in seconds since 1970.
     pub fn touch(&mut self, node: NodeId, moment: u32)
         ensures { self.new ≡ edited (with_metadata (modified_at moment)) self.old node }
     {
@@ -217,7 +217,7 @@ impl Store {
         }
     }
 
-    /// Puts a new node under a new name of a directory.
+    /// Creates an inode with a new entry in a directory.
     pub fn insert(&mut self, dir: NodeId, name: Name, made: NewNode) -> Result<NodeId, AllocError>
         ensures ok { IfOk result (λ id. Inserted self.old self.new (new_entry dir name id)
             (new_node made)) }
@@ -232,7 +232,7 @@ impl Store {
         Ok(id)
     }
 
-    /// Takes a name out of a directory, and gives the node that it led to.
+    /// Removes an entry and returns its inode.
     fn take_entry(&mut self, dir: NodeId, name: &Name) -> Option<NodeId>
         ensures node { result ≡ child_of self.old.nodes dir name.now }
         ensures rest { self.new ≡ entry_taken self.old dir name.now }
@@ -244,7 +244,7 @@ impl Store {
         }
     }
 
-    /// Lets a node go that no name and no handle leads to.
+    /// Deletes an inode that has neither link nor open handle.
     fn release(&mut self, node: NodeId)
         ensures { self.new ≡ released self.old node }
     {
@@ -257,7 +257,7 @@ impl Store {
         }
     }
 
-    /// One name less leads to a node.
+    /// An inode loses a link.
     fn forget(&mut self, node: NodeId)
         ensures { self.new ≡ forgotten self.old node }
     {
@@ -267,7 +267,7 @@ impl Store {
         self.release(node);
     }
 
-    /// A handle less opens a node.
+    /// An inode loses an open handle.
     fn let_go(&mut self, node: NodeId)
         ensures { self.new ≡ after_close self.old node }
     {
@@ -277,7 +277,7 @@ impl Store {
         self.release(node);
     }
 
-    /// Takes a name out of a directory, and lets its node go if nothing else leads to it.
+    /// Removes an entry, and deletes its inode if it is unused.
     pub fn unlink(&mut self, dir: NodeId, name: &Name)
         ensures { self.new ≡ unlinked self.old dir name.now }
     {
@@ -286,7 +286,7 @@ impl Store {
         }
     }
 
-    /// How many names lead to a node.
+    /// The number of links of an inode.
     pub fn links(&self, node: NodeId) -> u64
         ensures { result ≡ link_count_at self.now.nodes node }
     {
@@ -296,7 +296,7 @@ impl Store {
         }
     }
 
-    /// A further name of a directory, which is free, leads to a node.
+    /// Links an inode at an absent name of a directory.
     pub fn link(&mut self, dir: NodeId, name: Name, node: NodeId) -> Result<(), AllocError>
         ensures ok { OnOk result (self.new ≡ linked self.old dir name node) }
         ensures err { OnErr result (self.new ≡ self.old) }
@@ -308,8 +308,8 @@ impl Store {
         Ok(())
     }
 
-    /// Moves an entry to another name: a new one, or one that leads to another node, which goes if
-    /// nothing else leads to it.
+    /// Moves an entry to a new name. If the name has an entry of another inode, that is replaced,
+    /// and the inode is deleted if it is unused.
     pub fn relink(
         &mut self,
         old_dir: NodeId,
@@ -333,7 +333,7 @@ impl Store {
         Ok(())
     }
 
-    /// A name of a directory leads to a node from now on.
+    /// Inserts or replaces an entry.
     fn put_entry(&mut self, dir: NodeId, name: Name, node: NodeId) -> Result<(), AllocError>
         ensures ok { OnOk result (self.new ≡ entry_put self.old dir name node) }
         ensures err { OnErr result (self.new ≡ self.old) }
@@ -344,7 +344,7 @@ impl Store {
         Ok(())
     }
 
-    /// The bytes of a file. A directory has none.
+    /// The contents of a file; `None` for a directory.
     pub fn file(&self, node: NodeId) -> Option<&Contents>
         ensures some { IfSome result (λ file. (is_file_at self.now.nodes node ≡ true)
             × (file.now.bytes ≡ bytes_of self.now.nodes node)
@@ -354,14 +354,14 @@ impl Store {
         self.nodes.get(node)?.file()
     }
 
-    /// How many bytes a file has. A directory has none.
+    /// The size of a file in bytes; `None` for a directory.
     pub fn file_len(&self, node: NodeId) -> Option<u64>
         ensures { result ≡ file_size self.now.nodes node }
     {
         Some(self.file(node)?.len())
     }
 
-    /// How many blocks of a file are still to be copied.
+    /// The number of blocks of a file that are still to be copied.
     pub fn left(&self, node: NodeId) -> usize
         ensures { result ≡ blocks_left_at self.now.nodes node }
     {
@@ -371,8 +371,8 @@ impl Store {
         }
     }
 
-    /// Begins to replace a file's bytes from an offset on; a gap before them is filled with zeros.
-    /// It takes all memory that this wants, and copies no block.
+    /// Starts a write to a file at an offset; a gap before it is filled with zeros. Makes all its
+    /// allocations, and copies no block.
     pub fn start_write(
         &mut self,
         node: NodeId,
@@ -392,7 +392,7 @@ impl Store {
         }
     }
 
-    /// Copies one block of a file that is being written. It needs no memory.
+    /// Copies one block of the pending write of a file. Allocates nothing.
     pub fn copy_block(&mut self, node: NodeId)
         requires { 0 < blocks_left_at self.old.nodes node }
         ensures { self.new ≡ left_set self.old node (blocks_left_at self.old.nodes node - 1) }
@@ -402,7 +402,7 @@ impl Store {
         }
     }
 
-    /// Copies all blocks of a file that are left. It needs no memory.
+    /// Copies the rest of the pending write of a file. Allocates nothing.
     pub fn copy_rest(&mut self, node: NodeId)
         ensures { self.new ≡ left_set self.old node 0 }
     {
@@ -411,7 +411,7 @@ impl Store {
         }
     }
 
-    /// Cuts a file's bytes at a size, or fills them up to it with zeros. It takes no memory.
+    /// Truncates a file to a size, or extends it with zeros. Allocates nothing.
     pub fn set_len(&mut self, node: NodeId, n: u64)
         requires { blocks_left_at self.old.nodes node ≡ 0 }
         ensures { self.new ≡ bytes_set self.old node (resized (bytes_of self.old.nodes node) n) }
@@ -421,7 +421,7 @@ impl Store {
         }
     }
 
-    /// Opens a node by a handle of a session, with no name listed yet.
+    /// Opens an inode with a handle of a session, with no name listed yet.
     pub fn open(
         &mut self,
         session: u64,
@@ -471,7 +471,7 @@ impl Store {
         }
     }
 
-    /// A session's handle.
+    /// The handle with this number in the session.
     pub fn handle(&self, session: u64, number: u64) -> Option<&OpenHandle>
         ensures { option_copied result ≡ open_handle_at self.now session number }
     {
@@ -481,7 +481,7 @@ impl Store {
         }
     }
 
-    /// How many handles a session has.
+    /// The number of open handles of a session.
     pub fn handles(&self, session: u64) -> usize
         ensures { result
             ≡ option_map_or (λ handles. length handles) (handles_of self.now session) 0 }
@@ -492,8 +492,8 @@ impl Store {
         }
     }
 
-    /// Closes a session's handle, if it is there, and tells whether it was. Its node goes if
-    /// nothing else names it.
+    /// Closes a handle of a session and returns whether it was open. Its inode is deleted if it is
+    /// unused.
     pub fn close(&mut self, session: u64, number: u64) -> bool
         ensures told { result ≡ is_some (open_handle_at self.old session number) }
         ensures closed { self.new ≡ closed self.old session number }
@@ -536,7 +536,7 @@ impl Store {
         }
     }
 
-    /// Sets the last name that a listing by a handle gave.
+    /// Sets the last name that a handle's listing returned.
     pub fn listed(&mut self, session: u64, number: u64, name: &Name) -> Result<(), AllocError>
         ensures ok { OnOk result (self.new ≡ handle_listed self.old session number name.now) }
         ensures err { OnErr result (self.new ≡ self.old) }
@@ -548,8 +548,8 @@ impl Store {
         Ok(())
     }
 
-    /// The first entries of a directory whose names come after the last one that was given, so many
-    /// at most. Takes memory for these alone, and none where none are left.
+    /// The first entries of a directory after the last one that was listed, at most `most`.
+    /// Allocates for these alone, and nothing if none are left.
     pub fn entries_after(
         &self,
         dir: NodeId,

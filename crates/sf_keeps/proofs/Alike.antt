@@ -1,4 +1,4 @@
--- What stays true of a store that keeps a tree, where entries and what nodes are stay.
+-- Invariants of a store that represents a tree, if its entries and inodes stay.
 use Rattle.std.specs.Prelude.{◌≡◌, ◌≢◌, ℕ, List, Option, Some, None, refl}
 use Rattle.std.proofs.Common.{sym, ap, subst, ◌∙◌, inl, inr}
 use Rattle.std.proofs.lemmas.Bool.{cases_eq}
@@ -14,7 +14,7 @@ use Rattle.sf_keeps.proofs.StoreLaws.{entry_same, steps_dropped}
 use Rattle.sf_keeps.proofs.InOrder.{InOrder, node_in_order, in_order_put}
 use Rattle.sf_keeps.proofs.Openings.{one_node}
 
--- a node of before, with its label and its names
+-- an old inode, with its number and its links
 pub record Before (before : List (Option Node)) (i : ℕ) (after : Node) : Type 0 where
   pub node : Node
   pub there : node_in before i ≡ Some node
@@ -37,7 +37,7 @@ module _ (s : StoreState) (t : Tree) (k : Keeps s t) (after : StoreState) (a : A
       let b = a.back id node at in
       a.steps id n ∙ k.bare id b.node b.there (sym b.named ∙ none) n
 
--- ---- another count at a node
+-- ---- another count of an inode
 module _ (s : StoreState) (t : Tree) (k : Keeps s t) (c n : ℕ) (node : Node) (here : node_in s.nodes c ≡ Some node) (nodes : List (Option Node))
     (put : SetsAt (node_in s.nodes) (node_in nodes) c (Some (with_opened n node))) where
   pub counted_alike : AreAlike s.nodes nodes
@@ -67,7 +67,7 @@ module _ (s : StoreState) (t : Tree) (k : Keeps s t) (c n : ℕ) (node : Node) (
         | inr ne ↦ (x, put.beside i ne ∙ at, refl)
       ]
 
--- ---- without a node
+-- ---- without an inode
 module _ (s : StoreState) (t : Tree) (k : Keeps s t) (c : ℕ) (node : Node) (here : node_in s.nodes c ≡ Some node) (nodes : List (Option Node))
     (put : SetsAt (node_in s.nodes) (node_in nodes) c None) where
   pub gone_alike : IsBare (child_of s.nodes) c → AreAlike s.nodes nodes

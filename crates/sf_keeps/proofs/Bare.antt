@@ -49,7 +49,7 @@ only_is p q n = elim (after_front p q) as (λ o. after_front p q ≡ o → only_
   | Some r ↦ λ e f. only_rest p q r n e f
 ] refl
 
--- a node that is not bare has an entry
+-- an inode that is not bare has an entry
 first_entry : (c : Content) → is_bare_content c ≡ false → (n : Name) × (id : ℕ) × (child_in c n ≡ Some id)
 first_entry (content.Directory []) e = absurd (cc)
 first_entry (content.Directory (x ∷ es)) e = (x.0, x.1, ap (λ b. cond b (Some x.1) (lookup (same_name x.0) es)) (same_name_itself x.0))
@@ -65,7 +65,7 @@ module _ (s : StoreState) (t : Tree) (k : Keeps s t) (p : Path) (id : ℕ) (at :
       some_children t.names p (p ++ n ∷ []) n w.0.label (ap only_name (after_front-append p (n ∷ [])))
       (label_there (view_of s) t k.shows p id n c w.0.label (shown_node w.0).1 at there (ap (option_map shown_node) w.1))
 
-  -- what a path leads to is bare where no name stands below the path
+  -- the inode of a path is bare if no name is below the path
   pub bare_found : is_empty t.names p ≡ is_bare_at s.nodes id
   bare_found = elim (node_in s.nodes id) as (λ o. node_in s.nodes id ≡ o → is_empty t.names p ≡ option_map_or (λ (it : Node). is_bare_content it.content) o false) [
     | None ↦ λ e. absurd (reached_there (child_of s.nodes) (view_of s).shown s.root k.shows.by.sound p id at (ap (option_map shown_node) e))

@@ -1,4 +1,4 @@
--- A store keeps the tree after a handle was closed.
+-- A store represents the tree after a handle was closed.
 use Rattle.std.specs.Prelude.{◌≡◌, ◌≢◌, ℕ, ◌+◌, ◌-◌, ◌<◌, ◌^◌, nat_eq, Bool, true, false, cond, ◌&&◌, if◌then◌else◌, List, slice_set, option_map, Option, Some, None, refl}
 use Rattle.std.proofs.Common.{sym, ap, subst, ◌∙◌, arith, eq-eqb, inl, inr}
 use Rattle.std.proofs.lemmas.Bool.{true_from_ne_false, and_cases, or_left, or_right, cases_Bool}
@@ -49,7 +49,7 @@ module _ (s : StoreState) (t : Tree) (k : Keeps s t) (session number : ℕ) (h :
   numbers_after : (q : ℕ) (x : Handle) → handle_of after.handles q ≡ Some x → (0 < q) × (q < 2 ^ 64)
   numbers_after q x e = k.numbers q x (gone_found (removed_at number_keys t.handles number k.shows.ordered.handles) q e).1
 
-  -- ---- how often the node is open now
+  -- ---- the number of open handles of the inode now
   others : (label : ℕ) → node.label ≢ label → times_open after label ≡ times_open t label
   others label ne =
       let a : times_open t label ≡ 0 + times_open after label = closed_times t number shown label there ∙ ap (λ b. cond b 1 0 + times_open after label) (nat_eq_apart h.label label (λ e. ne (same ∙ e))) in
@@ -61,7 +61,7 @@ module _ (s : StoreState) (t : Tree) (k : Keeps s t) (session number : ℕ) (h :
       let b = k.counted h.node node here in
       omega (arith, a, b)
 
-  -- a handle that is open still is counted
+  -- a handle that is still open is counted
   closed_label : times_open after node.label ≡ 0 → IsClosed seen h.label
   closed_label none a b x e label =
       any_counted (λ e. nat_eq e.1.label node.label) rest.handles
@@ -97,7 +97,7 @@ module _ (s : StoreState) (t : Tree) (k : Keeps s t) (session number : ℕ) (h :
     view_mid : view_of mid ≡ seen
     view_mid = view_set s new session number None set
 
-    -- a handle of the session's others
+    -- another handle of the session
     still_there : (a b : ℕ) (x : OpenHandle) → open_handle_at mid a b ≡ Some x → open_handle_at s a b ≡ Some x
     still_there a b x e = was_there (nat_eq session a && nat_eq number b) (sym (set.at a b) ∙ e)
 
@@ -121,7 +121,7 @@ module _ (s : StoreState) (t : Tree) (k : Keeps s t) (session number : ℕ) (h :
           numbers = numbers_after;
         })
 
-    -- ---- it goes
+    -- ---- it is deleted
     abbrev goes : StoreState
     goes = with_nodes stays (slice_set stays.nodes h.node None)
 

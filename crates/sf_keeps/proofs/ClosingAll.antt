@@ -1,4 +1,4 @@
--- A store keeps the tree after a session's handles were all closed.
+-- A store represents the tree after all handles of a session were closed.
 use Rattle.std.specs.Prelude.{◌≡◌, ℕ, ◌-◌, Bool, true, false, cond, T, if◌then◌else◌, List, [], ◌∷◌, slice_set, option_map, option_and_then, Option, Some, None, refl}
 use Rattle.std.proofs.Common.{sym, ap, subst, ◌∙◌}
 use Rattle.std.specs.Ordering.{nat_cmp}
@@ -29,7 +29,7 @@ Handles = List (ℕ × OpenHandle)
 abbrev Sessions : Type 0
 Sessions = List (ℕ × Handles)
 
--- ---- to let a node go has nothing to do with the handles
+-- ---- deleting an inode does not affect the handles
 released_apart : (s : StoreState) (sessions : Sessions) (c : ℕ) (o : Option Node) → released_if (with_sessions s sessions) c o ≡ with_sessions (released_if s c o) sessions
 released_apart s sessions c None = refl
 released_apart s sessions c (Some node) =
@@ -40,7 +40,7 @@ let_go_apart s sessions c =
     let now = edited (λ node. with_opened (node.opens - 1) node) s c in
     released_apart now sessions c (node_in now.nodes c)
 
--- ---- the same handles by look-ups
+-- ---- the same handles by lookups
 module _ (s : StoreState) (t : Tree) (k : Keeps s t) (new : Sessions) (same : (a b : ℕ) → open_handle_at (with_sessions s new) a b ≡ open_handle_at s a b) (sorted : T (is_sorted nat_cmp new)) (own : AreOrdered new) where
   keeps_same : Keeps (with_sessions s new) t
   keeps_same = record {
@@ -104,7 +104,7 @@ module _ (session : ℕ) where
     left : leave (changed t (change.CloseHandle e.0)) session ≡ leave t session
     left = leave_closed t session e.0 (shown_handle session e.1) there refl
 
-    -- the same nodes, without the session
+    -- the same inodes, without the session
     same_nodes : with_sessions (with_sessions (after_close s e.1.node) less) (remove_entry here less) ≡ after_close (with_sessions s (remove_entry here s.sessions)) e.1.node
     same_nodes = ap (with_sessions (after_close s e.1.node)) (removed_set here s.sessions rest) ∙ sym (let_go_apart s (remove_entry here s.sessions) e.1.node)
 

@@ -1,4 +1,4 @@
--- Copying what is written: what it leaves alone, and that it may be finished after any number of blocks.
+-- Copying of blocks: what it leaves alone, and that it may be completed after any number of blocks.
 use Rattle.std.specs.Prelude.{◌≡◌, ◌≢◌, ℕ, true, false, Option, Some, None, option_map, option_and_then, refl}
 use Rattle.std.specs.Option.{option_map_or}
 use Rattle.std.proofs.Common.{sym, ap, ◌∙◌, inl, inr}
@@ -19,7 +19,7 @@ node_left : (j k : ℕ) (o : Option Node) → option_map (with_content (with_lef
 node_left j k None = refl
 node_left j k (Some node) = λ i. Some (with_content (λ c. left_left j k c i) node)
 
--- after some blocks, what is left is copied as if none had been before
+-- copying some blocks and then the rest equals copying all
 pub rest_after : (j k : ℕ) (s : StoreState) (id i : ℕ) → node_in (left_set (left_set s id k) id j).nodes i ≡ node_in (left_set s id j).nodes i
 rest_after j k s id i = elim (cases_eq i id) [
   | inl e ↦
@@ -43,7 +43,7 @@ shown_by : (k : ℕ) (o : Option Node) → option_map shown_node (option_map (wi
 shown_by k None = refl
 shown_by k (Some node) = λ i. Some (node.label, object_left k node.metadata node.content i)
 
--- no holder changes, and nothing that is seen
+-- holders and the observable part are unchanged
 pub left_holders : (k : ℕ) (s : StoreState) (id i : ℕ) → holder_of (left_set s id k).nodes i ≡ holder_of s.nodes i
 left_holders k s id i = elim (cases_eq i id) [
   | inl e ↦
@@ -71,7 +71,7 @@ left_by k (Some node) file = elim node.content as (λ c. is_file_content c ≡ t
   | content.File contents ↦ λ e. refl
 ] file
 
--- so many blocks of a file are left then, and as many of each other one as were
+-- the number of blocks left of a file then, and of the others
 pub left_there : (k : ℕ) (s : StoreState) (id : ℕ) → is_file_at s.nodes id ≡ true → blocks_left_at (left_set s id k).nodes id ≡ k
 left_there k s id file =
     ap (λ (o : Option Node). option_map_or (λ (node : Node). blocks_left_in node.content) o 0) (edited_itself (with_content (with_left k)) s id)

@@ -1,5 +1,5 @@
--- What the nodes of a kept store count, over functions: each node's label, its names, and what
--- opens it.
+-- The counts in the inodes of a store, as functions: each inode's number, its links and its open
+-- handles.
 use Rattle.std.specs.Prelude.{◌≡◌, ◌≢◌, ℕ, nat_eq, Bool, false, cond, T, List, option_map, Option, Some, None}
 use Rattle.std.proofs.Common.{sym, ap, subst, ◌∙◌, inl, inr}
 use Rattle.std.proofs.lemmas.Bool.{cases_eq}
@@ -20,7 +20,7 @@ use Rattle.sf_keeps.proofs.SetsAt.{SetsAt, sets, set_found}
 use Rattle.sf_keeps.proofs.Sound.{IsBare}
 use Rattle.sf_keeps.proofs.InOrder.{InOrder}
 
--- a label, how many names lead there, and how many handles do
+-- an inode number, the number of its links, and that of its handles
 abbrev pub Mark : Type 0
 Mark = ℕ × ℕ × ℕ
 
@@ -47,7 +47,7 @@ marks_found : (nodes : List (Option Node)) (id label names opens : ℕ) → mark
 marks_found nodes id label names opens at =
     let w = found_as (node_in nodes id) at in (w.0, w.1, ap (λ (m : Mark). m.0) w.2, ap (λ (m : Mark). m.1) w.2, ap (λ (m : Mark). m.2) w.2)
 
--- ---- a kept store is so
+-- ---- a store that represents a tree is counted
 pub marked : (s : StoreState) (t : Tree) → Keeps s t → IsMarked (child_of s.nodes) (marks_of s.nodes) (links t.names) (times_open t) (open_handle_at s)
 marked s t k = record {
   bare = λ id label opens e. let w = marks_found s.nodes id label 0 opens e in k.bare id w.0 w.1 w.3;
@@ -56,9 +56,8 @@ marked s t k = record {
   led = λ session number h e. let w = k.led session number h e in (w.0.names, w.0.opens, ap (option_map mark_of) w.1.0 ∙ (λ i. Some (w.1.1 i, w.0.names, w.0.opens)));
 }
 
--- what is so is kept, where handles stay
--- What an event leaves of a store and its tree: the tree is shown, and the store's entries and marks
--- are these.
+-- The state after an event: the view has the tree, and these are the store's entries and counts.
+-- The store then represents the tree, if the handles stay.
 pub record LeavesMarked (s new : StoreState) (t after : Tree) : Type 0 where
   pub step : EntryMap
   pub marks : Marks
@@ -94,7 +93,7 @@ keeps_marked s new t after k w =
 
 -- ---- other entries
 module _ {step : EntryMap} (new : EntryMap) {marks : Marks} {paths : ℕ → ℕ} (after : ℕ → ℕ) {count : ℕ → ℕ} {handles : ℕ → ℕ → Option OpenHandle} (m : IsMarked step marks paths count handles) where
-  -- as many paths of each node
+  -- the same number of paths of each inode
   pub marked_same : ((id label opens : ℕ) → marks id ≡ Some (label, 0, opens) → IsBare step id → IsBare new id) → ((label : ℕ) → after label ≡ paths label) → IsMarked new marks after count handles
   marked_same bare same = record {
     bare = λ id label opens e. bare id label opens e (m.bare id label opens e);
@@ -103,7 +102,7 @@ module _ {step : EntryMap} (new : EntryMap) {marks : Marks} {paths : ℕ → ℕ
     led = m.led;
   }
 
-  -- another mark of one node, of its label, that a handle's node doesn't lose; or none
+  -- another count of one inode, of its number, which an inode with a handle keeps; or none
   module _ (c : ℕ) {label names opens : ℕ} (at : marks c ≡ Some (label, names, opens)) (named : ℕ) (lost : Bool) (bare : IsBare new c)
       (bares : (id l o : ℕ) → marks id ≡ Some (l, 0, o) → IsBare step id → IsBare new id)
       (others : (id l b o : ℕ) → c ≢ id → marks id ≡ Some (l, b, o) → after l ≡ paths l) (own : named ≡ after label)

@@ -1,4 +1,4 @@
--- How many handles open an object, before and after a change of the handles.
+-- The number of open handles of an object, before and after a change of the handles.
 use Rattle.std.specs.Prelude.{◌≡◌, ◌≢◌, ℕ, ◌+◌, ◌<◌, ◌^◌, nat_eq, Bool, cond, T, List, [], ◌∷◌, length, Some, None, refl}
 use Rattle.std.proofs.Common.{sym, ap, subst, ◌∙◌, inl, inr, arith}
 use Rattle.std.proofs.lemmas.Bool.{cases_eq, cond-false}
@@ -22,7 +22,7 @@ use Rattle.sf_keeps.proofs.Through.{by_test}
 use Rattle.sf_keeps.proofs.SetsAt.{number_keys, apart}
 use Rattle.sf_keeps.proofs.Shown.{nat_at_itself}
 
--- ---- a sum over the values of entries, where one is set to a value of the same weight
+-- ---- a sum over the values of entries, if one is set to a value of the same weight
 module _ {K X : Type 0} (g : X → ℕ) where
   abbrev weight : K × X → ℕ
   weight e = g e.1
@@ -35,7 +35,7 @@ module _ {K X : Type 0} (g : X → ℕ) where
         | inr a ↦ rw a.0 (sum_by-cons weight e (set_value test es u) ∙ ap (λ x. g e.1 + x) (sum_set test es v u a.1 s) ∙ sym (sum_by-cons weight e es))
       ]
 
--- ---- so many numbers at most
+-- ---- the most numbers in a range
 is_less : (r : Ordering) → T (is_lt r) → Less ≡ r
 is_less Less p = refl
 is_less Equal p = absurd p
@@ -67,7 +67,7 @@ module _ {X : Type 0} where
       (λ q v l. elim (cases_eq q e.0) [ inl t ↦ subst (λ (x : ℕ). x < high) (sym t) here.1 | inr ne ↦ (within q v (after_first e es q v ne l)).1 ]) here.1 in
       omega (arith, first, rest)
 
--- ---- how many handles open a label
+-- ---- the number of open handles of an inode number
 abbrev opens_of : ℕ → Handle → ℕ
 opens_of label h = cond (nat_eq h.label label) 1 0
 
@@ -81,7 +81,7 @@ module _ (t : Tree) (number : ℕ) (h : Handle) (label : ℕ) where
   pub set_times : (after : Handle) → handle_of t.handles number ≡ Some h → after.label ≡ h.label → times_open (changed t (SetHandle number after)) label ≡ times_open t label
   set_times after there same = sum_set (opens_of label) (is_at (nat_cmp number)) t.handles h after there (ap (λ (l : ℕ). cond (nat_eq l label) 1 0) same)
 
--- Numbers are above 0 and fit 64 bits, so that many handles at most.
+-- Handle numbers are above 0 and fit 64 bits, which limits the number of handles.
 pub few_handles : (t : Tree) (label : ℕ) → T (is_sorted nat_cmp t.handles) → ((number : ℕ) (h : Handle) → handle_of t.handles number ≡ Some h → (0 < number) × (number < 2 ^ 64)) → times_open t label < 2 ^ 64
 few_handles t label sorted numbers =
     let most = few t.handles (2 ^ 64) (omega arith) sorted numbers in

@@ -1,4 +1,4 @@
--- Where a path leads in a tree, by the way that a store finds.
+-- Path resolution in a tree, by that in the store.
 use Rattle.std.specs.Prelude.{◌≡◌, ℕ, Bool, true, false, not, ◌||◌, List, [], ◌∷◌, ◌++◌, map, option_map, option_and_then, is_some, Option, Some, None, if◌then◌else◌, refl}
 use Rattle.std.specs.Option.{option_map_or}
 use Rattle.std.specs.List.{list_any}
@@ -21,12 +21,12 @@ use Rattle.sf_keeps.proofs.Sound.{is_directory_shown, reached_there}
 use Rattle.sf_keeps.proofs.Whole.{one_more}
 use Rattle.sf_keeps.proofs.Openings.{object_there}
 
--- ---- the fronts of a path
+-- ---- the prefixes of a path
 any_mapped : {A B : Type 0} (f : A → B) (test : B → Bool) (xs : List A) → list_any test (map f xs) ≡ list_any (λ x. test (f x)) xs
 any_mapped f test [] = refl
 any_mapped f test (x ∷ xs) = ap (λ b. test (f x) || b) (any_mapped f test xs)
 
--- whether a proper front fails
+-- whether a proper prefix fails
 abbrev fails : (Path → Bool) → Path → Bool
 fails passes path = list_any (λ front. not (passes front)) (proper_fronts path)
 
@@ -80,25 +80,25 @@ module _ (view : View) (t : Tree) (s : ShowsBy view t) where
       ∙ ap (λ b. not b || fails (λ front. leads_to_directory (option_and_then (λ z. walk view.step z front) (view.step x n))) path) (s.sound.owns x y n there)
       ∙ ap (λ (o : Option ℕ). fails (λ front. leads_to_directory (option_and_then (λ z. walk view.step z front) o)) path) there
 
-  -- the way to a node is clear
+  -- the path to an inode resolves
   clear_way : (path : Path) (x id : ℕ) → walk view.step x path ≡ Some id → way_from x path ≡ false
   clear_way [] x id w = refl
   clear_way (n ∷ path) x id w =
       let y = found_through (view.step x n) w in further x y.0 n path y.1 ∙ clear_way path y.0 id y.2
 
-  -- and the way to each name of a directory
+  -- and so does the path to each name of a directory
   clear_name : (p : Path) (n : Name) (x d : ℕ) → walk view.step x p ≡ Some d → is_directory_by view.shown d ≡ true → way_from x (p ++ n ∷ []) ≡ false
   clear_name [] n x d w is = let same : x ≡ d = cc in ap (λ b. not b || false) (ap (is_directory_by view.shown) same ∙ is)
   clear_name (m ∷ p) n x d w is =
       let y = found_through (view.step x m) w in further x y.0 m (p ++ n ∷ []) y.1 ∙ clear_name p n y.0 d y.2 is
 
-  -- no way leads on from what is no directory
+  -- resolution fails after an inode that is no directory
   no_way : (p : Path) (m : Name) (q : Path) → leads_to_directory (walk view.step view.root p) ≡ false → look_up t (p ++ m ∷ q) ≡ NoWay
   no_way p m q e =
       ap (λ (b : Bool). if b then NoWay else lookup_of (label_at t.names (p ++ m ∷ q)))
       (way_by (p ++ m ∷ q) ∙ fails_at (λ front. leads_to_directory (walk view.step view.root front)) p m q e)
 
--- ---- in a kept store
+-- ---- in a store that represents a tree
 label_in : (nodes : List (Option Node)) (w : Option ℕ) → option_and_then (label_by (shown_of nodes)) w ≡ option_map (λ (node : Node). node.label) (option_and_then (node_in nodes) w)
 label_in nodes None = refl
 label_in nodes (Some x) = elim (node_in nodes x) as (λ o. option_map (λ (z : ℕ × Object). z.0) (option_map shown_node o) ≡ option_map (λ (node : Node). node.label) o) [ None ↦ refl | Some node ↦ refl ]
@@ -116,7 +116,7 @@ no_file nodes x = elim (node_in nodes x) as (λ o. option_map_or (λ (it : Node)
 ]
 
 module _ (s : StoreState) (t : Tree) (k : Keeps s t) where
-  -- a name further
+  -- one more name
   pub walk_on : (p : Path) (dir : ℕ) (n : Name) → walk (child_of s.nodes) s.root p ≡ Some dir → walk (child_of s.nodes) s.root (p ++ n ∷ []) ≡ child_of s.nodes dir n
   walk_on p dir n at = one_more (view_of s) t k.shows p dir n at
 
@@ -126,7 +126,7 @@ module _ (s : StoreState) (t : Tree) (k : Keeps s t) where
   pub way_found : (p : Path) (dir : ℕ) (n : Name) → walk (child_of s.nodes) s.root p ≡ Some dir → is_directory_at s.nodes dir ≡ true → is_faulty_way t (p ++ n ∷ []) ≡ false
   way_found p dir n at is = way_by (view_of s) t k.shows.by (p ++ n ∷ []) ∙ clear_name (view_of s) t k.shows.by p n s.root dir at (directory_in s.nodes dir ∙ is)
 
-  -- what a way leads to stands there
+  -- a resolved inode is at the path
   pub place_found : (path : Path) (id : ℕ) (node : Node) → walk (child_of s.nodes) s.root path ≡ Some id → node_in s.nodes id ≡ Some node → look_up t path ≡ At node.label
   place_found path id node at here =
       ap (λ (b : Bool). if b then NoWay else lookup_of (label_at t.names path)) (way_by (view_of s) t k.shows.by path ∙ clear_way (view_of s) t k.shows.by path s.root id at)
@@ -135,7 +135,7 @@ module _ (s : StoreState) (t : Tree) (k : Keeps s t) where
   pub object_found : (path : Path) (id : ℕ) (node : Node) → walk (child_of s.nodes) s.root path ≡ Some id → node_in s.nodes id ≡ Some node → found_at t path ≡ found_object node.label (Some (object_in node.metadata node.content))
   object_found path id node at here = ap (found_place t.objects) (place_found path id node at here) ∙ ap (found_object node.label) (object_there s t k id node here)
 
-  -- a name that a directory has not
+  -- an absent name of a directory
   pub absent_found : (p : Path) (dir : ℕ) (n : Name) → walk (child_of s.nodes) s.root p ≡ Some dir → is_directory_at s.nodes dir ≡ true → child_of s.nodes dir n ≡ None → look_up t (p ++ n ∷ []) ≡ Absent
   absent_found p dir n at is none =
       ap (λ (b : Bool). if b then NoWay else lookup_of (label_at t.names (p ++ n ∷ []))) (way_found p dir n at is)
@@ -149,7 +149,7 @@ module _ (s : StoreState) (t : Tree) (k : Keeps s t) where
   pub file_in_way : (p : Path) (id : ℕ) (n : Name) (q : Path) → walk (child_of s.nodes) s.root p ≡ Some id → is_file_at s.nodes id ≡ true → look_up t (p ++ n ∷ q) ≡ NoWay
   file_in_way p id n q at is = no_way (view_of s) t k.shows.by p n q (ap (leads_to_directory (view_of s) t k.shows.by) at ∙ directory_in s.nodes id ∙ no_file s.nodes id is)
 
-  -- what a path leads to is there
+  -- the inode of a path exists
   pub reached_node : (path : Path) (id : ℕ) → walk (child_of s.nodes) s.root path ≡ Some id → (node : Node) × (node_in s.nodes id ≡ Some node)
   reached_node path id at = some_there (node_in s.nodes id) (λ e. reached_there (child_of s.nodes) (shown_of s.nodes) s.root k.shows.by.sound path id at (ap (option_map shown_node) e))
 

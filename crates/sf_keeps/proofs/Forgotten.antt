@@ -1,4 +1,4 @@
--- What a kept store keeps after a node has lost its entry.
+-- What a store represents after an inode has lost an entry.
 use Rattle.std.specs.Prelude.{◌≡◌, ◌≢◌, ℕ, ◌-◌, nat_eq, Bool, true, false, cond, ◌&&◌, List, [], ◌∷◌, option_map, option_and_then, slice_set, Option, Some, None, refl}
 use Rattle.std.specs.Option.{option_map_or}
 use Rattle.std.proofs.Common.{sym, ap, subst, ◌∙◌, inl, inr}
@@ -23,7 +23,7 @@ use Rattle.sf_keeps.proofs.Openings.{counted_handle, one_node}
 use Rattle.sf_keeps.proofs.Counted.{Mark, mark_of, marks_of, marked, keeps_marked, marked_left}
 use Rattle.sf_keeps.proofs.InOrder.{InOrder, IsInOrder, node_in_order, in_order_put}
 
--- ---- what is at a number
+-- ---- the inode of a slot
 pub directory_at : (nodes : List (Option Node)) (d : ℕ) → option_map_or (λ (it : Node). is_directory_content it.content) (node_in nodes d) false ≡ true
     → (node : Node) × (es : List (Name × ℕ)) × (node_in nodes d ≡ Some node) × (node.content ≡ content.Directory es)
 directory_at nodes d is =
@@ -35,7 +35,7 @@ directory_at nodes d is =
       ] refl f
     ] refl is
 
--- a node that leads somewhere is there
+-- an inode with an entry exists
 pub entry_above : (nodes : List (Option Node)) (d c : ℕ) (n : Name) → child_of nodes d n ≡ Some c → (node : Node) × (node_in nodes d ≡ Some node)
 entry_above nodes d c n there = let w = found_through (node_in nodes d) there in (w.0, w.1)
 
@@ -47,7 +47,7 @@ bare_content : (c : Content) (m : Name) → is_bare_content c ≡ true → child
 bare_content (content.Directory es) m e = bare_nil es m e
 bare_content (content.File contents) m e = refl
 
--- what is a file or an empty directory has no entries
+-- a file or an empty directory has no entries
 pub bare_at : (nodes : List (Option Node)) (c : ℕ) → option_map_or (λ (it : Node). is_bare_content it.content) (node_in nodes c) false ≡ true → IsBare (child_of nodes) c
 bare_at nodes c is m =
     elim (node_in nodes c) as (λ o. option_map_or (λ (it : Node). is_bare_content it.content) o false ≡ true → option_and_then (λ (z : Node). child_in z.content m) o ≡ None) [
@@ -55,11 +55,11 @@ bare_at nodes c is m =
       | Some node ↦ λ e. bare_content node.content m e
     ] is
 
--- the node of a mark
+-- the inode of a count
 pub mark_node : (nodes : List (Option Node)) (id : ℕ) (v : Mark) → marks_of nodes id ≡ Some v → (node : Node) × (node_in nodes id ≡ Some node) × (mark_of node ≡ v)
 mark_node nodes id v at = found_as (node_in nodes id) at
 
--- ---- a node that no entry leads to any more
+-- ---- an inode without entries that refer to it
 kept_released : {A : Type 0} (f : StoreState → A) (s : StoreState) (id : ℕ) (o : Option Node) → ((nodes : List (Option Node)) → f (with_nodes s nodes) ≡ f s) → f (released_if s id o) ≡ f s
 kept_released f s id None same = refl
 kept_released f s id (Some node) same =
@@ -88,7 +88,7 @@ module _ (s : StoreState) (c : ℕ) (node : Node) (here : node_in s.nodes c ≡ 
   pub marks_forgotten : SetsAt (marks_of s.nodes) (marks_of (forgotten s c).nodes) c mark_left
   marks_forgotten = subst (λ (o : Option Node). SetsAt (marks_of s.nodes) (marks_of (released_if unnamed c o).nodes) c mark_left) (sym less.at) (marks_released (is_unused (without_name node)))
 
-  -- the entries of the others stay
+  -- the entries of the other inodes stay
   pub in_order_forgotten : InOrder s.nodes → InOrder (forgotten s c).nodes
   in_order_forgotten h =
       let ordered = in_order_put less h (node_in_order s.nodes c node h here) in
@@ -98,13 +98,12 @@ module _ (s : StoreState) (c : ℕ) (node : Node) (here : node_in s.nodes c ≡ 
         | false ↦ ordered
       ])
 
--- what is open is not unused
+-- an open inode is not unused
 opened_stays : (names opens : ℕ) → nat_eq opens 0 ≡ false → nat_eq names 0 && nat_eq opens 0 ≡ false
 opened_stays names opens e = and_right (nat_eq names 0) (nat_eq opens 0) e
 
--- a kept store with another entry, whose node then has a name less
--- A node loses a name: the store in which it is without its entry, the entries then, and what is so of
--- the node and of the tree.
+-- An inode loses a link: the store in which it is without its entry, the entries then, and the
+-- facts about the inode and the tree.
 pub record LosesName (s : StoreState) (t after : Tree) : Type 0 where
   pub mid : StoreState
   pub step : EntryMap
@@ -150,10 +149,10 @@ keeps_forgotten s t after k f =
       ordered = in_order_forgotten mid c node here bare f.ordered;
     })
 
--- an entry changes no node's marks
+-- an entry changes no inode's counts
 pub marks_entries : (f : Content → Content) (s : StoreState) (d : ℕ) (above : Node) → node_in s.nodes d ≡ Some above → (i : ℕ) → marks_of (edited (with_content f) s d).nodes i ≡ marks_of s.nodes i
 marks_entries f s d above here = seen_same (edited_node (with_content f) s d above here) here mark_of refl
 
--- entries in order stay so where one directory's are changed
+-- entries in order stay so after a change of one directory
 pub in_order_entries : (f : Content → Content) (s : StoreState) (d : ℕ) (above : Node) → node_in s.nodes d ≡ Some above → InOrder s.nodes → IsInOrder (f above.content) → InOrder (edited (with_content f) s d).nodes
 in_order_entries f s d above here h own = in_order_put (edited_node (with_content f) s d above here) h own

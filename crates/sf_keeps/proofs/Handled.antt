@@ -1,4 +1,4 @@
--- What a view shows after a handle was opened, set or closed.
+-- A view after a handle was opened, set or closed.
 use Rattle.std.specs.Prelude.{if◌then◌else◌, ◌≡◌, ◌≢◌, ℕ, nat_eq, Bool, true, false, cond, ◌&&◌, ◌||◌, List, option_and_then, Option, Some, None, refl}
 use Rattle.std.proofs.Common.{sym, ap, ◌∙◌, inl, inr, eq-eqb}
 use Rattle.std.proofs.lemmas.Bool.{cases_eq}
@@ -21,7 +21,7 @@ use Rattle.sf_keeps.proofs.SetsAt.{SetsAt, number_keys, nat_eq_itself, nat_eq_ap
 use Rattle.sf_keeps.proofs.Less.{is_named, is_opened, OthersUsed, IsClosed, kept_used, handle_there, handle_here, shows_kept, shows_kept_used}
 use Rattle.sf_keeps.proofs.Whole.{or_grows_right}
 
--- what handles and a changed handle have in common
+-- common facts of handles and a changed handle
 module _ (view : View) (t : Tree) (h : ShowsBy view t) (session number : ℕ) (r : Option Handle) (of : (x : Handle) → r ≡ Some x → x.session ≡ session)
     (others : (a : ℕ) → session ≢ a → view.opens a number ≡ None) (handles : List (ℕ × Handle)) (found : SetsAt (handle_of t.handles) (handle_of handles) number r) where
   own : (v : Option Handle) → r ≡ v → option_and_then (if_of session) v ≡ v
@@ -51,7 +51,7 @@ module _ (view : View) (t : Tree) (h : Shows view t) where
   pub free_number : (number : ℕ) → ((a : ℕ) → view.opens a number ≡ None) → handle_of t.handles number ≡ None
   free_number number free = none_there (handle_of t.handles number) (λ x e. let there = sym (h.by.handles x.session number) ∙ handle_here t number x e in let none = free x.session in cc)
 
-  -- more handles, more open
+  -- more handles, more open inodes
   opened_more : (number : ℕ) (handle : Handle) (l : ℕ) → handle_of t.handles number ≡ None → is_opened t l ≡ true → is_opened (changed t (OpenHandle number handle)) l ≡ true
   opened_more number handle l free any =
       let w = lookup_any nat_cmp nat_cmp_total (λ x. nat_eq x.label l) t.handles h.ordered.handles any in
@@ -66,7 +66,7 @@ module _ (view : View) (t : Tree) (h : Shows view t) where
     used = λ l u e. or_grows_right (is_named t l) (is_opened t l) (is_opened (changed t (OpenHandle number handle)) l) (opened_more number handle l (free_number number free)) (h.used l u e);
   }
 
-  -- a handle that is open, and no other session's of the number
+  -- an open handle, and none of another session with its number
   module _ (session number : ℕ) (handle : Handle) (opens : view.opens session number ≡ Some handle) where
     there : (handle_of t.handles number ≡ Some handle) × (handle.session ≡ session)
     there = handle_there t session number handle (h.by.handles session number ∙ opens)
@@ -108,7 +108,7 @@ module _ (view : View) (t : Tree) (h : Shows view t) where
     others_closed : OthersUsed closed handle.label
     others_closed l u ne e = ap (λ b. is_named t l || b) (any-removed (λ x. nat_eq x.label l) (is_at (nat_cmp number)) t.handles handle there.0 (nat_eq_apart handle.label l ne)) ∙ h.used l u e
 
-    -- it was the last that used the node
+    -- it was the last use of the inode
     pub shows_closed_last : (c : ℕ) (o : Object) → view.shown c ≡ Some (handle.label, o) → HasNoEntry view.step c → (view.root ≡ c → ⊥) → IsBare view.step c → IsClosed (with_opens view session number None) handle.label
         → Shows (with_shown (with_opens view session number None) c None) (changed t (CloseHandle number))
     shows_closed_last c o is free other bare last = record {
@@ -117,7 +117,7 @@ module _ (view : View) (t : Tree) (h : Shows view t) where
       used = kept_used closed;
     }
 
-    -- the node is named or open still
+    -- the inode still has a link or an open handle
     pub shows_closed : (c : ℕ) (o : Object) → view.shown c ≡ Some (handle.label, o) → is_used closed.names closed.handles handle.label ≡ true → Shows (with_opens view session number None) (changed t (CloseHandle number))
     shows_closed c o is still = record {
       by = shows_kept_used (with_opens view session number None) closed by_closed ordered_closed c handle.label o is others_closed still;

@@ -1,4 +1,4 @@
--- The entries of each directory stand in the order of their names, also after a change of one node.
+-- The entries of each directory are in the order of their names, also after a change of one inode.
 use Rattle.std.specs.Prelude.{◌≡◌, ℕ, T, List, [], Option, Some}
 use Rattle.std.specs.Option.{option_map_or}
 use Rattle.std.proofs.Common.{sym, subst}
@@ -17,7 +17,7 @@ use Rattle.sf_keeps.proofs.SetsAt.{SetsAt, at_or_beside}
 abbrev pub IsInOrder : Content → Type 0
 IsInOrder c = T (is_sorted name_cmp (entries_in c))
 
--- of each node that is there
+-- of each existing inode
 abbrev pub InOrder : List (Option Node) → Type 0
 InOrder nodes = (id : ℕ) → T (is_sorted name_cmp (node_entries nodes id))
 
@@ -27,7 +27,7 @@ entries_of_node o = option_map_or (λ (it : Node). entries_in it.content) o []
 pub node_in_order : (nodes : List (Option Node)) (id : ℕ) (node : Node) → InOrder nodes → node_in nodes id ≡ Some node → IsInOrder node.content
 node_in_order nodes id node ordered here = subst (λ (o : Option Node). T (is_sorted name_cmp (entries_of_node o))) here (ordered id)
 
--- ---- one node changed
+-- ---- a changed inode
 pub in_order_put : {before after : ℕ → Option Node} {d : ℕ} {o : Option Node} → SetsAt before after d o → ((id : ℕ) → T (is_sorted name_cmp (entries_of_node (before id)))) → T (is_sorted name_cmp (entries_of_node o))
     → (id : ℕ) → T (is_sorted name_cmp (entries_of_node (after id)))
 in_order_put {d = d} put ordered own =

@@ -1,4 +1,4 @@
--- What a store keeps after one node was changed and no entry.
+-- What a store represents after one inode was changed and no entry.
 use Rattle.std.specs.Prelude.{◌≡◌, ℕ, true, false, List, is_some, Option, Some, None, refl}
 use Rattle.std.specs.Option.{option_map_or}
 use Rattle.std.proofs.Common.{sym, ap, subst, ◌∙◌}
@@ -38,7 +38,7 @@ module _ (f : Node → Node) (s : StoreState) (t : Tree) (id : ℕ) (node : Node
         ordered = in_order_put (edited_node f s id node here) k.entries own;
       })
 
-  -- another object of the node
+  -- another object of the inode
   pub keeps_edited : is_some (directory_metadata (object_in node.metadata node.content)) ≡ is_some (directory_metadata (object_in (f node).metadata (f node).content))
       → Keeps (edited f s id) (changed t (SetObject node.label (object_in (f node).metadata (f node).content)))
   keeps_edited kind = keeps_by (changed t (SetObject node.label (object_in (f node).metadata (f node).content))) refl refl
@@ -53,7 +53,7 @@ pub keeps_metadata : (f : Metadata → Metadata) (s : StoreState) (t : Tree) (id
     → Keeps (edited (with_metadata f) s id) (changed t (SetObject node.label (object_in (f node.metadata) node.content)))
 keeps_metadata f s t id node k here = keeps_edited (with_metadata f) s t id node k here (λ m. refl) refl (node_in_order s.nodes id node k.entries here) (kind_metadata node.metadata (f node.metadata) node.content)
 
--- a file at a number is a node
+-- a file in a slot is an inode
 file_there : (nodes : List (Option Node)) (id : ℕ) (node : Node) → node_in nodes id ≡ Some node → is_file_at nodes id ≡ true → (contents : FileBytes) × (node.content ≡ content.File contents)
 file_there nodes id node here file =
     let is : is_file_content node.content ≡ true = sym (ap (λ (o : Option Node). option_map_or (λ (it : Node). is_file_content it.content) o false) here) ∙ file in
@@ -71,12 +71,12 @@ keeps_bytes new s t id node k here file =
     (ap (λ (c : Content). object_in node.metadata (with_file new c)) w.1)
     (keeps_edited (with_content (with_file new)) s t id node k here (entry_stored new node.content) refl (stored_in_order new node.content (node_in_order s.nodes id node k.entries here)) (kind_stored new node.metadata node.content))
 
--- ---- what is not seen
--- nothing is changed where no node is
+-- ---- changes that are not observable
+-- editing an absent inode changes nothing
 keeps_none : (f : Node → Node) (s : StoreState) (t : Tree) (id : ℕ) → Keeps s t → node_in s.nodes id ≡ None → Keeps (edited f s id) t
 keeps_none f s t id k none = subst (λ (x : StoreState). Keeps x t) (sym (ap (λ (o : Option Node). with_nodes s (edited_by f s.nodes id o)) none)) k
 
--- what changes each node that may be there in nothing that is seen
+-- an edit of an optional inode that is not observable
 keeps_always : (f : Node → Node) (s : StoreState) (t : Tree) (id : ℕ) → Keeps s t
     → ((node : Node) → node_in s.nodes id ≡ Some node → (m : Name) → child_in (f node).content m ≡ child_in node.content m) → ((node : Node) → mark_of (f node) ≡ mark_of node)
     → ((node : Node) → IsInOrder node.content → IsInOrder (f node).content)
@@ -89,7 +89,7 @@ keeps_always f s t id k entries same own alike = elim (node_in s.nodes id) as (�
 pub keeps_held : (r : Option ℕ) (s : StoreState) (t : Tree) (id : ℕ) → Keeps s t → Keeps (edited (with_holder r) s id) t
 keeps_held r s t id k = keeps_always (with_holder r) s t id k (λ node e m. refl) (λ node. refl) (λ node h. h) (λ node e. refl)
 
--- copying is not seen
+-- copying is not observable
 pub keeps_left : (left : ℕ) (s : StoreState) (t : Tree) (id : ℕ) → Keeps s t → Keeps (left_set s id left) t
 keeps_left left s t id k = keeps_always (with_content (with_left left)) s t id k (λ node e m. entry_left left node.content m) (λ node. refl) (λ node h. left_in_order left node.content h)
     (λ node e. λ i. (node.label, object_left left node.metadata node.content i))

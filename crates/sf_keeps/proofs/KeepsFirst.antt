@@ -1,4 +1,4 @@
--- A new store keeps the root alone.
+-- A new store represents the empty tree.
 use Rattle.std.specs.Prelude.{◌≡◌, ℕ, T, List, Some, None}
 use Rattle.std.proofs.Common.{sym, ap, subst, refl}
 use Rattle.std.specs.Ordering.{nat_cmp}

@@ -1,4 +1,4 @@
--- What a store keeps after a further name leads to a file.
+-- What a store represents after a new link of a file.
 use Rattle.std.specs.Prelude.{◌≡◌, ◌≢◌, ℕ, ◌+◌, ◌-◌, ◌<◌, ◌^◌, min, nat_eq, true, false, cond, List, [], ◌∷◌, ◌++◌, is_some, option_map, option_and_then, Option, Some, None, refl}
 use Rattle.std.specs.Option.{option_map_or}
 use Rattle.std.proofs.Common.{sym, ap, subst, ◌∙◌, arith}
@@ -33,7 +33,7 @@ use Rattle.sf_keeps.proofs.CountedSteps.{bare_more}
 use Rattle.sf_keeps.proofs.Forgotten.{directory_at, mark_node, marks_entries, in_order_entries}
 use Rattle.sf_keeps.proofs.KeepsNames.{away}
 
--- ---- what is seen
+-- ---- the observable part
 module _ (view : View) (t : Tree) (h : Shows view t) (p : Path) (d : ℕ) (n : Name) (c label : ℕ) (o : Object) (at : walk view.step view.root p ≡ Some d) (is : is_directory_by view.shown d ≡ true)
     (free : view.step d n ≡ None) (here : view.shown c ≡ Some (label, o)) (file : is_directory_by view.shown c ≡ false) (bare : IsBare view.step c) where
   abbrev path : Path
@@ -42,7 +42,7 @@ module _ (view : View) (t : Tree) (h : Shows view t) (p : Path) (d : ℕ) (n : N
   other : d ≡ c → ⊥
   other e = let yes = ap (is_directory_by view.shown) (sym e) ∙ is in cc
 
-  -- no way leads on from a node with no entries
+  -- resolution fails after an inode without entries
   clear : (x : ℕ) → Some c ≡ Some x → Avoids view.step x d
   clear x e [] w = let a : c ≡ x = cc in let b : x ≡ d = cc in other (sym (a ∙ b))
   clear x e (m ∷ q) w = let a : c ≡ x = cc in let b = ap (λ (y : ℕ). option_and_then (λ z. walk view.step z q) (view.step y m)) (sym a) ∙ ap (option_and_then (λ z. walk view.step z q)) (bare m) in cc

@@ -1,4 +1,4 @@
--- What a store keeps after an entry was moved.
+-- What a store represents after an entry was moved.
 use Rattle.std.specs.Prelude.{◌≡◌, ◌≢◌, ℕ, ◌-◌, ◌<◌, true, false, List, [], ◌∷◌, ◌++◌, option_and_then, Some, None, refl}
 use Rattle.std.specs.Option.{option_map_or}
 use Rattle.std.proofs.Common.{sym, ap, subst, ◌∙◌, arith, inl, inr}
@@ -80,14 +80,14 @@ module _ (s : StoreState) (t : Tree) (po : Path) (od : ℕ) (on : Name) (c : ℕ
   bares : (id l o : ℕ) → marks_of s.nodes id ≡ Some (l, 0, o) → IsBare (child_of s.nodes) id → IsBare moved id
   bares id l o e = bare_moved (child_of s.nodes) od on nd nn c id (to_away id l o e)
 
-  -- as many paths as without what the new one named, where nothing is below it
+  -- the number of paths, without those of the replaced inode, if none are below it
   counted_paths : ((name : Name) (rest : Path) → label_at t.names (new ++ name ∷ rest) ≡ None) → (label : ℕ) → links after.names label ≡ links (remove_entry (is_at (path_cmp new)) t.names) label
   counted_paths nothing label = links_moved t.names old new k.shows.ordered.names not_inside nothing label
 
   below_new : (name : Name) (rest : Path) → walk (child_of s.nodes) s.root (new ++ name ∷ rest) ≡ option_and_then (λ y. walk (child_of s.nodes) y (name ∷ rest)) (child_of s.nodes nd nn)
   below_new name rest = below (view_of s) t k.shows.by pn nd nn at_to (new ++ name ∷ rest) (name ∷ rest) (after_front-append new (name ∷ rest))
 
-  -- ---- onto nothing
+  -- ---- to an absent path
   pub keeps_moved : child_of s.nodes nd nn ≡ None → Keeps (relinked s od on nd nn) (changed t (Move (po ++ on ∷ []) (pn ++ nn ∷ [])))
   keeps_moved none =
       let is : relinked s od on nd nn ≡ moved_entry s (entry_key od on) (entry_key nd nn) c = ap (λ o. relinked_from s (entry_key od on) (entry_key nd nn) o (child_of s.nodes nd nn)) there ∙ ap (relinked_from s (entry_key od on) (entry_key nd nn) (Some c)) none in
@@ -109,7 +109,7 @@ module _ (s : StoreState) (t : Tree) (po : Path) (od : ℕ) (on : Name) (c : ℕ
         ordered = ordered_moved;
       }))
 
-  -- ---- in the place of another
+  -- ---- replacing another
   module _ (target : ℕ) (stood_at : child_of s.nodes nd nn ≡ Some target) (is_bare : option_map_or (λ (it : Node). is_bare_content it.content) (node_in s.nodes target) false ≡ true) (other : c ≡ target → ⊥) where
     gone : (node : Node) × (node_in s.nodes target ≡ Some node) × (0 < node.names)
     gone = entry_node s t k nd target nn stood_at

@@ -1,4 +1,4 @@
--- What a store keeps after an entry was put in or taken out.
+-- What a store represents after an entry was inserted or removed.
 use Rattle.std.specs.Prelude.{◌≡◌, ◌≢◌, ℕ, ◌-◌, nat_eq, true, false, cond, [], ◌∷◌, ◌++◌, option_map, option_and_then, Some, None, refl}
 use Rattle.std.specs.Option.{option_map_or}
 use Rattle.std.proofs.Common.{sym, ap, subst, ◌∙◌, arith, inl, inr}
@@ -30,8 +30,7 @@ use Rattle.sf_keeps.proofs.CountedSteps.{none_left, bare_less, bare_apart, marke
 use Rattle.sf_keeps.proofs.Forgotten.{directory_at, entry_above, bare_at, mark_node, keeps_forgotten, marks_entries, in_order_entries}
 use Rattle.sf_keeps.proofs.InOrder.{InOrder, IsInOrder, node_in_order, in_order_put, less_in_order, more_in_order}
 
--- a node that a path leads to is not one without a name
--- what a path leads to has a name, so it is no node without one
+-- the inode of a path has a link, so it is not one without
 pub away : (s : StoreState) (t : Tree) (k : Keeps s t) (p : NodeOnPath s) (id l o : ℕ) → marks_of s.nodes id ≡ Some (l, 0, o) → p.id ≢ id
 away s t k p id l o e same =
     let above = p.node in
@@ -39,14 +38,14 @@ away s t k p id l o e same =
     let none : above.names ≡ 0 = ap (λ (z : Mark). z.1) is in
     absurd (omega (arith, path_named s t k p.path p.id above p.is_node p.leads, none))
 
--- a node's label has an object
+-- the number of an inode has an object
 labelled_node : (s : StoreState) (t : Tree) (k : Keeps s t) (id l b o : ℕ) → marks_of s.nodes id ≡ Some (l, b, o) → object_of t.objects l ≡ None → ⊥
 labelled_node s t k id l b o e none =
     let w = mark_node s.nodes id (l, b, o) e in
     let some = object_there s t k id w.0 w.1 in
     let gone : object_of t.objects w.0.label ≡ None = ap (object_of t.objects) (ap (λ (z : Mark). z.0) w.2) ∙ none in cc
 
--- ---- an entry taken out
+-- ---- a removed entry
 pub keeps_unlinked : {s : StoreState} {t : Tree} (p : Path) {d : ℕ} (n : Name) {c : ℕ} → Keeps s t → walk (child_of s.nodes) s.root p ≡ Some d → child_of s.nodes d n ≡ Some c
     → option_map_or (λ (it : Node). is_bare_content it.content) (node_in s.nodes c) false ≡ true → Keeps (unlinked s d n) (changed t (GonePath (p ++ n ∷ [])))
 keeps_unlinked {s = s} {t = t} p {d = d} n {c = c} k at there is_bare =
@@ -90,7 +89,7 @@ keeps_unlinked {s = s} {t = t} p {d = d} n {c = c} k at there is_bare =
       shows = subst (λ (x : StoreState). Shows (view_of x) after) is shows;
     }))
 
--- ---- a new node
+-- ---- a new inode
 new_bare : (kind : FileType) (m : Name) → child_in (new_content kind) m ≡ None
 new_bare file_type.Directory m = refl
 new_bare file_type.File m = refl

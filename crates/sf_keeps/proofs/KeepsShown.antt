@@ -1,4 +1,4 @@
--- What a number shows, and what a store keeps after that was changed.
+-- The object of a slot, and what a store represents after it was changed.
 use Rattle.std.specs.Prelude.{◌≡◌, ℕ, Bool, true, false, List, [], ◌∷◌, Option, Some, refl}
 use Rattle.std.specs.Option.{option_map_or}
 use Rattle.std.proofs.Common.{ap, subst, ◌∙◌, inl, inr}
@@ -22,7 +22,7 @@ use Rattle.sf_keeps.specs.Keeps.{Keeps}
 use Rattle.sf_keeps.proofs.Through.{found_as}
 use Rattle.sf_keeps.proofs.KeepsEdited.{keeps_metadata, keeps_bytes}
 
--- a node is there that shows it
+-- an inode with it exists
 pub node_shown : (nodes : List (Option Node)) (id label : ℕ) (o : Object) → shown_of nodes id ≡ Some (label, o) → (node : Node) × (node_in nodes id ≡ Some node) × (node.label ≡ label) × (object_in node.metadata node.content ≡ o)
 node_shown nodes id label o e =
     let w = found_as (node_in nodes id) e in (w.0, w.1, ap (λ (z : ℕ × Object). z.0) w.2, ap (λ (z : ℕ × Object). z.1) w.2)
@@ -48,7 +48,7 @@ file_shown nodes id label m bytes e =
       ap (λ (o : Option Node). (option_map_or (λ (it : Node). bytes_in it.content) o [])) w.1 ∙ f.2,
     )
 
--- ---- other metadata of a directory or a file, and other bytes
+-- ---- changed metadata or contents
 other_directory : (f : Metadata → Metadata) (k m : Metadata) (c : Content) → object_in k c ≡ Directory m → object_in (f k) c ≡ Directory (f m)
 other_directory f k m (content.Directory es) e = ap (λ (x : Metadata). Directory (f x)) (directory_content k m (content.Directory es) e).0
 other_directory f k m (content.File contents) e = absurd (cc)

@@ -1,5 +1,4 @@
--- Lists of entries in the order of their keys: what look-ups find after each change, and what
--- passes a test.
+-- Lists of entries in key order: lookups after each change, and filters.
 use Rattle.std.specs.Prelude.{◌≡◌, Bool, true, false, cond, T, ◌||◌, List, [], ◌∷◌, Some, None, IsSome, refl}
 use Rattle.std.proofs.Common.{sym, ap, ◌∙◌, inl, inr}
 use Rattle.std.proofs.lemmas.Bool.{cases_Bool, cond-true, cond-false, or_left, or_right}
@@ -19,7 +18,7 @@ tied_alike : {K : Type 0} {R : K → K → Ordering} → IsTotalOrder R → (k x
 tied_alike {R = R} o k x y t = ap is_eq (o.congr k x y (is_equal (R k x) t))
 
 module _ {K X : Type 0} where
-  -- without an entry that does not pass, as many pass
+  -- without an entry that does not pass, the same number pass
   pub any-removed : (f : X → Bool) (test : K → Bool) (es : List (K × X)) (v : X) → lookup test es ≡ Some v → f v ≡ false → list_any (λ e. f e.1) (remove_entry test es) ≡ list_any (λ e. f e.1) es
   any-removed f test [] v l t = refl
   any-removed f test (e ∷ es) v l t =
@@ -53,7 +52,7 @@ module _ {K X : Type 0} (R : K → K → Ordering) where
     pub lookup-removed : (es : List (K × X)) (k q : K) → T (is_sorted R es) → lookup (is_at (R q)) (remove_entry (is_at (R k)) es) ≡ cond (is_at (R k) q) None (lookup (is_at (R q)) es)
     lookup-removed es k q h = lookup-remove_entry (eq_by_cmp_equiv o) (is_at (R k)) (tied_alike o k) q es (distinct es h)
 
-    -- what is found further on is found
+    -- an entry found further on is found
     pub found_on : (e : K × X) (es : List (K × X)) → T (is_sorted R (e ∷ es)) → (q : K) (v : X) → lookup (is_at (R q)) es ≡ Some v → lookup (is_at (R q)) (e ∷ es) ≡ Some v
     found_on e es h q v l = elim (cases_Bool (is_at (R q) e.0)) [
       | inl at ↦ let none = lookup_below R o q e.0 es (is_equal (R q e.0) at) (and_first (below_all R e.0 es) (is_sorted R es) h) in cc

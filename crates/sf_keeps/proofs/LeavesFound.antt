@@ -1,4 +1,4 @@
--- What the leaves of a store have at each path, and that they are the tree's.
+-- Lookups in the leaves of a store, which are the tree's.
 use Rattle.std.specs.Prelude.{◌≡◌, ℕ, T, cond, true, false, List, [], ◌∷◌, ◌++◌, option_map, option_and_then, Option, Some, None, refl}
 use Rattle.std.proofs.Common.{sym, ap, subst, ◌∙◌}
 use Rattle.std.specs.Option.{option_map_or}
@@ -26,7 +26,7 @@ use Rattle.sf_keeps.proofs.Shown.{same_path_itself}
 use Rattle.sf_keeps.proofs.SetsAt.{name_keys, path_keys, apart}
 use Rattle.sf_keeps.proofs.LeavesInOrder.{append_nil, leaves_sorted}
 
--- the first that is there
+-- the first that exists
 abbrev first_of : {A : Type 0} → Option A → Option A → Option A
 first_of None o = o
 first_of (Some x) o = Some x
@@ -43,7 +43,7 @@ through : {A B C : Type 0} (f : A → Option B) (g : B → Option C) (o : Option
 through f g None = refl
 through f g (Some x) = refl
 
--- what follows a path and a name is what follows the name in what follows the path
+-- the suffix after a path and a name
 front_on : (p : Path) (n : Name) (q : Path) → after_front (p ++ n ∷ []) q ≡ option_and_then (after_front (n ∷ [])) (after_front p q)
 front_on [] n q = refl
 front_on (m ∷ p) n [] = refl
@@ -56,14 +56,14 @@ after_itself : (p : Path) → after_front p p ≡ Some []
 after_itself p = ap (after_front p) (sym (append_nil p)) ∙ after_front-append p []
 
 module _ (nodes : List (Option Node)) where
-  -- what is shown where a path leads from a node
+  -- the object that a path resolves to from an inode
   abbrev ends : ℕ → Path → Option (ℕ × Object)
   ends id r = option_and_then (shown_of nodes) (walk (child_of nodes) id r)
 
   abbrev ends_after : ℕ → Option Path → Option (ℕ × Object)
   ends_after id rest = option_and_then (ends id) rest
 
-  -- the first of the waiting paths by which a path leads to something
+  -- the first pending path by which a path resolves
   abbrev found : List (Path × ℕ) → Path → Option (ℕ × Object)
   found [] q = None
   found (e ∷ waiting) q = first_of (ends_after e.1 (after_front e.0 q)) (found waiting q)
@@ -109,7 +109,7 @@ module _ (nodes : List (Option Node)) where
       ∙ ap (first_of (ends_after e.1 (option_and_then (after_front (e.0 ∷ [])) (after_front p q)))) (found_below p es (and_second (below_all name_cmp e.0 es) (is_sorted name_cmp es) h) q)
       ∙ by_more e es (and_first (below_all name_cmp e.0 es) (is_sorted name_cmp es) h) (after_front p q)
 
-  -- ---- by a node
+  -- ---- by an inode
   child_found : (c : Content) (m : Name) → child_in c m ≡ lookup (same_name m) (entries_in c)
   child_found (content.Directory es) m = refl
   child_found (content.File contents) m = refl
@@ -125,7 +125,7 @@ module _ (nodes : List (Option Node)) where
   none_from id gone (Some (m ∷ r)) =
       ap (λ (o : Option Node). option_and_then (shown_of nodes) (option_and_then (λ y. walk (child_of nodes) y r) (option_and_then (λ (x : Node). child_in x.content m) o))) gone
 
-  -- a leaf, or what its node's entries lead to
+  -- a leaf, or the leaves of its inode's entries
   at_leaf : (path : Path) (id : ℕ) (node : Node) → node_in nodes id ≡ Some node → (q : Path) (others : Option (ℕ × Object)) (rest : Option Path) → after_front path q ≡ rest
       → cond (same_path q path) (Some (shown_node node)) (first_of (by_entries (entries_in node.content) rest) others) ≡ first_of (ends_after id rest) others
   at_leaf path id node there q others None e =
@@ -159,7 +159,7 @@ module _ (s : StoreState) (t : Tree) (k : Keeps s t) where
   sorted_in : (id : ℕ) (node : Node) → node_in s.nodes id ≡ Some node → T (is_sorted name_cmp (entries_in node.content))
   sorted_in id node there = subst (λ (o : Option Node). T (is_sorted name_cmp (option_map_or (λ (x : Node). entries_in x.content) o []))) there (k.entries id)
 
-  -- what a node shows is the tree's under its label
+  -- the object of an inode is the tree's under its inode number
   shown_named : (o : Option ℕ) → option_and_then (shown_of s.nodes) o ≡ option_and_then (named_by t.objects) (option_and_then (label_by (shown_of s.nodes)) o)
   shown_named None = refl
   shown_named (Some id) = elim (shown_of s.nodes id) as (λ v. shown_of s.nodes id ≡ v → v ≡ option_and_then (named_by t.objects) (option_map (λ (w : ℕ × Object). w.0) v)) [

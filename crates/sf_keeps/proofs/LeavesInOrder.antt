@@ -1,4 +1,4 @@
--- The leaves of a store stand in the order of their paths.
+-- The leaves of a store are in the order of their paths.
 use Rattle.std.specs.Prelude.{◌≡◌, ℕ, T, List, [], ◌∷◌, ◌++◌, Option, Some, refl}
 use Rattle.std.proofs.Common.{sym, ap, subst, ◌∙◌}
 use Rattle.std.specs.List.{AllByRecursion}
@@ -30,7 +30,7 @@ is_less Less t = refl
 is_less Equal t = absurd t
 is_less Greater t = absurd t
 
--- ---- what holds of all below the waiting paths, holds of all leaves
+-- ---- a property of all paths below the pending ones holds for all leaves
 module _ (P : Path → Type 0) where
   abbrev pub AllBelow : List (Path × ℕ) → Type 0
   AllBelow waiting = AllByRecursion (λ e. (r : Path) → P (e.0 ++ r)) waiting
@@ -47,7 +47,7 @@ module _ (P : Path → Type 0) where
     each_leaf nodes (below path (entries_in node.content) ++ others) ls r (children_below path (entries_in node.content) others all.0 all.1),
   )
 
--- ---- paths all below one of which stand before all below the other
+-- ---- two paths such that all below one are before all below the other
 abbrev pub Before : Path → Path → Type 0
 Before p q = (r s : Path) → path_cmp (p ++ r) (q ++ s) ≡ Less
 
@@ -89,7 +89,7 @@ children_in_turn p (e ∷ es) others sorted h rest = (
   children_in_turn p es others (and_second (below_all name_cmp e.0 es) (is_sorted name_cmp es) sorted) h rest,
 )
 
--- ---- a path before all that is below it, and all that waits
+-- ---- a path is before all below it, and before all pending ones
 abbrev IsBefore : Path → Path → Type 0
 IsBefore p q = T (is_lt (path_cmp p q))
 

@@ -1,4 +1,4 @@
--- The tree that a session left is the one after each of its handles was closed.
+-- The tree after the end of a session is that after each of its handles was closed.
 use Rattle.std.specs.Prelude.{◌≡◌, ℕ, nat_eq, Bool, true, false, cond, not, ◌||◌, List, [], ◌∷◌, filter, Some, None, refl}
 use Rattle.std.proofs.Common.{sym, ap, ◌∙◌, eqb-true, eq-eqb, inl, inr}
 use Rattle.std.proofs.lemmas.Bool.{cases_Bool}
@@ -22,7 +22,7 @@ use Rattle.sf_keeps.proofs.Orderly.{same_sorted}
 use Rattle.sf_keeps.proofs.Less.{kept_object, cond_used, handle_here}
 use Rattle.sf_keeps.proofs.Whole.{or_grows_right}
 
--- ---- lists without what does not pass
+-- ---- filtered lists
 module _ {X : Type 0} where
   filter_again : (p q : X → Bool) → ((x : X) → p x ≡ true → q x ≡ true) → (xs : List X) → filter p (filter q xs) ≡ filter p xs
   filter_again p q h [] = refl
@@ -67,7 +67,7 @@ module _ {K X : Type 0} (test : K → Bool) where
     | inr t ↦ simp t (ap (λ (r : List (K × X)). e ∷ r) (removed_set es v))
   ]
 
--- ---- the tree that a session left
+-- ---- the tree after the end of a session
 module _ (t : Tree) (session : ℕ) where
   abbrev stays : ℕ × Handle → Bool
   stays e = not (nat_eq e.1.session session)

@@ -1,4 +1,4 @@
--- What a view shows without an entry, and without a node that nothing uses.
+-- A view without an entry, and without an unused inode.
 use Rattle.std.specs.Prelude.{◌≡◌, ◌≢◌, ℕ, nat_eq, Bool, true, false, cond, T, ◌||◌, List, [], ◌∷◌, ◌++◌, option_map, option_and_then, Option, Some, None, if◌then◌else◌, refl}
 use Rattle.std.proofs.Common.{sym, ap, ◌∙◌, inl, inr, eqb-true, eq-eqb}
 use Rattle.std.specs.List.{list_any}
@@ -45,7 +45,7 @@ module _ (view : View) (t : Tree) (s : ShowsBy view t) where
     sound = sound_less view.step d n view.shown view.root s.sound;
   }
 
-  -- ---- a node dropped
+  -- ---- a deleted inode
   -- the same objects but one
   pub shows_dropped : (c label : ℕ) (o : Object) (objects : List (ℕ × Object)) → view.shown c ≡ Some (label, o) → HasNoEntry view.step c → IsBare view.step c → (view.root ≡ c → ⊥)
       → SetsAt (object_of t.objects) (object_of objects) label None → ShowsBy (with_shown view c None) (with_objects t objects)
@@ -66,14 +66,14 @@ module _ (view : View) (t : Tree) (s : ShowsBy view t) where
         sound = sound_dropped view.step view.shown view.root c s.sound free bare other;
       }
 
--- ---- what is used
+-- ---- used objects
 abbrev pub is_named : Tree → ℕ → Bool
 is_named t label = list_any (λ e. nat_eq e.1 label) t.names
 
 abbrev pub is_opened : Tree → ℕ → Bool
 is_opened t label = list_any (λ e. nat_eq e.1.label label) t.handles
 
--- each object of the tree but this one is named or open
+-- each object of the tree but this one has a link or an open handle
 abbrev pub OthersUsed : Tree → ℕ → Type 0
 OthersUsed t label = (l : ℕ) (u : Object) → label ≢ l → object_of t.objects l ≡ Some u → is_used t.names t.handles l ≡ true
 
@@ -89,7 +89,7 @@ cond_used true o h = refl
 cond_used false None h = refl
 cond_used false (Some u) h = let e = h u refl in cc
 
--- the session's handle is the one of the number, and the other way round
+-- the session's handle is the one with this number, and vice versa
 pub handle_there : (t : Tree) (session number : ℕ) (h : Handle) → handle_in t session number ≡ Some h → (handle_of t.handles number ≡ Some h) × (h.session ≡ session)
 handle_there t session number h e =
     let w = found_through (handle_of t.handles number) e in
@@ -99,12 +99,12 @@ handle_there t session number h e =
 pub handle_here : (t : Tree) (number : ℕ) (h : Handle) → handle_of t.handles number ≡ Some h → handle_in t h.session number ≡ Some h
 handle_here t number h e = ap (option_and_then (if_of h.session)) e ∙ ap (λ b. if b then Some h else None) (eq-eqb h.session h.session refl)
 
--- no handle opens the label
+-- no handle opens the inode number
 abbrev pub IsClosed : View → ℕ → Type 0
 IsClosed view label = (session number : ℕ) (h : Handle) → view.opens session number ≡ Some h → h.label ≡ label → ⊥
 
 module _ (view : View) (t : Tree) (s : ShowsBy view t) where
-  -- the same objects by look-ups
+  -- the same objects by lookups
   pub shows_same : (objects : List (ℕ × Object)) → ((l : ℕ) → object_of objects l ≡ object_of t.objects l) → ShowsBy view (with_objects t objects)
   shows_same objects same = record {
     names = s.names;
@@ -124,7 +124,7 @@ module _ (view : View) (t : Tree) (s : ShowsBy view t) where
       let w = lookup_any nat_cmp nat_cmp_total (λ x. nat_eq x.label label) t.handles ordered e in
       closed w.1.session w.0 w.1 (sym (s.handles w.1.session w.0) ∙ handle_here t w.0 w.1 w.2) (eqb-true w.1.label label w.3))
 
-  -- a path of the label leads to the node
+  -- a path of the inode number resolves to the inode
   pub led_by : (c label : ℕ) (o : Object) → view.shown c ≡ Some (label, o) → (q : Path) → label_at t.names q ≡ Some label → walk view.step view.root q ≡ Some c
   led_by c label o at q e =
       let w = found_through (walk view.step view.root q) (sym (s.names q) ∙ e) in
@@ -132,14 +132,14 @@ module _ (view : View) (t : Tree) (s : ShowsBy view t) where
       w.1 ∙ ap Some (s.sound.labels w.0 c label v.0.1 o (v.1 ∙ (λ i. Some (v.2 i, v.0.1))) at)
 
   module _ (ordered : IsOrderedTree t) (c label : ℕ) (o : Object) (at : view.shown c ≡ Some (label, o)) where
-    -- no path has the label of a node that no way leads to
+    -- no path has the inode number of an inode that no path resolves to
     pub unnamed : ((q : Path) → walk view.step view.root q ≡ Some c → ⊥) → is_named t label ≡ false
     unnamed unreached =
         false_from_ne_true (is_named t label) (λ e.
         let w = lookup_any path_cmp path_total (λ v. nat_eq v label) t.names ordered.names e in
         unreached w.0 (led_by c label o at w.0 (w.2 ∙ ap Some (eqb-true w.1 label w.3))))
 
-    -- a node that no entry and no handle uses goes
+    -- an unused inode is deleted
     pub shows_kept : HasNoEntry view.step c → (view.root ≡ c → ⊥) → IsBare view.step c → OthersUsed t label → IsClosed view label → ShowsBy (with_shown view c None) (kept t)
     shows_kept free other bare used closed =
         let gone : is_used t.names t.handles label ≡ false = ap (λ b. b || is_opened t label) (unnamed (λ q. never_reached view.step view.root c q free other)) ∙ closed_by label ordered.handles closed in
@@ -148,7 +148,7 @@ module _ (view : View) (t : Tree) (s : ShowsBy view t) where
           beside = λ l ne. kept_object t l ∙ cond_used (is_used t.names t.handles l) (object_of t.objects l) (λ u f. used l u ne f);
         })
 
-    -- one that is used stays
+    -- a used inode stays
     pub shows_kept_used : OthersUsed t label → is_used t.names t.handles label ≡ true → ShowsBy view (kept t)
     shows_kept_used used there =
         shows_same (kept t).objects (λ l. kept_object t l ∙ cond_used (is_used t.names t.handles l) (object_of t.objects l)

@@ -22,7 +22,7 @@ use Rattle.sf_keeps.proofs.Keyed.{found_on}
 use Rattle.sf_keeps.proofs.SetsAt.{name_keys, apart}
 use Rattle.sf_keeps.proofs.Shown.{same_path_itself}
 
--- ---- what holds of all that look-ups find, holds of each entry
+-- ---- a property of all found entries holds for each entry
 module _ {K X : Type 0} (R : K → K → Ordering) (o : IsTotalOrder R) (P : K × X → Type 0) where
   pub each_found : (es : List (K × X)) → T (is_sorted R es) → ((q : K) (v : X) → lookup (is_at (R q)) es ≡ Some v → P (q, v)) → AllByRecursion P es
   each_found [] sorted h = tt
@@ -42,7 +42,7 @@ module _ (last : Option Name) where
   pub past_lookup : (es : List (Name × ℕ)) (q : Name) → lookup (same_name q) (entries_past last es) ≡ cond (is_past last q) (lookup (same_name q) es) None
   past_lookup es q = lookup-filter-keys (same_name q) (is_past last) (is_past last q) (λ k t. ap (is_past last) (sym (same_name_is q k t))) es
 
-  -- ---- the tree's names right below a path, with their labels
+  -- ---- the tree's names directly below a path, with their inode numbers
   module _ (p : Path) where
     abbrev pub child : Path × ℕ → Option (Name × ℕ)
     child e = option_map (with_label e.1) (name_past p last e.0)
@@ -89,7 +89,7 @@ module _ (last : Option Name) where
               ∙ child_found names q
         ] refl
 
-    -- they stand in order
+    -- they are in order
     less : (n m : Name) → T (is_lt (path_cmp (n ∷ []) (m ∷ []))) → T (is_lt (name_cmp n m))
     less n m t =
         elim (name_cmp n m) as (λ r. name_cmp n m ≡ r → T (is_lt r)) [

@@ -1,4 +1,4 @@
--- What the tree lists of a directory are the store's entries.
+-- The tree's listing of a directory consists of the store's entries.
 use Rattle.std.specs.Prelude.{◌≡◌, ℕ, suc, zero, nat_eq, Bool, true, false, cond, ◌||◌, List, [], ◌∷◌, ◌++◌, filter_map, map, take, is_some, option_map, option_and_then, Option, Some, None, refl}
 use Rattle.std.proofs.Common.{sym, ap, ◌∙◌, inl, inr, eqb-true, eq-eqb}
 use Rattle.std.specs.List.{cons_option, find, list_any, All, AllByRecursion}
@@ -100,14 +100,14 @@ module _ (s : StoreState) (t : Tree) (k : Keeps s t) (d : ℕ) where
     abbrev labelled : Name × ℕ → Name × ℕ
     labelled e = (e.0, label_in e.1)
 
-    -- what is listed of a label
+    -- the listing by an inode number
     abbrev shown_label : Name × ℕ → Option Entry
     shown_label e = option_map (listings.entry_of e.0 (links t.names e.1)) (object_of t.objects e.1)
 
     abbrev shown_object : Node → Object
     shown_object node = object_in node.metadata node.content
 
-    -- its node is there, and the same is listed of the label and of the node
+    -- its inode exists, and the listings by inode number and by inode are equal
     abbrev IsListed : Name × ℕ → Type 0
     IsListed e = (node : Node) × (node_in s.nodes e.1 ≡ Some node) × (shown_label (labelled e) ≡ Some (listings.entry_of e.0 node.names (shown_object node)))
 
@@ -156,7 +156,7 @@ module _ (s : StoreState) (t : Tree) (k : Keeps s t) (d : ℕ) where
     pub nodes_listed : All (λ e. (node : Node) × (node_in s.nodes e.1 ≡ Some node)) (take MAX_ENTRIES past)
     nodes_listed = All-from_recursion (λ e. (node : Node) × (node_in s.nodes e.1 ≡ Some node)) (take MAX_ENTRIES past) (first_there MAX_ENTRIES past all_listed)
 
-    -- ---- a directory that a path leads to
+    -- ---- a directory with a path
     module _ (p : Path) (at : walk (child_of s.nodes) s.root p ≡ Some d) where
       name_found : (q : Name) → label_at t.names (p ++ q ∷ []) ≡ option_map label_in (child_of s.nodes d q)
       name_found q =
@@ -192,7 +192,7 @@ module _ (s : StoreState) (t : Tree) (k : Keeps s t) (d : ℕ) where
       listing_found : listing t last p ≡ filter_map (node_entry s.nodes) (take MAX_ENTRIES past)
       listing_found = ap (take MAX_ENTRIES) (by_labels t.names ∙ ap (filter_map shown_label) same_names) ∙ listed_first MAX_ENTRIES past all_listed
 
-    -- ---- a directory that is there, by its label: one that no path leads to any more has no entries
+    -- ---- an existing directory, by its inode number: one without a path has no entries
     pub label_listed : (node : Node) → node_in s.nodes d ≡ Some node → is_directory_content node.content ≡ true → listing_of t last (path_of t.names node.label) ≡ filter_map (node_entry s.nodes) (take MAX_ENTRIES past)
     label_listed node here dir = elim (nat_eq node.names 0) as (λ b. nat_eq node.names 0 ≡ b → listing_of t last (path_of t.names node.label) ≡ filter_map (node_entry s.nodes) (take MAX_ENTRIES past)) [
       | false ↦ λ e.
@@ -204,7 +204,7 @@ module _ (s : StoreState) (t : Tree) (k : Keeps s t) (d : ℕ) where
           ∙ sym (ap (λ (es : List (Name × ℕ)). filter_map (node_entry s.nodes) (take MAX_ENTRIES (entries_past last es))) (no_entries (node_entries s.nodes d) (λ q. sym (entries_found q) ∙ u.bare q)))
     ] refl
 
--- one path alone leads to a directory
+-- only one path leads to a directory
 pub one_way : (s : StoreState) (t : Tree) (k : Keeps s t) (p q : Path) (d : ℕ) → walk (child_of s.nodes) s.root p ≡ Some d → walk (child_of s.nodes) s.root q ≡ Some d → is_directory_at s.nodes d ≡ true → p ≡ q
 one_way s t k p q d to_p to_q dir =
     let w = directory_at s.nodes d dir in

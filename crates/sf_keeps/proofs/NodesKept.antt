@@ -1,4 +1,4 @@
--- What stays of nodes where handles are closed.
+-- The inodes that stay when handles are closed.
 use Rattle.std.specs.Prelude.{◌≡◌, ℕ, ◌-◌, true, false, if◌then◌else◌, List, [], ◌∷◌, slice_set, option_map, option_and_then, Option, Some, None, refl}
 use Rattle.std.specs.Option.{option_map_or}
 use Rattle.std.proofs.Common.{sym, ap, subst, ◌∙◌, inl, inr}
@@ -87,7 +87,7 @@ looks_kept s session = elim (handles_of s session) as (λ o. (closed_each s sess
   | Some handles ↦ each_looks (with_sessions s (remove_entry (is_at (nat_cmp session)) s.sessions)) handles
 ]
 
--- ---- each node that is there
+-- ---- each existing inode
 module _ (old new : StoreState) (nodes : KeepsNodes old new) where
   pub directory_kept : (l : ℕ) (node : Node) → node_in new.nodes l ≡ Some node → is_directory_at old.nodes l ≡ true → is_directory_at new.nodes l ≡ true
   directory_kept l node at dir =
@@ -110,7 +110,7 @@ module _ (old new : StoreState) (nodes : KeepsNodes old new) where
         | Some node ↦ λ e x. sym (holder_kept l node e) ∙ h
       ] refl h
 
--- ---- a path that has the same label leads to the same node
+-- ---- a path with the same inode number leads to the same inode
 module _ (old new : StoreState) (t u : Tree) (keeps : Keeps old t) (keeps' : Keeps new u) (nodes : KeepsNodes old new) (names : u.names ≡ t.names) where
   same_node : (l id : ℕ) (was node : Node) → node_in old.nodes l ≡ Some was → node.label ≡ was.label → (o : Option Node) → node_in old.nodes id ≡ o → WasThere o node → id ≡ l
   same_node l id was node at label None e is = absurd is

@@ -1,4 +1,4 @@
--- Where each directory has one entry at most, one path at most leads to it.
+-- If each directory has at most one entry, at most one path leads to it.
 use Rattle.std.specs.Prelude.{◌≡◌, ℕ, true, [], ◌∷◌, reverse, option_and_then, Option, Some, None, refl}
 use Rattle.std.proofs.Common.{sym, ap, ◌∙◌}
 use Rattle.std.proofs.lemmas.List.{reverse-append, reverse-reverse}
@@ -8,7 +8,7 @@ use Rattle.sf_keeps.specs.Shows.{Shown, IsSound, is_directory_by}
 use Rattle.sf_keeps.proofs.Through.{found_through}
 use Rattle.sf_keeps.proofs.Walks.{LeadsOnce, walk-append, to_it}
 
--- the way along the names read from the last
+-- path resolution by the last name
 abbrev pub back : EntryMap → ℕ → Path → Option ℕ
 back step x [] = Some x
 back step x (n ∷ p) = option_and_then (λ y. step y n) (back step x p)

@@ -1,4 +1,4 @@
--- A store keeps the tree after a handle was opened, and after one listed.
+-- A store represents the tree after a handle was opened, and after a listing.
 use Rattle.std.specs.Prelude.{◌≡◌, ◌≢◌, ℕ, ◌+◌, ◌-◌, ◌<◌, ◌^◌, min, nat_eq, cond, ◌&&◌, List, option_map, option_and_then, Option, Some, None, refl}
 use Rattle.std.specs.Option.{option_map_or}
 use Rattle.std.proofs.Common.{sym, ap, subst, ◌∙◌, inl, inr, arith, eq-eqb}
@@ -103,7 +103,7 @@ module _ (s : StoreState) (t : Tree) (k : Keeps s t) (session number id : ℕ) (
       let p = put_handle_set s k.sessions k.handles session number own in
       subst (λ (x : StoreState). Keeps x after) (sym (ap (λ (o : Option Node). option_map_or (λ (node : Node). after_open_node s session number (new_handle id marks node)) o s) here ∙ ap (λ (z : StoreState). edited more z id) p.1)) (keeps_put p.0 p.2)
 
--- ---- a handle's last name
+-- ---- the last listed name of a handle
 module _ (s : StoreState) (t : Tree) (k : Keeps s t) (session number : ℕ) (h : OpenHandle) (at : open_handle_at s session number ≡ Some h) (name : Name) where
   abbrev set_handle : Handle
   set_handle = with_listed (shown_handle session h) (Some name)

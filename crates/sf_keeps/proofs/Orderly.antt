@@ -1,5 +1,5 @@
--- Lists of entries in the order of their keys: two that answer alike are one, and other values
--- leave the order.
+-- Lists of entries in key order: lists with equal lookups are equal, and other values keep the
+-- order.
 use Rattle.std.specs.Prelude.{◌≡◌, T, ◌&&◌, List, [], ◌∷◌, map, refl}
 use Rattle.std.proofs.Common.{sym, ap, subst, ◌∙◌}
 use Rattle.std.specs.declared.cmp.Ordering.{Ordering}
@@ -13,7 +13,7 @@ use Rattle.std.specs.FinMap.Entries.{below_all}
 use Rattle.sf_call.proofs.Laws.{find_is}
 
 module _ {K X : Type 0} (R : K → K → Ordering) where
-  -- ordered lists of entries that answer alike are one
+  -- ordered lists of entries with equal lookups are equal
   pub same_sorted : IsTotalOrder R → IsAntisymmetric R → (es fs : List (K × X)) → T (is_sorted R es) → T (is_sorted R fs) → ((q : K) → lookup (is_at (R q)) es ≡ lookup (is_at (R q)) fs) → es ≡ fs
   same_sorted o exact es fs s t same = entries.same_entries R o exact es fs s t (λ q. sym (find_is R es q) ∙ same q ∙ find_is R fs q)
 

@@ -1,4 +1,4 @@
--- A move in two changes of steps: the old entry goes, and the new one leads to what it led to.
+-- A move in two changes of entries: the old entry is removed, and the new one refers to its inode.
 use Rattle.std.specs.Prelude.{◌≡◌, ◌≢◌, ℕ, nat_eq, Bool, true, cond, ◌&&◌, List, [], ◌∷◌, ◌++◌, option_and_then, is_none, Option, Some, None, refl}
 use Rattle.std.specs.Option.{option_or}
 use Rattle.std.proofs.Common.{sym, ap, ◌∙◌, append_assoc, eqb-true, eq-eqb}
@@ -19,13 +19,13 @@ use Rattle.sf_keeps.proofs.Shown.{once}
 use Rattle.sf_keeps.proofs.Less.{is_named, is_opened, OthersUsed, IsClosed, kept_object, kept_used, cond_used, shows_same, shows_kept, shows_kept_used}
 use Rattle.sf_keeps.proofs.Whole.{one_more, or_grows}
 
--- where a path leads after a move
+-- the inode of a path after a move
 abbrev pub led_after_move : EntryMap → ℕ → Path → Path → Option Path → Option Path → Option ℕ
 led_after_move step root old q None None = walk step root q
 led_after_move step root old q None (Some r) = None
 led_after_move step root old q (Some rest) before = walk step root (old ++ rest)
 
--- whether neither is a front of a path
+-- whether neither is a prefix of a path
 abbrev is_after : Option Path → Option Path → Bool
 is_after a b = is_none a && is_none b
 
@@ -58,7 +58,7 @@ module _ (step : EntryMap) (root : ℕ) (po : Path) (no : Name) (from : ℕ) (pn
   clear_of_from : Avoids step c from
   clear_of_from s w = longer po no s (once_from ((po ++ no ∷ []) ++ s) (below s ∙ w))
 
-  -- the way to the new directory does not lie inside old
+  -- the path to the new directory is not below old
   outside : after_front (po ++ no ∷ []) pn ≡ None
   outside =
       elim (after_front (po ++ no ∷ []) pn) as (λ o. after_front (po ++ no ∷ []) pn ≡ o → o ≡ None) [
@@ -105,7 +105,7 @@ module _ (step : EntryMap) (root : ℕ) (po : Path) (no : Name) (from : ℕ) (pn
         | Some rest ↦ below_taken rest ∙ sym (below rest)
       ]
 
-  -- the names are the paths' labels, before and after
+  -- the names are the inode numbers of paths, before and after
   pub names_moved : (names : List (Path × ℕ)) (label : ℕ → Option ℕ) → ((q : Path) → label_at names q ≡ option_and_then label (walk step root q))
       → (q : Path) → label_at (moved names (po ++ no ∷ []) (pn ++ nn ∷ [])) q ≡ option_and_then label (walk relinked root q)
   names_moved names label are q =
@@ -119,7 +119,7 @@ module _ (step : EntryMap) (root : ℕ) (po : Path) (no : Name) (from : ℕ) (pn
       ]
       ∙ ap (option_and_then label) (sym (walk_relinked q))
 
--- ---- what a view shows after the move
+-- ---- the view after the move
 module _ (view : View) (t : Tree) (h : Shows view t) (po : Path) (on : Name) (from : ℕ) (pn : Path) (nn : Name) (to c : ℕ)
     (at_from : walk view.step view.root po ≡ Some from) (there : view.step from on ≡ Some c) (at_to : walk view.step view.root pn ≡ Some to) (is_to : is_directory_by view.shown to ≡ true)
     (not_inside : after_front (po ++ on ∷ []) (pn ++ nn ∷ []) ≡ None) where
@@ -149,7 +149,8 @@ module _ (view : View) (t : Tree) (h : Shows view t) (po : Path) (on : Name) (fr
   ordered_moved : IsOrderedTree moved_tree
   ordered_moved = record { names = (ordered_changed t (Move old new) h.ordered).names; objects = h.ordered.objects; handles = h.ordered.handles }
 
-  -- a path's label is named after the move, unless the path stood at or below new and not below old
+  -- the inode number of a path has a path after the move, unless the path was at or below new and
+  -- not below old
   named_after : (q : Path) (l : ℕ) → label_at t.names q ≡ Some l → ((r : Path) → after_front old q ≡ None → after_front new q ≡ Some r → ⊥) → is_named moved_tree l ≡ true
   named_after q l at clear =
       elim (after_front old q) as (λ o. after_front old q ≡ o → is_named moved_tree l ≡ true) [
@@ -166,13 +167,13 @@ module _ (view : View) (t : Tree) (h : Shows view t) (po : Path) (on : Name) (fr
       let w = lookup_any path_cmp path_total (λ v. nat_eq v l) t.names h.ordered.names any in
       (w.0, w.2 ∙ ap Some (eqb-true w.1 l w.3))
 
-  -- where a path at or below new led
+  -- the inode of a path at or below new, before
   below_new : (q r : Path) → after_front new q ≡ Some r → walk view.step view.root q ≡ option_and_then (λ y. walk view.step y r) (view.step to nn)
   below_new q r e =
       ap (walk view.step view.root) (append-after_front new q r e) ∙ walk-append view.step view.root new r
       ∙ ap (option_and_then (λ y. walk view.step y r)) (one_more view t h pn to nn at_to)
 
-  -- ---- onto nothing
+  -- ---- to an absent path
   module _ (free : view.step to nn ≡ None) where
     nothing_there : (q r : Path) (l : ℕ) → label_at t.names q ≡ Some l → after_front new q ≡ Some r → ⊥
     nothing_there q r l at e =
@@ -190,7 +191,7 @@ module _ (view : View) (t : Tree) (h : Shows view t) (po : Path) (on : Name) (fr
       used = kept_used moved_tree;
     }
 
-  -- ---- onto another node, below which is nothing
+  -- ---- replacing another inode without entries
   module _ (target label : ℕ) (o : Object) (stood : view.step to nn ≡ Some target) (is : view.shown target ≡ Some (label, o)) (bare : IsBare view.step target) where
     only_target : (q r : Path) (l : ℕ) → label ≢ l → label_at t.names q ≡ Some l → after_front new q ≡ Some r → ⊥
     only_target q [] l ne at e =
@@ -205,7 +206,7 @@ module _ (view : View) (t : Tree) (h : Shows view t) (po : Path) (on : Name) (fr
     others_moved l u ne e = or_grows (is_named t l) (is_opened t l) (is_named moved_tree l)
         (λ any. let q = named_before l any in named_after q.0 l q.1 (λ r _ f. only_target q.0 r l ne q.1 f)) (h.used l u e)
 
-    -- nothing else leads to what was replaced, and nothing opens it
+    -- no other entry or handle refers to the replaced inode
     pub shows_replaced : HasNoEntry relinked_view.step target → IsBare relinked_view.step target → IsClosed view label → Shows (with_shown relinked_view target None) (changed t (Move old new))
     shows_replaced gone still closed = record {
       by = shows_kept relinked_view moved_tree by_moved ordered_moved target label o is gone (λ e. h.by.sound.top to nn (stood ∙ ap Some (sym e))) still others_moved closed;
@@ -213,7 +214,7 @@ module _ (view : View) (t : Tree) (h : Shows view t) (po : Path) (on : Name) (fr
       used = kept_used moved_tree;
     }
 
-    -- something else names or opens it
+    -- another entry or handle refers to it
     pub shows_replaced_used : is_used moved_tree.names t.handles label ≡ true → Shows relinked_view (changed t (Move old new))
     shows_replaced_used used = record {
       by = shows_kept_used relinked_view moved_tree by_moved ordered_moved target label o is others_moved used;

@@ -1,4 +1,4 @@
--- A session's handles in the store and in the tree.
+-- The handles of a session in the store and in the tree.
 use Rattle.std.specs.Prelude.{◌≡◌, ℕ, nat_eq, T, List, [], length, map, filter, option_map, option_and_then, Option, Some, None, refl}
 use Rattle.std.proofs.Common.{sym, ap, ◌∙◌}
 use Rattle.std.specs.List.{count_by}
@@ -50,18 +50,18 @@ module _ (s : StoreState) (t : Tree) (k : Keeps s t) where
     counted_at None e = counted_list [] tt (λ number. sym (ap (option_and_then (λ (handles : List (ℕ × OpenHandle)). lookup (is_at (nat_cmp number)) handles)) e))
     counted_at (Some handles) e = counted_list handles (k.handles session handles e) (λ number. sym (ap (option_and_then (λ (handles : List (ℕ × OpenHandle)). lookup (is_at (nat_cmp number)) handles)) e))
 
-  -- as many in both
+  -- the same number in both
   pub handle_count : (session : ℕ) → option_map_or (λ (handles : List (ℕ × OpenHandle)). length handles) (handles_of s session) 0 ≡ count_by (λ (e : ℕ × Handle). nat_eq e.1.session session) t.handles
   handle_count session = counted_at session (handles_of s session) refl
 
-  -- its node is there, with the object of its label
+  -- its inode exists, with the object of its number
   pub found_node : (session number : ℕ) (h : OpenHandle) → open_handle_at s session number ≡ Some h
       → (node : Node) × ((node_in s.nodes h.node ≡ Some node) × (node.label ≡ h.label) × (object_of t.objects h.label ≡ Some (object_in node.metadata node.content)))
   found_node session number h at =
       let w = k.led session number h at in
       (w.0, (w.1.0, w.1.1, ap (object_of t.objects) (sym w.1.1) ∙ object_there s t k h.node w.0 w.1.0))
 
-  -- a number that no handle has
+  -- a number of no handle
   pub free_handles : (number : ℕ) → handle_of t.handles number ≡ None → (session : ℕ) → open_handle_at s session number ≡ None
   free_handles number free session =
       elim (open_handle_at s session number) as (λ o. option_map (shown_handle session) o ≡ None → o ≡ None) [

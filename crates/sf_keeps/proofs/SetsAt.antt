@@ -1,4 +1,4 @@
--- What is set at one key: its value is there, and at each other key what was there before.
+-- A value set at one key: the value is found there, and other keys are unchanged.
 use Rattle.std.specs.Prelude.{◌≡◌, ◌≢◌, ◌⊎◌, ℕ, nat_eq, true, false, cond, T, List, Option, Some, None, IsSome, refl}
 use Rattle.std.proofs.Common.{sym, ap, subst, ◌∙◌, inl, inr, eqb-true, eq-eqb}
 use Rattle.std.proofs.lemmas.Bool.{cases_eq, cond-true, cond-false, false_from_ne_true}
@@ -23,7 +23,7 @@ nat_eq_itself a = eq-eqb a a refl
 pub nat_eq_apart : (a b : ℕ) → a ≢ b → nat_eq a b ≡ false
 nat_eq_apart a b ne = false_from_ne_true (nat_eq a b) (λ e. ne (eqb-true a b e))
 
--- so at the key and beside it, and so everywhere
+-- so at the key and at others, and so everywhere
 pub at_or_beside : (P : ℕ → Type 0) (key : ℕ) → P key → ((other : ℕ) → key ≢ other → P other) → (k : ℕ) → P k
 at_or_beside P key at beside k = elim (cases_eq key k) [ inl e ↦ subst P e at | inr ne ↦ beside k ne ]
 
@@ -39,11 +39,11 @@ module _ {A : Type 0} {before after : ℕ → A} {key : ℕ} {value : A} (set : 
   pub set_is : (k : ℕ) → after k ≡ cond (nat_eq key k) value (before k)
   set_is = at_or_beside _ key (set.at ∙ sym (sets before key value).at) (λ k ne. set.beside k ne ∙ sym ((sets before key value).beside k ne))
 
-  -- nothing has changed where the value was there before
+  -- if the value was there before, nothing has changed
   pub unchanged : before key ≡ value → (k : ℕ) → after k ≡ before k
   unchanged same = at_or_beside _ key (set.at ∙ sym same) (λ k ne. set.beside k ne)
 
-  -- what is found is the value, or was found before
+  -- the value found is the new one, or was found before
   pub set_found : (k : ℕ) {v : A} → after k ≡ v → ((key ≡ k) × (value ≡ v)) ⊎ ((key ≢ k) × (before k ≡ v))
   set_found k found = elim (cases_eq key k) [ inl e ↦ inl (e, sym set.at ∙ ap after e ∙ found) | inr ne ↦ inr (ne, sym (set.beside k ne) ∙ found) ]
 
@@ -57,12 +57,12 @@ gone_found set k found = elim (set_found set k found) [ inl a ↦ absurd (cc) | 
 pub set_twice : {K A : Type 0} {before mid after : K → A} {key : K} {value last : A} → SetsAt before mid key value → SetsAt mid after key last → SetsAt before after key last
 set_twice set again = record { at = again.at; beside = λ k ne. again.beside k ne ∙ set.beside k ne }
 
--- what is seen of it is set, too
+-- its observable part is set, too
 pub set_seen : {K A B : Type 0} (f : A → B) {before after : K → A} {key : K} {value : A} → SetsAt before after key value → SetsAt (λ k. f (before k)) (λ k. f (after k)) key (f value)
 set_seen f set = record { at = ap f set.at; beside = λ k ne. ap f (set.beside k ne) }
 
 -- ---- lists of entries in the order of their keys
--- a test that passes tells that two keys are one
+-- a test that passes shows that two keys are equal
 pub record AreKeys {K : Type 0} (R : K → K → Ordering) : Type 0 where
   pub total : IsTotalOrder R
   pub same : (a b : K) → is_at (R a) b ≡ true → a ≡ b

@@ -1,4 +1,4 @@
--- What a view shows after a node or an entry has changed.
+-- A view after an inode or an entry has changed.
 use Rattle.std.specs.Prelude.{◌≡◌, ◌≢◌, ℕ, true, List, [], ◌∷◌, ◌++◌, option_map, option_and_then, unwrap_or, is_some, Option, Some, None, refl}
 use Rattle.std.proofs.Common.{sym, ap, ◌∙◌, inl, inr}
 use Rattle.std.specs.Ordering.{nat_cmp}
@@ -21,7 +21,7 @@ use Rattle.sf_keeps.proofs.Sound.{HasNoEntry, IsBare, is_directory_shown, direct
 pub same_path_itself : (p : Path) → same_path p p ≡ true
 same_path_itself = itself path_keys
 
--- the labels of two nodes that are shown alike
+-- the numbers of two inodes with equal objects
 pub some_label : (a b : ℕ) (o u : Object) → ◌≡◌ {A = Option (ℕ × Object)} (Some (a, o)) (Some (b, u)) → a ≡ b
 some_label a b o u e = ap (λ (w : Option (ℕ × Object)). unwrap_or (option_map (λ x. x.0) w) a) e
 
@@ -48,12 +48,12 @@ path_none p q e h = let f = ap (after_front p) h in let g = after_front-self p i
 path_further : (p q : Path) (k : Name) (r : Path) → after_front p q ≡ Some (k ∷ r) → p ≢ q
 path_further p q k r e h = let f = ap (after_front p) h in let g = after_front-self p in cc
 
--- nothing goes on from there
+-- resolution fails after it
 abbrev Ends : EntryMap → Option ℕ → Type 0
 Ends step o = (k : Name) → option_and_then (λ x. step x k) o ≡ None
 
--- A name of a directory leads to r now. No way goes on from there, nor did from where the name led.
--- Nodes that ways lead to keep their labels, and the path has r's.
+-- A name of a directory now refers to r. No path continues from r, and none continued from the old
+-- inode. Inodes with paths keep their numbers, and the path has r's.
 pub record LeadsTo (view : View) (t : Tree) (p : Path) (d : ℕ) (n : Name) (r : Option ℕ) (label : ℕ → Option ℕ) (names : List (Path × ℕ)) : Type 0 where
   pub at : walk view.step view.root p ≡ Some d
   pub is : is_directory_by view.shown d ≡ true
@@ -66,11 +66,11 @@ pub record LeadsTo (view : View) (t : Tree) (p : Path) (d : ℕ) (n : Name) (r :
   pub set : SetsAt (label_at t.names) (label_at names) (p ++ n ∷ []) value
 
 module _ (view : View) (t : Tree) (s : ShowsBy view t) where
-  -- one path alone leads to a directory
+  -- only one path leads to a directory
   pub once : (p : Path) (d : ℕ) → is_directory_by view.shown d ≡ true → walk view.step view.root p ≡ Some d → LeadsOnce view.step view.root p d
   once p d is at = leads_once view.step view.shown view.root s.sound p d is at
 
-  -- ---- an object set under the label of a node that shows it
+  -- ---- an object set at the number of an inode
   module _ (d label : ℕ) (o : Object) (objects : List (ℕ × Object)) (put : SetsAt (object_of t.objects) (object_of objects) label (Some o)) where
     seen : SetsAt view.shown (changed_shown view.shown d (Some (label, o))) d (Some (label, o))
     seen = sets view.shown d (Some (label, o))
@@ -87,7 +87,7 @@ module _ (view : View) (t : Tree) (s : ShowsBy view t) where
       | inr a ↦ let w = s.found l u a.1 in (w.0, seen.beside w.0 (λ h. other l u a.0 (ap view.shown h ∙ w.1)) ∙ w.1)
     ]
 
-  -- another object at a node
+  -- another object of an inode
   pub shows_object : (d label : ℕ) (old o : Object) → view.shown d ≡ Some (label, old) → is_some (directory_metadata old) ≡ is_some (directory_metadata o) → ShowsBy (with_shown view d (Some (label, o))) (changed t (SetObject label o))
   shows_object d label old o at kind =
       let fresh : (i : ℕ) (u : Object) → d ≢ i → view.shown i ≡ Some (label, u) → ⊥ = λ i u ne e. ne (s.sound.labels d i label old u at e) in
@@ -102,8 +102,8 @@ module _ (view : View) (t : Tree) (s : ShowsBy view t) where
         sound = sound_shown view.step view.shown view.root d s.sound label o (λ _. ap is_directory_shown at ∙ kind) fresh;
       }
 
-  -- ---- an entry less
-  -- where a path leads that goes on by the name n from p
+  -- ---- one entry fewer
+  -- the inode of a path that continues from p by the name n
   pub below : (p : Path) (d : ℕ) (n : Name) → walk view.step view.root p ≡ Some d → (q r : Path) → after_front (p ++ n ∷ []) q ≡ Some r → walk view.step view.root q ≡ option_and_then (λ c. walk view.step c r) (view.step d n)
   below p d n at q r e =
       ap (walk view.step view.root) (append-after_front (p ++ n ∷ []) q r e) ∙ walk-append view.step view.root (p ++ n ∷ []) r
@@ -118,7 +118,7 @@ module _ (view : View) (t : Tree) (s : ShowsBy view t) where
       → (q : Path) → option_and_then label (walk view.step view.root q) ≡ option_and_then (label_by view.shown) (walk view.step view.root q)
   labels_along label alike q = elim (walk view.step view.root q) as (λ w. walk view.step view.root q ≡ w → option_and_then label w ≡ option_and_then (label_by view.shown) w) [ None ↦ λ e. refl | Some y ↦ alike q y ] refl
 
-  -- what paths lead to after a name leads to r
+  -- the inodes of paths after a name refers to r
   module _ (p : Path) (d : ℕ) (n : Name) (r : Option ℕ) (label : ℕ → Option ℕ) (names : List (Path × ℕ)) (new : LeadsTo view t p d n r label names) where
     named_on : (q : Path) (w : Option Path) → after_front (p ++ n ∷ []) q ≡ w → label_at names q ≡ option_and_then label (led view.step r w (walk view.step view.root q))
     named_on q None e = new.set.beside q (path_none (p ++ n ∷ []) q e) ∙ s.names q ∙ sym (labels_along label new.alike q)
@@ -134,7 +134,7 @@ module _ (view : View) (t : Tree) (s : ShowsBy view t) where
         named_on q (after_front (p ++ n ∷ []) q) refl
         ∙ ap (option_and_then label) (sym (walk_changed view.step d n r new.clear p view.root q new.at (once p d new.is new.at)))
 
-  -- ---- a new node with its entry
+  -- ---- a new inode with its entry
   new_bare : (c : ℕ) → view.shown c ≡ None → IsBare view.step c
   new_bare c new m = none_there (view.step c m) (λ y e. directory_there view.shown c (s.sound.owns c y m e) new)
 

@@ -1,4 +1,4 @@
--- What is always true of entries and nodes, after each change.
+-- The invariant of entries and inodes, after each change.
 use Rattle.std.specs.Prelude.{◌≡◌, ◌≢◌, ◌⊎◌, ℕ, nat_eq, Bool, true, ◌&&◌, [], ◌∷◌, is_some, option_map, option_and_then, Option, Some, None}
 use Rattle.std.proofs.Common.{sym, ap, ◌∙◌, inl, inr, eqb-true}
 use Rattle.sf_path.specs.Names.{Name, Path}
@@ -11,22 +11,22 @@ use Rattle.sf_keeps.specs.Shows.{Shown, IsSound, is_directory_by, changed_shown}
 use Rattle.sf_keeps.proofs.Through.{by_test, was_there, was_none, found_through}
 use Rattle.sf_keeps.proofs.SetsAt.{nat_eq_itself, at_or_beside, sets, set_found, set_seen}
 
--- whether it is a directory's
+-- whether it is a directory
 abbrev pub is_directory_shown : Option (ℕ × Object) → Bool
 is_directory_shown v = is_some (option_and_then (λ w. directory_metadata w.1) v)
 
--- a directory is there
+-- a directory exists
 pub directory_there : (shown : Shown) (x : ℕ) → is_directory_by shown x ≡ true → shown x ≡ None → ⊥
 directory_there shown x is none = let e = ap is_directory_shown none in cc
 
--- no entry leads to it
+-- no entry refers to it
 abbrev pub HasNoEntry : EntryMap → ℕ → Type 0
 HasNoEntry step c = (x : ℕ) (n : Name) → step x n ≡ Some c → ⊥
 
 abbrev pub IsBare : EntryMap → ℕ → Type 0
 IsBare step c = (m : Name) → step c m ≡ None
 
--- the last step of a way
+-- the last step of path resolution
 pub last_step : (step : EntryMap) (q : Path) (x c : ℕ) → walk step x q ≡ Some c → (x ≡ c) ⊎ ((y : ℕ) × (m : Name) × (step y m ≡ Some c))
 last_step step [] x c w = let e : x ≡ c = cc in inl e
 last_step step (m ∷ q) x c w =
@@ -36,7 +36,7 @@ last_step step (m ∷ q) x c w =
 pub never_reached : (step : EntryMap) (root c : ℕ) (q : Path) → HasNoEntry step c → (root ≡ c → ⊥) → walk step root q ≡ Some c → ⊥
 never_reached step root c q none other w = elim (last_step step q root c w) [ inl e ↦ other e | inr s ↦ none s.0 s.1 s.2 ]
 
--- what a way leads to is there
+-- a resolved inode exists
 pub reached_there : (step : EntryMap) (shown : Shown) (root : ℕ) → IsSound step shown root → (q : Path) (y : ℕ) → walk step root q ≡ Some y → shown y ≡ None → ⊥
 reached_there step shown root sound q y w none = elim (last_step step q root y w) [
   | inl e ↦ directory_there shown root sound.rooted (ap shown e ∙ none)
@@ -54,7 +54,7 @@ module _ (step : EntryMap) (d : ℕ) (n : Name) where
     | inr a ↦ inr a.1
   ]
 
-  -- where the entry leads
+  -- the inode of the entry
   pub changed_there : (r : Option ℕ) → changed_step step d n r d n ≡ r
   changed_there r = simp (nat_eq_itself, same_name_itself)
 
@@ -69,13 +69,13 @@ module _ (step : EntryMap) (d : ℕ) (n : Name) where
       rooted = sound.rooted;
     }
 
-    -- the entry taken out was the only one of a directory
+    -- the removed entry was the only one of a directory
     pub no_entry_left : (c : ℕ) → is_directory_by shown c ≡ true → step d n ≡ Some c → HasNoEntry (changed_step step d n None) c
     no_entry_left c is there x m e =
         let same = sound.one d x c n m is there (step_less x c m e) in
         let gone : changed_step step d n None x m ≡ None = (λ i. changed_step step d n None (sym same.0 i) (sym same.1 i)) ∙ changed_there None in cc
 
-    -- a new entry of a directory, to a node that is no directory with an entry
+    -- a new entry of a directory, for an inode that is no directory with an entry
     pub sound_more : (c : ℕ) → (is_directory_by shown c ≡ true → HasNoEntry step c) → (root ≡ c → ⊥) → is_directory_by shown d ≡ true → (shown c ≡ None → ⊥) → IsSound (changed_step step d n (Some c)) shown root
     sound_more c free other is_d c_there = record {
       labels = sound.labels;
@@ -96,15 +96,14 @@ module _ (step : EntryMap) (d : ℕ) (n : Name) where
     }
 
 module _ (step : EntryMap) (shown : Shown) (root c : ℕ) (sound : IsSound step shown root) where
-  -- where the node that is shown anew was nothing, or of the same kind, the kinds of what was there
-  -- stay
+  -- if the changed inode was absent or of the same file type, existing file types stay
   pub kind_more : (label : ℕ) (o : Object) → ((shown c ≡ None → ⊥) → is_directory_by shown c ≡ is_directory_shown (Some (label, o)))
       → (x : ℕ) → (shown x ≡ None → ⊥) → is_directory_by (changed_shown shown c (Some (label, o))) x ≡ is_directory_by shown x
   kind_more label o kind =
       let seen = set_seen is_directory_shown (sets shown c (Some (label, o))) in
       at_or_beside _ c (λ there. seen.at ∙ sym (kind there)) (λ x ne there. seen.beside x ne)
 
-  -- a node with a label that no other has, new or of the kind that it was
+  -- an inode with a unique number, new or of its old file type
   pub sound_shown : (label : ℕ) (o : Object) → ((shown c ≡ None → ⊥) → is_directory_by shown c ≡ is_directory_shown (Some (label, o)))
       → ((i : ℕ) (u : Object) → c ≢ i → shown i ≡ Some (label, u) → ⊥) → IsSound step (changed_shown shown c (Some (label, o))) root
   sound_shown label o kind fresh =
@@ -128,7 +127,7 @@ module _ (step : EntryMap) (shown : Shown) (root c : ℕ) (sound : IsSound step 
         rooted = same root (directory_there shown root sound.rooted) ∙ sound.rooted;
       }
 
-  -- without a node that has no entries and that no entry leads to
+  -- without an inode that has no entries and that no entry refers to
   pub sound_dropped : HasNoEntry step c → IsBare step c → (root ≡ c → ⊥) → IsSound step (changed_shown shown c None) root
   sound_dropped free bare other =
       let new = sets shown c None in

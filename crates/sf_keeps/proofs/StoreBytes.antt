@@ -1,4 +1,4 @@
--- What a node shows after a file's bytes were changed, and that copying is not seen.
+-- The object of an inode after a file's bytes were changed. Copying is not observable.
 use Rattle.std.specs.Prelude.{◌≡◌, ℕ, is_some, refl}
 use Rattle.sf_path.specs.Names.{Name}
 use Rattle.sf_call.specs.declared.metadata.Metadata.{Metadata}

@@ -1,4 +1,4 @@
--- A store's handles, and what can be seen of them, after a handle was put, set or taken out.
+-- A store's handles, and its observable part, after a handle was inserted, set or removed.
 use Rattle.std.specs.Prelude.{◌≡◌, ℕ, nat_eq, Bool, true, false, cond, T, ◌&&◌, List, [], ◌∷◌, option_map, option_and_then, Option, Some, None, refl}
 use Rattle.std.proofs.Common.{sym, ap, subst, ◌∙◌, inl, inr, eq-eqb}
 use Rattle.std.specs.Ordering.{nat_cmp}
@@ -17,7 +17,7 @@ use Rattle.sf_keeps.proofs.SetsAt.{SetsAt, number_keys, nat_eq_itself, nat_eq_ap
 use Rattle.sf_keeps.proofs.Shown.{nat_same, nat_at_itself}
 use Rattle.sf_keeps.proofs.StoreLaws.{same_view}
 
--- the two tests of numbers are one
+-- the two tests of numbers are equal
 pub at_is : (a b : ℕ) → is_at (nat_cmp a) b ≡ nat_eq a b
 at_is a b = elim (is_at (nat_cmp a) b) as (λ z. is_at (nat_cmp a) b ≡ z → z ≡ nat_eq a b) [
   | true ↦ λ e. sym (eq-eqb a b (nat_same a b e))
@@ -33,11 +33,11 @@ Sessions = List (ℕ × Handles)
 abbrev found : ℕ → Handles → Option OpenHandle
 found number handles = lookup (is_at (nat_cmp number)) handles
 
--- each session's handles stand in order
+-- each session's handles are in order
 abbrev pub AreOrdered : Sessions → Type 0
 AreOrdered sessions = (session : ℕ) (handles : Handles) → lookup (is_at (nat_cmp session)) sessions ≡ Some handles → T (is_sorted nat_cmp handles)
 
--- one handle has changed, and all stand in order
+-- one handle has changed, and all are in order
 pub record HandleSet (s : StoreState) (new : Sessions) (session number : ℕ) (r : Option OpenHandle) : Type 0 where
   pub at : (a b : ℕ) → open_handle_at (with_sessions s new) a b ≡ cond (nat_eq session a && nat_eq number b) r (open_handle_at s a b)
   pub sessions : T (is_sorted nat_cmp new)
@@ -65,7 +65,7 @@ module _ (s : StoreState) (ordered : T (is_sorted nat_cmp s.sessions)) (own : Ar
   of_session : {r : Option OpenHandle} {after : ℕ → Option OpenHandle} (o : Option Handles) → handles_of s session ≡ o → SetsAt (λ b. option_and_then (found b) o) after number r → SetsAt (open_handle_at s session) after number r
   of_session {r = r} {after = after} o e set = subst (λ (x : Option Handles). SetsAt (λ b. option_and_then (found b) x) after number r) (sym e) set
 
-  -- ---- a handle put
+  -- ---- an inserted handle
   put_at : (h : OpenHandle) (o : Option Handles) → handles_of s session ≡ o → (new : Sessions) × (handles_put s session number h o ≡ with_sessions s new) × HandleSet s new session number (Some h)
   put_at h None e =
       let new = insert_entry nat_cmp s.sessions session ((number, h) ∷ []) in (
@@ -86,7 +86,7 @@ module _ (s : StoreState) (ordered : T (is_sorted nat_cmp s.sessions)) (own : Ar
   pub put_handle_set : (h : OpenHandle) → (new : Sessions) × (handle_put s session number h ≡ with_sessions s new) × HandleSet s new session number (Some h)
   put_handle_set h = put_at h (handles_of s session) refl
 
-  -- ---- a handle that is there
+  -- ---- an existing handle
   module _ (h : OpenHandle) (at : open_handle_at s session number ≡ Some h) where
     pub its_session : (handles : Handles) × (handles_of s session ≡ Some handles) × (found number handles ≡ Some h)
     its_session = found_through (handles_of s session) at
@@ -118,7 +118,7 @@ module _ (s : StoreState) (ordered : T (is_sorted nat_cmp s.sessions)) (own : Ar
           changed_set (Some (with_last name h)) after (sorted_set nat_cmp (is_at (nat_cmp number)) (with_last name h) handles sorted) (value_at number_keys handles number h (with_last name h) its_session.2),
         )
 
--- ---- what can be seen
+-- ---- the observable part
 cond_mapped : {A B : Type 0} (f : A → B) (b : Bool) (x y : Option A) → option_map f (cond b x y) ≡ cond b (option_map f x) (option_map f y)
 cond_mapped f true x y = refl
 cond_mapped f false x y = refl

@@ -1,4 +1,4 @@
--- What can be seen of a store after each change of its nodes.
+-- The observable part of a store after each change of its inodes.
 use Rattle.std.specs.Prelude.{◌≡◌, ◌≢◌, ℕ, suc, zero, ◌<◌, nat_eq, Bool, true, false, cond, ◌&&◌, List, [], ◌∷◌, ◌++◌, length, is_some, option_map, option_and_then, Option, Some, None, slice_set, refl}
 use Rattle.std.proofs.Common.{sym, ap, subst, ◌∙◌, arith, get_or-set_same, get_or-set_other}
 use Rattle.std.specs.Map.{lookup, remove_entry}
@@ -24,14 +24,14 @@ use Rattle.sf_keeps.proofs.SetsAt.{SetsAt, name_keys, nat_eq_itself, at_or_besid
 use Rattle.sf_keeps.proofs.Less.{IsClosed}
 use Rattle.sf_keeps.proofs.Whole.{shows_set, shows_new, shows_gone, shows_gone_used}
 
--- views that show the same are one
+-- views with equal parts are equal
 pub same_view : (v w : View) → ((x : ℕ) (m : Name) → w.step x m ≡ v.step x m) → ((x : ℕ) → w.shown x ≡ v.shown x) → w.root ≡ v.root → ((a b : ℕ) → w.opens a b ≡ v.opens a b) → w ≡ v
 same_view v w steps shown root opens = λ i. record { step = λ x m. steps x m i; shown = λ x. shown x i; root = root i; opens = λ a b. opens a b i }
 
 pub along : (v w : View) (t : Tree) → ((x : ℕ) (m : Name) → w.step x m ≡ v.step x m) → ((x : ℕ) → w.shown x ≡ v.shown x) → w.root ≡ v.root → ((a b : ℕ) → w.opens a b ≡ v.opens a b) → Shows v t → Shows w t
 along v w t steps shown root opens h = subst (λ (u : View). Shows u t) (sym (same_view v w steps shown root opens)) h
 
--- ---- one node changed
+-- ---- a changed inode
 within : (nodes : List (Option Node)) (id : ℕ) (node : Node) → node_in nodes id ≡ Some node → id < length nodes
 within [] id node = λ e. cc
 within (x ∷ xs) zero node = λ e. omega arith
@@ -49,7 +49,7 @@ node_in-set nodes id node v at = set_is (set_node nodes id node v at)
 pub edited_node : (f : Node → Node) (s : StoreState) (id : ℕ) (node : Node) → node_in s.nodes id ≡ Some node → SetsAt (node_in s.nodes) (node_in (edited f s id).nodes) id (Some (f node))
 edited_node f s id node at = subst (λ (o : Option Node). SetsAt (node_in s.nodes) (node_in (edited_by f s.nodes id o)) id (Some (f node))) (sym at) (set_node s.nodes id node (Some (f node)) at)
 
--- what an entry of a node leads to
+-- the inode of an entry
 abbrev pub entry_of : Name → Option Node → Option ℕ
 entry_of m = option_and_then (λ node. child_in node.content m)
 
@@ -83,7 +83,7 @@ pub object_less : (n : Name) (m : Metadata) (c : Content) → object_in m (less_
 object_less n m (content.Directory es) = refl
 object_less n m (content.File contents) = refl
 
--- an entry less is a step less, and nothing else is seen
+-- removing an entry removes a step, and changes nothing else that is observable
 pub view_taken : (s : StoreState) (d : ℕ) (n : Name) (node : Node) → IsInOrder node.content → node_in s.nodes d ≡ Some node → view_of (entry_taken s d n) ≡ with_step (view_of s) d n None
 view_taken s d n node ordered here =
     let put = edited_node (with_content (less_content n)) s d node here in
@@ -93,8 +93,8 @@ view_taken s d n node ordered here =
     refl (λ a b. refl)
 
 -- ---- another object
--- a change of a node that keeps its entries and its label is a change of its object
--- a node that is edited: its entries stay, and so do its label and its kind
+-- A change of an inode that keeps its entries and its number is a change of its object. An edited
+-- inode keeps its entries, its number and its file type.
 pub record EditsNode (f : Node → Node) (s : StoreState) (id : ℕ) : Type 0 where
   pub node : Node
   pub here : node_in s.nodes id ≡ Some node
@@ -119,8 +119,8 @@ pub kind_metadata : (m k : Metadata) (c : Content) → is_some (directory_metada
 kind_metadata m k (content.Directory es) = refl
 kind_metadata m k (content.File contents) = refl
 
--- ---- a new node with its entry
--- a node that a path leads to
+-- ---- a new inode with its entry
+-- an inode with a path
 pub record NodeOnPath (s : StoreState) : Type 0 where
   pub path : Path
   pub id : ℕ
@@ -128,7 +128,7 @@ pub record NodeOnPath (s : StoreState) : Type 0 where
   pub leads : walk (child_of s.nodes) s.root path ≡ Some id
   pub is_node : node_in s.nodes id ≡ Some node
 
--- a new node without entries was put under a name of a directory that had no such name
+-- a new inode without entries was inserted at an absent name of a directory
 pub record InsertsNode (old new : StoreState) : Type 0 where
   pub above : NodeOnPath old
   pub entries : List (Name × ℕ)
@@ -172,11 +172,11 @@ module _ (old new : StoreState) (i : InsertsNode old new) where
       (shows_new (view_of old) t h i.above.path d i.name i.id i.node.label o i.above.leads is
       (ap (entry_of i.name) i.above.is_node ∙ ap (λ (z : Content). child_in z i.name) i.directory ∙ i.free) (ap (option_map shown_node) i.inserted.fresh) fresh)
 
--- ---- a node let go
+-- ---- a deleted inode
 pub steps_dropped : {before after : ℕ → Option Node} {c : ℕ} → SetsAt before after c None → ((m : Name) → entry_of m (before c) ≡ None) → (x : ℕ) (m : Name) → entry_of m (after x) ≡ entry_of m (before x)
 steps_dropped put bare x m = unchanged (set_seen (entry_of m) put) (bare m) x
 
--- a node is changed in what can't be seen, and goes where nothing uses it any more
+-- an inode is changed in what is not observable, and deleted if it is unused
 module _ (f : Node → Node) (s : StoreState) (c : ℕ) (node : Node) (here : node_in s.nodes c ≡ Some node) (entries : (m : Name) → child_in (f node).content m ≡ child_in node.content m) (same : shown_node (f node) ≡ shown_node node) where
   pub changed_there : node_in (edited f s c).nodes c ≡ Some (f node)
   changed_there = (edited_node f s c node here).at
@@ -202,7 +202,7 @@ module _ (f : Node → Node) (s : StoreState) (c : ℕ) (node : Node) (here : no
       refl (λ a b. refl)
       ∙ ap (λ (v : View). with_shown v c None) view_unseen
 
--- ---- an entry taken out, and its node let go
+-- ---- an entry removed, and its inode deleted
 module _ (s : StoreState) (t : Tree) (h : Shows (view_of s) t) (p : Path) (d : ℕ) (n : Name) (c : ℕ) (above node : Node)
     (ordered : IsInOrder above.content) (at : walk (child_of s.nodes) s.root p ≡ Some d) (here : node_in s.nodes d ≡ Some above) (there : child_of s.nodes d n ≡ Some c) (is : node_in s.nodes c ≡ Some node) (bare : IsBare (child_of s.nodes) c) where
   apart : d ≢ c

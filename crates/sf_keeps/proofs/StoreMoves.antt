@@ -1,4 +1,4 @@
--- What can be seen of a store after an entry was moved, and after a handle was closed.
+-- The observable part of a store after an entry was moved, and after a handle was closed.
 use Rattle.std.specs.Prelude.{◌≡◌, ◌≢◌, ℕ, nat_eq, Bool, true, false, cond, ◌&&◌, List, [], ◌∷◌, ◌++◌, option_map, Option, Some, None, refl}
 use Rattle.std.proofs.Common.{sym, ap, subst, ◌∙◌, inl, inr, eqb-true}
 use Rattle.std.proofs.lemmas.Bool.{cases_eq}
@@ -30,7 +30,7 @@ swapped true false c x h = refl
 swapped false true c x h = refl
 swapped false false c x h = refl
 
--- an entry that leads to c from now on
+-- an entry that now refers to c
 module _ (s : StoreState) (d : ℕ) (n : Name) (c : ℕ) (above : Node) (es : List (Name × ℕ)) (here : node_in s.nodes d ≡ Some above) (dir : above.content ≡ content.Directory es) where
   pub view_put : view_of (entry_put s d n c) ≡ with_step (view_of s) d n (Some c)
   view_put =
@@ -40,14 +40,13 @@ module _ (s : StoreState) (d : ℕ) (n : Name) (c : ℕ) (above : Node) (es : Li
       (seen_same put here shown_node (λ i. (above.label, object_more n c above.metadata above.content i)))
       refl (λ a b. refl)
 
--- a node is still there after another was changed
+-- an inode still exists after another was changed
 pub still_there : (f : Node → Node) (s : StoreState) (d x : ℕ) (above node : Node) → node_in s.nodes d ≡ Some above → node_in s.nodes x ≡ Some node → (v : Node) × (node_in (edited f s d).nodes x ≡ Some v)
 still_there f s d x above node here there =
     let put = edited_node f s d above here in
     elim (cases_eq d x) [ inl e ↦ (f above, ap (node_in (edited f s d).nodes) (sym e) ∙ put.at) | inr ne ↦ (node, put.beside x ne ∙ there) ]
 
--- an entry that is put elsewhere, not at or below itself: where it stands and is to stand, and
--- where it leads
+-- a moved entry, not to or below itself: its old place, its new place, and its inode
 pub record MovesEntry (s : StoreState) : Type 0 where
   pub from : NodeOnPath s
   pub name : Name
@@ -66,7 +65,7 @@ module _ (s : StoreState) (t : Tree) (h : Shows (view_of s) t) (ordered : InOrde
   is_to : is_directory_by (shown_of s.nodes) nd ≡ true
   is_to = shows_directory s.nodes nd above es here_to dir
 
-  -- the entries are two
+  -- the entries differ
   pub apart : (x : ℕ) (m : Name) → nat_eq od x && same_name on m ≡ true → nat_eq nd x && same_name nn m ≡ true → ⊥
   apart x m a b =
       let p = both_true (nat_eq od x) (same_name on m) a in
@@ -97,14 +96,14 @@ module _ (s : StoreState) (t : Tree) (h : Shows (view_of s) t) (ordered : InOrde
       in_order_put (edited_node (with_content (less_content on)) put od f.0 f.1) in_order_put_in
       (less_in_order on f.0.content (node_in_order put.nodes od f.0 in_order_put_in f.1))
 
-  -- ---- onto nothing
+  -- ---- to an absent path
   pub shows_relinked : child_of s.nodes nd nn ≡ None → Shows (view_of (relinked s od on nd nn)) (changed t (Move (po ++ on ∷ []) (pn ++ nn ∷ [])))
   shows_relinked none =
       let is : relinked s od on nd nn ≡ moved_entry s (entry_key od on) (entry_key nd nn) c = ap (λ o. relinked_from s (entry_key od on) (entry_key nd nn) o (child_of s.nodes nd nn)) there ∙ ap (relinked_from s (entry_key od on) (entry_key nd nn) (Some c)) none in
       subst (λ (v : View). Shows v (changed t (Move (po ++ on ∷ []) (pn ++ nn ∷ [])))) (sym (ap view_of is ∙ view_moved))
       (shows_move (view_of s) t h po on od pn nn nd c at_from there at_to is_to not_inside none)
 
-  -- ---- onto another node
+  -- ---- replacing another inode
   module _ (target : ℕ) (gone : Node) (stood : child_of s.nodes nd nn ≡ Some target) (is : node_in s.nodes target ≡ Some gone) (bare : IsBare (child_of s.nodes) target) where
     pub is_relinked : relinked s od on nd nn ≡ forgotten (moved_entry s (entry_key od on) (entry_key nd nn) c) target
     is_relinked = ap (λ o. relinked_from s (entry_key od on) (entry_key nd nn) o (child_of s.nodes nd nn)) there ∙ ap (relinked_from s (entry_key od on) (entry_key nd nn) (Some c)) stood

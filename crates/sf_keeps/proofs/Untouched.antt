@@ -1,4 +1,4 @@
--- What a change leaves alone: what other nodes show, and who holds them.
+-- What a change leaves alone: the objects and the holders of other inodes.
 use Rattle.std.specs.Prelude.{◌≡◌, ◌≢◌, ℕ, true, false, cond, List, option_map, option_and_then, slice_set, Option, Some, None, refl}
 use Rattle.std.proofs.Common.{sym, ap, ◌∙◌}
 use Rattle.sf_path.specs.Names.{Name}
@@ -10,7 +10,7 @@ use Rattle.sf_inode.specs.Stores.{StoreState, EntryKey, node_in, child_of, shown
 use Rattle.sf_keeps.proofs.SetsAt.{SetsAt, unchanged, set_seen}
 use Rattle.sf_keeps.proofs.StoreLaws.{object_less, set_node, object_more}
 
--- what a node shows, and its holder
+-- the object of an inode, and its holder
 abbrev Sight : Type 0
 Sight = (ℕ × Object) × Option ℕ
 
@@ -20,7 +20,7 @@ sight node = (shown_node node, node.holder)
 abbrev sights : List (Option Node) → ℕ → Option Sight
 sights nodes i = option_map sight (node_in nodes i)
 
--- both can be told from it
+-- it determines both
 shown_sight : (o : Option Node) → option_map (λ (w : Sight). w.0) (option_map sight o) ≡ option_map shown_node o
 shown_sight None = refl
 shown_sight (Some node) = refl
@@ -38,7 +38,7 @@ alike after before i e = (
   sym (holder_sight (node_in after i)) ∙ ap (option_and_then (λ (w : Sight). w.1)) e ∙ holder_sight (node_in before i),
 )
 
--- ---- one node changed
+-- ---- a changed inode
 edited_as : (f : Node → Node) (s : StoreState) (id : ℕ) (o : Option Node) → node_in s.nodes id ≡ o → SetsAt (node_in s.nodes) (node_in (edited_by f s.nodes id o)) id (option_map f o)
 edited_as f s id None e = record { at = e; beside = λ i ne. refl }
 edited_as f s id (Some node) e = set_node s.nodes id node (Some (f node)) e
@@ -59,7 +59,7 @@ sight_mapped f same (Some node) = ap Some (same node)
 sight_edited : (f : Node → Node) → ((node : Node) → sight (f node) ≡ sight node) → (s : StoreState) (id : ℕ) (i : ℕ) → sights (edited f s id).nodes i ≡ sights s.nodes i
 sight_edited f same s id = unchanged (set_seen (option_map sight) (edited_at f s id)) (sym (sight_mapped f same (node_in s.nodes id)))
 
--- entries are not seen
+-- entries are not observable
 sight_entries : (g : Content → Content) → ((node : Node) → object_in node.metadata (g node.content) ≡ object_in node.metadata node.content) → (node : Node) → sight (with_content g node) ≡ sight node
 sight_entries g same node = λ i. ((node.label, same node i), node.holder)
 
@@ -69,7 +69,7 @@ sight_taken s dir n i = sight_edited (with_content (less_content n)) (sight_entr
 sight_put : (s : StoreState) (dir : ℕ) (n : Name) (id i : ℕ) → sights (entry_put s dir n id).nodes i ≡ sights s.nodes i
 sight_put s dir n id i = sight_edited (with_content (more_content n id)) (sight_entries (more_content n id) (λ node. object_more n id node.metadata node.content)) s dir i
 
--- ---- one node gone
+-- ---- a deleted inode
 released_apart : (s : StoreState) (c i : ℕ) (o : Option Node) → node_in s.nodes c ≡ o → c ≢ i → node_in (released_if s c o).nodes i ≡ node_in s.nodes i
 released_apart s c i None here other = refl
 released_apart s c i (Some node) here other =
@@ -87,7 +87,7 @@ sight_forgotten s c i other =
 pub inserted_alike : (old new : StoreState) (dir : ℕ) (n : Name) (id : ℕ) (node : Node) (i : ℕ) → Inserted old new (new_entry dir n id) node → i ≢ id → Alike new.nodes old.nodes i
 inserted_alike old new dir n id node i did other = alike new.nodes old.nodes i (ap (option_map sight) (did.others i other) ∙ sight_put old dir n id i)
 
--- the entry did not lead there
+-- the entry did not refer to it
 not_there : (o : Option ℕ) (c i : ℕ) → o ≡ Some c → o ≢ Some i → c ≢ i
 not_there o c i e other h = other (e ∙ ap Some h)
 

@@ -1,4 +1,4 @@
--- What a changed step does to the ways.
+-- The effect of a changed entry on path resolution.
 use Rattle.std.specs.Prelude.{◌≡◌, ◌≢◌, ℕ, true, false, cond, ◌&&◌, [], ◌∷◌, ◌++◌, option_and_then, Option, Some, None, refl}
 use Rattle.std.proofs.Common.{sym, ap, ◌∙◌, eq-eqb}
 use Rattle.sf_path.specs.Names.{Name, Path}
@@ -16,12 +16,12 @@ walk-append step x (n ∷ p) q =
       | Some y ↦ walk-append step y p q
     ]
 
--- the way without names
+-- the empty path
 pub to_it : (o : Option ℕ) → option_and_then (λ x. Some x) o ≡ o
 to_it None = refl
 to_it (Some x) = refl
 
--- no way from x leads to d
+-- no path from x leads to d
 abbrev pub Avoids : EntryMap → ℕ → ℕ → Type 0
 Avoids step x d = (q : Path) → walk step x q ≡ Some d → ⊥
 
@@ -29,7 +29,7 @@ Avoids step x d = (q : Path) → walk step x q ≡ Some d → ⊥
 abbrev pub LeadsOnce : EntryMap → ℕ → Path → ℕ → Type 0
 LeadsOnce step x p d = (q : Path) → walk step x q ≡ Some d → q ≡ p
 
--- where a path leads: on from r, if it began with the changed step
+-- the inode of a path: continued from r, if it began with the changed step
 abbrev pub led : EntryMap → Option ℕ → Option Path → Option ℕ → Option ℕ
 led step r None otherwise = otherwise
 led step r (Some rest) otherwise = option_and_then (λ c. walk step c rest) r
@@ -41,7 +41,7 @@ module _ (step : EntryMap) (d : ℕ) (n : Name) (r : Option ℕ) where
   other_node : (x : ℕ) (m : Name) → d ≢ x → changed_step step d n r x m ≡ step x m
   other_node x m ne = ap (λ b. cond (b && same_name n m) r (step x m)) (nat_eq_apart d x ne)
 
-  -- a way that does not come to d does not see the change
+  -- a path that does not pass d is unchanged
   pub walk_apart : (q : Path) (x : ℕ) → Avoids step x d → walk (changed_step step d n r) x q ≡ walk step x q
   walk_apart [] x avoids = refl
   walk_apart (m ∷ q) x avoids =
@@ -69,7 +69,7 @@ module _ (step : EntryMap) (d : ℕ) (n : Name) (r : Option ℕ) where
           ] refl
         ]
 
-    -- what the changed step does to each path, where p alone leads to d
+    -- the effect of the changed step on each path, if only p leads to d
     pub walk_changed : (p : Path) (x : ℕ) (q : Path) → walk step x p ≡ Some d → LeadsOnce step x p d
         → walk (changed_step step d n r) x q ≡ led step r (after_front (p ++ n ∷ []) q) (walk step x q)
     walk_changed [] x [] there once = refl

@@ -1,4 +1,4 @@
--- What a view shows of a whole tree after each change of objects and names.
+-- A view of a whole tree after each change of objects and names.
 use Rattle.std.specs.Prelude.{◌≡◌, ℕ, nat_eq, Bool, true, false, T, ◌||◌, [], ◌∷◌, ◌++◌, option_and_then, is_some, Option, Some, None, refl}
 use Rattle.std.proofs.Common.{sym, ap, ◌∙◌, inl, inr, eq-eqb}
 use Rattle.std.proofs.lemmas.Bool.{or_left}
@@ -23,7 +23,7 @@ use Rattle.sf_keeps.proofs.Shown.{shows_object, shows_more}
 use Rattle.sf_keeps.proofs.Less.{is_named, is_opened, OthersUsed, IsClosed, kept_used, handle_there, handle_here, shows_less, shows_kept, shows_kept_used}
 
 -- ---- another object
--- an object that is there after the change was there before
+-- an object that exists after the change existed before
 pub object_before : (t : Tree) (label : ℕ) (o old : Object) → object_of t.objects label ≡ Some old → (l : ℕ) (u : Object) → object_of (changed t (SetObject label o)).objects l ≡ Some u → (v : Object) × (object_of t.objects l ≡ Some v)
 object_before t label o old there l u e =
     elim (some_found (value_at number_keys t.objects label old o there) l e) [
@@ -67,7 +67,7 @@ used_entry t q label o sorted free used l u e =
     ]
 
 module _ (view : View) (t : Tree) (h : Shows view t) where
-  -- a path that goes on by a name leads to where the name leads
+  -- a path extended by a name resolves to the inode of the name
   pub one_more : (p : Path) (d : ℕ) (n : Name) → walk view.step view.root p ≡ Some d → walk view.step view.root (p ++ n ∷ []) ≡ view.step d n
   one_more p d n at = walk-append view.step view.root p (n ∷ []) ∙ ap (option_and_then (λ y. walk view.step y (n ∷ []))) at ∙ to_it (view.step d n)
 
@@ -86,7 +86,7 @@ module _ (view : View) (t : Tree) (h : Shows view t) where
     used = used_entry t (p ++ n ∷ []) label o h.ordered.names (free_name p d n at free) h.used;
   }
 
-  -- ---- an entry less
+  -- ---- one entry fewer
   module _ (p : Path) (d : ℕ) (n : Name) (c label : ℕ) (o : Object) (at : walk view.step view.root p ≡ Some d) (there : view.step d n ≡ Some c) (bare : IsBare view.step c) (is : view.shown c ≡ Some (label, o)) where
     abbrev less : Tree
     less = with_names t (remove_entry (is_at (path_cmp (p ++ n ∷ []))) t.names)
@@ -101,7 +101,7 @@ module _ (view : View) (t : Tree) (h : Shows view t) where
     by_less : ShowsBy (with_step view d n None) less
     by_less = shows_less view t h.by p d n c h.ordered.names at there bare
 
-    -- nothing else leads to the node, and nothing opens it
+    -- no other entry or handle refers to the inode
     pub shows_gone : HasNoEntry (changed_step view.step d n None) c → IsBare (changed_step view.step d n None) c → IsClosed view label
         → Shows (with_shown (with_step view d n None) c None) (changed t (GonePath (p ++ n ∷ [])))
     shows_gone free still closed = record {
@@ -110,7 +110,7 @@ module _ (view : View) (t : Tree) (h : Shows view t) where
       used = kept_used less;
     }
 
-    -- something else names or opens the node
+    -- another entry or handle refers to the inode
     pub shows_gone_used : is_used less.names t.handles label ≡ true → Shows (with_step view d n None) (changed t (GonePath (p ++ n ∷ [])))
     shows_gone_used used = record {
       by = shows_kept_used (with_step view d n None) less by_less ordered_less c label o is others_less used;
@@ -131,7 +131,7 @@ same_option None None f g = refl
 same_option None (Some y) f g = g y refl
 same_option (Some x) b f g = sym (f x refl)
 
--- a view shows at most one tree
+-- a view has at most one tree
 pub shows_one : (view : View) (s t : Tree) → Shows view s → Shows view t → s ≡ t
 shows_one view s t hs ht = same_tree s t hs.ordered ht.ordered (record {
   names = λ q. hs.by.names q ∙ sym (ht.by.names q);

@@ -1,4 +1,5 @@
--- When a store keeps a tree: it shows the tree, and what its nodes count agrees with it.
+-- The abstraction relation between a store and a tree: the store represents the tree, and the
+-- counts in its inodes agree with it.
 use Rattle.std.specs.Prelude.{◌≡◌, ℕ, ◌<◌, ◌^◌, nat_eq, T, List, Option, Some, None, option_map}
 use Rattle.std.specs.List.{count_by}
 use Rattle.std.specs.Ordering.{nat_cmp}
@@ -12,7 +13,7 @@ use Rattle.sf_inode.specs.declared.handle.OpenHandle.{OpenHandle}
 use Rattle.sf_keeps.specs.Shows.{View, Shows}
 use Rattle.sf_inode.specs.Stores.{StoreState, node_in, child_of, node_entries, shown_of, handles_of, open_handle_at, shown_handle}
 
--- what can be seen of a store
+-- the observable part of a store
 abbrev pub view_of : StoreState → View
 view_of s = record {
   step = child_of s.nodes;
@@ -21,20 +22,20 @@ view_of s = record {
   opens = λ session number. option_map (shown_handle session) (open_handle_at s session number);
 }
 
--- how many handles open an object
+-- the number of open handles of an object
 abbrev pub times_open : Tree → ℕ → ℕ
 times_open t label = count_by (λ e. nat_eq e.1.label label) t.handles
 
--- no entry leads to it, it is not the root, and it has no entries
+-- an inode that no entry links, that is not the root, and that has no entries
 pub record IsUnlinked (s : StoreState) (id : ℕ) : Type 0 where
   pub free : (x : ℕ) (n : Name) → child_of s.nodes x n ≡ Some id → ⊥
   pub other : s.root ≡ id → ⊥
   pub bare : (n : Name) → child_of s.nodes id n ≡ None
 
--- The store shows the tree. A directory's entries stand in the order of their names, each once. A
--- node counts the paths that name it, and has no entries where there are none; and it counts its
--- handles. A handle knows its node. Handles stand in order, and their numbers are above 0 and fit
--- 64 bits.
+-- The store represents the tree. A directory's entries are in name order, without duplicates. An
+-- inode counts its links and open handles, and has no entries if it has no link. A handle refers to
+-- an existing inode with its inode number. Handles are in order, and their numbers are above 0 and
+-- fit 64 bits.
 pub record Keeps (s : StoreState) (t : Tree) : Type 0 where
   pub shows : Shows (view_of s) t
   pub entries : (id : ℕ) → T (is_sorted name_cmp (node_entries s.nodes id))
@@ -52,13 +53,13 @@ pub record Keeps (s : StoreState) (t : Tree) : Type 0 where
   pub numbers : (number : ℕ) (h : Handle) → handle_of t.handles number ≡ Some h
       → (0 < number) × (number < 2 ^ 64)
 
--- a node that is there was there, with the same holder, label and content
+-- an inode existed before, with the same holder, inode number and content
 abbrev pub WasThere : Option Node → Node → Type 0
 WasThere None node = ⊥
 WasThere (Some was) node =
     (node.holder ≡ was.holder) × (node.label ≡ was.label) × (node.content ≡ was.content)
 
--- no node is new or another one, but nodes may be gone
+-- no inode is new or changed, but inodes may be deleted
 pub record KeepsNodes (old new : StoreState) : Type 0 where
   pub node : (id : ℕ) (node : Node) → node_in new.nodes id ≡ Some node
       → WasThere (node_in old.nodes id) node

@@ -1,4 +1,4 @@
--- When nodes, entries and handles show a tree.
+-- The relation between a tree and the observable part of a store: inodes, entries and handles.
 use Rattle.std.specs.Prelude.{◌≡◌, ℕ, nat_eq, Bool, true, ◌&&◌, Option, Some, None, option_map, option_and_then, is_some, if◌then◌else◌}
 use Rattle.sf_path.specs.Names.{Name, Path}
 use Rattle.sf_call.specs.Attributes.{Object}
@@ -7,11 +7,11 @@ use Rattle.sf_call.specs.Tree.{Tree, IsOrderedTree, label_at, object_of, is_used
 use Rattle.sf_call.specs.Handles.{handle_in}
 use Rattle.sf_keeps.specs.Steps.{EntryMap, walk, changed_step}
 
--- the label and the object of a node
+-- the inode number and the object of the inode in a slot
 abbrev pub Shown : Type 0
 Shown = ℕ → Option (ℕ × Object)
 
--- the handle of a session and a number
+-- the handle with this number in the session
 abbrev pub HandleMap : Type 0
 HandleMap = ℕ → ℕ → Option Handle
 
@@ -21,12 +21,12 @@ label_by shown id = option_map (λ v. v.0) (shown id)
 abbrev pub is_directory_by : Shown → ℕ → Bool
 is_directory_by shown id = is_some (option_and_then (λ v. directory_metadata v.1) (shown id))
 
--- another label and object at a node, or nothing
+-- with another inode number and object in a slot, or none
 abbrev pub changed_shown : Shown → ℕ → Option (ℕ × Object) → Shown
 changed_shown shown c r i = if nat_eq c i then r else shown i
 
--- Labels differ, entries lead from directories to nodes that are there, and one entry at most leads
--- to a directory, none to the root. A file may have several entries.
+-- Inode numbers are unique. Entries lead from directories to existing inodes. A directory has at
+-- most one entry, the root none, and a file may have several.
 pub record IsSound (step : EntryMap) (shown : Shown) (root : ℕ) : Type 0 where
   pub labels : (i j label : ℕ) (o u : Object) → shown i ≡ Some (label, o)
       → shown j ≡ Some (label, u) → i ≡ j
@@ -37,20 +37,20 @@ pub record IsSound (step : EntryMap) (shown : Shown) (root : ℕ) : Type 0 where
   pub to : (x c : ℕ) (n : Name) → step x n ≡ Some c → shown c ≡ None → ⊥
   pub rooted : is_directory_by shown root ≡ true
 
--- each object is named or open
+-- each object has a link or an open handle
 abbrev pub AllUsed : Tree → Type 0
 AllUsed t = (label : ℕ) (o : Object) → object_of t.objects label ≡ Some o
     → is_used t.names t.handles label ≡ true
 
--- what of a store can be seen: where entries lead, what nodes are, and what is open
+-- the observable part of a store: its entries, its inodes and its open handles
 pub record View : Type 0 where
   pub step : EntryMap
   pub shown : Shown
   pub root : ℕ
   pub opens : HandleMap
 
--- Each path has the label of the node that it leads to, the objects are those of the nodes, and the
--- handles are the open ones.
+-- Each path has the inode number of the inode that it resolves to, the objects are those of the
+-- inodes, and the handles are the open ones.
 pub record ShowsBy (view : View) (t : Tree) : Type 0 where
   pub names : (path : Path) → label_at t.names path
       ≡ option_and_then (label_by view.shown) (walk view.step view.root path)
@@ -61,13 +61,14 @@ pub record ShowsBy (view : View) (t : Tree) : Type 0 where
   pub handles : (session number : ℕ) → handle_in t session number ≡ view.opens session number
   pub sound : IsSound view.step view.shown view.root
 
--- the tree is what can be seen, its maps are in order, and it has nothing unused
+-- the tree is the observable part of the store, its maps are in key order, and it has no unused
+-- object
 pub record Shows (view : View) (t : Tree) : Type 0 where
   pub by : ShowsBy view t
   pub ordered : IsOrderedTree t
   pub used : AllUsed t
 
--- with another step, another node, or another handle
+-- with another entry, another inode, or another handle
 abbrev pub with_step : View → ℕ → Name → Option ℕ → View
 with_step view d n r = record {
   step = changed_step view.step d n r;

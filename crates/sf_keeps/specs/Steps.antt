@@ -1,17 +1,17 @@
--- Entries as steps from node to node.
+-- Path resolution in a store: directory entries as steps from inode to inode.
 use Rattle.std.specs.Prelude.{ℕ, nat_eq, ◌&&◌, if◌then◌else◌, [], ◌∷◌, Option, Some, option_and_then}
 use Rattle.sf_path.specs.Names.{Name, Path}
 use Rattle.sf_path.specs.Order.{same_name}
 
--- the node that a name leads to from a node
+-- the inode of a name in a directory
 abbrev pub EntryMap : Type 0
 EntryMap = ℕ → Name → Option ℕ
 
--- the node that a path leads to from a node
+-- the inode that a path resolves to from a start
 abbrev pub walk : EntryMap → ℕ → Path → Option ℕ
 walk step x [] = Some x
 walk step x (n ∷ p) = option_and_then (λ y. walk step y p) (step x n)
 
--- the step from d by the name n leads to r
+-- with the entry n of d set to r
 abbrev pub changed_step : EntryMap → ℕ → Name → Option ℕ → EntryMap
 changed_step step d n r x m = if nat_eq d x && same_name n m then r else step x m

@@ -1,5 +1,4 @@
-//! What a store that keeps a tree tells of open handles, and how it keeps the tree that opening,
-//! listing by and closing them gives.
+//! Laws of open handles, in a store that represents a tree.
 
 ghost use Rattle.std.specs.Prelude.{◌≡◌, ℕ, ◌<◌, ◌^◌, nat_eq, length, take, map, filter_map, true, Option, Some, None, option_map};
 ghost use Rattle.std.specs.List.{All, count_by};
@@ -21,8 +20,8 @@ ghost use Rattle.sf_keeps.specs.Listed.{node_entry};
 ghost use Rattle.sf_inode.specs.Stores.{StoreState, node_in, child_of, node_entries, is_directory_at, open_handle_at, handles_of, shown_handle, after_open, handle_listed, closed, closed_all};
 ghost use Rattle.sf_keeps.specs.Keeps.{Keeps, KeepsNodes};
 
-/// A session's handle is that of the tree, its node is there and has the object of its label, and a
-/// number that no handle of the tree has is no session's.
+/// The store and the tree have the same handles in each session. A handle's inode exists, and has
+/// the object of its inode number. A number that is no handle in the tree is none in the store.
 pub fn found_handles()
     ensures same { (s : StoreState) (t : Tree) (session number : ℕ) → Keeps s t
         → handle_in t session number
@@ -35,14 +34,14 @@ pub fn found_handles()
         → handle_of t.handles number ≡ None → open_handle_at s session number ≡ None }
 {}
 
-/// A session has as many handles in the store as in the tree.
+/// A session has as many open handles in the store as in the tree.
 pub fn counted_handles()
     ensures { (s : StoreState) (t : Tree) (session : ℕ) → Keeps s t
         → option_map_or (λ handles. length handles) (handles_of s session) 0
         ≡ count_by (λ e. nat_eq e.1.session session) t.handles }
 {}
 
-/// A node that is there is opened by a handle whose number is above 0 and no handle's.
+/// Opening an existing inode with an unused handle number above 0 opens the handle in the tree.
 pub fn opened_handles()
     ensures { (s : StoreState) (t : Tree) (session number id : ℕ) (marks : Marks) (node : Node)
         → Keeps s t → 0 < number → number < 2 ^ 64 → handle_of t.handles number ≡ None
@@ -56,7 +55,7 @@ pub fn opened_handles()
         })))) }
 {}
 
-/// A handle has the last name of a listing.
+/// Setting the last listed name of a handle sets it in the tree.
 pub fn listed_handles()
     ensures { (s : StoreState) (t : Tree) (session number : ℕ) (name : Name) (h : OpenHandle)
         → Keeps s t → open_handle_at s session number ≡ Some h
@@ -64,8 +63,8 @@ pub fn listed_handles()
         (change.SetHandle number (with_listed (shown_handle session h) (Some name)))) }
 {}
 
-/// A handle is closed, or all of a session. What nothing names or opens any more is gone from the
-/// store as from the tree, and the other nodes stay what they are.
+/// Closing a handle, or all of a session, closes them in the tree. Objects without link and open
+/// handle are deleted in both, and the other inodes are unchanged.
 pub fn closed_handles()
     ensures one { (s : StoreState) (t : Tree) (session number : ℕ) (h : OpenHandle) → Keeps s t
         → open_handle_at s session number ≡ Some h
@@ -75,10 +74,9 @@ pub fn closed_handles()
     ensures nodes { (s : StoreState) (session : ℕ) → KeepsNodes s (closed_all s session) }
 {}
 
-/// A directory's label has the one path that leads to it. What the tree lists of a directory, by
-/// its label, are the first entries that `Store::entries_after` gives: each node is there, and is
-/// listed by its name. A directory that no path leads to any more lists nothing, and has no
-/// entries.
+/// The listing of a directory. A directory's inode number determines its path. The tree lists the
+/// first entries that `Store::entries_after` returns, each with its name and an existing inode. A
+/// removed directory that is still open lists nothing and has no entries.
 pub fn listed_entries()
     ensures path { (s : StoreState) (t : Tree) (p : Path) (dir : ℕ) (node : Node) → Keeps s t
         → walk (child_of s.nodes) s.root p ≡ Some dir → node_in s.nodes dir ≡ Some node

@@ -1,10 +1,11 @@
-//! When a store keeps a tree, and how each change of it keeps it.
+//! The abstraction relation between the store of inodes and the specified tree.
 //!
-//! Start with `Keeps` in `specs/Keeps.antt`: paths lead in the store to what the tree has there,
-//! and its handles are the tree's. Each law of `tree_laws` and `handle_laws` says that one change
-//! of a store makes the changed tree of the one that it kept, and `kept_leaves` that all its paths
-//! are the tree's. The functions do nothing: their contracts are the laws. What the crates above
-//! prove with stands in `proofs/Laws.antt`.
+//! Start with `Keeps` in `specs/Keeps.antt`: a store represents a tree if each path resolves in the
+//! store to what the tree has there, and its handles are the tree's. Each law of `tree_laws` and
+//! `handle_laws` states that an operation on the store represents a change of the tree.
+//! `kept_leaves` states that the paths of the store are those of the tree. The functions do
+//! nothing: their contracts are the laws. `proofs/Laws.antt` has the laws that other crates use in
+//! proofs.
 #![tactic(auto)]
 
 mod handle_laws;

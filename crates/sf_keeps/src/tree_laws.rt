@@ -1,5 +1,6 @@
-//! What a store keeps of the tree. `Keeps s t` says that a store's nodes, entries and handles are
-//! the tree's, and that its counts agree; these laws say what each method makes of the tree.
+//! Laws of inodes and entries. `Keeps s t` states that the store `s` represents the tree `t`:
+//! inodes, entries and handles agree with it, and so do the counts. The laws relate each operation
+//! on the store to a change of the tree.
 
 ghost use Rattle.std.specs.Prelude.{◌≡◌, ◌≢◌, ◌<◌, ℕ, true, false, List, [], ◌∷◌, ◌++◌, Option, Some, None, option_map, option_and_then};
 ghost use Rattle.sf_path.specs.Names.{Name, Path};
@@ -20,14 +21,14 @@ ghost use Rattle.sf_inode.specs.Leaves.{AreLeaves};
 ghost use Rattle.sf_keeps.specs.Keeps.{Keeps};
 ghost use Rattle.sf_call.specs.Leaves.{Leaf, leaves_of};
 
-/// A store keeps at most one tree, and a new one the root alone.
+/// A store represents at most one tree, and a new store represents the empty tree.
 pub fn kept_trees()
     ensures one { (s : StoreState) (t u : Tree) → Keeps s t → Keeps s u → t ≡ u }
     ensures first { (s : StoreState) → IsFirst s → Keeps s empty_tree }
 {}
 
-/// A node's object is the tree's under its label, a label is one node's alone, a path and an entry
-/// lead to nodes that are there, and a node counts the paths that name its object.
+/// The tree has an inode's object under the inode's number. Each inode number belongs to one inode.
+/// Paths and entries lead to existing inodes. An inode's link count is its number of paths.
 pub fn kept_nodes()
     ensures object { (s : StoreState) (t : Tree) (id : ℕ) (node : Node) → Keeps s t
         → node_in s.nodes id ≡ Some node
@@ -44,8 +45,7 @@ pub fn kept_nodes()
         → node_in s.nodes id ≡ Some node → node.names ≡ links t.names node.label }
 {}
 
-/// What a number shows is the label and the object of a node that is there: a directory, or a file
-/// with its bytes.
+/// `shown_of` returns the inode number and the object of an existing inode.
 pub fn shown_nodes()
     ensures node { (nodes : List (Option Node)) (id label : ℕ) (object : Object)
         → shown_of nodes id ≡ Some (label, object) → (node : Node) × (node_in nodes id ≡ Some node)
@@ -57,8 +57,8 @@ pub fn shown_nodes()
         × ((bytes_of nodes id) ≡ bytes) }
 {}
 
-/// A change leaves alone what the other nodes show and who holds them: other than the one that was
-/// changed, made, or lost its entry.
+/// An operation leaves inodes and their holders alone, except the one that is edited, inserted, or
+/// loses its entry.
 pub fn other_nodes()
     ensures edited { (f : Node → Node) (s : StoreState) (id i : ℕ) → i ≢ id
         → node_in (edited f s id).nodes i ≡ node_in s.nodes i }
@@ -78,8 +78,8 @@ pub fn other_nodes()
         × (holder_of (relinked s dir n to m).nodes i ≡ holder_of s.nodes i) }
 {}
 
-/// Where a path leads, name by name: a name of a directory is there or not, and no way leads on
-/// from a file or from what is not there.
+/// Path resolution, component by component. A component is present in its directory or not, and
+/// resolution fails after a file or an absent one.
 pub fn found_paths()
     ensures next { (s : StoreState) (t : Tree) (p : Path) (dir : ℕ) (n : Name) → Keeps s t
         → walk (child_of s.nodes) s.root p ≡ Some dir
@@ -114,15 +114,15 @@ pub fn found_paths()
         → walk (child_of s.nodes) s.root p ≡ Some id → is_empty t.names p ≡ is_bare_at s.nodes id }
 {}
 
-/// The paths of a store, in turn, are the paths of the tree: each that the tree names, once, in the
-/// order of paths, with its label and its object, and nothing else.
+/// The paths of a store are those of the tree: each once, in path order, with its inode number and
+/// its object.
 #[tactic(auto, using(crate::proofs::LeavesFound::leaves_kept))]
 pub fn kept_leaves()
     ensures { (s : StoreState) (t : Tree) (leaves : List Leaf) → Keeps s t
         → AreLeaves s.nodes (([], s.root) ∷ []) leaves → leaves ≡ leaves_of t }
 {}
 
-/// A look-up and a holder leave the tree as it is, and so does the copying of what is written.
+/// Lookups, changes of a holder, and copying of blocks leave the tree unchanged.
 pub fn same_tree()
     ensures find { (s : StoreState) (t : Tree) → Keeps s t → Keeps (looked_up s) t }
     ensures hold { (holder : Option ℕ) (s : StoreState) (t : Tree) (id : ℕ) → Keeps s t
@@ -131,8 +131,8 @@ pub fn same_tree()
         → Keeps (left_set s id left) t }
 {}
 
-/// Copying a file's blocks changes no holder, nothing that is seen and no other file; and what is
-/// left after some blocks is copied as if none had been before.
+/// Copying a file's blocks changes no holder, no object and no other file. Copying some blocks and
+/// then the rest equals copying all.
 pub fn copied_blocks()
     ensures shown { (left : ℕ) (s : StoreState) (id i : ℕ)
         → shown_of (left_set s id left).nodes i ≡ shown_of s.nodes i }
@@ -146,8 +146,8 @@ pub fn copied_blocks()
         → node_in (left_set (left_set s id k) id j).nodes i ≡ node_in (left_set s id j).nodes i }
 {}
 
-/// Other metadata of a node, or other bytes of a file, are another object under its label. Of
-/// objects that are set under one label the last one counts.
+/// Changed metadata of an inode, or changed contents of a file, set the object of its inode number.
+/// The last of several settings counts.
 pub fn changed_object()
     ensures metadata { (f : Metadata → Metadata) (s : StoreState) (t : Tree) (id : ℕ) (node : Node)
         → Keeps s t → node_in s.nodes id ≡ Some node
@@ -173,8 +173,8 @@ pub fn changed_object()
         ≡ changed t (SetObject label u) }
 {}
 
-/// A new node in a directory, under a name that it has not and with a label that is no object's, is
-/// a new path with its object.
+/// A new inode with an absent name in a directory, and with an unused inode number, is a new path
+/// with its object.
 pub fn new_path()
     ensures { (old new : StoreState) (t : Tree) (p : Path) (dir : ℕ) (n : Name) (id : ℕ)
         (made : NewNode) → Keeps old t → Inserted old new (new_entry dir n id) (new_node made)
@@ -184,8 +184,7 @@ pub fn new_path()
         (object_in made.metadata (new_content made.file_type)))) }
 {}
 
-/// A further name of a directory for a file, which the directory has not, is a further path of the
-/// file.
+/// A file linked at an absent name of a directory has one more path.
 pub fn new_name()
     ensures { (s : StoreState) (t : Tree) (p : Path) (dir : ℕ) (n : Name) (id : ℕ) (node : Node)
         → Keeps s t → walk (child_of s.nodes) s.root p ≡ Some dir
@@ -194,8 +193,8 @@ pub fn new_name()
         → Keeps (linked s dir n id) (changed t (NewName (p ++ n ∷ []) node.label)) }
 {}
 
-/// A file or an empty directory taken out of its directory is a path less. Its object goes unless a
-/// handle opens it or another path names it.
+/// Removing the entry of a file or an empty directory removes a path. Its object is deleted if it
+/// has no other link and no open handle.
 pub fn gone_path()
     ensures { (s : StoreState) (t : Tree) (p : Path) (dir : ℕ) (n : Name) (id : ℕ) → Keeps s t
         → walk (child_of s.nodes) s.root p ≡ Some dir → child_of s.nodes dir n ≡ Some id
@@ -203,9 +202,9 @@ pub fn gone_path()
         → Keeps (unlinked s dir n) (changed t (GonePath (p ++ n ∷ []))) }
 {}
 
-/// An entry put under another name, not at or below itself, is the move of its path with all that
-/// lies below it: onto nothing, or in the place of another file or an empty directory, whose object
-/// goes unless a handle opens it or another path names it.
+/// Moving an entry, but not to or below itself, moves its path with all below it. The new path is
+/// absent, or names another file or an empty directory. The replaced object is deleted if it has no
+/// other link and no open handle.
 pub fn moved_path()
     ensures to_nothing { (s : StoreState) (t : Tree) (p : Path) (dir : ℕ) (n : Name) (id : ℕ)
         (q : Path) (to : ℕ) (m : Name) → Keeps s t → walk (child_of s.nodes) s.root p ≡ Some dir

@@ -1,4 +1,4 @@
--- Two paths that name one object are answered alike; a directory has one.
+-- Requests on two paths of one object have equal answers; a directory has one path.
 use Rattle.std.proofs.Common.{◌≡◌, ◌≢◌, ℕ, true, false, cond, T, [], ◌∷◌, List, Some, None, refl, sym, ap, ◌∙◌, arith}
 use Rattle.std.specs.Ordering.{is_eq}
 use Rattle.std.specs.Cmp.{tied_itself}
@@ -26,7 +26,7 @@ module _ (history : List Record) (legal : IsLegal history) where
   leads : (path : Path) (label : ℕ) → label_at tree.names path ≡ Some label → look_up tree path ≡ At label
   leads path label at = ap (λ b. cond b NoWay (lookup_of (label_at tree.names path))) (named_way history path label legal at) ∙ ap lookup_of at
 
-  -- the root has no second name, as no directory has
+  -- the root has one path, as each directory has
   root_alone : (n : Name) (path : Path) (label : ℕ) → label_at tree.names [] ≡ Some label → label_at tree.names (n ∷ path) ≡ Some label → ⊥
   root_alone n path label root at =
       let is : is_directory tree [] ≡ true = (open_way tree (n ∷ path)).0 (named_way history (n ∷ path) label legal at) 0 (omega arith) in
@@ -40,7 +40,7 @@ module _ (history : List Record) (legal : IsLegal history) where
     directory_alike path other one =
         ap (λ (p : Lookup). open_directory tree session number (found_place tree.objects p)) (leads path one.label one.first ∙ sym (leads other one.label one.second))
 
-    -- what is answered by the label, to other paths than the root's
+    -- the answer by inode number, for paths other than the root
     by_label : (to : Path → Lookup → Outcome) (label : ℕ) → ((path other : Path) → to path (At label) ≡ to other (At label)) → (path other : Path)
         → label_at tree.names path ≡ Some label → label_at tree.names other ≡ Some label → unless_root path (to path (look_up tree path)) ≡ unless_root other (to other (look_up tree other))
     by_label to label alike [] [] first second = refl

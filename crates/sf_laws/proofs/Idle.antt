@@ -17,7 +17,7 @@ use Rattle.sf_call.specs.Handles.Opened.{NotOpen, OpenDirectory, OpenFile}
 use Rattle.sf_call.specs.Changes.{done}
 use Rattle.sf_call.specs.Calls.{Outcome, stat, stat_opened, sets, set_stat, set_opened, read, write, unless_root}
 
--- an entry that is set to the value that it has
+-- setting an entry to the value that it has
 same_value : {K X : Type 0} (at : K → Bool) (es : List (K × X)) (v : X) → lookup at es ≡ Some v → set_value at es v ≡ es
 same_value at [] v there = refl
 same_value at (e ∷ es) v there =

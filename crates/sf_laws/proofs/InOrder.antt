@@ -1,4 +1,4 @@
--- The names of a listing stand in order, after the last one that was given.
+-- The names of a listing are in order, after the last one that was listed.
 use Rattle.std.proofs.Common.{◌≡◌, ℕ, zero, suc, true, false, T, cond, List, [], ◌∷◌, ◌++◌, filter_map, take, Option, Some, None, option_map, option_and_then, refl, sym, ap, ◌∙◌, subst}
 use Rattle.std.specs.List.{AllByRecursion, cons_option}
 use Rattle.std.specs.List.Sorted.{IsStrictlySortedBy}
@@ -19,7 +19,7 @@ named : (name : Name) (count : ℕ) (o : Option Object) (entry : Entry) → opti
 named name count None entry e = cc
 named name count (Some object) entry e = let same : entry_of name count object ≡ entry = cc in ap (λ (x : Entry). x.filename) same
 
--- an entry that is listed has a name right below the directory, after the last one
+-- a listed entry has a name directly below the directory, after the last one
 entry_name : (last : Option Name) (count : ℕ) (o : Option Object) (rest : Option Path) (entry : Entry)
     → option_and_then (λ name. option_map (entry_of name count) o) (option_and_then (λ name. cond (is_past last name) (Some name) None) (only_name rest)) ≡ Some entry
     → (rest ≡ Some (entry.filename ∷ [])) × (is_past last entry.filename ≡ true)
@@ -50,7 +50,7 @@ module _ (tree : Tree) (last : Option Name) (directory : Path) where
       let there = entry_name last (links tree.names e.1) (object_of tree.objects e.1) (after_front directory e.0) entry is in
       (append-after_front directory e.0 (entry.filename ∷ []) there.0, there.1)
 
-  -- what holds of each entry's name holds of the names of those that are listed
+  -- a property of each entry's name holds for the listed names
   all_names : (P : Name → Type 0) (names : List (Path × ℕ)) (R : Path → Type 0) → AllByRecursion (λ e. R e.0) names
       → ((path : Path) (entry : Entry) → path ≡ directory ++ entry.filename ∷ [] → is_past last entry.filename ≡ true → R path → P entry.filename)
       → AllByRecursion P (names_of (listed names))

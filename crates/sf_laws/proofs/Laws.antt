@@ -1,5 +1,5 @@
--- For the crates above: what requests leave alone, and that the history of the examples is legal,
--- so that its replies may be told. All other files here are private to this crate.
+-- For other crates: what requests leave alone, and that the history of the examples is legal, so
+-- that its replies may be sent. All other files here are private to this crate.
 use Rattle.std.proofs.Common.{◌≡◌, ◌≢◌, ◌<◌, ℕ, [], ◌∷◌, arith, refl, inl, inr}
 use Rattle.std.proofs.lemmas.List.Elements.{All-nil, All-cons, All-contains}
 use Rattle.sf_path.specs.Names.{slash, IsName, Path, IsPath}
@@ -14,27 +14,27 @@ use Rattle.sf_laws.proofs.OwnChanges.{own, other_paths}
 use Rattle.sf_laws.specs.Examples.{a, b, history}
 -- a call that may follow a history, as the lemmas below take it
 pub use Rattle.sf_laws.proofs.NewCalls.{CallOn, NewCall, IsStrictlyBelow}
--- no request makes a file of a directory or a directory of a file
+-- no request changes an object's file type
 pub use Rattle.sf_laws.proofs.SameKinds.{kinds_stay}
--- What a rename moves is its old path, where a move may be made. A call on two paths that moves
--- nothing leaves the labels of paths that are there, and all where one path begins with the other.
--- No other request moves.
+-- An allowed rename moves its old path. A call on two paths that moves nothing keeps the inode
+-- numbers of existing paths. If one path begins with the other, it keeps all of them. No other
+-- request moves a path.
 pub use Rattle.sf_laws.proofs.Renames.{unmoved_labels, unmoved_nested, moved_changes, moved_old, never_moved}
--- A rename leaves the labels of paths that begin with neither of its two. A request with one path,
--- strictly below old, leaves those that aren't strictly below old, and the move of old.
+-- A rename keeps the inode numbers of paths that begin with neither of its two. A request on one
+-- path strictly below `old` keeps those of paths that aren't, and a move of `old` stays allowed.
 pub use Rattle.sf_laws.proofs.Renames.{spared_labels, below_labels, still_move}
--- a call leaves the open handles of other sessions
+-- a call leaves the open handles of other sessions alone
 pub use Rattle.sf_laws.proofs.OtherSessions.{others_handles}
--- where a move may be made, the renames make it
+-- the renames do an allowed move
 pub use Rattle.sf_laws.proofs.MovingRenames.{rename_moves, posix_rename_moves}
 
--- a path that isn't a request's own keeps its label
+-- a path that isn't a request's own keeps its inode number
 pub other_labels : (tree : Tree) (session number moment : ℕ) (request : Request) (path : Path) → ¬ IsOwnPath request path
     → label_at (apply tree session number moment request).tree.names path ≡ label_at tree.names path
 other_labels tree session number moment request path other =
     other_paths tree session number request (answer_to tree session number moment request).changes tree path (own tree session number moment request) other
 
--- one byte that is a name
+-- a name of one byte
 letter : (x : ℕ) → x < 256 → x ≢ slash → x ≢ 0 → x ≢ 46 → IsPath ((x ∷ []) ∷ [])
 letter x byte no_slash no_zero no_dot = All-cons IsName (x ∷ []) [] (record {
   part = record {

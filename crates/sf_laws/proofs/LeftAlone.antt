@@ -33,7 +33,7 @@ used_of_some : {X : Type 0} (b : Bool) (o : Option X) → IsSome (cond b o None)
 used_of_some true o some = refl
 used_of_some false o some = cc
 
--- where letting go changes nothing, what is there is used
+-- if deleting unused objects changes nothing, each object is used
 pub used_where_kept : (tree : Tree) (label : ℕ) → kept tree ≡ tree → IsSome (object_of tree.objects label) → is_used tree.names tree.handles label ≡ true
 used_where_kept tree label same some =
     used_of_some (is_used tree.names tree.handles label) (object_of tree.objects label)

@@ -1,4 +1,4 @@
--- A link that is told OK names a file by a further path.
+-- A successful link adds a path of a file.
 use Rattle.std.proofs.Common.{◌≡◌, ℕ, Bool, true, false, cond, nat_le, ◌+◌, List, [], ◌∷◌, Option, Some, None, refl, ap, ◌∙◌}
 use Rattle.std.specs.Ordering.{is_eq}
 use Rattle.std.specs.Cmp.{tied_itself}
@@ -27,7 +27,7 @@ names_touched t moment None = refl
 names_touched t moment (Some e) = refl
 
 module _ (tree : Tree) (moment : ℕ) (old new : Path) where
-  -- if the answer is OK, the file has a path more in the tree after it
+  -- if the reply is OK, the file has one more link in the tree after it
   abbrev pub LinksIt : Outcome → Type 0
   LinksIt answer = answer.reply ≡ reply.Status Success → IsLinked tree (done tree answer.changes) old new
 

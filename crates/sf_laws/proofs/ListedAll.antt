@@ -1,4 +1,4 @@
--- What stands in a directory and comes next is listed, or the listing is full of names before it,
+-- An entry of a directory after the last one is listed, or the listing is full of smaller names,
 -- and nothing else is listed.
 use Rattle.std.proofs.Common.{◌≡◌, ◌⊎◌, ℕ, zero, suc, true, false, T, cond, List, [], ◌∷◌, ◌++◌, length, take, Option, Some, None, option_map, option_and_then, inl, inr, refl, sym, ap, ◌∙◌, subst, arith}
 use Rattle.std.specs.Option.{IfSome}
@@ -22,7 +22,7 @@ use Rattle.sf_call.proofs.Laws.{not_at}
 use Rattle.sf_call.proofs.Laws.{all_made}
 use Rattle.sf_call.proofs.Laws.{taken_short}
 
--- an entry stands in a list
+-- an entry is in a list
 abbrev pub IsIn : Entry → List Entry → Type 0
 IsIn x [] = ⊥
 IsIn x (e ∷ es) = (e ≡ x) ⊎ IsIn x es
@@ -38,7 +38,7 @@ behind : (x : Entry) (o : Option Entry) (entries : List Entry) → IsIn x entrie
 behind x None entries is = is
 behind x (Some e) entries is = inr is
 
--- what holds of all names holds of this entry's
+-- a property of all names holds for this entry's
 of_name : (P : Name → Type 0) (x : Entry) (entries : List Entry) → AllByRecursion P (names_of entries) → IsIn x entries → P x.filename
 of_name P x [] all is = absurd is
 of_name P x (e ∷ es) all is = elim is [
@@ -68,7 +68,7 @@ module _ (tree : Tree) (last : Option Name) (directory : Path) (name : Name) (ob
         | false ↦ λ _ k. behind (entry_of name (links tree.names label) object) (listed_entry tree directory last e) (listed tree last directory es) (found es label k there)
       ] refl at
 
--- of entries in order, one is among the first n, or there are n before it
+-- of ordered entries, one is among the first n, or there are n before it
 taken : (n : ℕ) (x : Entry) (entries : List Entry) → IsStrictlySortedBy name_cmp (names_of entries) → IsIn x entries
     → IsIn x (take n entries) ⊎ ((length (take n entries) ≡ n) × AllByRecursion (λ m. is_lt (name_cmp m x.filename) ≡ true) (names_of (take n entries)))
 unfolding IsStrictlySortedBy
@@ -83,7 +83,7 @@ taken (suc n) x (e ∷ es) sorted is = elim is [
   ]
 ]
 
--- a name of a directory, and the object that it leads to
+-- a name in a directory, and its object
 pub record NamedObject (tree : Tree) (directory : Path) : Type 0 where
   pub name : Name
   pub label : ℕ
@@ -102,7 +102,7 @@ listing_complete tree last directory n o past =
       | inr full ↦ inr full
     ]
 
--- the entries behind the first are found past it
+-- the entries after the first are found after it
 past_first : (e : Path × ℕ) (es fs : List (Path × ℕ)) → T (below_all path_cmp e.0 fs) → AllByRecursion (λ x. label_at es x.0 ≡ Some x.1) fs → AllByRecursion (λ x. label_at (e ∷ es) x.0 ≡ Some x.1) fs
 past_first e es [] below all = tt
 past_first e es (f ∷ fs) below all =
@@ -122,7 +122,7 @@ shown : (name : Name) (count : ℕ) (o : Option Object) (entry : Entry) → opti
 shown name count None entry e = cc
 shown name count (Some object) entry e = let same : entry_of name count object ≡ entry = cc in (object, refl, subst (λ (x : Entry). x ≡ entry_of x.filename count object) same refl)
 
--- an entry that is listed shows its label's object
+-- a listed entry has the object of its inode number
 shows_object : (last : Option Name) (count : ℕ) (o : Option Object) (rest : Option Path) (entry : Entry)
     → option_and_then (λ name. option_map (entry_of name count) o) (option_and_then (λ name. cond (is_past last name) (Some name) None) (only_name rest)) ≡ Some entry
     → (object : Object) × (o ≡ Some object) × (entry ≡ entry_of entry.filename count object)
@@ -136,7 +136,7 @@ shows_object last count o (Some (n ∷ [])) entry e =
       | false ↦ λ k. cc
     ] e
 
--- an entry is of what stands in the directory under its name
+-- an entry has the object under its name in the directory
 abbrev pub IsThere : Tree → Path → Entry → Type 0
 IsThere tree directory entry =
     (label : ℕ) × (object : Object) × (label_at tree.names (directory ++ entry.filename ∷ []) ≡ Some label) × (object_of tree.objects label ≡ Some object) × (entry ≡ entry_of entry.filename (links tree.names label) object)

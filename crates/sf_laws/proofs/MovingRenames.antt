@@ -1,4 +1,4 @@
--- Where a move may be made, the renames make it.
+-- The renames do an allowed move.
 use Rattle.std.proofs.Common.{◌≡◌, ℕ, Bool, true, false, cond, ◌&&◌, ◌||◌, nat_eq, List, [], ◌∷◌, ◌++◌, Option, Some, None, IsSome, is_some, option_map, refl, sym, ap, ◌∙◌}
 use Rattle.std.specs.List.{cons_option}
 use Rattle.std.specs.Ordering.{is_eq}
@@ -19,11 +19,11 @@ use Rattle.sf_call.specs.Calls.{Outcome, answer_to, refuses, succeeds, moves, un
 use Rattle.sf_reply.specs.declared.reply.StatusCode.TheVariants.{Failure}
 use Rattle.sf_call.proofs.Laws.{same_name_itself, same_path_is, append-after_front, kind_by, kind_at, named_object, named_way}
 
--- the place of a path whose way is open
+-- the lookup of a path after its proper prefixes resolve
 place_open : (tree : Tree) (path : Path) (o : Option ℕ) → is_faulty_way tree path ≡ false → label_at tree.names path ≡ o → look_up tree path ≡ lookup_of o
 place_open tree path o way at = ap (λ b. cond b NoWay (lookup_of (label_at tree.names path))) way ∙ ap lookup_of at
 
--- a path that another doesn't begin with is another
+-- a path that is no prefix of another differs from it
 apart_paths : (p q : Path) → after_front p q ≡ None → same_path p q ≡ false
 apart_paths p q none =
     elim (same_path p q) as (λ b. same_path p q ≡ b → b ≡ false) [
@@ -37,7 +37,7 @@ apart_paths p q none =
       not_same : (p q : Path) → p ≡ q → after_front p q ≡ None → true ≡ false
       not_same p q same none = sym (front_itself p) ∙ ap (λ (r : Path). is_some (after_front p r)) same ∙ ap (λ (o : Option Path). is_some o) none
 
--- where no path has a name more, a path has no children
+-- if no path is longer by a name, a path has no children
 only_child : (o : Option Path) (name : Name) → only_name o ≡ Some name → o ≡ Some (name ∷ [])
 only_child None name e = cc
 only_child (Some []) name e = cc

@@ -35,7 +35,7 @@ outcome_of c = answer_to (replay c.history) c.session c.number c.moment c.reques
 abbrev pub tree_after : NewCall → Tree
 tree_after c = (apply (replay c.history) c.session c.number c.moment c.request).tree
 
--- a path lies strictly below another
+-- a path is strictly below another
 pub record IsStrictlyBelow (old path : Path) : Type 0 where
   pub name : Name
   pub rest : Path

@@ -1,4 +1,4 @@
--- A handle that a call makes is the calling session's, with the marks that were asked for.
+-- A new handle belongs to the calling session, with the requested access mode.
 use Rattle.std.proofs.Common.{◌≡◌, ℕ, Bool, false, cond, not, ◌||◌, List, Option, Some, None, option_and_then, refl, ap, ◌∙◌, subst}
 use Rattle.std.specs.Ordering.{nat_cmp, is_eq}
 use Rattle.std.specs.Cmp.{nat_cmp_total, tied_itself}
@@ -21,7 +21,7 @@ use Rattle.sf_laws.proofs.Shapes.{Shape, shape_of}
 use Rattle.sf_laws.proofs.Shapes.Shape.{Refuses, DoesNothing, TellsAttrs, TellsData, OpensDirectory, OpensFile, CutsFile, MakesFile}
 use Rattle.sf_call.proofs.Laws.{lookup-put}
 
--- the handle that was put is the one that is found
+-- the handle that was inserted is found
 put_found : (handles : List (ℕ × Handle)) (number : ℕ) (h : Handle) → handle_of (insert_entry nat_cmp handles number h) number ≡ Some h
 put_found handles number h =
     lookup-put nat_cmp nat_cmp_total handles number h number
@@ -38,7 +38,7 @@ in_session handles session number h own =
     ap (option_and_then (if_of session)) (put_found handles number h) ∙ ap (λ b. cond b (Some h) None) (eq-eqb h.session session own)
 
 module _ (tree : Tree) (session number : ℕ) (path : Path) (read write append : Bool) where
-  -- if the answer gives a handle, it is just opened in the tree after it
+  -- if the reply has a handle, it is new in the tree after it
   abbrev pub OpensIt : Outcome → Type 0
   OpensIt answer = (given : ℕ) → answer.reply ≡ reply.Handle given → IsJustOpened (done tree answer.changes) session given path (allowing read write append)
 
@@ -81,7 +81,7 @@ module _ (tree : Tree) (session number moment : ℕ) (path : Path) where
   directory_handle_made = directory_made _ (shape_of tree session number moment (OpenDir path))
 
   module _ (flags : OpenFlags) (attrs : Attrs) where
-    -- in a tree with this handle put, in which the path has its label
+    -- in a tree with this handle, in which the path has its inode number
     file_handle_put : (t : Tree) (label : ℕ) → t.handles ≡ insert_entry nat_cmp tree.handles number (new_file_handle session label flags) → label_at t.names path ≡ Some label
         → IsJustOpened t session number path (allowing (flags.read || not flags.write) flags.write flags.append)
     file_handle_put t label put at = record {

@@ -1,4 +1,5 @@
--- After a legal history no session has too many handles open, and each handle leads to an object.
+-- After a legal history no session exceeds its limit of handles, and each handle refers to an
+-- object.
 use Rattle.std.proofs.Common.{◌≡◌, ◌<◌, ◌≤◌, ℕ, ◌+◌, Bool, true, false, cond, not, nat_eq, ◌||◌, List, [], ◌∷◌, ◌++◌, filter, Option, Some, None, option_and_then, IsSome, is_some, IfSome, refl, sym, ap, ◌∙◌, subst, eq-eqb, arith}
 use Rattle.std.proofs.lemmas.Bool.{leb-false, eqb-true}
 use Rattle.std.proofs.lemmas.List.Sums.{sum_by-cons}
@@ -43,7 +44,7 @@ pub record HandlesHold (tree : Tree) : Type 0 where
 
 -- ---- counts
 
--- one handle more
+-- one more handle
 more_of : ℕ → Handle → ℕ
 more_of session h = cond (nat_eq h.session session) 1 0
 
@@ -62,7 +63,7 @@ count_inserted session number h (e ∷ es) =
       | Greater ↦ omega (arith, count_cons session e (insert_entry nat_cmp es number h), count_cons session e es, count_inserted session number h es)
     ]
 
--- a handle that is set stays its session's
+-- a handle that is set keeps its session
 count_set : (session number : ℕ) (before after : Handle) (es : List (ℕ × Handle)) → handle_of es number ≡ Some before → before.session ≡ after.session
     → count_of_session session (set_value (is_at (nat_cmp number)) es after) ≡ count_of_session session es
 unfolding more_of
@@ -121,7 +122,7 @@ there_put : (es : List (ℕ × Object)) (label : ℕ) (o : Object) → IsSome (o
 there_put es label o =
     ap (λ x. is_some x) (lookup-put nat_cmp nat_cmp_total es label o label ∙ ap (λ r. cond (is_eq r) (Some o) (object_of es label)) (tied_itself nat_cmp_total label))
 
--- what a handle opens is used
+-- an object with an open handle is used
 or_true : (a b : Bool) → b ≡ true → a || b ≡ true
 or_true true b t = refl
 or_true false b t = t
@@ -136,7 +137,7 @@ both : {X : Type 0} (P Q R : X → Type 0) (xs : List X) → ((x : X) → P x �
 both P Q R [] more p q = tt
 both P Q R (x ∷ xs) more p q = (more x p.0 q.0, both P Q R xs more p.1 q.1)
 
--- letting go keeps what a handle opens
+-- deleting unused objects keeps those with an open handle
 founded_kept : (tree : Tree) → AllByRecursion (IsFounded tree.objects) tree.handles → AllByRecursion (IsFounded (kept tree).objects) tree.handles
 founded_kept tree all =
     both (λ e. list_any (λ h. nat_eq h.1.label e.1.label) tree.handles ≡ true) (IsFounded tree.objects) (IsFounded (kept tree).objects) tree.handles
@@ -221,7 +222,7 @@ leave_holds tree session h = kept_holds (with_handles tree (filter (λ e. not (n
   founded = all_filtered (IsFounded tree.objects) (λ e. not (nat_eq e.1.session session)) tree.handles h.founded;
 })
 
--- a session's handle is there
+-- a handle of a session exists
 of_session : (session : ℕ) (o : Option Handle) (handle : Handle) → option_and_then (if_of session) o ≡ Some handle → o ≡ Some handle
 of_session session None handle e = cc
 of_session session (Some x) handle e = elim (nat_eq x.session session) as (λ b. cond b (Some x) None ≡ Some handle → Some x ≡ Some handle) [ true ↦ λ k. k | false ↦ λ k. cc ] e

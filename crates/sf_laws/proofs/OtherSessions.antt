@@ -1,4 +1,4 @@
--- A call leaves the open handles of other sessions.
+-- A call leaves the open handles of other sessions alone.
 use Rattle.std.proofs.Common.{◌≡◌, ◌≢◌, ℕ, nat_eq, true, false, if◌then◌else◌, option_and_then, Option, Some, None, IsSome, refl, sym, ap, ◌∙◌, eqb-true}
 use Rattle.sf_call.specs.declared.handle.Handle.{Handle}
 use Rattle.sf_call.specs.declared.request.Request.{Request}
@@ -9,7 +9,7 @@ use Rattle.sf_call.specs.Calls.{answer_to, apply}
 use Rattle.sf_laws.specs.Own.{IsOwnHandle}
 use Rattle.sf_laws.proofs.OwnChanges.{own, other_handles}
 
--- an open handle of a session is that session's
+-- an open handle of a session belongs to that session
 session_is : (session : ℕ) (o : Option Handle) (h : Handle) → option_and_then (if_of session) o ≡ Some h → (h.session ≡ session) × (o ≡ Some h)
 session_is session None h e = absurd (let z : ⊥ = cc in z)
 session_is session (Some k) h e =

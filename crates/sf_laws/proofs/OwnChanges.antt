@@ -1,4 +1,4 @@
--- A request changes its own alone.
+-- A request changes only what belongs to it.
 use Rattle.std.proofs.Common.{◌≡◌, ◌≢◌, ◌⊎◌, ℕ, List, [], ◌∷◌, ◌++◌, Option, Some, None, IsSome, is_some, refl, sym, ap, ◌∙◌, subst, inl, inr}
 use Rattle.std.specs.List.{AllByRecursion}
 use Rattle.sf_path.specs.Names.{Path}
@@ -19,7 +19,7 @@ use Rattle.sf_call.proofs.Laws.{directory_there}
 use Rattle.sf_laws.proofs.LeftAlone.{other_path, other_object, other_handle}
 
 module _ (tree : Tree) (session number : ℕ) where
-  -- the change is of what is the request's own
+  -- the change concerns what belongs to the request
   abbrev pub IsOwnChange : Request → Change → Type 0
   IsOwnChange request (SetObject label object) = IsOwnObject tree session request label
   IsOwnChange request (NewPath path label object) = IsOwnPath request path × (label ≡ number)

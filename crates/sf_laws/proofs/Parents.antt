@@ -1,4 +1,4 @@
--- What a request does to the directory in which it makes or removes a name.
+-- The effect of a request on the directory in which it adds or removes an entry.
 use Rattle.std.proofs.Common.{◌≡◌, ◌≢◌, ◌⊎◌, ◌-◌, ℕ, nat_eq, Bool, true, false, cond, not, ◌&&◌, [], ◌∷◌, ◌++◌, length, Option, Some, None, refl, sym, ap, ◌∙◌, subst, eq-eqb, inl, inr, arith}
 use Rattle.std.proofs.lemmas.Bool.{eqb-true}
 use Rattle.std.specs.Ordering.{nat_cmp}
@@ -27,11 +27,11 @@ use Rattle.sf_call.specs.Calls.{Outcome, answer_to, make_directory, remove_direc
 use Rattle.sf_call.proofs.Laws.{exact_paths, other_put, other_set, other_removed, set_there, kept_object, directory_there, moved_outside, no_front, no_parent, rename_cases, posix_rename_cases, link_cases, link_to_cases}
 use Rattle.sf_laws.specs.Own.{IsOneOf, NamesEntry}
 
--- a path that isn't the root's has another parent
+-- a path other than the root differs from its parent
 other_parent : (name : Name) (path : Path) → parent (name ∷ path) ≢ name ∷ path
 other_parent name path same = let lengths = ap length same in omega (arith, lengths, length-take (length (name ∷ path) - 1) (name ∷ path))
 
--- a directory that was as it is or modified at the moment is so after a touch
+-- a directory that is unchanged or has a new modification time is so after a touch
 module _ (tree : Tree) (moment label : ℕ) (m : Metadata) (is : object_of tree.objects label ≡ Some (Directory m)) where
   abbrev pub MayBeTouched : Tree → Type 0
   MayBeTouched after = IsOneOf (Directory m) (Directory (modified_at moment m)) (object_of after.objects label)
@@ -64,7 +64,7 @@ module _ (tree : Tree) (moment label : ℕ) (m : Metadata) (is : object_of tree.
   both_touched after path other (Some d) e before =
       touched_or_not (done after (touch moment (Some d))) other (directory_at tree other) refl (touched_or_not after path (Some d) e before)
 
-  -- the parents of what is moved stay where they are
+  -- the parents of moved paths keep their paths
   parent_moved : (old new path : Path) → after_front old (parent path) ≡ None → after_front new (parent path) ≡ None
       → label_at tree.names (parent path) ≡ Some label → MayBeTouched (done tree (moves tree moment old new).changes)
   parent_moved old new path not_old not_new named =

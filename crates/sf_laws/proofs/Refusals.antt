@@ -1,4 +1,4 @@
--- A refused call changes nothing.
+-- A request that fails changes nothing.
 use Rattle.std.proofs.Common.{◌≡◌, ◌≢◌, ℕ, List, [], refl, sym}
 use Rattle.sf_reply.specs.declared.reply.Reply.{Reply}
 use Rattle.sf_reply.specs.declared.reply.Reply.TheVariants as reply
@@ -11,7 +11,7 @@ use Rattle.sf_call.specs.Changes.{Change}
 use Rattle.sf_laws.proofs.Shapes.{Shape, shape_of}
 use Rattle.sf_laws.proofs.Shapes.Shape.{Refuses, DoesNothing, TellsAttrs, TellsData, SetsAt, SetsOpen, Writes, MakesDirectory, RemovesDirectory, RemovesFile, OpensDirectory, OpensFile, CutsFile, MakesFile, Closes, Lists, Renames, Replaces, Links}
 
--- with a refusal there are no changes
+-- a failure has no changes
 abbrev pub IsStill : Reply → List Change → Type 0
 IsStill (reply.Status Success) changes = Unit {0}
 IsStill (reply.Status EndOfFile) changes = changes ≡ []

@@ -1,4 +1,4 @@
--- A REMOVE that is told OK takes one name from its file.
+-- A successful REMOVE takes one name from its file.
 use Rattle.std.proofs.Common.{◌≡◌, ℕ, cond, List, [], ◌∷◌, Option, Some, None, refl, sym, ap, ◌∙◌, arith}
 use Rattle.std.specs.Ordering.{nat_cmp}
 use Rattle.std.specs.Map.{remove_entry}
@@ -27,7 +27,7 @@ handles_touched t moment None = refl
 handles_touched t moment (Some e) = refl
 
 module _ (tree : Tree) (ordered : IsOrderedTree tree) (moment : ℕ) (path : Path) where
-  -- without the path, before what nothing names or opens is let go of
+  -- without the path, before unused objects are deleted
   abbrev unnamed : Tree
   unnamed = with_names tree (remove_entry (is_at (path_cmp path)) tree.names)
 
@@ -37,11 +37,11 @@ module _ (tree : Tree) (ordered : IsOrderedTree tree) (moment : ℕ) (path : Pat
   abbrev after : Tree
   after = done tree (goes tree moment path).changes
 
-  -- if the answer is OK, the file has a path less in the tree after it
+  -- if the reply is OK, the file has one link fewer in the tree after it
   abbrev RemovesIt : Outcome → Type 0
   RemovesIt answer = answer.reply ≡ reply.Status Success → IsRemoved tree (done tree answer.changes) path
 
-  -- to modify the parent changes no file
+  -- setting the parent's modification time changes no file
   touched_file : (label : ℕ) (m : Metadata) (contents : List ℕ) → object_of tree.objects label ≡ Some (File m contents) → (at : Option (ℕ × Metadata))
       → directory_at tree (parent path) ≡ at → object_of (done less (touch moment at)).objects label ≡ object_of less.objects label
   touched_file label m contents is None e = refl

@@ -1,4 +1,5 @@
--- What a rename moves, which labels stay, and which requests leave a move possible.
+-- The paths that a rename moves, the inode numbers that stay, and the requests that keep a move
+-- allowed.
 use Rattle.std.proofs.Common.{true, false, ◌≡◌, ◌≢◌, ◌⊎◌, ℕ, List, [], ◌∷◌, ◌++◌, length, Option, Some, None, IsSome, is_some, refl, sym, ap, ◌∙◌, subst, inl, inr, arith, length-append}
 use Rattle.std.proofs.lemmas.List.{append-nil, take_all, take-append-le}
 use Rattle.sf_path.specs.Names.{Name, Path}
@@ -54,13 +55,13 @@ own_of_target (request.Link old new) q own = inr (ap (λ o. is_some o) (ap (afte
 own_of : (r : Request) (target : Target) (q : Path) → target_of r ≡ target → IsOwnPath r q → IsOfTarget target q
 own_of r target q e own = subst (λ (t : Target). IsOfTarget t q) e (own_of_target r q own)
 
--- a path that isn't the target's keeps its label
+-- a path other than the target's keeps its inode number
 labels_by_target : (tree : Tree) (session number moment : ℕ) (r : Request) (target : Target) (q : Path) → target_of r ≡ target → ¬ IsOfTarget target q
     → label_at (apply tree session number moment r).tree.names q ≡ label_at tree.names q
 labels_by_target tree session number moment r target q e other =
     other_paths tree session number r (answer_to tree session number moment r).changes tree q (own tree session number moment r) (λ is. other (own_of r target q e is))
 
--- ---- what moves
+-- ---- moved paths
 
 -- the request is one of the renames, or a link
 by_target : (r : Request) (old new : Path) → target_of r ≡ OnPaths old new → (r ≡ request.Rename old new) ⊎ ((r ≡ request.PosixRename old new) ⊎ (r ≡ request.Link old new))
@@ -81,12 +82,12 @@ by_target (request.Rename a b) old new e = let first : a ≡ old = cc in let sec
 by_target (request.PosixRename a b) old new e = let first : a ≡ old = cc in let second : b ≡ new = cc in inr (inl cc)
 by_target (request.Link a b) old new e = let first : a ≡ old = cc in let second : b ≡ new = cc in inr (inr cc)
 
--- touching a directory moves nothing
+-- setting a modification time moves nothing
 touch_moves : (moment : ℕ) (o : Option (ℕ × Metadata)) → moved_by (touch moment o) ≡ None
 touch_moves moment None = refl
 touch_moves moment (Some e) = refl
 
--- where the way of a path is open, what it begins with is a directory
+-- if a path resolves, its proper prefixes are directories
 front_is_directory : (tree : Tree) (path : Path) (name : Name) (rest : Path) → is_faulty_way tree (path ++ name ∷ rest) ≡ false → is_directory tree path ≡ true
 front_is_directory tree path name rest way =
     ap (is_directory tree) (sym (take-append-le (length path) path (name ∷ rest) (omega arith) ∙ take_all (length path) path (omega arith)))
@@ -96,7 +97,7 @@ begins : (o : Option Path) → IsSome o → ((rest : Path) → o ≡ Some rest �
 begins None some nowhere = cc
 begins (Some rest) some nowhere = nowhere rest refl
 
--- a file that is found is named, and its object is there
+-- a file that is found has a path and an object
 found_file : (tree : Tree) (path : Path) (label : ℕ) (m : Metadata) (contents : List ℕ) → found_at tree path ≡ FileAt label m contents
     → (label_at tree.names path ≡ Some label) × (object_of tree.objects label ≡ Some (File m contents))
 found_file tree path label m contents e = by_place (look_up tree path) refl e where
@@ -127,7 +128,7 @@ found_file tree path label m contents e = by_place (look_up tree path) refl e wh
   by_place (At at) here f = by_object at (object_of tree.objects at) refl here f
 
 module _ (tree : Tree) (session number moment : ℕ) (r : Request) (old new : Path) (e : target_of r ≡ OnPaths old new) where
-  -- a file is named by the new path as well, which was free
+  -- the new path names the file as well, and was absent
   pub record Links (changes : List Change) : Type 0 where
     pub label : ℕ
     pub metadata : Metadata
@@ -137,7 +138,7 @@ module _ (tree : Tree) (session number moment : ℕ) (r : Request) (old new : Pa
     pub free : look_up tree new ≡ Absent
     pub unmoved : moved_by changes ≡ None
 
-  -- a rename changes nothing, or moves; a link changes nothing, or names
+  -- a rename changes nothing or moves; a link changes nothing or adds a name
   abbrev pub IsStillOrMoves : List Change → Type 0
   IsStillOrMoves changes = (changes ≡ []) ⊎ ((changes ≡ (moves tree moment old new).changes) ⊎ Links changes)
 
@@ -164,7 +165,7 @@ module _ (tree : Tree) (session number moment : ℕ) (r : Request) (old new : Pa
     ]
   ]
 
-  -- a call that moves nothing leaves the labels of paths that are there
+  -- a call that moves nothing keeps the inode numbers of existing paths
   pub unmoved_labels : moved_by (answer_to tree session number moment r).changes ≡ None → (q : Path) → IsSome (label_at tree.names q)
       → label_at (apply tree session number moment r).tree.names q ≡ label_at tree.names q
   unmoved_labels none q some = elim still_or_moves [
@@ -180,7 +181,7 @@ module _ (tree : Tree) (session number moment : ℕ) (r : Request) (old new : Pa
     ]
   ]
 
-  -- and where one path begins with the other, it changes nothing
+  -- and if one path begins with the other, it changes nothing
   module _ (way : (path : Path) (label : ℕ) → label_at tree.names path ≡ Some label → is_faulty_way tree path ≡ false) where
     named_old : (links : Links (answer_to tree session number moment r).changes) → label_at tree.names old ≡ Some links.label
     named_old links = (found_file tree old links.label links.metadata links.contents links.file).0
@@ -249,7 +250,7 @@ module _ (tree : Tree) (session number : ℕ) (r : Request) (other : (old new : 
 pub never_moved : (tree : Tree) (session number moment : ℕ) (r : Request) → ((old new : Path) → target_of r ≢ OnPaths old new) → moved_by (answer_to tree session number moment r).changes ≡ None
 never_moved tree session number moment r other = none_moved tree session number r other (answer_to tree session number moment r).changes (own tree session number moment r)
 
--- ---- which labels stay
+-- ---- unchanged inode numbers
 
 not_some : (o : Option ℕ) → IsSome o → o ≡ None → ⊥
 not_some None some none = cc
@@ -286,7 +287,7 @@ pub below_labels : (c : CallOn) (old path q : Path) → target_of c.request ≡ 
 below_labels c old path q e below not_below =
     labels_by_target c.tree c.session c.number c.moment c.request (OnPath path) q e (λ same. not_below below.name below.rest (ap (after_front old) same ∙ below.is))
 
--- ---- which requests leave a move possible
+-- ---- requests that keep a move allowed
 
 pub still_move : (c : NewCall) (old new path : Path) → target_of c.request ≡ OnPath path → IsStrictlyBelow old path → IsMove (tree_before c) old new → IsMove (tree_after c) old new
 still_move c old new path e below may =

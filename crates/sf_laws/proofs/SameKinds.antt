@@ -1,4 +1,4 @@
--- No request makes a file of a directory or a directory of a file.
+-- No request changes an object's file type.
 use Rattle.std.proofs.Common.{◌≡◌, ◌≢◌, ◌⊎◌, ℕ, true, false, cond, List, [], ◌∷◌, Option, Some, None, option_map, refl, sym, ap, ◌∙◌, subst, inl, inr}
 use Rattle.std.specs.Ordering.{nat_cmp, is_eq}
 use Rattle.std.specs.Cmp.{nat_cmp_total, tied_itself}
@@ -15,7 +15,7 @@ use Rattle.sf_laws.proofs.NewCalls.{NewCall, tree_before, outcome_of, tree_after
 use Rattle.sf_call.proofs.Laws.{is_equal, set_there, none_set, other_put, other_set, object_kept, no_object, allowed_changes}
 
 module _ (number label : ℕ) (other : label ≢ number) (kind : FileType) where
-  -- the label's object is of this kind, or there is none
+  -- the inode number's object has this file type, or there is none
   abbrev pub IsKindOrGone : Option Object → Type 0
   IsKindOrGone o = (option_map file_type_of o ≡ Some kind) ⊎ (o ≡ None)
 

@@ -1,5 +1,5 @@
--- The answer to a request is a refusal or has one of a few shapes: so a law of answers is a table of
--- these, one row each.
+-- The answer to a request is a failure or one of a few shapes, so a law of answers is a table with
+-- one row for each.
 use Rattle.std.proofs.Common.{◌≡◌, ℕ, Bool, true, false, cond, not, nat_eq, nat_lt, nat_le, ◌+◌, ◌&&◌, List, [], ◌∷◌, length, Option, Some, None, refl}
 use Rattle.std.specs.Option.{is_some}
 use Rattle.sf_path.specs.Names.{Path}
@@ -28,7 +28,7 @@ use Rattle.sf_call.specs.Changes.Change.{SetObject, NewPath, NewName, CloseHandl
 use Rattle.sf_call.specs.Calls.{Outcome, answer_to, tells, refuses, succeeds, stat, refuses_size, set_stat, make_directory, goes, remove_directory, remove_file, has_all_handles, opens, directory_handle, new_file_handle, open_directory, open_present, open_file, close, stat_opened, set_opened, read, start_of, write, lists, read_directory, unless_root, moves, opening, stamp}
 use Rattle.sf_call.proofs.Laws.{place_label, rename_cases, posix_rename_cases, link_cases, link_to_cases}
 
--- what a request may be answered and change
+-- the possible answers to a request
 pub data Shape (tree : Tree) (session number moment : ℕ) : Request → Outcome → Type 0 where
   Refuses : (r : Request) (code : StatusCode) → Shape tree session number moment r (refuses code)
   DoesNothing : (r : Request) → Shape tree session number moment r (succeeds [])

@@ -1,4 +1,4 @@
--- A move that may be made may still be made after changes below its old path.
+-- An allowed move is still allowed after changes below its old path.
 use Rattle.std.proofs.Common.{◌≡◌, ◌≢◌, ℕ, true, false, cond, List, [], ◌∷◌, ◌++◌, take, Option, Some, None, is_some, option_map, refl, sym, ap, ◌∙◌}
 use Rattle.sf_path.specs.Names.{Name, Path}
 use Rattle.sf_path.specs.Order.{same_name}
@@ -12,7 +12,7 @@ use Rattle.sf_laws.proofs.OwnChanges.{own, other_paths}
 use Rattle.sf_laws.proofs.NewCalls.{NewCall, IsStrictlyBelow, tree_before, outcome_of, tree_after}
 use Rattle.sf_laws.proofs.SameKinds.{kinds_stay}
 
--- what lies below one of two separate paths doesn't lie below the other
+-- a path below one of two separate paths isn't below the other
 apart_below : (p q r : Path) → after_front p q ≡ None → after_front q p ≡ None → after_front p (q ++ r) ≡ None
 apart_below [] q r a b = cc
 apart_below (n ∷ p) [] r a b = cc
@@ -60,7 +60,7 @@ module _ (tree next : Tree) (old new : Path)
     other = λ at. may.other (sym (labels new (outside new may.not_inside)) ∙ at);
   }
 
--- the kinds of two objects that are there
+-- the file types of two existing objects
 both_there : (a b : Option Object) → is_some a ≡ true → is_some b ≡ true → ((x y : Object) → a ≡ Some x → b ≡ Some y → file_type_of x ≡ file_type_of y) → option_map file_type_of a ≡ option_map file_type_of b
 both_there None b s t same = cc
 both_there (Some x) None s t same = cc

@@ -1,4 +1,4 @@
--- Small trees and requests on which the definitions are worked out.
+-- Small trees and requests for worked examples.
 use Rattle.std.specs.Prelude.{ℕ, ◌+◌, ◌/◌, ◌%◌, Bool, true, false, List, [], ◌∷◌, map, codes, Some, None}
 use Rattle.sf_field.specs.declared.attrs.Attrs.{Attrs}
 use Rattle.sf_field.specs.declared.attrs.Owner.{Owner}
@@ -47,7 +47,7 @@ metadata uid gid permissions atime mtime = record {
   times = record { atime = atime; mtime = mtime };
 }
 
--- the tree with the directory `/a`, made by call 7 at the moment 100
+-- the tree with an object at `/a`, made by call 7 at the timestamp 100
 abbrev pub tree_with : Object → Tree
 tree_with object = record {
   names = ([], 0) ∷ (a ∷ [], 7) ∷ [];
@@ -58,7 +58,7 @@ tree_with object = record {
 abbrev pub with_directory : Tree
 with_directory = tree_with (Directory (metadata 0 0 0o755 100 100))
 
--- the root alone, modified at the moment 300
+-- the root alone, modified at the timestamp 300
 abbrev pub touched_root : Tree
 touched_root = record {
   names = ([], 0) ∷ [];
@@ -70,11 +70,11 @@ touched_root = record {
 abbrev pub tree_with_file : Tree
 tree_with_file = tree_with (File (metadata 5 6 0o644 100 200) (codes "abc"))
 
--- call 8 of session 1, at the moment 300
+-- call 8 of session 1, at the timestamp 300
 abbrev pub call : Tree → Request → Applied
 call tree request = apply tree 1 8 300 request
 
--- the replies of session 2 to each of these requests, alone, by call 1000 at the moment 100
+-- the replies to each of these requests of session 2, alone, as call 1000 at the timestamp 100
 abbrev pub replies_of_another : Tree → List Request → List Reply
 replies_of_another tree requests = map (λ request. (apply tree 2 1000 100 request).reply) requests
 
@@ -84,15 +84,16 @@ refuses_by tree code = record { reply = reply.Status code; tree = tree }
 abbrev pub tells_attrs : Tree → Attrs → Applied
 tells_attrs tree attrs = record { reply = reply.Attrs attrs; tree = tree }
 
--- a directory is made, another one not for want of memory and then not found, and the session
--- leaves
+-- A directory is created. Another one is not, since memory ran out, and is not found. The session
+-- ends.
 abbrev pub history : List Record
 history =
     Did 7 1 100 (Mkdir (a ∷ []) no_attrs) (reply.Status Success)
     ∷ Did 9 1 200 (Mkdir (b ∷ []) no_attrs) reply.NoMemory
     ∷ Did 8 1 300 (Stat (b ∷ [])) (reply.Status NoSuchFile) ∷ Left 1 ∷ []
 
--- the replies to these requests of session 1, in turn, the first numbered so, at the moment 100
+-- the replies to these requests of session 1 in turn, numbered from `number` on, at the timestamp
+-- 100
 abbrev pub replies_in_turn : Tree → ℕ → List Request → List Reply
 replies_in_turn tree number [] = []
 replies_in_turn tree number (r ∷ rs) =
@@ -165,16 +166,16 @@ abbrev pub of_five : Tree
 of_five = tree_after empty_tree 1 (Mkdir (a ∷ []) no_attrs ∷ Mkdir (a ∷ b ∷ []) no_attrs
     ∷ Mkdir (b ∷ []) no_attrs ∷ new_file f ∷ new_file g ∷ [])
 
--- the replies to the plain rename and to the posix one there, each alone
+-- the replies to RENAME and to posix-rename on that tree, each alone
 abbrev pub renames : Path → Path → List Reply
 renames old new =
     (call of_five (Rename old new)).reply ∷ (call of_five (PosixRename old new)).reply ∷ []
 
--- and to a link
+-- the reply to a link on that tree
 abbrev pub linking : Path → Path → Reply
 linking old new = (call of_five (Link old new)).reply
 
--- a file's attributes as it was made and modified at the moment 100
+-- the attributes of a file created and modified at the timestamp 100
 abbrev pub file_attrs : ℕ → Attrs
 file_attrs size = all_attrs size (by_owner 0 0) 0o100644 (at_times 100 100)
 

@@ -1,4 +1,4 @@
--- Files with several names: what a link and a REMOVE leave.
+-- Files with several links: the effects of a link and of a REMOVE.
 use Rattle.std.specs.Prelude.{◌≡◌, ℕ, ◌+◌, ◌<◌, true, false, Some, None}
 use Rattle.sf_path.specs.Names.{Path}
 use Rattle.sf_call.specs.declared.limits.TheConstants.{MAX_LINKS}
@@ -10,7 +10,7 @@ pub record NameOne (tree : Tree) (path other : Path) : Type 0 where
   pub first : label_at tree.names path ≡ Some label
   pub second : label_at tree.names other ≡ Some label
 
--- Both paths have the label that the old one had, which one path more has than had it.
+-- Both paths have the inode number of the old one, which has one more link.
 pub record IsLinked (before after : Tree) (old new : Path) : Type 0 where
   pub label : ℕ
   pub was : label_at before.names old ≡ Some label
@@ -20,8 +20,8 @@ pub record IsLinked (before after : Tree) (old new : Path) : Type 0 where
   pub more : links after.names label ≡ 1 + links before.names label
   pub few : links before.names label < MAX_LINKS
 
--- The path names nothing, and one path less has the label that it had. The object is as it was
--- where a path is left that names it, or a handle that opens it, and else it is gone.
+-- The path is absent, and its inode number has one link fewer. The object is unchanged if it has a
+-- link or an open handle left, and deleted otherwise.
 pub record IsRemoved (before after : Tree) (path : Path) : Type 0 where
   pub label : ℕ
   pub was : label_at before.names path ≡ Some label

@@ -1,11 +1,11 @@
--- What a handle is that a call just opened.
+-- New handles.
 use Rattle.std.specs.Prelude.{◌≡◌, ℕ, Bool, Some, None}
 use Rattle.sf_path.specs.Names.{Path}
 use Rattle.sf_call.specs.declared.handle.Handle.{Handle}
 use Rattle.sf_call.specs.Tree.{Tree, label_at}
 use Rattle.sf_call.specs.Handles.{handle_in}
 
--- what a handle allows
+-- the access mode of a handle
 pub record Allowing : Type 0 where
   pub read : Bool
   pub write : Bool
@@ -14,8 +14,8 @@ pub record Allowing : Type 0 where
 abbrev pub allowing : Bool → Bool → Bool → Allowing
 allowing read write append = record { read = read; write = write; append = append }
 
--- the session has a handle with this number, to what the path names, that allows this, and nothing
--- is listed by it yet
+-- the session has a handle with this number and access mode for the object at the path, with no
+-- name listed yet
 pub record IsJustOpened (tree : Tree) (session number : ℕ) (path : Path) (marks : Allowing)
     : Type 0 where
   pub handle : Handle

@@ -1,5 +1,5 @@
--- What is a request's own: what its path or its handle leads to. It changes nothing else but the
--- object that it makes.
+-- The paths, objects and handles that belong to a request. It changes nothing else, except the
+-- object that it creates.
 use Rattle.std.specs.Prelude.{◌≡◌, ◌⊎◌, ℕ, Option, Some, IsSome}
 use Rattle.sf_path.specs.Names.{Path}
 use Rattle.sf_path.specs.Order.{parent}
@@ -11,7 +11,7 @@ use Rattle.sf_call.specs.Tree.{Tree, label_at}
 use Rattle.sf_call.specs.Handles.{handle_in}
 use Rattle.sf_laws.specs.LeftAlone.{BeginsWithEither}
 
--- the path that it names anew or removes; of a rename both, of a link the new one
+-- the path of an entry that it adds or removes: for a rename both paths, for a link the new one
 abbrev pub NamesEntry : Request → Path → Type 0
 NamesEntry (Mkdir path attrs) other = other ≡ path
 NamesEntry (Rmdir path) other = other ≡ path
@@ -22,7 +22,7 @@ NamesEntry (PosixRename old new) other = (other ≡ old) ⊎ (other ≡ new)
 NamesEntry (Link old new) other = other ≡ new
 NamesEntry request other = ⊥
 
--- that path; of a rename all that begins with one of its two
+-- that path; for a rename, all paths that begin with one of its two
 abbrev pub IsOwnPath : Request → Path → Type 0
 IsOwnPath (Rename old new) other = BeginsWithEither old new other
 IsOwnPath (PosixRename old new) other = BeginsWithEither old new other
@@ -35,7 +35,8 @@ abbrev pub IsOpened : Tree → ℕ → ℕ → ℕ → Type 0
 IsOpened tree session number label =
     (handle : Handle) × (handle_in tree session number ≡ Some handle) × (handle.label ≡ label)
 
--- the labels whose objects it sets: the path's, its parent's or both parents', or the handle's
+-- the inode numbers of objects that it sets: at the path, at its parent or both parents, or of the
+-- handle
 abbrev pub IsOwnObject : Tree → ℕ → Request → ℕ → Type 0
 IsOwnObject tree session (SetStat path attrs) label = IsAt tree path label
 IsOwnObject tree session (Mkdir path attrs) label = IsAt tree (parent path) label
@@ -52,7 +53,7 @@ IsOwnObject tree session (PosixRename old new) label =
 IsOwnObject tree session (Link old new) label = IsAt tree (parent new) label
 IsOwnObject tree session request label = ⊥
 
--- the handle that the call with this number opens, or one of the session that it closes or lists by
+-- the handle that the call opens, or the one of the session that it closes or lists
 abbrev pub IsOwnHandle : Tree → ℕ → ℕ → Request → ℕ → Type 0
 IsOwnHandle tree session number (OpenDir path) handle = handle ≡ number
 IsOwnHandle tree session number (Open path flags attrs) handle = handle ≡ number
@@ -62,6 +63,6 @@ IsOwnHandle tree session number (ReadDir asked) handle =
     (handle ≡ asked) × IsSome (handle_in tree session asked)
 IsOwnHandle tree session number request handle = ⊥
 
--- the object is there, and is one of these two
+-- the object exists and is one of these two
 abbrev pub IsOneOf : Object → Object → Option Object → Type 0
 IsOneOf this that object = (object ≡ Some this) ⊎ (object ≡ Some that)

@@ -1,4 +1,4 @@
--- What was asked in a history, without what was answered.
+-- The calls of a history, without their replies.
 use Rattle.std.specs.Prelude.{◌≢◌, ℕ, List, map}
 use Rattle.std.specs.List.{AllByRecursion}
 use Rattle.sf_reply.specs.declared.reply.Reply.TheVariants as reply
@@ -6,7 +6,7 @@ use Rattle.sf_call.specs.declared.request.Request.{Request}
 use Rattle.sf_call.specs.declared.record.Record.{Record}
 use Rattle.sf_call.specs.declared.record.Record.TheVariants.{Did, Left}
 
--- a call that a session made at a moment, or a session's leaving
+-- a call of a session at a timestamp, or the end of a session
 pub data AskedCall : Type 0 where
   Asked : (number session moment : ℕ) → (request : Request) → AskedCall
   Leaving : (session : ℕ) → AskedCall
@@ -18,7 +18,7 @@ call_asked (Left session) = Leaving session
 abbrev pub calls_asked : List Record → List AskedCall
 calls_asked history = map call_asked history
 
--- the record is no call that wanted for memory
+-- the record is not a call that ran out of memory
 abbrev pub HadMemory : Record → Type 0
 HadMemory (Did number session moment request given) = given ≢ reply.NoMemory
 HadMemory (Left session) = Unit {0}

@@ -1,4 +1,4 @@
-//! The cases of each request, worked out on small trees.
+//! Cases of each request, evaluated on small trees.
 
 ghost use Rattle.std.specs.Prelude.{◌≡◌, [], ◌∷◌, ◌++◌, true, false, map, drop, replicate, codes, Some, None};
 ghost use Rattle.sf_reply.specs.declared.reply.Reply.TheVariants as reply;
@@ -56,7 +56,7 @@ pub fn history_cases()
     ensures replayed { replay history ≡ with_directory }
 {}
 
-/// Files by their handles, at the moment 100.
+/// Files through handles, at the timestamp 100.
 pub fn file_cases()
     ensures written { replies (new_file f ∷ Write 1 5 (codes "x") ∷ Read 1 0 261121 ∷ Read 1 6 1
         ∷ FSetStat 1 (sized 7) ∷ FSetStat 1 (sized 6) ∷ FStat 1 ∷ Stat (f ∷ []) ∷ [])
@@ -90,7 +90,7 @@ pub fn file_cases()
         ≡ reply.Handle 1 ∷ ok ∷ ok ∷ ok ∷ reply.Data (0 ∷ 0 ∷ 0 ∷ 120 ∷ []) ∷ [] }
 {}
 
-/// 33 files are listed while names go.
+/// 33 files are listed while some are removed.
 pub fn listing_cases()
     ensures { map names_in_reply (drop 33 (replies
         (map (λ k. new_file (numbered k)) (up_to_32 ++ 33 ∷ [])
@@ -111,68 +111,68 @@ pub fn rmdir_cases()
     ensures full { replies (Mkdir (a ∷ []) no_attrs ∷ Mkdir (a ∷ b ∷ []) no_attrs ∷ Rmdir (a ∷ [])
         ∷ Rmdir (a ∷ b ∷ []) ∷ Rmdir (a ∷ []) ∷ [])
         ≡ ok ∷ ok ∷ reply.Status Failure ∷ ok ∷ ok ∷ [] }
-    // A removed directory that is open lists nothing.
+    // An open directory that was removed lists nothing.
     ensures open { replies (Mkdir (a ∷ []) no_attrs ∷ OpenDir (a ∷ []) ∷ Rmdir (a ∷ []) ∷ ReadDir 2
         ∷ Close 2 ∷ [])
         ≡ ok ∷ reply.Handle 2 ∷ ok ∷ reply.Status EndOfFile ∷ ok ∷ [] }
 {}
 
-/// OPEN by its flags and its attributes, at the moment 100.
+/// OPEN by its flags and attributes, at the timestamp 100.
 pub fn open_cases()
     ensures absent { replies (Open (f ∷ []) (flags true true false false) no_attrs ∷ [])
         ≡ reply.Status NoSuchFile ∷ [] }
     ensures directory { replies (Mkdir (a ∷ []) no_attrs ∷ Open (a ∷ [])
         (flags true false false true) no_attrs ∷ []) ≡ ok ∷ reply.Status Failure ∷ [] }
-    // EXCL counts with CREAT alone.
+    // EXCL has an effect only with CREAT.
     ensures exclusive { replies (map (λ marks. Open (f ∷ []) marks no_attrs)
         (exclusively (flags true true false true) ∷ exclusively (flags true true false true)
         ∷ exclusively (flags true true false false) ∷ flags true true false true ∷ []))
         ≡ reply.Handle 1 ∷ reply.Status Failure ∷ reply.Handle 3 ∷ reply.Handle 4 ∷ [] }
-    // TRUNC counts with WRITE alone.
+    // TRUNC has an effect only with WRITE.
     ensures truncated { replies (new_file f ∷ Write 1 0 (codes "abc")
         ∷ Open (f ∷ []) (truncating (flags true false false false)) no_attrs ∷ FStat 1 ∷ Open
         (f ∷ []) (truncating (flags false true false false)) no_attrs ∷ FStat 1 ∷ Read 1 0 10
         ∷ [])
         ≡ reply.Handle 1 ∷ ok ∷ reply.Handle 3 ∷ reply.Attrs (file_attrs 3) ∷ reply.Handle 5
         ∷ reply.Attrs (file_attrs 0) ∷ reply.Status EndOfFile ∷ [] }
-    // Attributes count for a new file alone, and its size is 0.
+    // Attributes apply to a new file alone, and its size is 0.
     ensures attributes { replies (Open (f ∷ []) (flags true true false true)
         (all_attrs 9 (by_owner 5 6) 0o177777 (at_times 1 2))
         ∷ Open (f ∷ []) (flags true true false true)
         (all_attrs 4 (by_owner 7 8) 0o600 (at_times 3 4)) ∷ FStat 1 ∷ [])
         ≡ reply.Handle 1 ∷ reply.Handle 2
         ∷ reply.Attrs (all_attrs 0 (by_owner 5 6) 0o107777 (at_times 1 2)) ∷ [] }
-    // With neither READ nor WRITE a handle reads.
+    // A handle opened with neither READ nor WRITE is readable.
     ensures no_marks { replies (new_file f ∷ Write 1 0 (codes "abc") ∷ Open (f ∷ [])
         (flags false false false false) no_attrs ∷ Read 3 0 10 ∷ Write 3 0 (codes "x") ∷ [])
         ≡ reply.Handle 1 ∷ ok ∷ reply.Handle 3 ∷ reply.Data (codes "abc")
         ∷ reply.Status PermissionDenied ∷ [] }
 {}
 
-/// Handles: whose they are, and how many.
+/// Handles: their sessions, and their limit.
 pub fn handle_cases()
-    // Another session's handle is none.
+    // A handle is unknown in other sessions.
     ensures another { replies_of_another (tree_after empty_tree 1 (new_file f ∷ OpenDir [] ∷ []))
         (FStat 1 ∷ FSetStat 1 no_attrs ∷ Read 1 0 10 ∷ Write 1 0 [] ∷ ReadDir 2 ∷ Close 1 ∷ Close 2
         ∷ [])
         ≡ replicate 7 (reply.Status Failure) }
-    // A session has 128 handles open; the next one is refused until one is closed, and another
-    // session has 128 of its own.
+    // A session may have 128 open handles. The next OPEN fails until one is closed. Another session
+    // has its own limit.
     ensures most { drop 127 (replies (replicate 128 (OpenDir [])
         ++ OpenDir [] ∷ new_file f ∷ Close 1 ∷ OpenDir [] ∷ []))
         ≡ reply.Handle 128 ∷ reply.Status Failure ∷ reply.Status Failure ∷ ok ∷ reply.Handle 132
         ∷ [] }
     ensures most_of_each { replies_of_another (tree_after empty_tree 1 (replicate 128 (OpenDir [])))
         (OpenDir [] ∷ []) ≡ reply.Handle 1000 ∷ [] }
-    // The root is not set, neither by its path nor by a handle.
+    // The root's attributes can't be set, neither by path nor by handle.
     ensures root { replies (OpenDir [] ∷ FSetStat 1 no_attrs ∷ SetStat [] no_attrs ∷ [])
         ≡ reply.Handle 1 ∷ reply.Status Failure ∷ reply.Status Failure ∷ [] }
-    // A handle's number is never used again, and a closed one is none.
+    // A handle's number is never reused, and a closed one is unknown.
     ensures closed { replies (OpenDir [] ∷ Close 1 ∷ Close 1 ∷ ReadDir 1 ∷ OpenDir [] ∷ [])
         ≡ reply.Handle 1 ∷ ok ∷ reply.Status Failure ∷ reply.Status Failure ∷ reply.Handle 5 ∷ [] }
 {}
 
-/// Paths at their limits: a name of 255 bytes, and a text of 4096.
+/// Paths at their limits: a name of 255 bytes, and a path string of 4096.
 pub fn path_cases()
     ensures longest_name { fault_of (replicate 255 97) ≡ None }
     ensures longer_name { fault_of (replicate 256 97) ≡ Some NameTooLong }
@@ -188,7 +188,7 @@ pub fn packet_cases()
     ensures longer { IsCut (be32 262145) (cut.Bad bad_cut.TooLong) }
 {}
 
-/// RENAME and the extension posix-rename, in the cases of the table.
+/// RENAME and the extension posix-rename, case by case.
 pub fn rename_cases()
     ensures root { renames [] (a ∷ []) ++ renames (a ∷ []) [] ≡ replicate 4 failed }
     ensures absent { renames (a ∷ a ∷ []) (a ∷ a ∷ []) ++ renames (f ∷ a ∷ []) (b ∷ b ∷ [])
@@ -208,7 +208,7 @@ pub fn rename_cases()
         ≡ replicate 4 ok }
 {}
 
-/// What a rename leaves behind.
+/// The effects of a rename.
 pub fn move_cases()
     ensures same_path { call with_directory (PosixRename (a ∷ []) (a ∷ []))
         ≡ record { reply = ok; tree = with_directory } }
@@ -222,7 +222,7 @@ pub fn move_cases()
             handles = [];
           };
         } }
-    // What lies below moves too, and both parents are modified.
+    // Paths below move too, and both parents' modification times are set.
     ensures below { (call of_five (PosixRename (a ∷ []) (b ∷ []))).tree.names
         ≡ ([], 0) ∷ (b ∷ [], 1) ∷ (b ∷ b ∷ [], 2) ∷ (f ∷ [], 4) ∷ (g ∷ [], 5) ∷ [] }
     ensures parents { (call of_five (Rename (a ∷ b ∷ []) (b ∷ a ∷ []))).tree.objects
@@ -230,20 +230,20 @@ pub fn move_cases()
         ∷ (2, Directory (metadata 0 0 0o755 100 100)) ∷ (3, Directory (metadata 0 0 0o755 100 300))
         ∷ (4, File (metadata 0 0 0o644 100 100) []) ∷ (5, File (metadata 0 0 0o644 100 100) [])
         ∷ [] }
-    // A replaced file is read by its handle, a moved one too.
+    // A replaced file and a moved one are still read through their handles.
     ensures replaced { replies (new_file f ∷ Write 1 0 (codes "abc") ∷ new_file a
         ∷ PosixRename (a ∷ []) (f ∷ []) ∷ Write 3 0 (codes "x") ∷ Read 1 0 10 ∷ Read 3 0 10
         ∷ Stat (f ∷ []) ∷ Stat (a ∷ []) ∷ [])
         ≡ reply.Handle 1 ∷ ok ∷ reply.Handle 3 ∷ ok ∷ ok ∷ reply.Data (codes "abc")
         ∷ reply.Data (codes "x") ∷ reply.Attrs (file_attrs 1) ∷ absent ∷ [] }
-    // An open directory that is moved lists what it holds.
+    // An open directory lists its entries after a move.
     ensures listed { map names_in_reply (replies (Mkdir (a ∷ []) no_attrs
         ∷ Mkdir (a ∷ f ∷ []) no_attrs
         ∷ OpenDir (a ∷ []) ∷ Rename (a ∷ []) (b ∷ []) ∷ ReadDir 3 ∷ []))
         ≡ [] ∷ [] ∷ [] ∷ [] ∷ (f ∷ []) ∷ [] }
 {}
 
-/// Links, in the order in which one is refused; and what a link leaves.
+/// Links: failures in the order of their checks, and effects.
 pub fn link_cases()
     ensures root { linking [] (a ∷ f ∷ []) ∷ linking (f ∷ []) [] ∷ linking (a ∷ a ∷ []) [] ∷ []
         ≡ replicate 3 failed }
@@ -252,12 +252,12 @@ pub fn link_cases()
         ≡ replicate 4 absent }
     ensures directory { linking (a ∷ []) (b ∷ a ∷ []) ∷ linking (a ∷ []) (a ∷ f ∷ [])
         ∷ linking (a ∷ []) (f ∷ f ∷ []) ∷ [] ≡ replicate 3 failed }
-    // New lies below a file, below nothing, and below old.
+    // The new path is below a file, below an absent path, or below the old path.
     ensures bad_way { linking (f ∷ []) (g ∷ f ∷ []) ∷ linking (f ∷ []) (b ∷ b ∷ f ∷ [])
         ∷ linking (f ∷ []) (f ∷ g ∷ []) ∷ [] ≡ replicate 3 absent }
     ensures present { linking (f ∷ []) (g ∷ []) ∷ linking (f ∷ []) (f ∷ [])
         ∷ linking (f ∷ []) (a ∷ []) ∷ [] ≡ replicate 3 failed }
-    // Old lies in new.
+    // The old path is below the new one.
     ensures around { replies (Mkdir (a ∷ []) no_attrs
         ∷ Open (a ∷ f ∷ []) (flags true true false true) no_attrs ∷ Link (a ∷ f ∷ []) (a ∷ [])
         ∷ []) ≡ ok ∷ reply.Handle 2 ∷ failed ∷ [] }
@@ -265,13 +265,14 @@ pub fn link_cases()
     ensures names { (call of_five (Link (f ∷ []) (a ∷ f ∷ []))).tree.names
         ≡ ([], 0) ∷ (a ∷ [], 1) ∷ (a ∷ b ∷ [], 2) ∷ (a ∷ f ∷ [], 4) ∷ (b ∷ [], 3) ∷ (f ∷ [], 4)
         ∷ (g ∷ [], 5) ∷ [] }
-    // New's parent is modified, and nothing else.
+    // Only the new path's parent changes.
     ensures objects { (call of_five (Link (f ∷ []) (a ∷ f ∷ []))).tree.objects
         ≡ (0, Directory (metadata 0 0 0o755 0 100)) ∷ (1, Directory (metadata 0 0 0o755 100 300))
         ∷ (2, Directory (metadata 0 0 0o755 100 100)) ∷ (3, Directory (metadata 0 0 0o755 100 100))
         ∷ (4, File (metadata 0 0 0o644 100 100) []) ∷ (5, File (metadata 0 0 0o644 100 100) [])
         ∷ [] }
-    // What is done by one name is seen by the other, which stays when the first one goes.
+    // Changes through one name are visible through the other, which remains when the first is
+    // removed.
     ensures shared { replies (new_file f ∷ Link (f ∷ []) (g ∷ []) ∷ Write 1 0 (codes "abc")
         ∷ Stat (g ∷ []) ∷ SetStat (g ∷ []) (sized 2) ∷ Read 1 0 10 ∷ Remove (f ∷ []) ∷ Close 1
         ∷ Stat (g ∷ []) ∷ Remove (g ∷ []) ∷ Stat (g ∷ []) ∷ [])
@@ -284,8 +285,7 @@ pub fn link_cases()
         ∷ entry_of g 2 (File (metadata 0 0 0o644 100 100) []) ∷ [])
         ∷ ok ∷ reply.Handle 6
         ∷ reply.Names (entry_of g 1 (File (metadata 0 0 0o644 100 100) []) ∷ []) ∷ [] }
-    // Both are one file's: a posix-rename does nothing, and what is there is in a rename's and a
-    // link's way.
+    // Both paths name one file: posix-rename does nothing, while RENAME and a link fail.
     ensures one_file { replies (new_file f ∷ Link (f ∷ []) (g ∷ []) ∷ PosixRename (f ∷ []) (g ∷ [])
         ∷ Rename (f ∷ []) (g ∷ []) ∷ Link (f ∷ []) (g ∷ []) ∷ Stat (f ∷ []) ∷ Stat (g ∷ []) ∷ [])
         ≡ reply.Handle 1 ∷ ok ∷ ok ∷ failed ∷ failed ∷ reply.Attrs (file_attrs 0)

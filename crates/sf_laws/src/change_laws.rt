@@ -1,4 +1,4 @@
-//! What requests change, and what they leave alone.
+//! Laws of what requests change.
 
 ghost use Rattle.std.specs.Prelude.{◌≡◌, ◌≢◌, ◌<◌, ℕ, true, List, [], ◌∷◌, Some, None, IsSome};
 ghost use Rattle.sf_call.specs.declared.request.Request.{Request};
@@ -24,8 +24,8 @@ ghost use Rattle.sf_laws.specs.Linked.{NameOne, IsLinked, IsRemoved};
 ghost use Rattle.sf_call.specs.Allowed.{IsMove, file_type_of};
 ghost use Rattle.sf_call.specs.Histories.{replay, IsNewNumber, IsLegal};
 
-/// What is not a request's own it leaves alone: the labels of other paths, other handles, and other
-/// objects, which at most are let go of.
+/// A request changes only its own paths, handles and objects. Others are unchanged; an object may
+/// also be deleted.
 pub fn own_changes()
     ensures paths { (tree : Tree) (session number moment : ℕ) (request : Request) (path : Path)
         → ¬ IsOwnPath request path
@@ -42,9 +42,8 @@ pub fn own_changes()
         ≡ object_of tree.objects label }
 {}
 
-/// What each kind of change leaves alone: other paths keep their labels, other numbers their
-/// handles, and other labels their objects, which go only where nothing names or opens them any
-/// more.
+/// What each kind of change leaves alone: other paths, handles and objects. An object is deleted
+/// only without link and open handle.
 pub fn left_alone()
     ensures paths { (tree : Tree) (change : Change) (path : Path) → ¬ IsOfPath change path
         → label_at (changed tree change).names path ≡ label_at tree.names path }
@@ -58,8 +57,7 @@ pub fn left_alone()
         → object_of (changed tree change).objects label ≡ object_of tree.objects label }
 {}
 
-/// Of a directory in which a request makes or removes a name nothing changes, but the moment at
-/// which it was modified.
+/// A request that adds or removes an entry changes only the modification time of the directory.
 pub fn parents_stay()
     ensures { (tree : Tree) (session number moment label : ℕ) (request : Request) (path : Path)
         (m : Metadata) → NamesEntry request path → label ≢ number
@@ -69,15 +67,15 @@ pub fn parents_stay()
         (object_of (apply tree session number moment request).tree.objects label) }
 {}
 
-/// A refused call leaves the tree as it was: a status other than OK comes with no change.
+/// A request that fails changes nothing.
 pub fn refusals_change_nothing()
     ensures { (tree : Tree) (session number moment : ℕ) (request : Request) (code : StatusCode)
         → (apply tree session number moment request).reply ≡ Status code → code ≢ Success
         → (apply tree session number moment request).tree ≡ tree }
 {}
 
-/// STAT, FSTAT and READ leave the tree as it was; so do SETSTAT and FSETSTAT with no part given,
-/// and WRITE of no bytes.
+/// STAT, FSTAT and READ change nothing. Nor do SETSTAT and FSETSTAT without attributes, and WRITE
+/// without bytes.
 pub fn idle_calls()
     ensures stat { (tree : Tree) (session number moment : ℕ) (path : Path)
         → (apply tree session number moment (Stat path)).tree ≡ tree }
@@ -93,8 +91,7 @@ pub fn idle_calls()
         → (apply tree session number moment (Write handle offset [])).tree ≡ tree }
 {}
 
-/// What was a directory stays one, and what was a file: a request that may come next changes no
-/// object's kind.
+/// No request changes an object's file type.
 pub fn kinds_stay()
     ensures { (history : List Record) (number session moment label : ℕ) (request : Request)
         (before after : Object) → IsLegal history → 0 < number → IsNewNumber number history
@@ -104,8 +101,7 @@ pub fn kinds_stay()
         → file_type_of after ≡ file_type_of before }
 {}
 
-/// After a legal history each object is named or open, so that letting go of others changes
-/// nothing.
+/// After a legal history each object has a link or an open handle, so `kept` changes nothing.
 pub fn nothing_unused()
     ensures named_or_open { (history : List Record) (label : ℕ) → IsLegal history
         → IsSome (object_of (replay history).objects label)
@@ -114,8 +110,8 @@ pub fn nothing_unused()
         → kept (replay history) ≡ replay history }
 {}
 
-/// After a legal history a rename moves where a move may be made, the plain one to a path that is
-/// free.
+/// After a legal history an allowed move is done by posix-rename, and by RENAME if the new path is
+/// absent.
 pub fn moving_renames()
     ensures plain { (history : List Record) (session number moment : ℕ) (old new : Path)
         → IsLegal history → IsMove (replay history) old new
@@ -128,8 +124,7 @@ pub fn moving_renames()
         ≡ moves (replay history) moment old new }
 {}
 
-/// Where a move may be made, it may be made after a request whose own paths all lie below the old
-/// one.
+/// An allowed move is still allowed after a request whose own paths are all below the old one.
 pub fn still_moves()
     ensures { (history : List Record) (number session moment : ℕ) (request : Request)
         (old new : Path)
@@ -140,17 +135,16 @@ pub fn still_moves()
         → IsMove (apply (replay history) session number moment request).tree old new }
 {}
 
-/// A link that is told OK names the file at the old path by the new one too, which named nothing;
-/// so one path more names it, and never more than 1024.
+/// A successful link: the new path was absent, and both paths name the file. It has one more link,
+/// at most 1024.
 pub fn linked_files()
     ensures { (tree : Tree) (session number moment : ℕ) (old new : Path)
         → (apply tree session number moment (Link old new)).reply ≡ Status Success
         → IsLinked tree (apply tree session number moment (Link old new)).tree old new }
 {}
 
-/// After a legal history two paths that name one object are answered alike, and change the same: so
-/// what is set or opened by one of them is set or opened for the other. They name one object as
-/// long as no request makes, removes or moves one of them.
+/// Hard links. After a legal history, requests on two paths of one object have equal replies and
+/// changes. The two paths name one object until a request creates, removes or moves one of them.
 pub fn names_of_one_file()
     ensures stat { (history : List Record) (session number moment : ℕ) (path other : Path)
         → IsLegal history → NameOne (replay history) path other
@@ -175,8 +169,8 @@ pub fn names_of_one_file()
         → NameOne (apply tree session number moment request).tree path other }
 {}
 
-/// After a legal history a REMOVE that is told OK takes one path from its file, which stays as it
-/// was while a path or a handle is left.
+/// A successful REMOVE after a legal history: the file loses one link. It is unchanged while it has
+/// a link or an open handle.
 pub fn removed_names()
     ensures { (history : List Record) (session number moment : ℕ) (path : Path) → IsLegal history
         → (apply (replay history) session number moment (Remove path)).reply ≡ Status Success
@@ -184,7 +178,7 @@ pub fn removed_names()
         (apply (replay history) session number moment (Remove path)).tree path }
 {}
 
-/// After a legal history one path names each directory that is named.
+/// After a legal history each directory has one path.
 pub fn directory_links()
     ensures { (history : List Record) (path : Path) (label : ℕ) → IsLegal history
         → is_directory (replay history) path ≡ true

@@ -1,4 +1,4 @@
-//! What handles open, and how many.
+//! Laws of open handles.
 
 ghost use Rattle.std.specs.Prelude.{◌≡◌, ◌≤◌, ℕ, nat_eq, false, not, ◌||◌, List, length, count_by, Some, IsSome};
 ghost use Rattle.sf_call.specs.declared.handle.Handle.{Handle as Opened};
@@ -15,8 +15,8 @@ ghost use Rattle.sf_field.specs.declared.open_flags.OpenFlags.{OpenFlags};
 ghost use Rattle.sf_laws.specs.NewHandles.{IsJustOpened, allowing};
 ghost use Rattle.sf_reply.specs.declared.reply.Reply.TheVariants.{Handle};
 
-/// A handle that a call opens is the calling session's, to what the path names, with the marks that
-/// were asked for.
+/// A new handle belongs to the calling session, refers to the object at the path, and has the
+/// requested access mode.
 pub fn new_handles()
     ensures directory { (tree : Tree) (session number moment given : ℕ) (path : Path)
         → (apply tree session number moment (OpenDir path)).reply ≡ Handle given
@@ -29,15 +29,15 @@ pub fn new_handles()
         path (allowing (flags.read || not flags.write) flags.write flags.append) }
 {}
 
-/// After a legal history each open handle leads to an object.
+/// After a legal history each open handle refers to an object.
 pub fn open_handles()
     ensures { (history : List Record) (number : ℕ) (handle : Opened) → IsLegal history
         → handle_of (replay history).handles number ≡ Some handle
         → IsSome (object_of (replay history).objects handle.label) }
 {}
 
-/// After a legal history no file is above the limit, no session has more handles open than it may,
-/// and each path is of names.
+/// The limits after a legal history: the size of files, the number of handles of a session, and
+/// valid paths.
 pub fn limits_hold()
     ensures files { (history : List Record) (label : ℕ) (m : Metadata) (contents : List ℕ)
         → IsLegal history

@@ -1,13 +1,12 @@
-//! Laws of the tree, of calls on it and of histories: what a reader may expect of a file server,
-//! said without the cases of any request; and its cases worked out. No code rests on them; of the
-//! crates above the proof of `sf_core` does, on what a request leaves alone, and so does the
-//! example of `sf_engine`.
+//! Laws of the sequential specification: what a reader expects of a file server, stated without the
+//! cases of each request. It also has worked examples.
 //!
-//! The definitions are those of `sf_call`. Each function here does nothing: its contract is the
-//! law. Start with `left_alone` and `own_changes` in `change_laws.rt` (what a request may change at
-//! all), then `listed_all` (a listing is complete) and `limits_hold`. The words that they use are
-//! in `specs/Own.antt` and `specs/LeftAlone.antt`. Who wants to see single cases reads `cases.rt`,
-//! over the small trees of `specs/Examples.antt`.
+//! The definitions are those of `sf_call`. Each function does nothing: its contract is the law.
+//! Start with `left_alone` and `own_changes` in `change_laws.rt` (what a request may change), then
+//! `listed_all` (a listing is complete) and `limits_hold`. Their terms are in `specs/Own.antt` and
+//! `specs/LeftAlone.antt`. `cases.rt` has single cases, on the small trees of
+//! `specs/Examples.antt`. No code depends on the laws. Two proofs do: that of `sf_core`, on what a
+//! request leaves alone, and the example of `sf_engine`.
 #![tactic(auto)]
 
 mod cases;

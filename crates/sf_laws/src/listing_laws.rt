@@ -1,4 +1,4 @@
-//! What a listing gives.
+//! Laws of directory listings.
 
 ghost use Rattle.std.specs.Prelude.{◌≡◌, ℕ, true, [], ◌∷◌, ◌++◌, length, Some, Option, ◌⊎◌};
 ghost use Rattle.sf_path.specs.Names.{Name, Path};
@@ -12,8 +12,8 @@ ghost use Rattle.sf_path.specs.Order.{name_cmp};
 ghost use Rattle.sf_call.specs.Attributes.{Object};
 ghost use Rattle.sf_call.specs.Histories.{after};
 
-/// The names of a listing stand in the order of their bytes, each once, and come after the last one
-/// that was given.
+/// The names of a listing are in byte order, without duplicates, and follow the last one that was
+/// listed.
 pub fn listed_in_order()
     ensures order { (tree : Tree) (last : Option Name) (directory : Path) → IsOrderedTree tree
         → IsStrictlySortedBy name_cmp (names_of (listing tree last directory)) }
@@ -22,9 +22,8 @@ pub fn listed_in_order()
         ≡ true) (names_of (listing tree last directory)) }
 {}
 
-/// A listing leaves nothing out: what stands in the directory after the last name that was given is
-/// listed as its object is, or the listing is full of names that come before. And what is listed
-/// stands there.
+/// A listing is complete and correct. Each entry after the last listed name is in it, unless the
+/// listing is full of smaller names. Each listed entry exists, with these attributes.
 pub fn listed_all()
     ensures complete { (tree : Tree) (last : Option Name) (directory : Path) (name : Name)
         (label : ℕ) (object : Object) → IsOrderedTree tree

@@ -1,4 +1,4 @@
--- Items that are made one after the other.
+-- Items that are made in sequence.
 use Rattle.std.proofs.Common.{◌≡◌, ◌∙◌, ◌++◌, ℕ, List, [], ◌∷◌, Option, Some, None, Result, Ok, inl, refl, sym, ap, subst, append_assoc}
 use Rattle.sf_field.specs.Fields.{be64}
 use Rattle.sf_reply.specs.declared.reply.Reply.{Reply}
@@ -35,7 +35,7 @@ makes_more session handle (y ∷ xs) operations last x outcome after made is =
     let asked = Asks session (request_of (be64 last) x) outcome ∷ [] in
     (made.0, made.1, made.2 ++ asked, ap (λ (l : List Operation). l ++ asked) made.3, made.4, makes_more session made.1 xs made.2 last x outcome after made.5 is)
 
--- What was made so far: a server was led from one state to another.
+-- The items made so far led the server from one state to another.
 pub record SoFar {V : Type 0} (reaches : V → List Operation → V → Type 0) (session : ℕ) (a b : V) (old now : Option (List Item)) (last : ℕ) : Type 0 where
   pub items : List Item
   pub made : List Operation
@@ -61,7 +61,7 @@ one_more {reaches = reaches} {session = session} {a = a} {b = b} {old = old} {no
       leads = on a b c far.made _ far.leads (subst (λ (l : List Operation). reaches b l c) t.3 does.1);
     }
 
--- the last turn was this
+-- the last turn
 pub all_made : {V : Type 0} {reaches : V → List Operation → V → Type 0} {session : ℕ} {a b : V} {old now : Option (List Item)} {last : ℕ} (c : V) (new : Option (List Item)) (r : Result (Unit {0}) LoadFault) → On reaches
     → SoFar reaches session a b old now last → Does reaches b c (λ operations r. IsLastTurn session last now new operations r) r → Does reaches a c (MakesItems session old new) r
 all_made {a = a} {b = b} {now = now} {last = last} c new r on far does = (
@@ -70,7 +70,7 @@ all_made {a = a} {b = b} {now = now} {last = last} c new r on far does = (
   record { items = far.items; now = now; last = last; made = far.made; end = does.0; gives = far.gives; makes = far.makes; parts = refl; ends = does.2 },
 )
 
--- a session began, made the items, and ended
+-- a session opened, made the items, and closed
 pub session_made : {V : Type 0} {reaches : V → List Operation → V → Type 0} {a b c d : V} {old new : Option (List Item)} (session : ℕ) (r : Result (Unit {0}) LoadFault) → On reaches
     → reaches a (Begins (Ok session) ∷ []) b → Does reaches b c (MakesItems session old new) r → reaches c (Ends session ∷ []) d → Does reaches a d (Loads old new) r
 session_made {a = a} {b = b} {c = c} {d = d} session r on begun does ended = (

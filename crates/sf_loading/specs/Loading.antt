@@ -1,4 +1,4 @@
--- Items that are made, one request each.
+-- Loading: one request for each item.
 use Rattle.std.specs.Prelude.{◌≡◌, ◌⊎◌, ℕ, List, [], ◌∷◌, ◌++◌, true, false, Option, Some, None, Result, Ok, Err}
 use Rattle.sf_field.specs.Fields.{be64}
 use Rattle.sf_field.specs.Attributes.{no_attrs}
@@ -16,7 +16,7 @@ use Rattle.sf_loading.specs.declared.making.LoadFault.{LoadFault}
 use Rattle.sf_loading.specs.declared.making.LoadFault.TheVariants as fault
 use Rattle.sf_loading.specs.Items.{GivesItems, HasNone}
 
--- WRITE, CREAT and EXCL: a file that is there is none of the folder's
+-- WRITE, CREAT and EXCL: a file that exists already isn't the folder's
 abbrev pub to_make : OpenFlags
 to_make = record {
   read = false;
@@ -27,7 +27,7 @@ to_make = record {
   exclusive = true;
 }
 
--- the request that an item is, by the handle of the last file
+-- the request for an item, with the handle of the last file
 abbrev pub request_of : List ℕ → Item → WireRequest
 request_of handle (item.Directory path) = request.Mkdir path.items no_attrs
 request_of handle (item.DirectoryAttributes path attrs) = request.SetStat path.items attrs
@@ -36,19 +36,19 @@ request_of handle (item.Bytes offset bytes) = request.Write handle offset bytes.
 request_of handle (item.FileAttributes attrs) = request.FSetStat handle attrs
 request_of handle item.FileEnd = request.Close handle
 
--- the handle of a file that was opened
+-- the handle of an opened file
 abbrev pub handle_in_reply : Result Reply TreeFault → Result ℕ TreeFault
 handle_in_reply (Ok (reply.Handle number)) = Ok number
 handle_in_reply (Ok other) = Err (fault_in_reply other)
 handle_in_reply (Err why) = Err why
 
--- the handle that there was, if the request was done
+-- the given handle, if the request was done
 abbrev pub done_with : ℕ → Result Reply TreeFault → Result ℕ TreeFault
 done_with handle (Ok (reply.Status status.Success)) = Ok handle
 done_with handle (Ok other) = Err (fault_in_reply other)
 done_with handle (Err why) = Err why
 
--- the last file's handle, once an item is made
+-- the last file's handle after an item
 abbrev pub settled_by : ℕ → Item → Result Reply TreeFault → Result ℕ TreeFault
 settled_by handle (item.Directory path) outcome = done_with handle outcome
 settled_by handle (item.DirectoryAttributes path attrs) outcome = done_with handle outcome
@@ -57,7 +57,7 @@ settled_by handle (item.Bytes offset bytes) outcome = done_with handle outcome
 settled_by handle (item.FileAttributes attrs) outcome = done_with handle outcome
 settled_by handle item.FileEnd outcome = done_with handle outcome
 
--- The items were made, in order, each by its request; and the handle of the last file then.
+-- The items were made in order, each by its request; and the handle of the last file then.
 unfoldable pub Makes : (session handle : ℕ) → List Item → List Operation → (last : ℕ) → Type 0
 Makes session handle [] operations last = (operations ≡ []) × (last ≡ handle)
 Makes session handle (x ∷ xs) operations last = (outcome : Result Reply TreeFault) × (after : ℕ)
@@ -65,7 +65,7 @@ Makes session handle (x ∷ xs) operations last = (outcome : Result Reply TreeFa
     × (operations ≡ Asks session (request_of (be64 handle) x) outcome ∷ rest)
     × (settled_by handle x outcome ≡ Ok after) × Makes session after xs rest last
 
--- One item was taken, and made, or refused; or there was none, or the folder failed.
+-- One item was taken, and made or rejected; or there was none, or the folder failed.
 abbrev pub MakesOneItem : (session handle : ℕ) → (old new : Option (List Item)) → List Operation
     → Result (Option ℕ) LoadFault → Type 0
 MakesOneItem session handle old new operations (Ok (Some after)) = (x : Item)
@@ -88,8 +88,8 @@ IsLastTurn session handle old new operations (Ok done) =
 IsLastTurn session handle old new operations (Err why) =
     MakesOneItem session handle old new operations (Err why)
 
--- Items that the folder gave were made, in order, by a session that had no file open; and then it
--- had no more, or failed, or one more was refused.
+-- Items of the folder were made in order, in a session without an open file. Then the folder ended
+-- or failed, or an item was rejected.
 pub record MakesItems (session : ℕ) (old new : Option (List Item)) (operations : List Operation)
     (result : Result (Unit {0}) LoadFault) : Type 0 where
   pub items : List Item
@@ -102,7 +102,7 @@ pub record MakesItems (session : ℕ) (old new : Option (List Item)) (operations
   pub parts : operations ≡ made ++ end
   pub ends : IsLastTurn session last now new end result
 
--- A session began, made the items, and ended.
+-- A session opened, made the items, and closed.
 pub record HasLoaded (old new : Option (List Item)) (operations : List Operation)
     (result : Result (Unit {0}) LoadFault) : Type 0 where
   pub session : ℕ
@@ -110,7 +110,7 @@ pub record HasLoaded (old new : Option (List Item)) (operations : List Operation
   pub parts : operations ≡ Begins (Ok session) ∷ inner ++ Ends session ∷ []
   pub made : MakesItems session old new inner result
 
--- so, or no session began
+-- the same, or no session opened
 abbrev pub Loads : (old new : Option (List Item)) → List Operation → Result (Unit {0}) LoadFault
     → Type 0
 Loads old new operations result = HasLoaded old new operations result

@@ -1,5 +1,5 @@
 -- No public clause cites this module.
--- Operations on a line, one after the other.
+-- Operations on a stream, in sequence.
 use Rattle.std.specs.Prelude.{ℕ, List, [], ◌∷◌, ◌++◌}
 use Rattle.std.specs.List.{AllByRecursion, flat_map}
 use Rattle.std.specs.Io.KnownBytes.{Appends, Consumes}

@@ -1,4 +1,4 @@
-//! A folder, and what it gives.
+//! The source of a tree's contents: a folder as a sequence of items.
 
 ghost use Rattle.std.specs.Prelude.{List, [], ◌∷◌, Option, IfOk, IfSome, IfNone};
 ghost use Rattle.sf_loading.specs.Items.{GivesItems, HasNone};
@@ -7,24 +7,25 @@ use sf_field::Attrs;
 use std::alloc::AllocError;
 use thiserror::Error;
 
-/// What a folder gives, each of which is one request: a directory before all that is in it, and its
-/// attributes behind that; a file, its bytes, its attributes and its end.
+/// An item of a folder, which becomes one request. A directory's item precedes those of its
+/// contents, and its attributes follow them. A file has its item, its bytes, its attributes and its
+/// end.
 #[derive(Debug, PartialEq, Eq, Drop)]
 pub enum Item {
-    /// A directory of this path.
+    /// A directory with this path.
     Directory(Vec<u8>),
-    /// All in the directory of this path was given.
+    /// The attributes of the directory with this path, after all of its contents.
     DirectoryAttributes(Vec<u8>, Attrs),
-    /// A file of this path.
+    /// A file with this path.
     File(Vec<u8>),
-    /// Bytes of the file, from an offset on.
+    /// Bytes of the last file at an offset.
     Bytes(u64, Vec<u8>),
-    /// All bytes of the file were given, and the size among the attributes is its whole.
+    /// The attributes of the last file, after all of its bytes. The size is the whole file's.
     FileAttributes(Attrs),
     FileEnd,
 }
 
-/// Why a folder gives no more.
+/// Why a folder can't return its next item.
 #[derive(Clone, Copy, Debug, PartialEq, Eq, Error)]
 pub enum FolderFault {
     #[error("out of memory")]
@@ -43,14 +44,14 @@ impl From<AllocError> for FolderFault {
     }
 }
 
-/// Something that gives items, one after the other.
+/// A sequence of items.
 pub trait Folder {
     ghost use Rattle.sf_loading.specs.declared.folder.Item.{Item};
 
-    /// The items that it has still to give, where it tells them.
+    /// The remaining items, if the implementation specifies them.
     ghost items: { Self → Option (List Item) };
 
-    /// The next item, or none at the end.
+    /// Returns the next item, or `None` at the end.
     fn next(&mut self) -> Result<Option<Item>, FolderFault>
         ensures some { IfOk result (λ found. IfSome found
             (λ item. GivesItems (items self.old) (item ∷ []) (items self.new))) }

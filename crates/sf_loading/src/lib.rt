@@ -1,7 +1,7 @@
-//! A tree that is made of what a folder gives, by the requests of one session.
+//! Loads the contents of a folder into a tree, by the requests of one session.
 //!
-//! Start with `load`: `specs/Loading.antt` says which request each item of a `Folder` is, and
-//! `Loads` what comes of all of them. `LineServer` is the `Server` of `sf_trees` over a line.
+//! Start with `load`. `specs/Loading.antt` defines the request for each item of a `Folder`, and
+//! `Loads` the whole. `LineServer` is the `Server` of `sf_trees` at the other end of a stream.
 #![tactic(auto)]
 
 mod folder;

@@ -1,4 +1,4 @@
-//! A server over a line.
+//! A server at the other end of a stream.
 
 ghost use Rattle.std.specs.Prelude.{◌≡◌, ◌≤◌, true, IfOk, OnOk, IfSome, vec_len};
 ghost use Rattle.std.specs.Io.KnownBytes.{Appends, Consumes};
@@ -16,11 +16,10 @@ use sf_trees::{Server, TreeFault, is_too_long};
 use std::alloc::{AllocError, Global};
 use std::marker::Model;
 
-/// The id of each request: none is asked before the one before is answered.
+/// The id of each request; only one is pending at a time.
 const ID: u32 = 1;
 
-/// The server at the other end of a line, which serves the one session of it. The session ends with
-/// the line.
+/// A server at the other end of a stream, with one session. The session ends with the stream.
 #[derive(Drop)]
 pub struct LineServer<L: Line + Drop> {
     alloc: Global,
@@ -36,7 +35,7 @@ impl<L: Line + Drop> Model for LineServer<L> {
 }
 
 impl<L: Line + Drop> LineServer<L> {
-    /// The server at the other end of this line, on which nothing was sent.
+    /// A server at the other end of a stream on which nothing was sent yet.
     pub fn new(alloc: Global, line: L) -> LineServer<L>
         ensures { result ≡ record { incoming = L.incoming line; outgoing = L.outgoing line } }
     {
@@ -44,7 +43,7 @@ impl<L: Line + Drop> LineServer<L> {
     }
 }
 
-/// Fills the buffer; false where the input ends before it is full.
+/// Fills the buffer. Returns false if the input ends before.
 fn fill<L: Line>(line: &mut L, buffer: &mut [u8]) -> Result<bool, LineFault>
     ensures full { IfOk result (λ full. full ≡ true
         → Consumes (L.incoming line.old) (L.incoming line.new) buffer.new) }
@@ -72,7 +71,7 @@ fn fills<L: Line>(line: &mut L, buffer: &mut [u8]) -> bool
     }
 }
 
-/// The length of a body that four bytes tell.
+/// The length of a body by its four-byte header, if it isn't too long.
 fn body_len(header: &[u8; 4]) -> Option<usize>
     ensures { IfSome result (λ n. (n ≤ MAX_BODY) × (header.now ≡ be32 n)) }
 {
@@ -86,7 +85,7 @@ fn zeros(alloc: Global, len: usize) -> Result<Vec<u8>, AllocError>
     vec![in alloc; 0u8; len]
 }
 
-/// The body of the next packet.
+/// Reads the body of the next packet.
 fn read_body<L: Line>(alloc: Global, line: &mut L) -> Result<Vec<u8>, TreeFault>
     ensures read { IfOk result (λ body. Consumes (L.incoming line.old) (L.incoming line.new)
         (packet body.items)) }
@@ -122,7 +121,7 @@ fn packet_of(alloc: Global, request: &WireRequest) -> Result<BytesMut, TreeFault
     }
 }
 
-/// Takes one reply.
+/// Receives one reply.
 fn take<L: Line>(alloc: Global, line: &mut L) -> Result<Reply, TreeFault>
     ensures ok { IfOk result (λ r. Consumes (L.incoming line.old) (L.incoming line.new)
         (packet (reply_body id r))) }
@@ -141,7 +140,7 @@ fn take<L: Line>(alloc: Global, line: &mut L) -> Result<Reply, TreeFault>
     }
 }
 
-/// Sends a request, and takes its reply.
+/// Sends a request, and receives its reply.
 fn exchange<L: Line>(alloc: Global, line: &mut L, request: &WireRequest) -> Result<Reply, TreeFault>
     ensures sent { OnOk result (Appends (L.outgoing line.old) (L.outgoing line.new)
         (packet (request_body id request.now))) }
@@ -155,7 +154,7 @@ fn exchange<L: Line>(alloc: Global, line: &mut L, request: &WireRequest) -> Resu
     take(alloc, line)
 }
 
-/// Sends INIT, and takes VERSION.
+/// Sends INIT, and receives VERSION.
 fn greet<L: Line>(alloc: Global, line: &mut L) -> Result<(), TreeFault>
     ensures sent { OnOk result (Appends (L.outgoing line.old) (L.outgoing line.new)
         (packet init_body)) }

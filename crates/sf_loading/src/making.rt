@@ -1,4 +1,4 @@
-//! Items, made one after the other.
+//! Making each item by its request.
 
 ghost use Rattle.std.specs.Prelude.{◌≡◌, ◌∷◌, ℕ, List, [], Ok, Err};
 ghost use Rattle.sf_field.specs.Fields.{be64};
@@ -12,12 +12,12 @@ use sf_request::{ByteStr, WireRequest};
 use sf_trees::{Server, TreeFault};
 use thiserror::Error;
 
-/// Why a tree wasn't made. What was made before it stays.
+/// Why loading failed. What was made before it remains.
 #[derive(Clone, Copy, Debug, PartialEq, Eq, Error)]
 pub enum LoadFault {
     #[error("{0}")]
     Folder(FolderFault),
-    /// The last item that the folder gave was refused.
+    /// The server rejected the last item.
     #[error("{0}")]
     Server(TreeFault),
 }
@@ -32,7 +32,7 @@ const TO_MAKE: OpenFlags = OpenFlags {
     exclusive: true,
 };
 
-/// The request that an item is, where the last file has this handle.
+/// The request for an item, with the handle of the last file.
 fn request_of<'a>(handle: &'a [u8], item: &'a Item) -> WireRequest<'a>
     ensures { result ≡ request_of handle.now item.now }
 {
@@ -65,7 +65,7 @@ fn request_of<'a>(handle: &'a [u8], item: &'a Item) -> WireRequest<'a>
     }
 }
 
-/// Why a reply isn't the one that is due.
+/// The error for an unexpected reply.
 fn refusal_of(reply: &Reply) -> TreeFault
     ensures { result ≡ fault_in_reply reply.now }
 {
@@ -76,7 +76,7 @@ fn refusal_of(reply: &Reply) -> TreeFault
     }
 }
 
-/// The handle of a file that was opened.
+/// The handle of an opened file.
 fn handle_in_reply(outcome: &Result<Reply, TreeFault>) -> Result<u64, TreeFault>
     ensures { result ≡ handle_in_reply outcome.now }
 {
@@ -87,7 +87,7 @@ fn handle_in_reply(outcome: &Result<Reply, TreeFault>) -> Result<u64, TreeFault>
     }
 }
 
-/// The handle that there was, if the request was done.
+/// The given handle, if the request was done.
 fn done_with(handle: u64, outcome: &Result<Reply, TreeFault>) -> Result<u64, TreeFault>
     ensures { result ≡ done_with handle outcome.now }
 {
@@ -98,7 +98,7 @@ fn done_with(handle: u64, outcome: &Result<Reply, TreeFault>) -> Result<u64, Tre
     }
 }
 
-/// The last file's handle, once an item is made.
+/// The last file's handle after an item.
 fn settled_by(
     handle: u64,
     item: &Item,
@@ -122,7 +122,7 @@ fn make<S: Server>(server: &mut S, session: u64, handle: u64, item: &Item) -> Re
     settled_by(handle, item, &outcome)
 }
 
-/// Takes the next item and makes it; nothing where there is none.
+/// Takes the next item and makes it. Returns `None` at the end.
 fn turn<F: Folder, S: Server>(
     folder: &mut F,
     server: &mut S,
@@ -142,7 +142,7 @@ fn turn<F: Folder, S: Server>(
     }
 }
 
-/// Makes all items, by a session.
+/// Makes all items in a session.
 fn make_all<F: Folder, S: Server>(
     folder: &mut F,
     server: &mut S,
@@ -162,7 +162,7 @@ fn make_all<F: Folder, S: Server>(
     Err(LoadFault::Folder(FolderFault::TooMany))
 }
 
-/// Makes all that a folder gives, by a session of its own.
+/// Loads all items of a folder, in a session that it opens and closes.
 pub fn load<F: Folder, S: Server>(folder: &mut F, server: &mut S) -> Result<(), LoadFault>
     ensures { Does S.reaches server.old server.new
         (Loads (F.items folder.old) (F.items folder.new)) result }

@@ -10,7 +10,7 @@ use Rattle.sf_log.specs.Lines.{escaped}
 take_next : (p : Path) (i : ℕ) (n : Name) → i < length p → slice_get p i ≡ Some n → take (i + 1) p ≡ take i p ++ n ∷ []
 take_next p i n h g = take_more p i [] h ∙ ap (λ (x : Name). take i p ++ x ∷ []) (get_or_from_slice_get p i n [] g)
 
--- one name more was written
+-- one more name was written
 pub one_more : (p : Path) (i : ℕ) (n : Name) → i < length p → slice_get p i ≡ Some n
     → flat_map escaped (flat_map slashed (take i p)) ++ flat_map escaped (slashed n) ≡ flat_map escaped (flat_map slashed (take (i + 1) p))
 one_more p i n h g =

@@ -1,4 +1,4 @@
--- The bytes of a log's lines.
+-- The bytes of log lines.
 use Rattle.std.specs.Prelude.{ℕ, ◌/◌, ◌%◌, Bool, false, List, [], ◌∷◌, ◌++◌, length, nat_lt, ◌&&◌, ◌||◌, ◌==◌, if◌then◌else◌, Option, Some, None, Result, Ok, Err, codes}
 use Rattle.std.specs.List.{flat_map}
 use Rattle.std.specs.Fmt.{decimal, digits}
@@ -21,15 +21,15 @@ use Rattle.sf_log.specs.declared.line.LogLine.TheVariants.{Opened, Answered, Clo
 
 -- ---- paths
 
--- a backslash, and the byte's three octal digits
+-- a backslash, and the byte as three octal digits
 abbrev pub octal : ℕ → List ℕ
 octal byte = 92 ∷ decimal (byte / 64) ++ decimal (byte / 8 % 8) ++ decimal (byte % 8)
 
 abbrev pub is_printable : ℕ → Bool
 is_printable byte = nat_lt 31 byte && nat_lt byte 127
 
--- A byte of a path: \", \\, \a, \b, \t, \n, \v, \f, \r; any other as it is where it is printable
--- ASCII, else in octal.
+-- A byte of a path: one of \", \\, \a, \b, \t, \n, \v, \f, \r; another one as it is if it is
+-- printable ASCII, and otherwise in octal.
 abbrev pub escaped : ℕ → List ℕ
 escaped byte =
     if byte == 34 then codes "\\\""
@@ -44,11 +44,11 @@ escaped byte =
     else if byte == 13 then codes "\\r"
     else octal byte
 
--- a path, between quotes
+-- a path in quotes
 abbrev pub quoted : Path → List ℕ
 quoted path = 34 ∷ flat_map escaped (text_of path) ++ 34 ∷ []
 
--- ---- attributes: the parts that are given, each behind a space
+-- ---- attributes: those that are present, each after a space
 
 abbrev pub logged_size : Option ℕ → List ℕ
 logged_size None = []
@@ -72,7 +72,7 @@ abbrev pub logged_attrs : Attrs → List ℕ
 logged_attrs attrs = logged_size attrs.size ++ logged_owner attrs.owner
     ++ logged_mode attrs.permissions ++ logged_times attrs.times
 
--- ---- how a file is opened: the flags that are set, with commas between them
+-- ---- the open flags that are set, with commas between them
 
 abbrev pub flag_text : (is_set follows : Bool) → List ℕ → List ℕ
 flag_text is_set follows name =
@@ -106,7 +106,7 @@ by_paths name path new = by_path name path ++ 32 ∷ quoted new
 abbrev pub by_handle : List ℕ → ℕ → List ℕ
 by_handle name handle = name ++ codes " handle " ++ decimal handle
 
--- the part of a file that is read or written
+-- the range of a file that is read or written
 abbrev pub range_text : (offset len : ℕ) → List ℕ
 range_text offset len = codes " offset " ++ decimal offset ++ codes " length " ++ decimal len
 
@@ -132,7 +132,7 @@ request_text (request.Rename old new) = by_paths (codes "rename") old new
 request_text (request.PosixRename old new) = by_paths (codes "posix-rename") old new
 request_text (request.Link old new) = by_paths (codes "hardlink") old new
 
--- behind a space
+-- after a space
 abbrev pub reply_text : Reply → List ℕ
 reply_text (reply.Status code) = 32 ∷ message_of code
 reply_text reply.NoMemory = codes " Out of memory"
@@ -143,7 +143,7 @@ reply_text (reply.Attrs attrs) = logged_attrs attrs
 
 -- ---- lines
 
--- why a session ended, where that isn't the end of its input
+-- why a session ended; empty if its input ended
 abbrev pub outcome_text : Result Cause ServeFault → List ℕ
 outcome_text (Ok cause.Closed) = []
 outcome_text (Ok cause.NotInit) = codes ": first packet is not INIT"
@@ -167,6 +167,6 @@ line_text (Answered session number moment request reply) =
 line_text (Closed session outcome) =
     codes "session " ++ decimal session ++ codes " closed" ++ outcome_text outcome
 
--- The bytes of a line, with the newline behind it.
+-- The bytes of a line, with its newline.
 abbrev pub log_line_bytes : LogLine → List ℕ
 log_line_bytes line = line_text line ++ 10 ∷ []

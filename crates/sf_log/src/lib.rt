@@ -1,8 +1,9 @@
-//! The lines of a log of what clients did.
+//! The text lines of the server's log.
 //!
-//! Start with `LogLine` in `line.rt`: one line for each session that came or went, and for each
-//! call that was answered. Its text is `Display`'s, and `specs/Lines.antt` has its bytes: paths are
-//! escaped, of data and names the number is told, and so no line has a newline but its last byte.
+//! Start with `LogLine` in `line.rt`: one line for each session that joined or ended, and for each
+//! answered call. `Display` formats it, and `specs/Lines.antt` defines its bytes. Paths are
+//! escaped, and of data and names only the number is logged. So a line's only newline is its last
+//! byte.
 #![tactic(auto)]
 
 mod line;

@@ -1,4 +1,4 @@
-//! What a log tells, and its lines.
+//! Log lines.
 
 ghost use Rattle.std.specs.Prelude.{◌≡◌, OnOk};
 ghost use Rattle.std.specs.Io.KnownBytes.{Appends};
@@ -13,30 +13,30 @@ use std::alloc::Global;
 use std::fmt;
 use std::io::{self, Write};
 
-/// What one line tells.
+/// The contents of one line.
 #[derive(Clone, Copy)]
 pub enum LogLine<'a> {
     /// A session joined.
     Opened {
         session: u64,
     },
-    /// A session's call was answered.
+    /// A call was answered.
     Answered {
         session: u64,
         number: u64,
-        /// When it began, in seconds since 1970.
+        /// When the call began, in seconds since 1970.
         moment: u32,
         request: &'a Request,
         reply: &'a Reply,
     },
-    /// A session that had joined is served no more.
+    /// A session that had joined has ended.
     Closed {
         session: u64,
         outcome: Result<Cause, ServeFault>,
     },
 }
 
-/// Why a session ended, where that isn't the end of its input.
+/// Why a session ended; empty if its input ended.
 fn words_of(outcome: Result<Cause, ServeFault>) -> &'static str
     ensures { result.now ≡ outcome_text outcome }
 {
@@ -83,8 +83,8 @@ impl fmt::Display for LogLine<'_> {
     }
 }
 
-/// Writes the line, and a newline behind it. They are given to the output at once, so that lines of
-/// several writers don't mix where it takes all that it is given.
+/// Writes the line and a newline in one write. So lines of several writers don't mix, if the output
+/// accepts whole writes.
 pub fn write_line<W: Write>(alloc: Global, line: &LogLine<'_>, output: &mut W) -> io::Result<()>
     ensures { OnOk result (Appends (W.contents output.old) (W.contents output.new)
         (log_line_bytes line.now)) }

@@ -1,4 +1,4 @@
-//! Paths as a line has them.
+//! Paths in a line.
 
 ghost use Rattle.std.specs.Fmt.{WritesOnOk};
 ghost use Rattle.std.specs.List.{flat_map};
@@ -8,11 +8,11 @@ ghost use Rattle.sf_log.specs.Lines.{octal, escaped};
 use sf_path::Path;
 use std::fmt;
 
-/// A path between quotes, its bytes escaped.
+/// A path in quotes, with its bytes escaped.
 #[derive(Clone, Copy)]
 pub(crate) struct QuotedPath<'a>(pub(crate) &'a Path);
 
-/// A byte by its three octal digits.
+/// A backslash, and a byte as three octal digits.
 fn write_octal<W: fmt::Write>(f: &mut fmt::Formatter<W>, byte: u8) -> fmt::Result
     ensures { WritesOnOk W.write_str_gives f.old result (octal byte) f.new }
 {
@@ -20,7 +20,7 @@ fn write_octal<W: fmt::Write>(f: &mut fmt::Formatter<W>, byte: u8) -> fmt::Resul
     write!(f, "\\{high}{middle}{low}")
 }
 
-/// A byte, escaped where it has to be.
+/// A byte, escaped if necessary.
 fn write_byte<W: fmt::Write>(f: &mut fmt::Formatter<W>, byte: u8) -> fmt::Result
     ensures { WritesOnOk W.write_str_gives f.old result (escaped byte) f.new }
 {
@@ -39,7 +39,7 @@ fn write_byte<W: fmt::Write>(f: &mut fmt::Formatter<W>, byte: u8) -> fmt::Result
     }
 }
 
-/// Bytes, each escaped where it has to be.
+/// Bytes, each escaped if necessary.
 fn write_bytes<W: fmt::Write>(f: &mut fmt::Formatter<W>, bytes: &[u8]) -> fmt::Result
     ensures { WritesOnOk W.write_str_gives f.old result (flat_map escaped bytes.now) f.new }
 {
@@ -49,7 +49,7 @@ fn write_bytes<W: fmt::Write>(f: &mut fmt::Formatter<W>, bytes: &[u8]) -> fmt::R
     Ok(())
 }
 
-/// A name, and the slash before it.
+/// A slash and a name.
 fn write_name<W: fmt::Write>(f: &mut fmt::Formatter<W>, name: &[u8]) -> fmt::Result
     ensures { WritesOnOk W.write_str_gives f.old result
         (flat_map escaped (slashed name.now)) f.new }

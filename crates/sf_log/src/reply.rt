@@ -1,4 +1,4 @@
-//! Replies as a line has them.
+//! Replies in a line.
 
 ghost use Rattle.std.specs.Prelude.{◌≡◌};
 ghost use Rattle.sf_reply.specs.Replies.{message_of};
@@ -7,11 +7,11 @@ use crate::request::AttrsText;
 use sf_reply::{Reply, StatusCode};
 use std::fmt;
 
-/// A reply's words and numbers, behind a space.
+/// A reply's words and numbers, after a space.
 #[derive(Clone, Copy)]
 pub(crate) struct ReplyText<'a>(pub(crate) &'a Reply);
 
-/// The message that is sent with a status.
+/// The message of a status code.
 fn message(code: StatusCode) -> &'static str
     ensures { result.now ≡ message_of code }
 {

@@ -1,4 +1,4 @@
-//! Requests as a line has them.
+//! Requests in a line.
 
 ghost use Rattle.std.specs.Prelude.{◌≡◌};
 ghost use Rattle.std.specs.Fmt.{WritesOnOk};
@@ -9,11 +9,11 @@ use sf_call::Request;
 use sf_field::{Attrs, OpenFlags, Owner, Times};
 use std::fmt;
 
-/// The parts of attributes that are given, each behind a space.
+/// The attributes that are present, each after a space.
 #[derive(Clone, Copy)]
 pub(crate) struct AttrsText<'a>(pub(crate) &'a Attrs);
 
-/// The flags that are set, behind their word.
+/// The flags that are set, after the word `flags`.
 #[derive(Clone, Copy)]
 struct FlagsText(OpenFlags);
 
@@ -72,7 +72,7 @@ impl fmt::Display for AttrsText<'_> {
     }
 }
 
-/// A flag's name where it is set, behind a comma where it follows another.
+/// A flag's name if it is set, after a comma if it `follows` another.
 fn write_flag<W: fmt::Write>(
     f: &mut fmt::Formatter<W>,
     is_set: bool,
@@ -90,7 +90,7 @@ fn write_flag<W: fmt::Write>(
     f.write_str(name)
 }
 
-/// What is to be done with the file.
+/// The flags READ, WRITE and APPEND.
 fn write_access<W: fmt::Write>(f: &mut fmt::Formatter<W>, flags: OpenFlags) -> fmt::Result
     ensures { WritesOnOk W.write_str_gives f.old result (access_text flags) f.new }
 {
@@ -99,7 +99,7 @@ fn write_access<W: fmt::Write>(f: &mut fmt::Formatter<W>, flags: OpenFlags) -> f
     write_flag(f, flags.append, flags.read || flags.write, "APPEND")
 }
 
-/// Whether it is to be made or emptied.
+/// The flags CREATE, TRUNCATE and EXCL.
 fn write_making<W: fmt::Write>(
     f: &mut fmt::Formatter<W>,
     follows: bool,
@@ -113,7 +113,7 @@ fn write_making<W: fmt::Write>(
     write_flag(f, flags.exclusive, follows, "EXCL")
 }
 
-/// Whether there is a flag of what is to be done with the file.
+/// Whether READ, WRITE or APPEND is set.
 fn has_access(flags: OpenFlags) -> bool
     ensures { result ≡ has_access flags }
 {

@@ -1,4 +1,4 @@
--- What calls answer where an object is there.
+-- The answers of calls on existing objects.
 use Rattle.std.proofs.Common.{◌≡◌, ℕ, nat_eq, not, ◌&&◌, ◌||◌, Bool, true, false, cond, [], Option, Some, None, refl}
 use Rattle.std.specs.Option.{is_some}
 use Rattle.sf_path.specs.Names.{Path}

@@ -14,7 +14,7 @@ module _ {K X : Type 0} (R : K → K → Ordering) where
   last_above x [] rest k v all = all.0
   last_above x (e ∷ es) rest k v all = last_above x es rest k v all.1
 
-  -- a key above all goes to the end
+  -- a key above all is inserted at the end
   at_end : IsTotalOrder R → (es rest : List (K × X)) (k : K) (v : X) → IsStrictlySortedBy R (keys_of (es ++ (k, v) ∷ rest)) → insert_entry R es k v ≡ es ++ (k, v) ∷ []
   unfolding IsStrictlySortedBy
   at_end o [] rest k v sorted = refl
@@ -23,7 +23,7 @@ module _ {K X : Type 0} (R : K → K → Ordering) where
       ap (λ r. match_ordering r ((k, v) ∷ e ∷ es) ((e.0, v) ∷ es) (e ∷ insert_entry R es k v)) above
       ∙ ap (λ (fs : List (K × X)). e ∷ fs) (at_end o es rest k v sorted.1)
 
-  -- one entry more is copied
+  -- one more entry is copied
   pub copied : IsTotalOrder R → (all copy next left rest : List (K × X)) (j k : K) (v w : X) → IsStrictlySortedBy R (keys_of all) → copy ++ left ≡ all → left ≡ (k, v) ∷ rest
       → next ≡ insert_entry R copy j w → j ≡ k → w ≡ v → next ++ rest ≡ all
   copied o all copy next left rest j k v w sorted so_far more put same_key same_value =

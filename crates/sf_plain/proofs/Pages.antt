@@ -1,4 +1,4 @@
--- A page of a listing, while the names are gone through.
+-- A page of a listing, during the scan of the names.
 use Rattle.std.proofs.Common.{◌≡◌, ◌≢◌, ◌≤◌, ◌<◌, ℕ, cond, List, [], ◌∷◌, ◌++◌, length, length-append, filter_map, take, Option, Some, None, option_map, IfSome, refl, sym, ap, ◌∙◌, subst, append_assoc, arith}
 use Rattle.std.specs.List.{cons_option, last_or}
 use Rattle.std.proofs.lemmas.List.{append-nil, take_all, take-append-le}
@@ -16,7 +16,7 @@ use Rattle.sf_call.specs.Changes.Change.{SetHandle}
 use Rattle.sf_call.specs.Calls.{refuses, lists, read_directory}
 use Rattle.sf_plain.proofs.Calls.{is_directory_node}
 
--- the entries so far, and those that the names left give, are those that all names give
+-- the entries so far, and those of the names left, are those of all names
 pub record IsPage (f : Path × ℕ → Option Entry) (names left : List (Path × ℕ)) (entries : List Entry) (last : Option Name) : Type 0 where
   pub parts : entries ++ filter_map f left ≡ filter_map f names
   pub short : length entries ≤ 32
@@ -77,13 +77,13 @@ pub lists_some : (number : ℕ) (h : Handle) (entries : List Entry) → entries 
 lists_some number h [] some = absurd (some refl)
 lists_some number h (e ∷ es) some = refl
 
--- This entry, with its name, is what a name gives.
+-- This entry and its name are the result of a name.
 pub record GivesEntry (o : Option Entry) (found : Option (Entry × Name)) (e : Entry) (name : Name) : Type 0 where
   pub given : option_map (λ x. x.0) found ≡ o
   pub is : found ≡ Some (e, name)
   pub named : IfSome found (λ x. x.1 ≡ x.0.filename)
 
--- one name more that is given
+-- one more name
 pub page_turn : {f : Path × ℕ → Option Entry} {names left rest : List (Path × ℕ)} {n : Path × ℕ} {entries items : List Entry} {last : Option Name} {found : Option (Entry × Name)} {e : Entry} {name : Name}
     → IsPage f names left entries last → left ≡ n ∷ rest → length entries < 32 → GivesEntry (f n) found e name → items ≡ entries ++ e ∷ [] → IsPage f names rest items (Some name)
 page_turn {f} {names} {left} {rest} {n} {entries} {items} {last} {found} {e} {name} page more room g grown =

@@ -1,4 +1,4 @@
--- What a rename does to the names, while they are gone through.
+-- The effect of a rename on the names, during their scan.
 use Rattle.std.proofs.Common.{◌≡◌, ◌≤◌, ◌↔◌, ℕ, Bool, true, false, cond, List, [], ◌∷◌, ◌++◌, length, drop, filter_map, Option, Some, None, option_map, refl, sym, ap, ◌∙◌, subst, arith}
 use Rattle.std.specs.Bool.{IsTrue}
 use Rattle.std.specs.List.{cons_option}
@@ -14,7 +14,7 @@ use Rattle.sf_call.specs.Changes.{Change, changed, done}
 use Rattle.sf_call.specs.Moves.{with_entries, carried}
 use Rattle.sf_call.proofs.Laws.{after_front-append, append-after_front}
 
--- a test for a front tells whether something follows it
+-- a prefix test is true if and only if a suffix follows
 pub begins_so : (p f : Path) (b : Bool) → (IsTrue b ↔ BeginsWith p f) → b ≡ is_some (after_front f p)
 begins_so p f true tells =
     let front = tells.0 refl in
@@ -25,7 +25,7 @@ begins_so p f false tells =
       | Some rest ↦ λ e. let yes : IsTrue false = tells.1 (rest, append-after_front f p rest e) in cc
     ] refl
 
--- what follows a front is what is left without as many names
+-- the suffix is the path without as many names as the prefix
 pub behind : (f p : Path) → is_some (after_front f p) ≡ true → after_front f p ≡ Some (drop (length f) p)
 behind [] p is = refl
 behind (n ∷ f) [] is = cc
@@ -44,12 +44,12 @@ front_fits (n ∷ f) (m ∷ p) is =
       | false ↦ λ e. cc
     ] is
 
--- the last of the entries is the first that is put
+-- the last entry is inserted first
 with_last : (names es : List (Path × ℕ)) (e : Path × ℕ) → with_entries names (es ++ e ∷ []) ≡ with_entries (insert_entry path_cmp names e.0 e.1) es
 with_last names [] e = refl
 with_last names (x ∷ es) e = ap (λ (ns : List (Path × ℕ)). insert_entry path_cmp ns x.0 x.1) (with_last names es e)
 
--- the last that is left of a list, once it was taken from its end
+-- the last element of a list that is taken from its end
 pub last_left : {A X : Type 0} (shows : A → X) (s t : List X) (r : Option A) (x : A) → r ≡ Some x → TakesLast shows s r t → s ≡ t ++ shows x ∷ []
 last_left shows s t r x e h = subst (λ o. TakesLast shows s o t) e h
 
@@ -65,7 +65,7 @@ carried_there old new e there is =
     ]
     ∙ ap (option_map (labelled e.1)) (sym is)
 
--- what is carried of one entry more, from the end
+-- the moved entries with one more entry, from the end
 carried_last : {left : List (Path × ℕ)} {there : Option Path} (old new : Path) (names rest : List (Path × ℕ)) (e : Path × ℕ) → left ≡ rest ++ e ∷ [] → there ≡ option_map (λ (r : Path). new ++ r) (after_front old e.0)
     → with_entries names (filter_map (carried old new) left) ≡ with_entries names (filter_map (carried old new) rest ++ cons_option (option_map (labelled e.1) there) [])
 carried_last {left} {there} old new names rest e more is =
@@ -73,7 +73,7 @@ carried_last {left} {there} old new names rest e more is =
     (ap (filter_map (carried old new)) more ∙ filter_map-append (carried old new) rest (e ∷ [])
     ∙ ap (λ o. filter_map (carried old new) rest ++ cons_option o []) (carried_there old new e there is))
 
--- one name more is looked at: where it begins with the old path, it is put at the new one
+-- one more name: if it begins with the old path, it is inserted at the new one
 pub carries_one : {next left whole : List (Path × ℕ)} {there : Path} (old new : Path) (names rest : List (Path × ℕ)) (e : Path × ℕ) → left ≡ rest ++ e ∷ []
     → Some there ≡ option_map (λ (r : Path). new ++ r) (after_front old e.0) → next ≡ insert_entry path_cmp names there e.1
     → with_entries names (filter_map (carried old new) left) ≡ whole → with_entries next (filter_map (carried old new) rest) ≡ whole
@@ -88,7 +88,7 @@ pub carries_none : {left whole : List (Path × ℕ)} (old new : Path) (names res
 carries_none old new names rest e more is so_far =
     sym (carried_last old new names rest e more is ∙ ap (λ (es : List (Path × ℕ)). with_entries names es) (append-nil (filter_map (carried old new) rest))) ∙ so_far
 
--- changes after changes
+-- a sequence of changes after another
 pub done_then : (tree : Tree) (first second : List Change) → done tree (first ++ second) ≡ done (done tree first) second
 done_then tree [] second = refl
 done_then tree (c ∷ first) second = done_then (changed tree c) first second

@@ -1,4 +1,4 @@
--- What is put at a key that was free and removed again leaves the map as it was.
+-- An insertion at an absent key and its removal restore the map.
 use Rattle.std.proofs.Common.{◌≡◌, Bool, true, false, cond, refl, sym, ap, ◌∙◌, Some, None, Option, List, [], ◌∷◌}
 use Rattle.std.specs.BTreeMap.{BTreeMap, get, is_at, IsOrdered}
 use Rattle.std.specs.declared.cmp.Ordering.{Ordering}
@@ -11,7 +11,7 @@ use Rattle.std.specs.FinMap.{nat_cmp-IsAntisymmetric, slice_cmp-IsAntisymmetric}
 use Rattle.sf_path.specs.Order.{path_cmp}
 use Rattle.sf_call.specs.Tree.{Tree}
 
--- paths that compare alike are one
+-- paths that compare equal are equal
 pub exact_paths : CmpEqualImpliesEq path_cmp
 exact_paths = slice_cmp-IsAntisymmetric (slice_cmp-IsAntisymmetric nat_cmp-IsAntisymmetric)
 
@@ -32,17 +32,17 @@ module _ {K X : Type 0} {R : K → K → Ordering} where
   back_there f k q v o exact was Equal e = sym was ∙ ap f (exact k q e)
   back_there f k q v o exact was Greater e = refl
 
-  -- what is put at a key and replaced by what stood there
+  -- an insertion at a key that is undone
   pub put_back : IsTotalOrder R → CmpEqualImpliesEq R → (m n r : BTreeMap K X) (k : K) (v : X) (o : Option X) → IsOrdered R m → IsOrdered R r → get R m k ≡ o
       → ((q : K) → get R n q ≡ cond (is_at (R k) q) (Some v) (get R m q)) → ((q : K) → get R r q ≡ cond (is_at (R k) q) o (get R n q)) → r.entries ≡ m.entries
   put_back total exact m n r k v o sm sr was put back =
       btree_map_from_get total r m sr sm (λ q. back q ∙ ap (cond (is_at (R k) q) o) (put q) ∙ back_there (get R m) k q v o exact was (R k q) refl) exact
 
--- trees with the same maps are one
+-- trees with equal maps are equal
 pub same_tree : (s t : Tree) → s.names ≡ t.names → s.objects ≡ t.objects → s.handles ≡ t.handles → s ≡ t
 same_tree s t n o h = λ i. record { names = n i; objects = o i; handles = h i }
 
--- where nothing stands, nothing is set
+-- setting an absent key changes nothing
 pub set_nowhere : {K X : Type 0} (test : K → Bool) (es : List (K × X)) (v : X) → lookup test es ≡ None → set_value test es v ≡ es
 set_nowhere test [] v none = refl
 set_nowhere test (e ∷ es) v none =

@@ -1,4 +1,4 @@
--- What is known of a path's way once some of its fronts were looked up.
+-- Path resolution after some prefixes were looked up.
 use Rattle.std.proofs.Common.{◌≡◌, ℕ, ◌<◌, ◌+◌, Bool, true, false, nat_lt, length, take, Option, refl, sym, ap, ◌∙◌, subst, arith}
 use Rattle.std.specs.Option.{is_some}
 use Rattle.std.proofs.lemmas.Bool.Decides.{nat_tests}
@@ -11,7 +11,7 @@ not_false : (b : Bool) → ¬ (b ≡ false) → b ≡ true
 not_false true _ = refl
 not_false false other = absurd (other refl)
 
--- a front that is no directory makes the way faulty
+-- a prefix that is no directory makes resolution fail
 pub way_fails : {front : Path} {found : Option (ℕ × Metadata)} (tree : Tree) (path : Path) (n : ℕ)
     → n < length path → front ≡ take n path → found ≡ directory_at tree front → is_some found ≡ false → is_faulty_way tree path ≡ true
 way_fails tree path n lt is looked none =
@@ -27,7 +27,7 @@ one_more f n before last k lt =
       | false ↦ λ not_less. let same : n ≡ k = grind (arith, nat_tests) in subst (λ m. f m ≡ true) same last
     ] refl
 
--- one directory more on the way
+-- one more directory on the path
 pub way_goes_on : {front : Path} {found : Option (ℕ × Metadata)} (tree : Tree) (path : Path) (n : ℕ) → ((k : ℕ) → k < n → is_directory tree (take k path) ≡ true)
     → front ≡ take n path → found ≡ directory_at tree front → is_some found ≡ true → (k : ℕ) → k < n + 1 → is_directory tree (take k path) ≡ true
 way_goes_on tree path n before is looked there =

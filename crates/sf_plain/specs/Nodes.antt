@@ -1,5 +1,5 @@
 -- No public clause cites this module.
--- The object that a node is.
+-- The object of a node.
 use Rattle.std.specs.Prelude.{ℕ, nat_eq, Bool, true, false, ◌&&◌, Option, Some, None}
 use Rattle.sf_call.specs.Attributes.{Object}
 use Rattle.sf_call.specs.Attributes.Object.{Directory, File}
@@ -22,6 +22,6 @@ is_file None = false
 is_file (Some (Directory m)) = false
 is_file (Some (File m contents)) = true
 
--- both labels are one file's
+-- whether both inode numbers are those of one file
 abbrev pub is_same_file : Tree → ℕ → ℕ → Bool
 is_same_file tree label other = nat_eq label other && is_file (object_of tree.objects other)

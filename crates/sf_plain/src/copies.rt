@@ -9,7 +9,7 @@ use std::collections::BTreeMap;
 
 /// A key or a value of a map.
 pub(crate) trait TryCopy: Sized + Drop {
-    /// An equal one, or want of memory.
+    /// An equal value, or an allocation failure.
     fn try_copy(&self, alloc: Global) -> Result<Self, AllocError>
         ensures { IfOk result (λ copy. copy ≡ self.now) };
 }
@@ -32,14 +32,14 @@ impl TryCopy for Handle {
     }
 }
 
-/// An equal map.
+/// A copy of a map.
 pub(crate) fn copy_of<K: Ord + TryCopy, V: TryCopy>(
     alloc: Global,
     map: &BTreeMap<K, V>,
 ) -> Result<BTreeMap<K, V>, AllocError>
     ensures { IfOk result (λ copy. copy.entries ≡ map.now.entries) }
 {
-    // Tells that the keys are in order.
+    // For the proof: the keys are in order.
     let _ = map.len();
     let mut copy = BTreeMap::new(alloc);
     'entries: for (key, value) in map {

@@ -1,11 +1,11 @@
-//! A slow tree of files, written to be read: whole paths lead to labels, and labels to directories
-//! and files.
+//! An executable form of the sequential specification: a slow file system, written to be read. It
+//! maps paths to inode numbers, and those to directories and files.
 //!
-//! Start with `PlainTree`. Its value in a contract is the tree of `sf_call` itself, so that the
-//! contract of `apply` says in one line that it does what that definition does; `leave` is a
-//! session's leaving, and `leaves` all its paths. Each call goes through all paths, so this tree is
-//! no server's: tests ask the same of it and of the store, and it shows that the definitions can be
-//! run as they stand. `specs/Nodes.antt` says which object a node is.
+//! Start with `PlainTree`. Its value in contracts is the tree of `sf_call`, so the contract of
+//! `apply` states that it computes the specified function. `leave` ends a session, and `leaves`
+//! lists all paths. Each call scans all paths, so this is no server. Tests compare the server with
+//! it, and it shows that the specification can be executed. `specs/Nodes.antt` defines the object
+//! of a node.
 #![tactic(auto)]
 
 mod copies;

@@ -16,7 +16,7 @@ use sf_path::Path;
 use std::alloc::{AllocError, Global};
 use std::marker::Model;
 
-/// A directory, or a file with its bytes.
+/// A directory, or a file with its contents.
 #[derive(Drop)]
 pub(crate) struct Node {
     kind: Kind,
@@ -28,7 +28,7 @@ enum Kind {
     File(Metadata, WholeContents),
 }
 
-/// What a node is, to look at.
+/// A borrowed view of a node.
 #[derive(Clone, Copy)]
 pub(crate) enum Parts<'a> {
     Directory(Metadata),
@@ -45,7 +45,7 @@ impl Model for Node {
 }
 
 impl Node {
-    /// A directory. Its entries stand in the tree's names.
+    /// A directory. Its entries are in the tree's names.
     pub(crate) fn directory(metadata: Metadata) -> Node
         ensures { result ≡ Directory metadata }
     {
@@ -54,7 +54,7 @@ impl Node {
         }
     }
 
-    /// A file with its bytes.
+    /// A file with its contents.
     pub(crate) fn file(metadata: Metadata, contents: WholeContents) -> Node
         ensures { result ≡ File metadata contents }
     {
@@ -63,7 +63,7 @@ impl Node {
         }
     }
 
-    /// To look at.
+    /// A borrowed view.
     pub(crate) fn parts(&self) -> Parts<'_>
         ensures { object_of_parts result ≡ self.now }
     {
@@ -83,7 +83,7 @@ impl Node {
         }
     }
 
-    /// A path that leads to it under a label.
+    /// The leaf of a path to it, with this inode number.
     pub(crate) fn leaf(&self, alloc: Global, path: Path, label: u64) -> Result<Leaf, AllocError>
         ensures { IfOk result (λ leaf. leaf ≡ (path, (label, self.now))) }
     {
@@ -95,7 +95,7 @@ impl Node {
         })
     }
 
-    /// As they are sent.
+    /// The attributes as sent.
     pub(crate) fn attrs(&self) -> Attrs
         ensures { result ≡ attrs_of self.now }
     {
@@ -105,7 +105,7 @@ impl Node {
         }
     }
 
-    /// Whether this size can't be set.
+    /// Whether setting this size fails.
     pub(crate) fn refuses_size(&self, size: Option<u64>) -> bool
         ensures { result ≡ refuses_size self.now size }
     {
@@ -116,7 +116,7 @@ impl Node {
         }
     }
 
-    /// With the parts of `attrs` that are given, at a moment.
+    /// The node after a SETSTAT of `attrs` at a timestamp.
     pub(crate) fn with_attrs(
         &self,
         alloc: Global,

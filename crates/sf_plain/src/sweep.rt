@@ -1,4 +1,4 @@
-//! Which objects stay.
+//! Deletion of unused objects.
 
 ghost use Rattle.std.specs.Prelude.{◌≡◌, not, nat_eq, filter};
 ghost use Rattle.std.specs.List.{list_any};
@@ -21,14 +21,14 @@ fn is_opened(handles: &BTreeMap<u64, Handle>, label: u64) -> bool
     handles.iter().any(|(_, handle)| handle.label == label)
 }
 
-/// Whether a path names the object or a handle opens it.
+/// Whether an inode number has a link or an open handle.
 fn is_used(names: &BTreeMap<Path, u64>, handles: &BTreeMap<u64, Handle>, label: u64) -> bool
     ensures { result ≡ is_used names.now.entries handles.now.entries label }
 {
     is_named(names, label) || is_opened(handles, label)
 }
 
-/// Lets go of the objects that no path names and no handle opens.
+/// Deletes the objects that have no link and no open handle.
 pub(crate) fn sweep(
     objects: &mut BTreeMap<u64, Node>,
     names: &BTreeMap<Path, u64>,
@@ -46,7 +46,7 @@ pub(crate) fn sweep(
     );
 }
 
-/// Closes a session's handles.
+/// Closes all handles of a session.
 pub(crate) fn close_all(handles: &mut BTreeMap<u64, Handle>, session: u64)
     ensures { handles.new.entries
         ≡ filter (λ e. not (nat_eq e.1.session session)) handles.old.entries }

@@ -29,7 +29,7 @@ mod listing;
 mod path_calls;
 mod renames;
 
-/// A tree of files.
+/// A file system that executes the sequential specification.
 #[derive(Drop)]
 pub struct PlainTree {
     alloc: Global,
@@ -51,7 +51,7 @@ impl Model for PlainTree {
 }
 
 impl PlainTree {
-    /// The root alone.
+    /// A tree with an empty root directory.
     pub fn new(alloc: Global) -> Result<PlainTree, AllocError>
         ensures { IfOk result (λ tree. tree ≡ empty_tree) }
     {
@@ -72,7 +72,7 @@ impl PlainTree {
         })
     }
 
-    /// Answers a call of this session and number, at a moment in seconds since 1970.
+    /// Executes a call with this session and number, at a timestamp in seconds since 1970.
     pub fn apply(
         &mut self,
         session: u64,
@@ -118,8 +118,7 @@ impl PlainTree {
         }
     }
 
-    /// The tree after a session left: its handles are closed, and what nothing else names or opens
-    /// is let go.
+    /// Ends a session: closes its handles and deletes objects left unused.
     pub fn leave(&mut self, session: u64)
         ensures { self.new ≡ leave self.old session }
     {
@@ -127,14 +126,14 @@ impl PlainTree {
         sweep(&mut self.objects, &self.names, &self.handles);
     }
 
-    /// How many directories and files there are, with those that are open alone.
+    /// The number of directories and files, including those that are only open.
     pub fn object_count(&self) -> usize
         ensures { result ≡ length self.now.objects }
     {
         self.objects.len()
     }
 
-    /// An equal tree.
+    /// A copy of the tree.
     pub fn try_copy(&self) -> Result<PlainTree, AllocError>
         ensures { IfOk result (λ copy. copy ≡ self.now) }
     {
@@ -147,7 +146,7 @@ impl PlainTree {
     }
 }
 
-// What a path leads to.
+// Lookups.
 impl PlainTree {
     fn label_at(&self, path: &Path) -> Option<u64>
         ensures { result ≡ label_at self.now.names path.now }
@@ -155,7 +154,7 @@ impl PlainTree {
         self.names.get(path).copied()
     }
 
-    /// The label and the metadata of the directory that the path names.
+    /// The inode number and the metadata of the directory at a path.
     fn directory_at(&self, path: &Path) -> Option<(u64, Metadata)>
         ensures { result ≡ directory_at self.now path.now }
     {
@@ -164,7 +163,7 @@ impl PlainTree {
         Some((label, metadata))
     }
 
-    /// Whether a proper front of the path is absent or names a file.
+    /// Whether a proper prefix of the path is absent or names a file.
     fn is_faulty_way(&self, path: &Path) -> Result<bool, AllocError>
         ensures { IfOk result (λ faulty. faulty ≡ is_faulty_way self.now path.now) }
     {
@@ -177,7 +176,7 @@ impl PlainTree {
         Ok(false)
     }
 
-    /// Whether something stands directly below the path.
+    /// Whether the path has an entry directly below it.
     fn has_child(&self, path: &Path) -> bool
         ensures { result
             ≡ list_any (λ e. is_some (only_name (after_front path.now e.0))) self.now.names }
@@ -207,7 +206,7 @@ impl PlainTree {
     }
 }
 
-/// The name that a path has in a directory, if it stands directly below it.
+/// The name of a path in a directory, if it is directly below it.
 pub(crate) fn name_in<'a>(directory: &Path, path: &'a Path) -> Option<&'a Name>
     ensures { option_copied result ≡ only_name (after_front directory.now path.now) }
 {
@@ -220,7 +219,7 @@ pub(crate) fn name_in<'a>(directory: &Path, path: &'a Path) -> Option<&'a Name>
 
 // Changes.
 impl PlainTree {
-    /// Adds a path that isn't there, with its label and its object.
+    /// Adds an absent path with its inode number and its object.
     fn add(&mut self, path: &Path, label: u64, node: Node) -> Result<(), AllocError>
         requires { label_at self.old.names path.now ≡ None }
         ensures ok { OnOk result (self.new ≡ changed self.old (NewPath path.now label node)) }
@@ -235,7 +234,7 @@ impl PlainTree {
         Ok(())
     }
 
-    /// Removes a path, and the object that it was the last to name.
+    /// Removes a path, and deletes its object if it is unused.
     fn unname(&mut self, path: &Path)
         ensures { self.new ≡ changed self.old (GonePath path.now) }
     {
@@ -243,7 +242,7 @@ impl PlainTree {
         sweep(&mut self.objects, &self.names, &self.handles);
     }
 
-    /// Puts another object at a label.
+    /// Replaces the object of an inode number.
     fn set_object(&mut self, label: u64, object: Node)
         ensures { self.new ≡ changed self.old (SetObject label object) }
     {
@@ -252,7 +251,7 @@ impl PlainTree {
         }
     }
 
-    /// Gives a file other bytes, at a moment.
+    /// Replaces the contents of a file and sets its modification time.
     fn set_contents(&mut self, label: u64, moment: u32, metadata: Metadata, bytes: WholeContents)
         ensures { self.new
             ≡ changed self.old (SetObject label (File (modified_at moment metadata) bytes)) }
@@ -260,7 +259,7 @@ impl PlainTree {
         self.set_object(label, Node::file(metadata.modified_at(moment), bytes));
     }
 
-    /// Marks a directory as modified at the moment.
+    /// Sets the modification time of a directory.
     fn touch(&mut self, directory: Option<(u64, Metadata)>, moment: u32)
         ensures { self.new ≡ done self.old (touch moment directory) }
     {

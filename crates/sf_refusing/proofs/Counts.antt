@@ -1,4 +1,4 @@
--- Rules, with one act more.
+-- Rules, after one more event.
 use Rattle.std.proofs.Common.{◌≡◌, ℕ, zero, suc, ◌+◌, ◌-◌, ◌<◌, ◌≤◌, ◌⊎◌, List, [], ◌∷◌, ◌++◌, Bool, true, false, Option, Some, None, length, min, slice_get, refl, ap, sym, ◌∙◌, subst, arith, inl, inr, append-nil, length-append}
 use Rattle.std.specs.Prelude.{slice_set, nat_eq, nat_lt, not, ◌&&◌, if◌then◌else◌, option_map}
 use Rattle.std.proofs.lemmas.Bool.{cases_lt, cases_eq, lt-ltb, le-ltb, ltb-true, ltb-false, eq-eqb, ne_eqb, both_ways, and_parts, not-true}
@@ -46,7 +46,7 @@ same_given journal number given act G count told =
     (G.refused ∙ ap (λ (n : ℕ). min given.rule.refuse (n - given.rule.pass)) same)
     (omega (arith, told))
 
--- what it has counted tells whether it refuses
+-- its count determines whether it refuses
 pub ready_is : (journal : List Act) (number : ℕ) (given : GivenRule) (G : IsGivenRule journal number given) → is_ready given ≡ is_refusing given.rule (count_since number given.rule G.since)
 ready_is journal number given G =
     let k : ℕ = count_since number given.rule G.since in
@@ -73,7 +73,7 @@ refuses_is journal number given p G =
     ap (λ (g : Option (Rule × List Act)). refuses_since number p g) G.is
     ∙ ap (λ (b : Bool). fits_packet given.rule p && b) (sym (ready_is journal number given G))
 
--- it counts one that it lets pass
+-- it counts a request that it passes
 pass_given : (journal : List Act) (number : ℕ) (given : GivenRule) (act : Act) (fit : Bool) → IsGivenRule journal number given → (fit && is_ready given) ≡ false → counts number given.rule act ≡ (if fit then 1 else 0) → refused_by number act ≡ 0
     → IsGivenRule (journal ++ act ∷ []) number (counted_if fit given)
 pass_given journal number given act false G ready count told = same_given journal number given act G count told
@@ -99,7 +99,7 @@ pass_given journal number given act true G ready count told =
           ]
     ]
 
--- and one that it refuses
+-- and a request that it refuses
 refuse_given : (journal : List Act) (number : ℕ) (given : GivenRule) (act : Act) → IsGivenRule journal number given → is_ready given ≡ true → counts number given.rule act ≡ 1 → refused_by number act ≡ 1
     → IsGivenRule (journal ++ act ∷ []) number (counted_if true given)
 refuse_given journal number given act G ready count told =
@@ -134,7 +134,7 @@ none_refuses journal rules p A none number = elim (cases_lt number (length rules
   | inr le ↦ ap (λ (g : Option (Rule × List Act)). refuses_since number p g) (since_none journal number (omega (arith, A.count, le)))
 ]
 
--- a rule more was counted
+-- one more rule has counted
 pub count_step : (xs : List GivenRule) (n : ℕ) (x v : GivenRule) (fit : GivenRule → Bool) → slice_get xs n ≡ Some x → v ≡ counted_if (fit x) x → (number : ℕ) (given : GivenRule) → slice_get xs number ≡ Some (counted_if (nat_lt number n && fit given) given) → slice_get (slice_set xs n v) number ≡ Some (counted_if (nat_lt number (n + 1) && fit given) given)
 count_step xs n x v fit here is number given at = elim (cases_eq number n) [
   | inl same ↦
@@ -150,13 +150,13 @@ count_step xs n x v fit here is number given at = elim (cases_eq number n) [
       | inr le ↦ le-ltb number n le ∙ sym (le-ltb number (n + 1) (omega (arith, le, ne)))
     ]
 
--- what `count_with` does, with so many rules
+-- the effect of `count_with` on the first rules
 abbrev pub AreCounted : List GivenRule → List GivenRule → ℕ → (GivenRule → Bool) → Type 0
 AreCounted rules rules' count fit = (length rules' ≡ length rules)
     × ((number : ℕ) (given : GivenRule) → slice_get rules number ≡ Some given
     → slice_get rules' number ≡ Some (counted_if (nat_lt number count && fit given) given))
 
--- the rule at a place was counted
+-- the rule at an index has counted
 was_counted : (rules rules' : List GivenRule) (count : ℕ) (fit : GivenRule → Bool) → AreCounted rules rules' count fit → (number : ℕ) (now : GivenRule) → slice_get rules' number ≡ Some now
     → (given : GivenRule) × (slice_get rules number ≡ Some given) × (counted_if (nat_lt number count && fit given) given ≡ now)
 was_counted rules rules' count fit C number now at =
@@ -214,7 +214,7 @@ refuse_rules journal rules rules' p id by code e given A C here ready first = re
               ]
         ]
 
--- a rule more
+-- one more rule
 pub new_rules : (journal : List Act) (rules : List GivenRule) (rule : Rule) (given : GivenRule) → given ≡ record { rule = rule; passed = 0; refused = 0 } → AreGiven journal rules
     → AreGiven (journal ++ Ruled rule ∷ []) (rules ++ given ∷ [])
 new_rules journal rules rule given is A = record {

@@ -1,4 +1,4 @@
--- What is done with the packet that stands at the front.
+-- Deciding on the first buffered packet.
 use Rattle.std.proofs.Common.{◌≡◌, ℕ, ◌+◌, ◌-◌, ◌<◌, ◌≤◌, ◌⊎◌, List, [], ◌∷◌, ◌++◌, Bool, true, false, Option, Some, None, Result, Ok, Err, length, take, drop, slice_get, refl, ap, sym, ◌∙◌, subst, arith, inl, inr, append-nil}
 use Rattle.std.specs.Prelude.{nat_lt, ◌&&◌, if◌then◌else◌, slice_range}
 use Rattle.std.proofs.lemmas.List.{take-append-drop, append_cancel_right, append_cancel_left, drop-take, take_all, length-take-le, nil_from_length}
@@ -34,11 +34,11 @@ use Rattle.sf_refusing.proofs.Counts.{got_at, AreCounted, ready_is, refuses_is, 
 use Rattle.sf_refusing.proofs.Steps.{IsSentAll, nothing_leaves, did_leaves, passed_leaves, refused_leaves, fed_is}
 use Rattle.sf_refusing.proofs.Growing.{own_so}
 
--- what was done with the front
+-- the decision on the first packet
 abbrev pub IsDone : {E : Type 0} → (E → List LogEntry → Type 0) → E → List Act → ℕ → Passage → List GivenRule → Result Bool EngineFault → Type 0
 IsDone has_log engine journal s p rules r = (acts : List Act) × MovesFront journal s r acts × EngineHoldsAfter has_log engine journal s p rules (journal ++ acts)
 
--- the body that stands at the front
+-- the body of the first packet
 abbrev pub body_at : List ℕ → ℕ → List ℕ
 body_at bytes len = drop 4 (take len bytes)
 
@@ -50,7 +50,7 @@ seen_body bytes held len same B =
     let n : len ≡ 4 + (len - 4) = omega (arith, B.long) in
     ap (λ (b : List ℕ). slice_range b 4 len) same ∙ sym (ap (λ (k : ℕ). drop 4 (take k held)) n ∙ drop-take 4 (len - 4) held)
 
--- no rule is for what is no request
+-- no rule matches a packet that is no request
 no_fit : (rule : Rule) (s : ℕ) (asked : Asked) → ((id : ℕ) (request : WireRequest) → asked ≡ Request id request → ⊥) → fits_asked rule s asked ≡ false
 no_fit rule s (Init version) none = refl
 no_fit rule s (Request id request) none = absurd (none id request refl)
@@ -62,13 +62,13 @@ no_fit rule s NoId none = refl
 pub done_nothing : {E : Type 0} (has_log : E → List LogEntry → Type 0) (engine : E) (journal : List Act) (s : ℕ) (p : Passage) (rules : List GivenRule) (r : Result Bool EngineFault) → MovesFront journal s r [] → StandsBefore has_log engine journal s p rules → IsDone has_log engine journal s p rules r
 done_nothing {E} has_log engine journal s p rules r moves S = ([], moves, nothing_leaves has_log engine journal s p rules S)
 
--- less than a packet is held
+-- less than a packet is buffered
 pub none_held : {E : Type 0} (has_log : E → List LogEntry → Type 0) (engine : E) (journal : List Act) (s : ℕ) (p : Passage) (rules : List GivenRule) → StandsBefore has_log engine journal s p rules → IsCut p.held.items cut.More → MovesFront journal s (Ok false) []
 none_held {E} has_log engine journal s p rules S more = λ waits own held received.
     let is : p.held.items ≡ held = append_cancel_left (taken_in s journal) p.held.items held (sym (S.at.served own).received ∙ received) in
     subst (λ (b : List ℕ). IsCut b cut.More) is more
 
--- what no rule is asked about was passed on
+-- bytes to which no rule applies were passed on
 pub done_did : {E : Type 0} (has_log : E → List LogEntry → Type 0) (engine engine' : E) (journal : List Act) (s : ℕ) (p p' : Passage) (rules : List GivenRule) (e : LogEntry) (len : ℕ) → StandsBefore has_log engine journal s p rules → IsFed s (take len p.held.items) e → has_log engine' (log_of journal ++ e ∷ []) → p'.held.items ≡ drop len p.held.items → p'.output.items ≡ p.output.items → p'.begun ≡ true → 0 < length (take len p.held.items) → IsUnruled journal s (take len p.held.items) → IsDone has_log engine' journal s p' rules (Ok false)
 done_did {E} has_log engine engine' journal s p p' rules e len S F has held output begun some unruled =
     let front : List ℕ = take len p.held.items in (
@@ -78,7 +78,7 @@ done_did {E} has_log engine engine' journal s p p' rules e len S F has held outp
           (sym (take-append-drop len p.held.items) ∙ ap (λ (b : List ℕ). front ++ b) (sym held)) output begun some unruled,
     )
 
--- a packet of a session that began
+-- a packet of a session that has begun
 held_is : (p p' : Passage) (len : ℕ) → HasBody p.held.items len → p'.held.items ≡ drop len p.held.items → p.held.items ≡ packet (body_at p.held.items len) ++ p'.held.items
 held_is p p' len B held = B.parts ∙ ap (λ (b : List ℕ). packet (body_at p.held.items len) ++ b) (sym held)
 
@@ -99,7 +99,7 @@ done_other {E} has_log engine engine' journal s p p' rules e len asked S B asks 
           (rules_stay journal rules (PassedOn one e) S.rules refl (λ number rule. ap (λ (b : Bool). if b then 1 else 0) (no rule)) (λ number. refl)),
     )
 
--- ---- a request, as rules see it
+-- ---- a request, as rules examine it
 
 same_fit : (rules rules' : List GivenRule) (count : ℕ) (fit fit' : GivenRule → Bool) → ((given : GivenRule) → fit given ≡ fit' given) → AreCounted rules rules' count fit → AreCounted rules rules' count fit'
 same_fit rules rules' count fit fit' same C = (
@@ -107,7 +107,7 @@ same_fit rules rules' count fit fit' same C = (
   λ number given at. C.1 number given at ∙ ap (λ (b : Bool). Some (counted_if (nat_lt number count && b) given)) (same given),
 )
 
--- what rules see of a request is what it is
+-- the subject of a request has its kind and paths
 pub record IsSeen (s : ℕ) (request : WireRequest) (session : ℕ) (kind : RequestKind) (paths : List Path) : Type 0 where
   pub session_is : session ≡ s
   pub kind_is : kind ≡ kind_asked request
@@ -170,7 +170,7 @@ done_refuse {E} has_log engine engine' journal s p p' rules rules' e u len id re
           (refuse_rules journal rules rules' one id number code e given S.rules (same_fit rules rules' (number + 1) (λ given. fits given.rule session kind paths) (λ given. fits_packet given.rule one) (λ given. same given.rule) C) here ready' first'),
     )
 
--- nothing was done, for want of memory
+-- nothing was done, since memory ran out
 pub done_err : {E : Type 0} (has_log : E → List LogEntry → Type 0) (engine engine' : E) (journal : List Act) (s : ℕ) (p p' : Passage) (rules : List GivenRule) (r : Result Bool EngineFault) (f : EngineFault) → r ≡ Err f → f ≡ fault.OutOfMemory → engine' ≡ engine → p'.held.items ≡ p.held.items → p'.output.items ≡ p.output.items → p'.begun ≡ p.begun → StandsBefore has_log engine journal s p rules → IsDone has_log engine' journal s p' rules r
 done_err {E} has_log engine engine' journal s p p' rules r f is oom same held output begun S =
     let at : ServesHere journal s p'.held.items p'.output.items p'.begun =
@@ -184,7 +184,7 @@ done_err {E} has_log engine engine' journal s p p' rules r f is oom same held ou
           (subst (λ (e : E). has_log e (log_of journal)) (sym same) S.has, record { happened = S.happened; at = at; rules = S.rules; others = λ other held output begun ne serves. serves }),
     )
 
--- a wrong length, with what follows it, was passed on
+-- an invalid length, with all that follows it, was passed on
 bad_some : (bytes : List ℕ) (cause : BadCut) → IsCut bytes (cut.Bad cause) → 0 < length bytes
 bad_some bytes ZeroLength bad = omega (arith, ap (λ (b : List ℕ). length b) bad.1)
 bad_some bytes TooLong bad = omega (arith, ap (λ (b : List ℕ). length b) bad.4)
@@ -196,7 +196,7 @@ bad_goes journal s held len cause all bad =
       inr (inl (cause, subst (λ (b : List ℕ). IsCut b (cut.Bad cause)) is bad)),
     )
 
--- the first packet of a session was passed on, or one for which there is no rule
+-- a session's first packet, or one before any rule, was passed on
 pub unruled_goes : (journal : List Act) (s : ℕ) (p : Passage) (rules : List GivenRule) (len : ℕ) → IsPassageAt journal s p → AreGiven journal rules → (p.begun ≡ false) ⊎ (rules ≡ []) → HasBody p.held.items len → (0 < length (take len p.held.items)) × IsUnruled journal s (take len p.held.items)
 unruled_goes journal s p rules len S A free B =
     let none : (taken_in s journal ≡ []) ⊎ (rules_in journal ≡ []) = elim free [

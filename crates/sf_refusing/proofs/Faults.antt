@@ -1,4 +1,4 @@
--- Why an event for a session that waits for bytes is refused: for want of memory.
+-- The only error of an event for a session that waits for bytes: memory runs out.
 use Rattle.std.proofs.Common.{◌≡◌, ℕ, ◌+◌, ◌<◌, ◌≤◌, ◌++◌, ◌∙◌, List, Bool, Result, Ok, Err, length, refl, ap, subst, arith, inl, inr, length-append}
 use Rattle.std.specs.Global.{Vec}
 use Rattle.std.specs.Prelude.{IfErr}
@@ -18,7 +18,7 @@ feed_fault log s fed fault.Sessions waits may = absurd may
 feed_fault log s fed fault.NumbersSpent waits may = absurd may
 feed_fault log s fed fault.NotSent waits may = absurd may
 
--- all that a session has to be sent may be told as sent
+-- all of a session's output may be removed
 pub sent_fault : (log : List LogEntry) (s : ℕ) (u : List ℕ) (n : ℕ) (f : EngineFault) → IsKnown log s → IsUnsent log s u → n ≡ length u → MayBeRefused log (event.Sent s n) f → f ≡ fault.OutOfMemory
 sent_fault log s u n fault.OutOfMemory known U all may = refl
 sent_fault log s u n fault.NoSuchSession known U all may = absurd (may known)
@@ -36,7 +36,7 @@ feed_refused log s fed fault.Sessions known may = absurd may
 feed_refused log s fed fault.NumbersSpent known may = absurd may
 feed_refused log s fed fault.NotSent known may = absurd may
 
--- more than waits, of which some waits here
+-- more than the output, of which some is buffered here
 pub sent_refused : (journal : List Act) (s n k : ℕ) (held output : List ℕ) (begun : Bool) (f : EngineFault) → n ≡ length output + k → ServesHere journal s held output begun → MayBeRefused (log_of journal) (event.Sent s k) f → MayRefuseSent journal s n f
 sent_refused journal s n k held output begun fault.NoSuchSession all S may = may
 sent_refused journal s n k held output begun fault.NotSent all S may = λ own.

@@ -1,4 +1,4 @@
--- Journals with one act more: what they tell of a session, and of a rule.
+-- Journals with one more event: their projections to a session and to a rule.
 use Rattle.std.proofs.Common.{◌≡◌, ℕ, zero, suc, ◌+◌, ◌-◌, ◌<◌, ◌≤◌, List, [], ◌∷◌, ◌++◌, Bool, true, false, Option, Some, None, Result, Ok, length, take, drop, min, refl, ap, sym, ◌∙◌, subst, arith, append-nil, append_assoc, length-append, slice_get}
 use Rattle.std.specs.Prelude.{slice_set, nat_eq, nat_lt, if◌then◌else◌, option_map}
 use Rattle.std.specs.List.{AllByRecursion, flat_map, sum_by}
@@ -46,7 +46,7 @@ get_set_other (y ∷ xs) (suc i) (suc j) v ne = get_set_other xs i j v (λ e. ne
 pub some_same : {A : Type 0} (x y : A) → Some x ≡ Some y → x ≡ y
 some_same x y h = cc
 
--- ---- what an engine has to send, with one entry more
+-- ---- the engine's output, with one more entry
 
 pub transcript_on : (xs ys : List Response) → transcript (xs ++ ys) ≡ transcript xs ++ transcript ys
 unfolding transcript
@@ -75,7 +75,7 @@ unsent_more log e s u U le =
           ∙ ap (λ (b : List ℕ). b ++ t) U.packets ∙ four U.sent (take n u) (drop n u) t u (take-append-drop n u);
     }
 
--- one list waits
+-- the unsent output is unique
 pub same_unsent : (log : List LogEntry) (s : ℕ) (u v : List ℕ) → IsUnsent log s u → IsUnsent log s v → u ≡ v
 same_unsent log s u v U V =
     let t : List ℕ = transcript (written_in s log) in
@@ -130,7 +130,7 @@ begun_now journal s act some =
     sym (lt-ltb 0 (length (taken_in s journal ++ taken_by s act)) n)
     ∙ ap (λ (b : List ℕ). nat_lt 0 (length b)) (sym (more (taken_by s) journal act))
 
--- an entry by which nothing of the session goes in or is gone
+-- an entry that neither feeds the session nor removes its output
 pub entry_served : (journal : List Act) (s : ℕ) (act : Act) (e : LogEntry) (held output : List ℕ) → logged act ≡ e ∷ [] → received_by s act ≡ [] → taken_by s act ≡ [] → delivered_by s act ≡ 0 → sent_by s act ≡ transcript (written_by s e.event e.wrote) → sent_at s e.event e.result ≡ 0 → IsServedHere journal s held output
     → IsServedHere (journal ++ act ∷ []) s held output
 entry_served journal s act e held output is received taken delivered wrote zero_sent S =
@@ -145,7 +145,7 @@ entry_served journal s act e held output is received taken delivered wrote zero_
     (sym delivered)
     (ap (λ (b : List ℕ). (output ++ S.unsent) ++ b) wrote ∙ append_assoc output S.unsent t)
 
--- an act that doesn't concern the session
+-- an event that doesn't concern the session
 pub other_served : (journal : List Act) (s : ℕ) (act : Act) (held output : List ℕ) → logged act ≡ [] → received_by s act ≡ [] → taken_by s act ≡ [] → delivered_by s act ≡ 0 → sent_by s act ≡ [] → IsServedHere journal s held output
     → IsServedHere (journal ++ act ∷ []) s held output
 other_served journal s act held output is received taken delivered wrote S =
@@ -155,7 +155,7 @@ other_served journal s act held output is received taken delivered wrote S =
     (sym delivered)
     (ap (λ (b : List ℕ). (output ++ S.unsent) ++ b) wrote ∙ append-nil (output ++ S.unsent))
 
--- bytes come
+-- bytes are received
 pub received_served : (journal : List Act) (s : ℕ) (bytes held output : List ℕ) → IsServedHere journal s held output
     → IsServedHere (journal ++ Received s bytes ∷ []) s (held ++ bytes) output
 received_served journal s bytes held output S =
@@ -165,7 +165,7 @@ received_served journal s bytes held output S =
     refl
     (append-nil (output ++ S.unsent))
 
--- bytes go in
+-- bytes are fed
 pub fed_served : (journal : List Act) (s : ℕ) (act : Act) (e : LogEntry) (front held output : List ℕ) → logged act ≡ e ∷ [] → received_by s act ≡ [] → taken_by s act ≡ front → delivered_by s act ≡ 0 → sent_by s act ≡ transcript (written_by s e.event e.wrote) → sent_at s e.event e.result ≡ 0 → IsServedHere journal s (front ++ held) output
     → IsServedHere (journal ++ act ∷ []) s held output
 fed_served journal s act e front held output is received taken delivered wrote zero_sent S =
@@ -180,7 +180,7 @@ fed_served journal s act e front held output is received taken delivered wrote z
     (sym delivered)
     (ap (λ (b : List ℕ). (output ++ S.unsent) ++ b) wrote ∙ append_assoc output S.unsent t)
 
--- The first bytes of what the engine has to send wait here, and the rest there.
+-- The first bytes of the engine's output are buffered here, and the others there.
 pub record IsMoved (journal : List Act) (s : ℕ) (held output rest : List ℕ) : Type 0 where
   pub served : IsServedHere journal s held output
   pub unsent_is : served.unsent ≡ rest
@@ -205,7 +205,7 @@ moved_served journal s e held output u n fed wrote sent le U S =
       unsent_is = refl;
     }
 
--- bytes are gone
+-- bytes are sent
 pub delivered_served : (journal : List Act) (s n : ℕ) (front held output : List ℕ) → length front ≡ n → IsServedHere journal s held (front ++ output)
     → IsServedHere (journal ++ Delivered s n ∷ []) s held output
 delivered_served journal s n front held output count S =

@@ -1,3 +1,3 @@
--- For the crates above: what the turns of an engine leave.
+-- For the crates above: the effect of the engine's turns.
 
 pub use Rattle.sf_refusing.proofs.Sessions.{have_turned}

@@ -1,4 +1,4 @@
--- Laws of journals: where no rule was given, and events that were made apart.
+-- Laws of journals: without rules, and with events on the engine directly.
 use Rattle.std.proofs.Common.{◌≡◌, ℕ, ◌+◌, ◌≤◌, List, [], ◌∷◌, ◌++◌, Bool, false, Option, Some, None, Result, Ok, Err, length, map, refl, ap, sym, ◌∙◌, subst, arith, append-nil, append_assoc, length-append}
 use Rattle.std.specs.Prelude.{if◌then◌else◌}
 use Rattle.std.specs.List.{flat_map}
@@ -16,7 +16,7 @@ use Rattle.sf_refusing.specs.Refusing.{AllMayHappen, moves_bytes, IsOwn, ServesH
 use Rattle.sf_refusing.proofs.Growing.{transcript_on, own_front, happened_more, begun_stays, entry_served, since_none}
 use Rattle.sf_refusing.proofs.Counts.{rules_stay}
 
--- an event by which no bytes of a session go in or are gone
+-- an event that neither feeds a session nor removes its output
 apart_fed : (s : ℕ) (ev : Event) (r : Result Happened EngineFault) → moves_bytes s ev ≡ false → fed_by s ev r ≡ []
 apart_fed s event.Open r apart = refl
 apart_fed s (event.Feed t bytes) (Ok h) apart = ap (λ (b : Bool). if_so b bytes.items) apart
@@ -75,7 +75,7 @@ ruleless front (RefusedBy p id number code e ∷ journal) h none s own =
     absurd (no_some (h.0.rule, h.0.since)
     (sym (since_none front number (omega (arith, none_before front (RefusedBy p id number code e ∷ journal) none))) ∙ h.0.given))
 
--- ---- events apart
+-- ---- events on the engine directly
 
 apart_one : (r : Refusals) (journal : List Act) (e : LogEntry) → HasJournal r journal → HasJournal r (journal ++ Apart e ∷ [])
 apart_one r journal e H = record {

@@ -1,4 +1,4 @@
--- What the calls of refusals leave, and tell.
+-- The effects and results of the methods of refusals.
 use Rattle.std.proofs.Common.{◌≡◌, ◌≢◌, ℕ, zero, suc, ◌+◌, ◌-◌, ◌<◌, ◌≤◌, ◌⊎◌, List, [], ◌∷◌, ◌++◌, Bool, true, false, Some, Result, Ok, Err, length, take, drop, map, slice_get, refl, ap, sym, ◌∙◌, subst, arith, inl, inr, append-nil, append_assoc, length-append}
 use Rattle.std.specs.Prelude.{OnErr, OnOk, slice_set, nat_eq, if◌then◌else◌}
 use Rattle.std.specs.Global.{Vec}
@@ -47,7 +47,7 @@ set_same [] i x h = refl
 set_same (y ∷ xs) zero x h = cc
 set_same (y ∷ xs) (suc i) x h = ap (λ ys. y ∷ ys) (set_same xs i x h)
 
--- a passage more, of a session without one
+-- one more passage, for a session without one
 pub pushed_has : (r r' : Refusals) (journal : List Act) (p : Passage) → r'.passages.items ≡ r.passages.items ++ p ∷ [] → r'.rules.items ≡ r.rules.items → p.held.items ≡ [] → p.output.items ≡ [] → p.begun ≡ false → HasJournal r journal → HasJournal r' journal
 pushed_has r r' journal p passages rules held output begun H =
     let new : IsPassageAt journal (length r.passages.items + 1) p =
@@ -72,7 +72,7 @@ pushed_has r r' journal p passages rules held output begun H =
     last_got (x ∷ xs) zero v t h = inl h
     last_got (x ∷ xs) (suc i) v t h = elim (last_got xs i v t h) [ inl e ↦ inl e | inr e ↦ inr (ap (λ (n : ℕ). suc n) e.0, e.1) ]
 
--- ---- bytes come
+-- ---- bytes are received
 
 pub received_has : (r r' : Refusals) (journal : List Act) (s at : ℕ) (p p' : Passage) (bytes : List ℕ) → HasJournal r journal → slice_get r.passages.items at ≡ Some p → at + 1 ≡ s → r'.passages.items ≡ slice_set r.passages.items at p' → r'.rules.items ≡ r.rules.items → p'.held.items ≡ p.held.items ++ bytes → p'.output.items ≡ p.output.items → p'.begun ≡ p.begun → HasJournal r' (journal ++ Received s bytes ∷ [])
 received_has r r' journal s at p p' bytes H here number set rules held output begun =
@@ -95,7 +95,7 @@ received_has r r' journal s at p p' bytes H here number set rules held output be
 
 -- ---- a turn
 
--- the turns that the engine made after what stood at the front went on
+-- the engine's turns, after the first buffered bytes were passed on
 pub have_turned : {E : Type 0} (has_log : E → List LogEntry → Type 0) (engine : E) (r : Refusals) (journal passed : List Act) (s m : ℕ) (result : Result Happened EngineFault) (entries : List LogEntry) → HasJournal r (journal ++ passed) → AreTurns (event.Turn s m) result entries → has_log engine (log_of (journal ++ passed) ++ entries) → Have has_log engine r (journal ++ (passed ++ map Made entries))
 have_turned {E} has_log engine r journal passed s m result entries H turns has =
     let all : (journal ++ passed) ++ map Made entries ≡ journal ++ (passed ++ map Made entries) = append_assoc journal passed (map Made entries) in
@@ -108,7 +108,7 @@ pub turned : {E : Type 0} (has_log : E → List LogEntry → Type 0) (engine : E
 turned {E} has_log engine r journal passed s m result AreMade entries on H made turns has =
     (passed ++ map Made entries, inr (inl (passed, entries, on, made, refl)), have_turned has_log engine r journal passed s m result entries H turns has)
 
--- ---- what is sent
+-- ---- output is sent
 
 pub next_all : (journal : List Act) (s : ℕ) (held output out : List ℕ) → output ≡ [] → IsServedHere journal s held output → IsUnsent (log_of journal) s out → IsNextOutput journal s out
 next_all journal s held output out none S U =
@@ -130,7 +130,7 @@ next_first journal s held output some S = record {
   last = λ empty. absurd (some empty);
 }
 
--- what waits here goes first
+-- output that is buffered here is sent first
 pub delivered_has : (r r' : Refusals) (journal : List Act) (s at n : ℕ) (p p' : Passage) (front : List ℕ) → HasJournal r journal → slice_get r.passages.items at ≡ Some p → at + 1 ≡ s → r'.passages.items ≡ slice_set r.passages.items at p' → r'.rules.items ≡ r.rules.items → length front ≡ n → p.output.items ≡ front ++ p'.output.items → p'.held.items ≡ p.held.items → p'.begun ≡ p.begun → HasJournal r' (journal ++ Delivered s n ∷ [])
 delivered_has r r' journal s at n p p' front H here number set rules count output held begun =
     let act : Act = Delivered s n in
@@ -150,15 +150,15 @@ delivered_has r r' journal s at n p p' front H here number set rules count outpu
           other_serves journal other act held output begun refl refl refl (ap (λ (b : Bool). if b then n else 0) (ne_eqb s other (λ same. ne (sym same)))) refl serves;
     })
 
--- ---- the engine is told that bytes were sent
+-- ---- the engine's output is sent
 
--- a session's event by which bytes are gone
+-- a session's event that removes output
 pub record IsGone (s k : ℕ) (e : LogEntry) : Type 0 where
   pub event : e.event ≡ event.Sent s k
   pub happened : Happened
   pub result : e.result ≡ Ok happened
 
--- no more are gone than there were
+-- no more is removed than there was
 sent_may : (log : List LogEntry) (s k : ℕ) (h : Happened) → MayComeTo log (event.Sent s k) (Ok h) → sent_of s log + k ≤ length (transcript (written_in s log))
 sent_may log s k happened.Sent may = may.1
 sent_may log s k (happened.Opened n) may = absurd may
@@ -178,7 +178,7 @@ were_there log s k e G may u U =
     subst (λ (r : Result Happened EngineFault). MayComeTo log (event.Sent s k) r) G.result (subst (λ (ev : Event). MayComeTo log ev e.result) G.event may) in
     omega (arith, sent_may log s k G.happened at, ap (λ (b : List ℕ). length b) U.packets, length-append U.sent u, U.count)
 
--- and it came to no other than this
+-- and it has no other result
 sent_so : (log : List LogEntry) (s k : ℕ) (h : Happened) → MayComeTo log (event.Sent s k) (Ok h) → h ≡ happened.Sent
 sent_so log s k happened.Sent may = refl
 sent_so log s k (happened.Opened n) may = absurd may
@@ -237,7 +237,7 @@ sent_rules : (journal : List Act) (s n : ℕ) (e : LogEntry) (rules : List Given
 sent_rules journal s n e rules A =
     rules_stay (journal ++ Made e ∷ []) rules (Delivered s n) (rules_stay journal rules (Made e) A refl (λ number rule. refl) (λ number. refl)) refl (λ number rule. refl) (λ number. refl)
 
--- of a session with a passage, and without one
+-- for a session with a passage, and without one
 pub sent_has : (r r' : Refusals) (journal : List Act) (s at n k : ℕ) (e : LogEntry) (p p' : Passage) → HasJournal r journal → slice_get r.passages.items at ≡ Some p → at + 1 ≡ s → r'.passages.items ≡ slice_set r.passages.items at p' → r'.rules.items ≡ r.rules.items → IsGone s k e → n ≡ length p.output.items + k → ((u : List ℕ) → IsUnsent (log_of journal) s u → k ≤ length u) → p'.output.items ≡ [] → p'.held.items ≡ p.held.items → p'.begun ≡ p.begun → HasJournal r' ((journal ++ Made e ∷ []) ++ Delivered s n ∷ [])
 sent_has r r' journal s at n k e p p' H here number set rules G count there output held begun =
     let after : List Act = (journal ++ Made e ∷ []) ++ Delivered s n ∷ [] in
@@ -264,9 +264,9 @@ sent_none r journal s n e H none G there = record {
   rules = sent_rules journal s n e r.rules.items H.rules;
 }
 
--- ---- what is next goes on
+-- ---- the next packet
 
--- a session without a passage holds nothing
+-- a session without a passage has nothing buffered
 pub nothing_held : (journal : List Act) (s : ℕ) → ServesHere journal s [] [] false → NoneIsHeld journal s
 nothing_held journal s S = λ waits own held received.
     let is : [] ≡ held = append_cancel_left (taken_in s journal) [] held (sym (S.served own).received ∙ received) in
@@ -307,7 +307,7 @@ log_received journal e s bytes =
 pub log_delivered_alone : (journal : List Act) (s n : ℕ) → log_of journal ≡ log_of (journal ++ Delivered s n ∷ [])
 log_delivered_alone journal s n = sym (more logged journal (Delivered s n) ∙ append-nil (log_of journal))
 
--- a passage of the same bytes
+-- a passage with the same bytes
 pub kept_has : (r r' : Refusals) (journal : List Act) (s at : ℕ) (p p' : Passage) → HasJournal r journal → slice_get r.passages.items at ≡ Some p → at + 1 ≡ s → r'.passages.items ≡ slice_set r.passages.items at p' → r'.rules.items ≡ r.rules.items → p'.held.items ≡ p.held.items → p'.output.items ≡ p.output.items → p'.begun ≡ p.begun → HasJournal r' journal
 kept_has r r' journal s at p p' H here number set rules held output begun =
     changed_has r r' journal journal s at p p' H here number set (record {
@@ -319,7 +319,7 @@ kept_has r r' journal s at p p' H here number set rules held output begun =
       others = λ other held output begun ne serves. serves;
     })
 
--- what is held is told by what came
+-- the received bytes determine the buffered ones
 pub held_more : (journal : List Act) (s : ℕ) (held output : List ℕ) → IsServedHere journal s held output → IsCut held cut.More → (other : List ℕ) → received_in s journal ≡ taken_in s journal ++ other → IsCut other cut.More
 held_more journal s held output S more other received =
     subst (λ (b : List ℕ). IsCut b cut.More) (append_cancel_left (taken_in s journal) held other (sym S.received ∙ received)) more

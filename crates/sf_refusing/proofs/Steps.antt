@@ -1,4 +1,4 @@
--- What the acts of refusals leave.
+-- The effects of the events of refusals.
 use Rattle.std.proofs.Common.{◌≡◌, ◌≢◌, ℕ, zero, suc, ◌+◌, ◌<◌, ◌≤◌, ◌⊎◌, List, [], ◌∷◌, ◌++◌, Bool, true, false, Some, Result, Ok, Err, length, take, drop, map, slice_get, refl, ap, sym, ◌∙◌, subst, arith, inl, inr, append-nil, append_assoc, length-append, length-set}
 use Rattle.std.specs.Prelude.{nat_eq, nat_lt, slice_set, if◌then◌else◌}
 use Rattle.std.specs.Global.{Vec}
@@ -29,7 +29,7 @@ use Rattle.sf_refusing.specs.Fronts.{IsPassageAt, StandsBefore, HoldsAfter, Engi
 use Rattle.sf_refusing.proofs.Growing.{more, own_so, other_so, none_so, own_front, happened_more, begun_stays, begun_now, entry_served, other_served, received_served, fed_served, IsMoved, moved_served, delivered_served, same_unsent, unsent_more, grown, get_set_same, get_set_other, some_same}
 use Rattle.sf_refusing.proofs.Counts.{rules_stay}
 
--- ---- an event by which nothing goes in or is gone
+-- ---- an event that neither feeds nor removes output
 
 pub record IsPlain (e : LogEntry) : Type 0 where
   pub fed : (s : ℕ) → fed_by s e.event e.result ≡ []
@@ -86,9 +86,9 @@ pub log_done : (journal : List Act) (entries : List LogEntry) → log_of journal
 log_done journal entries =
     ap (λ (l : List LogEntry). log_of journal ++ l) (sym (log_of_did entries)) ∙ sym (flat_map-append logged journal (map Made entries))
 
--- ---- what stands at the front goes in
+-- ---- the first packet is fed
 
--- the bytes that an event of a session fed
+-- the bytes that a session's event fed
 pub fed_is : (s : ℕ) (bytes : List ℕ) (e : LogEntry) → IsFed s bytes e → (other : ℕ) → fed_by other e.event e.result ≡ if_so (nat_eq s other) bytes
 fed_is s bytes e F other =
     ap (λ (ev : Event). fed_by other ev e.result) F.event ∙ ap (λ (r : Result Happened EngineFault). fed_by other (event.Feed s F.fed) r) F.result
@@ -97,7 +97,7 @@ fed_is s bytes e F other =
 none_sent : (s : ℕ) (bytes : List ℕ) (e : LogEntry) → IsFed s bytes e → (other : ℕ) → sent_at other e.event e.result ≡ 0
 none_sent s bytes e F other = ap (λ (ev : Event). sent_at other ev e.result) F.event
 
--- an act that feeds the engine the front of what is held, for the session, and for others
+-- an event that feeds the first buffered bytes, for the session and for the others
 fed_serves : (journal : List Act) (s : ℕ) (act : Act) (e : LogEntry) (front held output : List ℕ) (begun : Bool) → logged act ≡ e ∷ [] → received_by s act ≡ [] → taken_by s act ≡ front → delivered_by s act ≡ 0 → sent_by s act ≡ transcript (written_by s e.event e.wrote) → sent_at s e.event e.result ≡ 0 → 0 < length front → ServesHere journal s (front ++ held) output begun
     → ServesHere (journal ++ act ∷ []) s held output true
 fed_serves journal s act e front held output begun is received taken delivered wrote sent some S = record {
@@ -119,13 +119,13 @@ other_serves journal s act held output begun is received taken delivered wrote S
   served = λ own. other_served journal s act held output is received taken delivered wrote (S.served (own_front s journal act own));
 }
 
--- nothing happens
+-- no event
 pub nothing_leaves : {E : Type 0} (has_log : E → List LogEntry → Type 0) (engine : E) (journal : List Act) (s : ℕ) (p : Passage) (rules : List GivenRule) → StandsBefore has_log engine journal s p rules → EngineHoldsAfter has_log engine journal s p rules (journal ++ [])
 nothing_leaves {E} has_log engine journal s p rules S =
     subst (λ (after : List Act). EngineHoldsAfter has_log engine journal s p rules after) (sym (append-nil journal))
     (S.has, record { happened = S.happened; at = S.at; rules = S.rules; others = λ other held output begun ne serves. serves })
 
--- what no rule is asked about goes in
+-- bytes to which no rule applies are fed
 pub did_leaves : {E : Type 0} (has_log : E → List LogEntry → Type 0) (engine engine' : E) (journal : List Act) (s : ℕ) (p p' : Passage) (rules : List GivenRule) (e : LogEntry) (front : List ℕ) → StandsBefore has_log engine journal s p rules → IsFed s front e → has_log engine' (log_of journal ++ e ∷ []) → p.held.items ≡ front ++ p'.held.items → p'.output.items ≡ p.output.items → p'.begun ≡ true → 0 < length front → IsUnruled journal s front
     → EngineHoldsAfter has_log engine' journal s p' rules (journal ++ Made e ∷ [])
 did_leaves {E} has_log engine engine' journal s p p' rules e front S F has held output begun some unruled =

@@ -1,5 +1,5 @@
 -- No public clause cites this module.
--- What is done with the front of the bytes that are held for a session.
+-- Deciding on the first packet that is buffered for a session.
 use Rattle.std.specs.Prelude.{◌≡◌, ◌≢◌, ℕ, List, [], Bool}
 use Rattle.sf_engine.specs.Promise.{LogEntry, WaitsForBytes}
 use Rattle.sf_refusing.specs.declared.given.GivenRule.{GivenRule}
@@ -10,7 +10,7 @@ use Rattle.sf_refusing.specs.Refusing.{AllMayHappen, ServesHere, AreGiven}
 abbrev pub IsPassageAt : List Act → ℕ → Passage → Type 0
 IsPassageAt journal session p = ServesHere journal session p.held.items p.output.items p.begun
 
--- a session that waits for bytes, before what is held for it goes on
+-- a session that waits for bytes, before its next packet is decided
 pub record StandsBefore {E : Type 0} (has_log : E → List LogEntry → Type 0) (engine : E)
     (journal : List Act) (session : ℕ) (p : Passage) (given : List GivenRule) : Type 0 where
   pub has : has_log engine (log_of journal)
@@ -19,7 +19,7 @@ pub record StandsBefore {E : Type 0} (has_log : E → List LogEntry → Type 0) 
   pub rules : AreGiven journal given
   pub waits : WaitsForBytes (log_of journal) session
 
--- what is left for a session and the rules, after this journal; others are as they were
+-- the session's buffers and the rules after this journal; other sessions are unchanged
 pub record HoldsAfter (journal : List Act) (session : ℕ) (p : Passage) (given : List GivenRule)
     (after : List Act) : Type 0 where
   pub happened : AllMayHappen [] after

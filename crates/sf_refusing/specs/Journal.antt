@@ -1,4 +1,4 @@
--- What has happened, in the order of time, and what it tells.
+-- The journal: all events in order, and its projections.
 use Rattle.std.specs.Prelude.{◌+◌, ℕ, zero, suc, nat_eq, nat_lt, List, [], ◌∷◌, Bool, true, false, not, ◌&&◌, if◌then◌else◌, Option, Some, None}
 use Rattle.std.specs.List.{flat_map, sum_by}
 use Rattle.sf_field.specs.Fields.{packet}
@@ -12,17 +12,17 @@ use Rattle.sf_engine.specs.Promise.{LogEntry, fed_by, written_by}
 use Rattle.sf_refusing.specs.declared.rule.Rule.{Rule}
 use Rattle.sf_refusing.specs.Rules.{is_for}
 
--- a packet of a session, and what its body asks
+-- a packet of a session, and what its body asks for
 pub record Packet : Type 0 where
   pub session : ℕ
   pub body : List ℕ
   pub asked : Asked
 
--- What happens. A rule is given; bytes come for a session; so many bytes of what it is sent are
--- gone. The engine makes an event; or it made one apart from all this. A packet is passed on, by an
--- event of the engine. Or it is refused: the rule with this number refuses the request under this
--- id, and by an event the engine is told that all that it had for the session was sent, since it
--- waits here now, before the status.
+-- The events. `Ruled`: a rule is added. `Received`: bytes come in for a session. `Delivered`: bytes
+-- of its output were sent. `Made`: an event of the engine. `Apart`: an event that was made on the
+-- engine directly. `PassedOn`: a packet was fed to the engine. `RefusedBy`: the rule with this
+-- number refused the request with this id. The engine's output for the session was moved here
+-- before, by its event `Sent`, so that the status follows it.
 pub data Act : Type 0 where
   Ruled : (rule : Rule) → Act
   Received : (session : ℕ) → (bytes : List ℕ) → Act
@@ -41,13 +41,13 @@ logged (PassedOn p e) = e ∷ []
 logged (RefusedBy p id number code e) = e ∷ []
 logged act = []
 
--- its log
+-- the engine's log
 abbrev pub log_of : List Act → List LogEntry
 log_of journal = flat_map logged journal
 
 -- ---- one session
 
--- the bytes that came for it
+-- the bytes that it received
 abbrev pub received_by : ℕ → Act → List ℕ
 received_by session (Received s bytes) = if_so (nat_eq s session) bytes
 received_by session act = []
@@ -55,7 +55,7 @@ received_by session act = []
 abbrev pub received_in : ℕ → List Act → List ℕ
 received_in session journal = flat_map (received_by session) journal
 
--- those of them that the engine was fed, and the packets that were refused
+-- the bytes of these that the engine was fed, and the packets that were refused
 abbrev pub taken_by : ℕ → Act → List ℕ
 taken_by session (Made e) = fed_by session e.event e.result
 taken_by session (PassedOn p e) = fed_by session e.event e.result
@@ -65,7 +65,7 @@ taken_by session act = []
 abbrev pub taken_in : ℕ → List Act → List ℕ
 taken_in session journal = flat_map (taken_by session) journal
 
--- what it is sent: the engine's replies, and the statuses of the refusals
+-- its output: the engine's replies, and the statuses of refused requests
 abbrev pub sent_by : ℕ → Act → List ℕ
 sent_by session (Made e) = transcript (written_by session e.event e.wrote)
 sent_by session (Apart e) = transcript (written_by session e.event e.wrote)
@@ -77,7 +77,7 @@ sent_by session act = []
 abbrev pub sent_in : ℕ → List Act → List ℕ
 sent_in session journal = flat_map (sent_by session) journal
 
--- how many bytes of it are gone
+-- the number of bytes of its output that were sent
 abbrev pub delivered_by : ℕ → Act → ℕ
 delivered_by session (Delivered s count) = if nat_eq s session then count else 0
 delivered_by session act = 0
@@ -87,7 +87,7 @@ delivered_in session journal = sum_by (delivered_by session) journal
 
 -- ---- one rule
 
--- the rules that were given, in order
+-- the rules that were added, in order
 abbrev pub ruled : Act → List Rule
 ruled (Ruled rule) = rule ∷ []
 ruled act = []
@@ -95,14 +95,14 @@ ruled act = []
 abbrev pub rules_in : List Act → List Rule
 rules_in journal = flat_map ruled journal
 
--- The rule with this number, and what has happened since it was given. They are 0, 1, 2 and so on.
+-- The rule with this number (0, 1, 2 and so on), and the events since it was added.
 abbrev pub since_given : List Act → ℕ → Option (Rule × List Act)
 since_given [] number = None
 since_given (Ruled rule ∷ journal) zero = Some (rule, journal)
 since_given (Ruled rule ∷ journal) (suc number) = since_given journal number
 since_given (act ∷ journal) number = since_given journal number
 
--- whether a rule is for what a packet asks
+-- whether a rule matches what a packet asks for
 abbrev pub fits_asked : Rule → ℕ → Asked → Bool
 fits_asked rule session (Request id request) = is_for rule session request
 fits_asked rule session asked = false
@@ -110,7 +110,7 @@ fits_asked rule session asked = false
 abbrev pub fits_packet : Rule → Packet → Bool
 fits_packet rule p = fits_asked rule p.session p.asked
 
--- It counts a packet that it is for, unless one before it refuses that.
+-- A rule counts a matching packet, unless an earlier rule refuses that.
 abbrev pub counts : ℕ → Rule → Act → ℕ
 counts number rule (PassedOn p e) = if fits_packet rule p then 1 else 0
 counts number rule (RefusedBy p id by code e) =
@@ -120,7 +120,7 @@ counts number rule act = 0
 abbrev pub count_since : ℕ → Rule → List Act → ℕ
 count_since number rule since = sum_by (counts number rule) since
 
--- how many it refused
+-- the number of requests that it refused
 abbrev pub refused_by : ℕ → Act → ℕ
 refused_by number (RefusedBy p id by code e) = if nat_eq by number then 1 else 0
 refused_by number act = 0
@@ -128,7 +128,7 @@ refused_by number act = 0
 abbrev pub refused_in : ℕ → List Act → ℕ
 refused_in number since = sum_by (refused_by number) since
 
--- whether a rule that has counted so many refuses the next that it counts
+-- whether a rule that has counted `count` requests refuses the next one that it counts
 abbrev pub is_refusing : Rule → ℕ → Bool
 is_refusing rule count = not (nat_lt count rule.pass) && nat_lt count (rule.pass + rule.refuse)
 
@@ -137,6 +137,6 @@ refuses_since number p None = false
 refuses_since number p (Some given) =
     fits_packet given.0 p && is_refusing given.0 (count_since number given.0 given.1)
 
--- whether the rule with this number refuses a packet next
+-- whether the rule with this number refuses this packet next
 abbrev pub rule_refuses : List Act → ℕ → Packet → Bool
 rule_refuses journal number p = refuses_since number p (since_given journal number)

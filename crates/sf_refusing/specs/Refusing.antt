@@ -1,4 +1,4 @@
--- What is promised of requests that are refused: a journal has it.
+-- The promises about refused requests: a journal of them exists.
 use Rattle.std.specs.Prelude.{◌≡◌, ◌<◌, ◌≤◌, ◌+◌, ◌-◌, ◌⊎◌, ℕ, nat_eq, nat_lt, min, List, [], ◌∷◌, ◌++◌, length, map, Bool, true, false, Some, None, slice_get, Result, Ok, Err}
 use Rattle.std.specs.Global.{Vec}
 use Rattle.std.specs.List.{AllByRecursion}
@@ -25,7 +25,7 @@ use Rattle.sf_refusing.specs.Journal.{Packet, Act, Ruled, Received, Delivered, M
 
 -- ---- what may happen
 
--- the engine took these bytes for a session
+-- the engine was fed these bytes for a session
 pub record IsFed (session : ℕ) (bytes : List ℕ) (e : LogEntry) : Type 0 where
   pub fed : Vec ℕ
   pub items : fed.items ≡ bytes
@@ -33,22 +33,22 @@ pub record IsFed (session : ℕ) (bytes : List ℕ) (e : LogEntry) : Type 0 wher
   pub happened : Happened
   pub result : e.result ≡ Ok happened
 
--- Bytes that no rule is asked about: none; a wrong length, with what follows it; or a packet that a
--- session begins with, or for which there is no rule yet.
+-- Bytes to which no rule is applied: none; an invalid length, with all that follows it; or a packet
+-- that is its session's first one or that comes before any rule.
 abbrev pub IsUnruled : List Act → ℕ → List ℕ → Type 0
 IsUnruled front session bytes = (bytes ≡ []) ⊎ (((cause : BadCut) × IsCut bytes (cut.Bad cause))
     ⊎ (((taken_in session front ≡ []) ⊎ (rules_in front ≡ []))
     × ((body : List ℕ) × IsBody body × (bytes ≡ packet body))))
 
--- A packet is passed on: no rule refuses it.
+-- A packet is passed on, since no rule refuses it.
 pub record MayPass (front : List Act) (p : Packet) (e : LogEntry) : Type 0 where
   pub is_body : IsBody p.body
   pub asks : Asks p.body p.asked
   pub fed : IsFed p.session (packet p.body) e
   pub passes : (number : ℕ) → rule_refuses front number p ≡ false
 
--- A request is refused: it isn't what its session begins with, all that came before it was
--- answered, and this rule is the first one that refuses it.
+-- A request is refused. It isn't its session's first packet, all earlier requests were answered,
+-- and this rule is the first one that refuses it.
 pub record MayRefusePacket (front : List Act) (p : Packet) (id number : ℕ) (code : StatusCode)
     (e : LogEntry) : Type 0 where
   pub request : WireRequest
@@ -72,20 +72,20 @@ MayHappen front (PassedOn p e) = MayPass front p e
 MayHappen front (RefusedBy p id number code e) = MayRefusePacket front p id number code e
 MayHappen front act = Unit {0}
 
--- each of these might happen, after those before it
+-- each of these events may happen after those before it
 unfoldable pub AllMayHappen : List Act → List Act → Type 0
 AllMayHappen front [] = Unit {0}
 AllMayHappen front (act ∷ journal) = MayHappen front act × AllMayHappen (front ++ act ∷ []) journal
 
 -- ---- one session
 
--- whether by an event bytes are fed to a session, or are told as sent
+-- whether an event feeds bytes to a session or removes its output
 abbrev pub moves_bytes : ℕ → Event → Bool
 moves_bytes session (event.Feed s bytes) = nat_eq s session
 moves_bytes session (event.Sent s n) = nat_eq s session
 moves_bytes session ev = false
 
--- no event that was made apart was such a one of this session
+-- the event wasn't made on the engine directly, or is no such event of this session
 abbrev pub IsNotApart : ℕ → Act → Type 0
 IsNotApart session (Apart e) = moves_bytes session e.event ≡ false
 IsNotApart session act = Unit {0}
@@ -93,8 +93,8 @@ IsNotApart session act = Unit {0}
 abbrev pub IsOwn : ℕ → List Act → Type 0
 IsOwn session journal = AllByRecursion (IsNotApart session) journal
 
--- What came for it was fed to the engine, or refused, in order, but for what is held. What it is
--- sent has gone, or waits here, or in the engine.
+-- The bytes that a session received were fed to the engine or refused, in order, except those that
+-- are buffered. Its output was sent, or is buffered here or in the engine.
 pub record IsServedHere (journal : List Act) (session : ℕ) (held output : List ℕ) : Type 0 where
   pub received : received_in session journal ≡ taken_in session journal ++ held
   pub unsent : List ℕ
@@ -103,7 +103,7 @@ pub record IsServedHere (journal : List Act) (session : ℕ) (held output : List
   pub count : length gone ≡ delivered_in session journal
   pub waits : sent_in session journal ≡ gone ++ output ++ unsent
 
--- So it is, if its bytes come and go here alone.
+-- The same, if no event on the engine directly feeds the session or removes its output.
 pub record ServesHere (journal : List Act) (session : ℕ) (held output : List ℕ)
     (begun : Bool) : Type 0 where
   pub begun_is : begun ≡ nat_lt 0 (length (taken_in session journal))
@@ -111,8 +111,7 @@ pub record ServesHere (journal : List Act) (session : ℕ) (held output : List �
 
 -- ---- one rule
 
--- A rule that was given has this number. It passed as many as it may, and refused as many, of those
--- that it counted since.
+-- The rule with this number passed and refused as many as it may, of those that it has counted.
 pub record IsGivenRule (journal : List Act) (number : ℕ) (given : GivenRule) : Type 0 where
   pub since : List Act
   pub is : since_given journal number ≡ Some (given.rule, since)
@@ -121,7 +120,7 @@ pub record IsGivenRule (journal : List Act) (number : ℕ) (given : GivenRule) :
       ≡ min given.rule.refuse (count_since number given.rule since - given.rule.pass)
   pub told : given.refused ≡ refused_in number since
 
--- so it is with each rule
+-- the same for each rule
 pub record AreGiven (journal : List Act) (rules : List GivenRule) : Type 0 where
   pub count : length rules ≡ length (rules_in journal)
   pub each : (number : ℕ) (given : GivenRule) → slice_get rules number ≡ Some given
@@ -138,20 +137,20 @@ pub record HasJournal (refusals : Refusals) (journal : List Act) : Type 0 where
       → ServesHere journal session [] [] false
   pub rules : AreGiven journal refusals.rules.items
 
--- the refusals have this journal, and the engine its log
+-- the refusals have this journal, and the engine has its log
 abbrev pub Have : {E : Type 0} → (E → List LogEntry → Type 0) → E → Refusals → List Act → Type 0
 Have has_log engine refusals journal =
     HasJournal refusals journal × has_log engine (log_of journal)
 
--- ---- what calls tell
+-- ---- results
 
--- Where the session waits for bytes, less than a packet is held of what came for it.
+-- If the session waits for bytes, less than a packet of its bytes is buffered.
 abbrev pub NoneIsHeld : List Act → ℕ → Type 0
 NoneIsHeld journal session = WaitsForBytes (log_of journal) session → IsOwn session journal
     → (held : List ℕ) → received_in session journal ≡ taken_in session journal ++ held
     → IsCut held cut.More
 
--- what stood at the front was passed on
+-- the first buffered bytes were passed on
 abbrev pub IsPassedOn : ℕ → Act → Type 0
 IsPassedOn session (Made e) = 0 < length (fed_by session e.event e.result)
 IsPassedOn session (PassedOn p e) = p.session ≡ session
@@ -168,15 +167,15 @@ abbrev pub IsRefusal : ℕ → List Act → Type 0
 IsRefusal session acts = (p : Packet) × (id number : ℕ) × (code : StatusCode) × (e : LogEntry)
     × (p.session ≡ session) × (acts ≡ RefusedBy p id number code e ∷ [])
 
--- Whether what a session has next was refused, or passed on; or there was no memory to take it.
+-- Whether the session's next packet was refused or passed on; or memory for it ran out.
 abbrev pub MovesFront : List Act → ℕ → Result Bool EngineFault → List Act → Type 0
 MovesFront journal session (Ok true) acts = IsRefusal session acts
 MovesFront journal session (Ok false) acts = PassesOn journal session acts
 MovesFront journal session (Err f) acts =
     (f ≡ fault.OutOfMemory) × (acts ≡ []) × WaitsForBytes (log_of journal) session
 
--- What a turn of a session was: a refusal; or the engine's turns, after a packet was passed on; or
--- nothing, since there was no memory to take a packet.
+-- A turn of a session: a refusal; or turns of the engine, perhaps after a packet was passed on; or
+-- nothing, since memory for a packet ran out.
 abbrev pub IsTurn : List Act → ℕ → (List LogEntry → Type 0) → Result Happened EngineFault → List Act
     → Type 0
 IsTurn journal session AreMade r acts = ((r ≡ Ok happened.Wrote) × IsRefusal session acts)
@@ -184,7 +183,7 @@ IsTurn journal session AreMade r acts = ((r ≡ Ok happened.Wrote) × IsRefusal 
     × AreMade entries × (acts ≡ passed ++ map Made entries))
     ⊎ ((r ≡ Err fault.OutOfMemory) × (acts ≡ []) × WaitsForBytes (log_of journal) session))
 
--- what waits to be sent next
+-- the output that is to be sent next
 pub record IsNextOutput (journal : List Act) (session : ℕ) (output : List ℕ) : Type 0 where
   pub gone : List ℕ
   pub later : List ℕ
@@ -192,15 +191,15 @@ pub record IsNextOutput (journal : List Act) (session : ℕ) (output : List ℕ)
   pub waits : sent_in session journal ≡ gone ++ output ++ later
   pub last : output ≡ [] → later ≡ []
 
--- Why bytes for a session are refused: as the engine refuses to be fed; but memory may be wanting
--- for any session that there is.
+-- Why a feed fails: as the engine's feed does, except that memory may run out for any known
+-- session.
 abbrev pub MayRefuseFeed : List LogEntry → ℕ → EngineFault → Type 0
 MayRefuseFeed log session fault.OutOfMemory = IsKnown log session
 MayRefuseFeed log session fault.NoSuchSession = ¬ IsKnown log session
 MayRefuseFeed log session fault.Ended = WasClosed log session ⊎ HasLeft log session
 MayRefuseFeed log session f = ⊥
 
--- Why so many bytes can't be gone: there is no such session, or not so much waits.
+-- Why this many bytes can't be removed: the session is unknown, or its output is shorter.
 abbrev pub MayRefuseSent : List Act → ℕ → ℕ → EngineFault → Type 0
 MayRefuseSent journal session count fault.NoSuchSession = ¬ IsKnown (log_of journal) session
 MayRefuseSent journal session count fault.NotSent = IsOwn session journal

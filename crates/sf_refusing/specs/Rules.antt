@@ -1,4 +1,4 @@
--- Which requests a rule is for.
+-- The requests that a rule matches.
 use Rattle.std.specs.Prelude.{ℕ, nat_eq, List, [], ◌∷◌, ◌++◌, Bool, true, false, ◌&&◌, Option, Some, None}
 use Rattle.std.specs.List.{list_any}
 use Rattle.sf_path.specs.Names.{Path}
@@ -31,7 +31,7 @@ kind_asked (request.Rename old new) = kind.Rename
 kind_asked (request.PosixRename old new) = kind.PosixRename
 kind_asked (request.Link old new) = kind.Link
 
--- the path that a text stands for, if it has no fault
+-- the path of a text, if it is valid
 abbrev pub as_list : Option Path → List Path
 as_list None = []
 as_list (Some path) = path ∷ []
@@ -55,7 +55,7 @@ paths_of (request.PosixRename old new) = path_in old ++ path_in new
 paths_of (request.Link old new) = path_in old ++ path_in new
 paths_of request = []
 
--- what a rule leaves out fits anything
+-- a missing part of a rule matches anything
 abbrev pub is_any_or : {A : Type 0} → Option A → (A → Bool) → Bool
 is_any_or None test = true
 is_any_or (Some wanted) test = test wanted
@@ -63,12 +63,12 @@ is_any_or (Some wanted) test = test wanted
 abbrev pub names_path : List Path → Path → Bool
 names_path paths path = list_any (λ named. same_path named path) paths
 
--- whether a rule is for a request of this kind that names these paths
+-- whether a rule matches a request of this kind that names these paths
 abbrev pub fits : Rule → (session : ℕ) → RequestKind → List Path → Bool
 fits rule session asked paths = is_any_or rule.session (λ wanted. nat_eq wanted session)
     && is_any_or rule.kind (λ wanted. ghosts.eq wanted asked)
     && is_any_or rule.path (names_path paths)
 
--- whether it is for a session's request
+-- whether a rule matches a session's request
 abbrev pub is_for : Rule → (session : ℕ) → WireRequest → Bool
 is_for rule session request = fits rule session (kind_asked request) (paths_of request)

@@ -1,4 +1,4 @@
-//! What stands at the front of the bytes that are held for a session.
+//! Deciding on the first packet that is buffered for a session.
 
 ghost use Rattle.std.specs.Prelude.{◌≡◌, ◌⊎◌, ◌++◌, ℕ, List, [], true, false, IfOk, IfSome, IfNone};
 ghost use Rattle.sf_request.specs.declared.request.Asked.{Asked};
@@ -19,8 +19,7 @@ use sf_request::{Asked, read_request};
 use sf_wire::{Cut, cut};
 use std::alloc::{AllocError, Global};
 
-/// What a packet's body asks, as rules see it, under its id. Of other packets than requests
-/// nothing.
+/// The id and the subject of a packet's body, if it is a request.
 fn subject_of(
     alloc: Global,
     session: u64,
@@ -38,7 +37,7 @@ fn subject_of(
     }
 }
 
-/// Passes on the first packet that is held for a session, of so many bytes, or refuses it.
+/// Passes on the first buffered packet of a session, which has `len` bytes, or refuses it.
 fn decide<E: Sftp>(
     alloc: Global,
     rules: &mut Vec<GivenRule>,
@@ -74,7 +73,7 @@ fn decide<E: Sftp>(
     Ok(true)
 }
 
-/// Whether a session's next packet is one that rules are asked about.
+/// Whether rules are applied to a session's next packet.
 fn is_ruled(rules: &[GivenRule], passage: &Passage) -> bool
     ensures ruled { result ≡ true → passage.now.begun ≡ true }
     ensures unruled { result ≡ false → (passage.now.begun ≡ false) ⊎ (rules.now ≡ []) }
@@ -82,8 +81,9 @@ fn is_ruled(rules: &[GivenRule], passage: &Passage) -> bool
     passage.begun && !rules.is_empty()
 }
 
-/// The first packet of a session, any where there is no rule, or a wrong length with what follows
-/// it, is passed on; another packet is decided on. The session waits for bytes.
+/// Takes the first packet of a session that waits for bytes. It is passed on unexamined if it is
+/// the session's first one or if there is no rule. An invalid length is passed on with all that
+/// follows it. Otherwise rules decide.
 pub(crate) fn take_front<E: Sftp>(
     alloc: Global,
     rules: &mut Vec<GivenRule>,

@@ -1,4 +1,4 @@
-//! Rules that were given, and what they counted.
+//! Rules in force, with their counts.
 
 ghost use Rattle.std.specs.Prelude.{◌≡◌, ◌<◌, ◌≤◌, ℕ, nat_lt, ◌&&◌, true, false, length, slice_get, Some, IfSome, IfNone};
 ghost use Rattle.sf_refusing.specs.declared.given.GivenRule.{GivenRule};
@@ -7,7 +7,7 @@ ghost use Rattle.sf_refusing.specs.Counting.{refuses_now, counted_if};
 
 use crate::rule::{Rule, Subject};
 
-/// A rule, how many of those that it is for passed, and how many it refused.
+/// A rule, the number of matching requests that passed, and the number that it refused.
 #[derive(Debug, Drop)]
 pub(crate) struct GivenRule {
     pub rule: Rule,
@@ -16,7 +16,7 @@ pub(crate) struct GivenRule {
 }
 
 impl GivenRule {
-    /// It has counted none.
+    /// A rule that has counted no request.
     pub(crate) fn new(rule: Rule) -> GivenRule
         ensures { result ≡ record { rule = rule; passed = 0; refused = 0 } }
     {
@@ -27,7 +27,7 @@ impl GivenRule {
         }
     }
 
-    /// Whether it refuses this request next.
+    /// Whether the rule refuses this request next.
     fn refuses(&self, subject: &Subject) -> bool
         ensures { result ≡ refuses_now self.now subject.now.session subject.now.kind
             subject.now.paths.items }
@@ -35,7 +35,7 @@ impl GivenRule {
         self.rule.fits(subject) && self.passed >= self.rule.pass && self.refused < self.rule.refuse
     }
 
-    /// Counts a request, if it is for it.
+    /// Counts a request, if the rule matches it.
     fn count(&mut self, subject: &Subject)
         ensures { self.new ≡ counted_if (fits self.old.rule subject.now.session subject.now.kind
             subject.now.paths.items) self.old }
@@ -73,7 +73,7 @@ pub(crate) fn first_refusing(rules: &[GivenRule], subject: &Subject) -> Option<u
     None
 }
 
-/// The first rules count a request, so many of them.
+/// The first `count` rules count a request.
 pub(crate) fn count_with(rules: &mut Vec<GivenRule>, count: usize, subject: &Subject)
     requires { count ≤ length rules.old.items }
     ensures length { length rules.new.items ≡ length rules.old.items }

@@ -1,17 +1,18 @@
-//! Requests refused by order, over an engine.
+//! Fault injection in front of an engine: rules refuse chosen requests. A refused request is
+//! answered with an error status and never reaches the engine.
 //!
-//! `Refusals` stands between the clients of an engine and its sessions. Start with
-//! `specs/Journal.antt`: what happens, in the order of time, and what that tells of the engine, of
-//! a session and of a rule. `specs/Refusing.antt` says what may happen (`MayPass`,
-//! `MayRefusePacket`), what is so of each session (`IsServedHere`) and of each rule
-//! (`IsGivenRule`), and, by `HasJournal`, that refusals have such a journal, which each call goes
-//! on. Of the engine nothing is known but what `Sftp` says: it has the journal's log (`log_of`), so
-//! its promise holds of what it was fed, word for word. `specs/Rules.antt` says which requests a
-//! rule is for.
+//! `Refusals` is between the clients of an engine and its sessions. Start with
+//! `specs/Journal.antt`: the journal of all events, and its projections to the engine, to a session
+//! and to a rule. `specs/Refusing.antt` defines the events that may happen (`MayPass`,
+//! `MayRefusePacket`) and the invariants of each session (`IsServedHere`) and each rule
+//! (`IsGivenRule`). `HasJournal` says that refusals have such a journal, which each method extends.
+//! The engine is any implementation of `Sftp`. It has the journal's log (`log_of`), so its contract
+//! applies to the bytes that it was fed. `specs/Rules.antt` defines the requests that a rule
+//! matches.
 //!
-//! To read the code, start with `Refusals::move_on` in `refusals.rt`: a session that waits for
-//! bytes gets the next packet. `front.rt` decides on it, by the rules of `given.rt` and `rule.rt`,
-//! and `passage.rt` passes it on or refuses it. No journal is kept when the program runs.
+//! In the code, start with `Refusals::move_on` in `refusals.rt`: a session that waits for bytes
+//! gets its next packet. `front.rt` decides on it, by the rules of `given.rt` and `rule.rt`, and
+//! `passage.rt` passes it on or refuses it. The journal is ghost state.
 #![tactic(auto)]
 
 mod front;

@@ -1,4 +1,4 @@
-//! What is between a client and the engine's session.
+//! The buffers between a client and its session of the engine.
 
 ghost use Rattle.std.specs.Prelude.{◌≡◌, ◌<◌, ◌≤◌, ◌^◌, ◌++◌, ◌∷◌, ℕ, List, [], length, take, drop, true, false, Ok, IfErr, OnOk, OnErr};
 ghost use Rattle.std.specs.Global.{Vec};
@@ -16,18 +16,18 @@ use sf_engine::{EngineFault, Event, Sftp};
 use sf_reply::{MAX_PLAIN_REPLY, Reply, StatusCode, write_reply};
 use std::alloc::Global;
 
-/// Bytes that came for a session and were not passed on, and bytes that it is sent before those of
-/// the engine.
+/// The bytes that a session received but that weren't passed on, and output that precedes the
+/// engine's.
 #[derive(Debug, Drop)]
 pub(crate) struct Passage {
     pub held: BytesMut,
     pub output: BytesMut,
-    /// The engine was fed some of its bytes.
+    /// Whether the engine was fed any of its bytes.
     pub begun: bool,
 }
 
 impl Passage {
-    /// Nothing came, and nothing is sent.
+    /// Empty buffers.
     pub(crate) fn new(alloc: Global) -> Passage
         ensures held { result.held.items ≡ [] }
         ensures output { result.output.items ≡ [] }
@@ -40,7 +40,7 @@ impl Passage {
         }
     }
 
-    /// Feeds the engine the first bytes that are held.
+    /// Feeds the engine the first `len` buffered bytes.
     pub(crate) fn pass<E: Sftp>(
         &mut self,
         engine: &mut E,
@@ -70,7 +70,7 @@ impl Passage {
         Ok(())
     }
 
-    /// Takes what the engine has to send, so that a status can come after it.
+    /// Moves the engine's output for the session here, so that a status can follow it.
     fn take_output<E: Sftp>(&mut self, engine: &mut E, session: u64) -> Result<(), EngineFault>
         ensures held { self.new.held.items ≡ self.old.held.items }
         ensures begun { self.new.begun ≡ self.old.begun }
@@ -102,8 +102,8 @@ impl Passage {
         Ok(())
     }
 
-    /// Drops the first packet that is held, of so many bytes, and writes a status for it, behind
-    /// what the engine had to send.
+    /// Removes the first buffered packet, which has `len` bytes, and appends a status for it to the
+    /// output.
     pub(crate) fn refuse<E: Sftp>(
         &mut self,
         engine: &mut E,

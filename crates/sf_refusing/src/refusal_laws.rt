@@ -1,4 +1,4 @@
-//! Laws of journals, which no call needs.
+//! Laws of journals, which no method needs.
 
 ghost use Rattle.std.specs.Prelude.{◌≡◌, ◌++◌, ℕ, List, [], map};
 ghost use Rattle.sf_session.specs.Responses.{transcript};
@@ -7,8 +7,8 @@ ghost use Rattle.sf_refusing.specs.declared.refusals.Refusals.{Refusals};
 ghost use Rattle.sf_refusing.specs.Journal.{Act, Apart, log_of, rules_in, sent_in, taken_in};
 ghost use Rattle.sf_refusing.specs.Refusing.{HasJournal, IsOwn};
 
-/// Where no rule was given, a session is sent what the engine sends it, byte for byte, and of what
-/// came for it the engine was fed all that isn't held.
+/// Without a rule, a session is sent exactly the engine's output, and the engine is fed all
+/// received bytes that aren't buffered.
 pub fn without_rules()
     ensures { (refusals : Refusals) (journal : List Act) → HasJournal refusals journal
         → rules_in journal ≡ [] → (session : ℕ) → IsOwn session journal
@@ -16,9 +16,9 @@ pub fn without_rules()
         × (taken_in session journal ≡ fed_in session (log_of journal)) }
 {}
 
-/// The engine may make events apart from refusals: what they have stays. A session of which bytes
-/// come or go so isn't their own any more; any other event, as one by which a session opens or
-/// closes, changes nothing of what they promise.
+/// Events may be made on the engine directly, and refusals keep their journal. After an event that
+/// feeds a session or removes its output, nothing is promised of that session. Any other event,
+/// such as opening or closing a session, preserves all promises.
 pub fn events_apart()
     ensures { (refusals : Refusals) (journal : List Act) (entries : List LogEntry)
         → HasJournal refusals journal → HasJournal refusals (journal ++ map Apart entries) }

@@ -1,4 +1,4 @@
-//! Requests refused by order, on an engine.
+//! Fault injection in front of an engine.
 
 ghost use Rattle.std.specs.Prelude.{◌≡◌, ◌<◌, ◌≤◌, ◌+◌, ◌^◌, ◌⊎◌, ◌++◌, ◌∷◌, ◌↔◌, ℕ, IsTrue, List, [], length, take, map, drop, nat_lt, ◌&&◌, true, false, slice_get, Some, None, Ok, Err, IfOk, IfErr, IfSome, IfNone, OnOk, OnErr};
 ghost use Rattle.std.specs.Global.{Vec};
@@ -20,19 +20,20 @@ use sf_engine::{EngineFault, Event, Happened, Sftp};
 use sf_wire::{Cut, cut};
 use std::alloc::{AllocError, Global};
 
-/// Rules, and what is between clients and the sessions of one engine: their bytes come in here,
-/// packet by packet they are passed on or refused, and what they are sent is read here. A packet's
-/// turn comes when the session waits for bytes. All other events, as those by which a session opens
-/// or closes, are made on the engine itself. It has to be the same engine at each call.
+/// Rules, and the buffers between clients and the sessions of one engine. Clients' bytes are fed
+/// here and passed on or refused, packet by packet, and output is read here. A packet is decided
+/// when its session waits for bytes. All other events, such as opening or closing a session, are
+/// made on the engine itself. Each method must be given the same engine.
 #[derive(Drop)]
 pub struct Refusals {
     alloc: Global,
-    /// Of the sessions 1, 2, 3 and so on. A session without one is as one with an empty one.
+    /// The buffers of the sessions 1, 2, 3 and so on. A session beyond the last one has empty
+    /// buffers.
     passages: Vec<Passage>,
     rules: Vec<GivenRule>,
 }
 
-/// Where a session's passage is.
+/// The index of a session's passage.
 fn index_of(session: u64, count: usize) -> Option<usize>
     ensures some { IfSome result (λ at. (at + 1 ≡ session) × (at < count)) }
     ensures none { IfNone result ((session ≡ 0) ⊎ (count < session)) }
@@ -44,7 +45,7 @@ fn index_of(session: u64, count: usize) -> Option<usize>
 }
 
 impl Refusals {
-    /// No rule. It may be put before an engine of any log.
+    /// Refusals without a rule, for an engine with any log.
     pub fn new(alloc: Global) -> Refusals
         ensures { HasJournal result [] }
     {
@@ -55,7 +56,7 @@ impl Refusals {
         }
     }
 
-    /// Gives a rule, of which the number is told: 0, 1, 2 and so on.
+    /// Adds a rule, and returns its number: 0, 1, 2 and so on.
     pub fn rule(&mut self, rule: Rule) -> Result<usize, AllocError>
         ensures few { IfOk result (λ number. number < 2 ^ 63) }
         ensures ok { IfOk result (λ number. (journal : List Act) → HasJournal self.old journal
@@ -69,7 +70,7 @@ impl Refusals {
         Ok(number)
     }
 
-    /// How many requests the rule with this number has refused.
+    /// Returns the number of requests that the rule with this number has refused.
     pub fn refused(&self, number: usize) -> Option<u64>
         ensures some { IfSome result (λ count. (journal : List Act) → HasJournal self.now journal
             → (rule : Rule) × (since : List Act)
@@ -81,7 +82,7 @@ impl Refusals {
         Some(self.rules.get(number)?.refused)
     }
 
-    /// Makes passages, up to that of a session.
+    /// Adds passages up to that of a session.
     fn passage_of(&mut self, session: u64) -> Result<usize, AllocError>
         requires { 0 < session }
         ensures at { IfOk result (λ at. (at + 1 ≡ session)
@@ -95,8 +96,8 @@ impl Refusals {
         Ok((session - 1) as usize)
     }
 
-    /// Bytes come for a session. What is told is as the engine's event `Feed` tells; a packet that
-    /// is whole is looked at when its turn comes. Refused, it changes nothing.
+    /// Feeds bytes to a session. Returns what the engine's event `Feed` returns; a whole packet is
+    /// examined in a later turn. An error changes nothing.
     pub fn feed<E: Sftp>(
         &mut self,
         engine: &mut E,
@@ -132,8 +133,8 @@ impl Refusals {
         Ok(fed)
     }
 
-    /// Where a session waits for bytes, what is held for it goes on. Whether a request was refused
-    /// is told. For who knows more of an engine's turns than `turn` and `turns` tell.
+    /// If a session waits for bytes, its next packet is passed on or refused. Returns whether a
+    /// request was refused. Callers that take the engine's turns themselves use this.
     pub fn move_on<E: Sftp>(&mut self, engine: &mut E, session: u64) -> Result<bool, EngineFault>
         ensures { (journal : List Act) → Have E.has_log engine.old self.old journal
             → (acts : List Act) × MovesFront journal session result acts
@@ -155,8 +156,8 @@ impl Refusals {
         )
     }
 
-    /// A turn of a session: it refuses the next request, or passes on the next packet and has the
-    /// engine make a turn. Where there is no memory to take a packet nothing changes.
+    /// Takes a turn of a session: refuses its next request, or passes on its next packet and takes
+    /// a turn of the engine. If memory for a packet runs out, nothing changes.
     pub fn turn<E: Sftp>(
         &mut self,
         engine: &mut E,
@@ -175,8 +176,8 @@ impl Refusals {
         engine.apply(&Event::Turn(session, moment))
     }
 
-    /// As `turn`, but the engine makes turns as long as the session's call is on its way to its
-    /// reply.
+    /// As `turn`, but the engine takes turns until the session's call is answered or can't
+    /// progress.
     pub fn turns<E: Sftp>(
         &mut self,
         engine: &mut E,
@@ -194,8 +195,8 @@ impl Refusals {
         engine.turns(session, moment)
     }
 
-    /// What waits to be sent to a session: all of it, or where a request was refused, what comes up
-    /// to the last status, and the rest once that was sent.
+    /// Returns a session's next output. If a request was refused, this ends with the last status;
+    /// the remainder follows once that is sent.
     pub fn output<'a, E: Sftp>(&'a self, engine: &'a E, session: u64) -> Option<&'a [u8]>
         ensures some { IfSome result (λ output. (journal : List Act)
             → Have E.has_log engine.now self.now journal → IsOwn session journal
@@ -215,7 +216,7 @@ impl Refusals {
         Some(passage.output.as_slice())
     }
 
-    /// So many bytes of what a session is sent are gone, the first ones. Refused, it changes
+    /// Removes the first `count` bytes of a session's output, which were sent. An error changes
     /// nothing.
     pub fn sent<E: Sftp>(
         &mut self,
@@ -247,7 +248,8 @@ impl Refusals {
         Ok(sent)
     }
 
-    /// Whether a session rests with no whole packet unread or held, and no wrong length.
+    /// Whether a session is idle without a whole packet, and without an invalid length, in its
+    /// buffers.
     pub fn wants_bytes<E: Sftp>(&self, engine: &E, session: u64) -> bool
         ensures { (journal : List Act) → Have E.has_log engine.now self.now journal
             → IsOwn session journal → IsTrue result ↔ (WaitsForBytes (log_of journal) session

@@ -1,4 +1,4 @@
-//! Which requests are refused.
+//! Rules: which requests are refused.
 
 ghost use Rattle.std.specs.Prelude.{◌≡◌, ◌++◌, IfOk, OnOk};
 ghost use Rattle.sf_refusing.specs.Rules.{kind_asked, paths_of, path_in, names_path, fits};
@@ -8,7 +8,7 @@ use sf_reply::StatusCode;
 use sf_request::WireRequest;
 use std::alloc::{AllocError, Global};
 
-/// What a request asks for, whatever its fields.
+/// The kind of a request, without its fields.
 #[derive(Clone, Copy, Debug, PartialEq, Eq)]
 pub enum RequestKind {
     Open,
@@ -31,23 +31,23 @@ pub enum RequestKind {
     Link,
 }
 
-/// Which requests are refused, how many of them, and with which status. Where a session, a kind or
-/// a path is left out, any will do.
+/// Which requests are refused, how many, and with which status. A missing session, kind or path
+/// matches any.
 #[derive(Debug, Drop)]
 pub struct Rule {
     pub session: Option<u64>,
     pub kind: Option<RequestKind>,
-    /// A request has to name it, and may write it in any way. One by a handle names none.
+    /// A request matches if it names this path, in any spelling. A request by a handle names none.
     pub path: Option<Path>,
-    /// So many pass first,
+    /// The number of matching requests that pass first.
     pub pass: u64,
-    /// then so many are refused, and all that come later pass.
+    /// The number of matching requests that are refused after these. Later ones pass.
     pub refuse: u64,
-    /// What is answered, with the code's own message.
+    /// The status code of the reply, with that code's own message.
     pub code: StatusCode,
 }
 
-/// What rules look at of a request.
+/// The parts of a request that rules examine.
 #[derive(Debug, Drop)]
 pub(crate) struct Subject {
     pub session: u64,
@@ -81,7 +81,7 @@ fn kind_asked(request: &WireRequest) -> RequestKind
     }
 }
 
-/// Adds the path that a text stands for, if it has no fault.
+/// Adds the path of a text, if it is valid.
 fn push_path(alloc: Global, text: &[u8], paths: &mut Vec<Path>) -> Result<(), AllocError>
     ensures { OnOk result (paths.new.items ≡ paths.old.items ++ path_in text.now) }
 {
@@ -124,7 +124,7 @@ fn paths_of(alloc: Global, request: &WireRequest) -> Result<Vec<Path>, AllocErro
 }
 
 impl Subject {
-    /// What rules look at of a session's request.
+    /// The subject of a session's request.
     pub(crate) fn of(
         alloc: Global,
         session: u64,
@@ -142,7 +142,7 @@ impl Subject {
         })
     }
 
-    /// Whether a path is among those that it names.
+    /// Whether a path is among the named ones.
     fn names(&self, path: &Path) -> bool
         ensures { result ≡ names_path self.now.paths.items path.now }
     {
@@ -151,7 +151,7 @@ impl Subject {
 }
 
 impl Rule {
-    /// Whether it is a rule for this request.
+    /// Whether the rule matches this request.
     pub(crate) fn fits(&self, subject: &Subject) -> bool
         ensures { result ≡ fits self.now subject.now.session subject.now.kind
             subject.now.paths.items }

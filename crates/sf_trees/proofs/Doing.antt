@@ -1,11 +1,11 @@
--- Things that are done one after another.
+-- Operations in sequence.
 use Rattle.std.proofs.Common.{◌≡◌, inl, inr, ◌<◌, ◌+◌, ◌-◌, ℕ, zero, suc, List, [], ◌∷◌, ◌++◌, Result, Ok, Err, refl, sym, subst, add-one, append-nil, arith}
 use Rattle.sf_trees.specs.declared.fault.TreeFault.{TreeFault}
 use Rattle.sf_trees.specs.declared.fault.Refused.{Refused}
 use Rattle.sf_trees.specs.Operations.{Operation, Begins, Ends, Does, IsNothing, Then, BySession, refused_at, request_place}
 
--- Operations lead a server from one state to another: none leaves it as it is, and they follow one
--- another.
+-- Operations lead a server from one state to another: none leaves it unchanged, and sequences
+-- compose.
 pub record OperationLaws (V : Type 0) : Type 1 where
   pub reaches : V → List Operation → V → Type 0
   pub none : (a : V) → reaches a [] a
@@ -15,7 +15,7 @@ abbrev pub operation_laws : {V : Type 0} {reaches : V → List Operation → V �
     → ((a b c : V) (first second : List Operation) → reaches a first b → reaches b second c → reaches a (first ++ second) c) → OperationLaws V
 operation_laws {reaches = reaches} none on = record { reaches = reaches; none = none; on = on }
 
--- the first one was refused
+-- the first part failed
 pub refused_first : {V A R E : Type 0} {a b : V} {P : List Operation → Result A E → Type 0} (s : OperationLaws V) (Q : A → List Operation → Result R E → Type 0) (why : E)
     → Does s.reaches a b P (Err why) → Does s.reaches a b (Then P Q) (Err why)
 refused_first s Q why does = (
@@ -51,12 +51,12 @@ both_done {a = a} {b = b} {c = c} s Q x r does more = (
 pub done_already : {V E : Type 0} (s : OperationLaws V) (a : V) → Does s.reaches a a (IsNothing {E = E}) (Ok tt)
 done_already s a = ([], s.none a, (refl, refl))
 
--- no session begins
+-- no session opens
 pub no_session : {V R : Type 0} {a b : V} (s : OperationLaws V) (P : ℕ → List Operation → Result R Refused → Type 0) (why : TreeFault) → s.reaches a (Begins (Err why) ∷ []) b
     → Does s.reaches a b (BySession P) (Err (refused_at (request_place 1 0) why))
 no_session s P why begun = (Begins (Err why) ∷ [], begun, inr (why, refl, refl))
 
--- a session began, this was done by it, and it ended
+-- a session opened, these operations were done by it, and it closed
 pub by_session : {V R : Type 0} {a b c d : V} (s : OperationLaws V) (session : ℕ) (P : ℕ → List Operation → Result R Refused → Type 0) (r : Result R Refused)
     → s.reaches a (Begins (Ok session) ∷ []) b → Does s.reaches b c (P session) r → s.reaches c (Ends session ∷ []) d
     → Does s.reaches a d (BySession P) r
@@ -66,9 +66,9 @@ by_session {a = a} {b = b} {c = c} {d = d} s session P r begun does ended = (
   inl (record { session = session; inner = does.0; parts = refl; done = does.2 }),
 )
 
--- ---- many things in order
+-- ---- sequences
 
--- Things that are done in order, until one is refused: each of them, and those before a number.
+-- Parts that are done in order until one fails: each of them, and the first n.
 pub record Sequence : Type 1 where
   pub One : ℕ → List Operation → Result (Unit {0}) Refused → Type 0
   pub Before : ℕ → List Operation → Result (Unit {0}) Refused → Type 0
@@ -78,14 +78,14 @@ pub record Sequence : Type 1 where
 pub none_yet : {V : Type 0} (s : OperationLaws V) (q : Sequence) (a : V) → Does s.reaches a a (q.Before 0) (Ok tt)
 none_yet s q a = ([], s.none a, q.none [] (Ok tt) (refl, refl))
 
--- one more was done, or refused
+-- one more was done, or failed
 one_more : {V : Type 0} {a b c : V} (s : OperationLaws V) (q : Sequence) (n : ℕ) (r : Result (Unit {0}) Refused) → Does s.reaches a b (q.Before n) (Ok tt) → Does s.reaches b c (q.One n) r → Does s.reaches a c (q.Before (suc n)) r
 one_more s q n r before one = let both = both_done s (λ done. q.One n) tt r before one in (both.0, both.1, q.more n both.0 r both.2)
 
 pub done_further : {V : Type 0} {a b c : V} (s : OperationLaws V) (q : Sequence) (n : ℕ) → Does s.reaches a b (q.Before n) (Ok tt) → Does s.reaches b c (q.One n) (Ok tt) → Does s.reaches a c (q.Before (n + 1)) (Ok tt)
 done_further s q n before one = rw (add-one n) (one_more s q n (Ok tt) before one)
 
--- refused before one number, and so before all further ones
+-- failed before one number, and so before all larger ones
 refused_before : {V : Type 0} {a b : V} (s : OperationLaws V) (q : Sequence) (n further m : ℕ) (why : Refused) → m ≡ n + further → Does s.reaches a b (q.Before n) (Err why) → Does s.reaches a b (q.Before m) (Err why)
 refused_before {a = a} {b = b} s q n zero m why e does =
     let same : n ≡ m = omega (arith, e) in

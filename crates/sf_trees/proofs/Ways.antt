@@ -1,4 +1,4 @@
--- The way to a path, and a file's pieces, one after another.
+-- The parents of a path, and a file's chunks, in sequence.
 use Rattle.std.proofs.Common.{◌≡◌, ◌≤◌, ℕ, zero, suc, Bool, List, Result, sym, subst, min, take, length, ap, ◌∙◌, arith}
 use Rattle.std.proofs.lemmas.List.{take_all, take_min}
 use Rattle.sf_trees.specs.declared.fault.Place.{Place}
@@ -15,7 +15,7 @@ pub way_more : (session : ℕ) (whole : Bool) (path : List ℕ) (n : ℕ) (opera
 unfolding MakesTo
 way_more session whole path n operations r h = h
 
--- the directories on the way to a path
+-- the parents of a path
 abbrev pub way : ℕ → Bool → List ℕ → Sequence
 way session whole path = record { One = MakesAt session whole path; Before = MakesTo session whole path; none = way_none session whole path; more = way_more session whole path }
 
@@ -28,11 +28,11 @@ pub writing_more : (session handle : ℕ) (place : Place) (contents : List ℕ) 
 unfolding WritesTo
 writing_more session handle place contents n operations r h = h
 
--- the pieces of a file's contents
+-- the chunks of a file's contents
 abbrev pub writing : ℕ → ℕ → Place → List ℕ → Sequence
 writing session handle place contents = record { One = WritesPiece session handle place contents; Before = WritesTo session handle place contents; none = writing_none session handle place contents; more = writing_more session handle place contents }
 
--- the front of a slice, by as many as there are and may be
+-- a prefix of a slice, of a given length at most
 pub piece_front : (d : List ℕ) (m k : ℕ) → length d ≤ m → k ≡ min (length (take m d)) 131072
     → take k (take m d) ≡ take 131072 d
 piece_front d m k short e =

@@ -1,13 +1,13 @@
--- How long a request is, on whatever it is asked.
+-- The length of a request, for any server.
 use Rattle.std.specs.Prelude.{◌+◌, ℕ, List, length}
 use Rattle.sf_request.specs.declared.request.WireRequest.{WireRequest}
 use Rattle.sf_request.specs.declared.request.WireRequest.TheVariants as request
 
--- the id of each request: none is asked before the one before is answered
+-- the id of each request; only one is pending at a time
 abbrev pub id : ℕ
 id = 1
 
--- how many bytes the strings of a request have
+-- the number of bytes in the strings of a request
 abbrev pub strings_of : WireRequest → ℕ
 strings_of (request.Open filename flags attrs) = length filename
 strings_of (request.Close handle) = length handle
@@ -28,7 +28,7 @@ strings_of (request.Rename old new) = length old + length new
 strings_of (request.PosixRename old new) = length old + length new
 strings_of (request.Link old new) = length old + length new
 
--- the most bytes of a request's strings: a packet has up to 262144, and what else stands in one
--- takes less than 64
+-- the most bytes in a request's strings: a packet has up to 262144, and its other fields take less
+-- than 64
 abbrev pub most_strings : ℕ
 most_strings = 262080

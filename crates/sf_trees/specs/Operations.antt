@@ -1,4 +1,4 @@
--- What is done on a server, and what comes of it.
+-- Operations on a server, and their results.
 use Rattle.std.specs.Prelude.{◌≡◌, ◌⊎◌, ℕ, List, [], ◌∷◌, ◌++◌, Result, Ok, Err}
 use Rattle.sf_request.specs.declared.request.WireRequest.{WireRequest}
 use Rattle.sf_reply.specs.declared.reply.Reply.{Reply}
@@ -9,25 +9,25 @@ use Rattle.sf_trees.specs.declared.fault.TreeFault.TheVariants as fault
 use Rattle.sf_trees.specs.declared.fault.Place.{Place}
 use Rattle.sf_trees.specs.declared.fault.Refused.{Refused}
 
--- A session begins, a request of it is answered or isn't, and a session ends.
+-- A session opens; a request of it is answered or fails; a session closes.
 pub data Operation : Type 0 where
   Begins : (outcome : Result ℕ TreeFault) → Operation
   Asks : (session : ℕ) → (q : WireRequest) → (outcome : Result Reply TreeFault) → Operation
   Ends : (session : ℕ) → Operation
 
--- This was done, and came to that.
+-- Operations of this kind were done, with this result.
 abbrev pub Does : {V : Type 0} → {R : Type 0} → (V → List Operation → V → Type 0) → V → V
     → (List Operation → R → Type 0) → R → Type 0
 Does reaches old new P result = (operations : List Operation) × reaches old operations new
     × P operations result
 
--- a request alone, and what its reply tells
+-- one request, and what follows from its reply
 abbrev pub IsAsked : {R : Type 0} → ℕ → WireRequest → (Result Reply TreeFault → R) → List Operation
     → R → Type 0
 IsAsked session q told operations result = (outcome : Result Reply TreeFault)
     × (operations ≡ Asks session q outcome ∷ []) × (result ≡ told outcome)
 
--- why a reply isn't the one that is due
+-- the error for an unexpected reply
 abbrev pub fault_in_reply : Reply → TreeFault
 fault_in_reply (reply.Status code) = fault.Status code
 fault_in_reply reply.NoMemory = fault.OutOfMemory
@@ -51,7 +51,8 @@ handle_by place (Ok (reply.Handle number)) = Ok number
 handle_by place (Ok other) = Err (refused_at place (fault_in_reply other))
 handle_by place (Err why) = Err (refused_at place why)
 
--- the type of a request's packet, 202 for a link, and how many bytes of the path it is on
+-- the type of a request's packet, 202 for a link, and the length of the path's prefix that it is
+-- about
 abbrev pub request_place : ℕ → ℕ → Place
 request_place kind len = record { kind = kind; length = len }
 
@@ -59,13 +60,13 @@ request_place kind len = record { kind = kind; length = len }
 abbrev pub IsNothing : {E : Type 0} → List Operation → Result (Unit {0}) E → Type 0
 IsNothing operations result = (operations ≡ []) × (result ≡ Ok tt)
 
--- what came of it leads on to this, or ends it
+-- the result of the first part leads to the second, or is an error and ends both
 abbrev pub ContinuesWith : {A : Type 0} → {R : Type 0} → {E : Type 0}
     → (A → List Operation → Result R E → Type 0) → Result A E → List Operation → Result R E → Type 0
 ContinuesWith Q (Ok x) operations result = Q x operations result
 ContinuesWith Q (Err why) operations result = (operations ≡ []) × (result ≡ Err why)
 
--- one thing after another, unless the first one is refused
+-- two parts in sequence; an error of the first one ends both
 pub record Then {A : Type 0} {R : Type 0} {E : Type 0} (P : List Operation → Result A E → Type 0)
     (Q : A → List Operation → Result R E → Type 0) (operations : List Operation)
     (result : Result R E) : Type 0 where
@@ -76,7 +77,7 @@ pub record Then {A : Type 0} {R : Type 0} {E : Type 0} (P : List Operation → R
   pub begins : P first outcome
   pub goes_on : ContinuesWith Q outcome second result
 
--- A session begins, this is done by it, and it ends.
+-- A session opens, operations of this kind are done by it, and it closes.
 pub record HasSession {R : Type 0} (P : ℕ → List Operation → Result R Refused → Type 0)
     (operations : List Operation) (result : Result R Refused) : Type 0 where
   pub session : ℕ
@@ -84,7 +85,7 @@ pub record HasSession {R : Type 0} (P : ℕ → List Operation → Result R Refu
   pub parts : operations ≡ Begins (Ok session) ∷ inner ++ Ends session ∷ []
   pub done : P session inner result
 
--- so, or no session begins
+-- the same, or no session opens
 abbrev pub BySession : {R : Type 0} → (ℕ → List Operation → Result R Refused → Type 0)
     → List Operation → Result R Refused → Type 0
 BySession P operations result = HasSession P operations result

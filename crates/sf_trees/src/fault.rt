@@ -1,9 +1,9 @@
-//! Why a request wasn't done.
+//! Errors of building a tree.
 
 use sf_reply::StatusCode;
 use thiserror::Error;
 
-/// Why a request wasn't done. What was done before it stays.
+/// Why a request failed. Requests that were done before it remain done.
 #[derive(Clone, Copy, Debug, PartialEq, Eq, Error)]
 pub enum TreeFault {
     #[error("out of memory")]
@@ -12,29 +12,29 @@ pub enum TreeFault {
     Sessions,
     #[error("numbers are spent")]
     NumbersSpent,
-    /// The call of another session is in the way.
+    /// Another session's call blocks this one.
     #[error("the call of another session is in the way")]
     Blocked,
-    /// The server refused, by this code.
+    /// The server replied with this error status.
     #[error("status: {0:?}")]
     Status(StatusCode),
-    /// A path that is too long for a request.
+    /// The path is too long for a request.
     #[error("too long a path")]
     Path,
-    /// Another reply than the due one, or none.
+    /// There was no reply, or one of the wrong type.
     #[error("not the reply that was due")]
     Reply,
 }
 
-/// Which request it was, by the type of its packet, and how many bytes of the path that was given
-/// it was on.
+/// The failed request: its packet type, and the length in bytes of the prefix of the given path
+/// that it was about.
 #[derive(Clone, Copy, Debug, PartialEq, Eq)]
 pub struct Place {
     pub kind: u32,
     pub length: usize,
 }
 
-/// The request that wasn't done, and why.
+/// The request that failed, and why.
 #[derive(Clone, Copy, Debug, PartialEq, Eq)]
 pub struct Refused {
     pub fault: TreeFault,

@@ -1,4 +1,4 @@
-//! How long a request is.
+//! The length of a request.
 
 ghost use Rattle.std.specs.Prelude.{◌≡◌, ◌<◌, ◌≤◌, ◌-◌, ◌^◌, min, length, true, false};
 ghost use Rattle.sf_request.specs.Requests.{request_body};
@@ -6,11 +6,10 @@ ghost use Rattle.sf_trees.specs.Lengths.{id, strings_of, most_strings};
 
 use sf_request::WireRequest;
 
-/// How many bytes the strings of a request may have, so that its packet isn't too long for a
-/// session.
+/// The most bytes that the strings of a request may have, for a packet that a session accepts.
 const MOST_STRINGS: usize = 262080;
 
-/// How many bytes the strings of a request have.
+/// The number of bytes in the strings of a request.
 fn strings_of(request: &WireRequest) -> usize
     ensures { result ≡ min (strings_of request.now) (2 ^ 64 - 1) }
 {
@@ -36,8 +35,8 @@ fn strings_of(request: &WireRequest) -> usize
     }
 }
 
-/// Whether a request's packet would be longer than a session takes (262144 bytes): then it isn't
-/// asked.
+/// Whether a request's packet would be longer than a session accepts (262144 bytes). Such a request
+/// isn't sent.
 pub fn is_too_long(request: &WireRequest) -> bool
     ensures yes { result ≡ true → most_strings < strings_of request.now }
     ensures no { result ≡ false → length (request_body id request.now) ≤ 262144 }

@@ -1,7 +1,7 @@
-//! Trees, made by requests of sessions.
+//! Builds directory trees on an SFTP server, by ordinary requests.
 //!
-//! Start with `write_file`: `specs/Makings.antt` says what each function makes. It speaks of what
-//! was done on a `Server`, which is a list of operations (`specs/Operations.antt`).
+//! Start with `write_file`. `specs/Makings.antt` defines what each function does on a `Server`, as
+//! a list of operations (`specs/Operations.antt`).
 #![tactic(auto)]
 
 mod fault;

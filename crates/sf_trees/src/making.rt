@@ -1,4 +1,4 @@
-//! Directories, files and links.
+//! Making directories, files and links.
 
 ghost use Rattle.std.specs.Prelude.{◌≡◌, ◌≤◌, ◌<◌, ◌+◌, ◌*◌, ◌^◌, length};
 ghost use Rattle.sf_request.specs.declared.request.WireRequest.TheVariants as request;
@@ -11,7 +11,7 @@ use sf_field::{Attrs, NO_ATTRS, OpenFlags};
 use sf_reply::{Reply, StatusCode};
 use sf_request::{ByteStr, WireRequest};
 
-/// How many bytes a WRITE sends at most.
+/// The most bytes that one WRITE sends.
 const PIECE: usize = 131072;
 
 /// WRITE, CREAT and TRUNC.
@@ -24,7 +24,7 @@ const TO_WRITE: OpenFlags = OpenFlags {
     exclusive: false,
 };
 
-/// Whether this is a byte of a name, and no slash.
+/// Whether this is a byte of a name: there is one, and it is no slash.
 fn is_of_name(byte: Option<u8>) -> bool
     ensures { result ≡ is_of_name byte }
 {
@@ -34,7 +34,7 @@ fn is_of_name(byte: Option<u8>) -> bool
     }
 }
 
-/// Whether this is a slash, or the end, if that counts.
+/// Whether this is a slash, or the end if `whole`.
 fn goes_on_by(whole: bool, byte: Option<u8>) -> bool
     ensures { result ≡ goes_on_by whole byte }
 {
@@ -44,8 +44,8 @@ fn goes_on_by(whole: bool, byte: Option<u8>) -> bool
     }
 }
 
-/// Whether the byte at this place is the last one of a name, before a slash or, if the last name
-/// counts, at the end.
+/// Whether the byte at this index is the last one of a name: before a slash or, if `whole`, at the
+/// end.
 fn ends_name(whole: bool, path: &[u8], at: usize) -> bool
     requires { at + 1 ≤ length path.now }
     ensures { result ≡ ends_name whole path.now at }
@@ -53,7 +53,7 @@ fn ends_name(whole: bool, path: &[u8], at: usize) -> bool
     is_of_name(path.get(at).copied()) && goes_on_by(whole, path.get(at + 1).copied())
 }
 
-/// Whether these are the permissions of a directory.
+/// Whether these permissions are a directory's.
 fn is_directory(attrs: &Attrs) -> bool
     ensures { result ≡ is_directory_attrs attrs.now }
 {
@@ -63,7 +63,7 @@ fn is_directory(attrs: &Attrs) -> bool
     }
 }
 
-/// Whether a directory was told.
+/// Whether the reply to STAT is a directory's attributes.
 fn finds_by(place: Place, outcome: &Result<Reply, TreeFault>) -> Result<bool, Refused>
     ensures { result ≡ finds_by place outcome.now }
 {
@@ -81,7 +81,7 @@ fn finds_by(place: Place, outcome: &Result<Reply, TreeFault>) -> Result<bool, Re
     }
 }
 
-/// Looks for a directory at a path.
+/// Whether a path leads to a directory.
 fn finds<S: Server>(server: &mut S, session: u64, path: &[u8]) -> Result<bool, Refused>
     ensures { Does S.reaches server.old server.new
         (IsAsked session (request.Stat path.now) (finds_by (request_place 17 (length path.now))))
@@ -109,7 +109,7 @@ fn mkdir<S: Server>(server: &mut S, session: u64, path: &[u8]) -> Result<(), Ref
     succeed(server, session, &request, Place { kind: 14, length })
 }
 
-/// Makes one directory where it isn't found.
+/// Makes a directory unless it exists.
 fn make_one<S: Server>(server: &mut S, session: u64, path: &[u8]) -> Result<(), Refused>
     ensures { Does S.reaches server.old server.new (MakesOne session path.now) result }
 {
@@ -119,7 +119,7 @@ fn make_one<S: Server>(server: &mut S, session: u64, path: &[u8]) -> Result<(), 
     mkdir(server, session, path)
 }
 
-/// As `make_one`, if a name ends at this place.
+/// As `make_one`, if a name ends at this index.
 fn make_if<S: Server>(
     server: &mut S,
     session: u64,
@@ -136,8 +136,7 @@ fn make_if<S: Server>(
     Ok(())
 }
 
-/// Makes the directories on the way to a path where they are missing, and its own if the last name
-/// counts.
+/// Makes the missing parents of a path, and its own directory if `whole`.
 fn make_way<S: Server>(
     server: &mut S,
     session: u64,
@@ -152,7 +151,7 @@ fn make_way<S: Server>(
     Ok(())
 }
 
-/// The bytes of contents from a place on, and no more than a WRITE has.
+/// The chunk of contents at an offset, of at most one WRITE.
 fn piece_at(contents: &[u8], at: usize) -> &[u8]
     requires { at ≤ length contents.now }
     ensures is { result.now ≡ piece_at contents.now at }
@@ -163,7 +162,7 @@ fn piece_at(contents: &[u8], at: usize) -> &[u8]
     &rest[..count]
 }
 
-/// Writes one piece of contents.
+/// Writes one chunk of contents.
 fn write_piece<S: Server>(
     server: &mut S,
     session: u64,
@@ -193,7 +192,7 @@ fn write_piece<S: Server>(
     )
 }
 
-/// How many pieces such contents have.
+/// The number of chunks of contents with this length.
 fn pieces_in(count: usize) -> usize
     requires { count < 2 ^ 63 }
     ensures { result ≡ pieces_in count }
@@ -201,7 +200,7 @@ fn pieces_in(count: usize) -> usize
     (count + (PIECE - 1)) / PIECE
 }
 
-/// Writes contents, piece by piece.
+/// Writes contents, chunk by chunk.
 fn write_pieces<S: Server>(
     server: &mut S,
     session: u64,
@@ -238,7 +237,7 @@ fn close<S: Server>(server: &mut S, session: u64, named: usize, handle: u64) -> 
     )
 }
 
-/// Writes contents, and closes their handle.
+/// Writes contents, and closes the handle.
 fn write_all<S: Server>(
     server: &mut S,
     session: u64,
@@ -281,7 +280,7 @@ fn open_file<S: Server>(
     )
 }
 
-/// Opens a file to be written anew, writes it and closes it.
+/// Opens a file for writing and truncates it, writes its contents and closes it.
 fn fill<S: Server>(
     server: &mut S,
     session: u64,
@@ -296,7 +295,7 @@ fn fill<S: Server>(
     write_all(server, session, named, contents, handle)
 }
 
-/// Makes a file with the directories on its way.
+/// Makes a file and its missing parents.
 fn write_on<S: Server>(
     server: &mut S,
     session: u64,
@@ -311,7 +310,7 @@ fn write_on<S: Server>(
     fill(server, session, path, contents)
 }
 
-/// Gives a file one more name.
+/// Adds a link to a file.
 fn link_alone<S: Server>(
     server: &mut S,
     session: u64,
@@ -328,7 +327,7 @@ fn link_alone<S: Server>(
     succeed(server, session, &request, Place { kind: 202, length })
 }
 
-/// Gives a file one more name, and makes the directories on its way.
+/// Adds a link to a file, and makes the missing parents of the new path.
 fn link_on<S: Server>(server: &mut S, session: u64, old: &[u8], new: &[u8]) -> Result<(), Refused>
     ensures { Does S.reaches server.old server.new (LinksOn old.now new.now session) result }
 {
@@ -336,7 +335,7 @@ fn link_on<S: Server>(server: &mut S, session: u64, old: &[u8], new: &[u8]) -> R
     link_alone(server, session, old, new)
 }
 
-/// Makes the directory of a path, and those on its way, where they are missing.
+/// Makes the directory of a path, and its missing parents.
 pub fn make_directory<S: Server>(server: &mut S, path: &[u8]) -> Result<(), Refused>
     ensures { Does S.reaches server.old server.new (MakesDirectory path.now) result }
 {
@@ -346,7 +345,7 @@ pub fn make_directory<S: Server>(server: &mut S, path: &[u8]) -> Result<(), Refu
     made
 }
 
-/// Makes a file, or replaces its contents. Directories on its way are made where they are missing.
+/// Makes a file, or replaces its contents. Makes its missing parents.
 pub fn write_file<S: Server>(server: &mut S, path: &[u8], contents: &[u8]) -> Result<(), Refused>
     requires { length contents.now < 2 ^ 63 }
     ensures { Does S.reaches server.old server.new (WritesFile path.now contents.now) result }
@@ -357,8 +356,7 @@ pub fn write_file<S: Server>(server: &mut S, path: &[u8], contents: &[u8]) -> Re
     made
 }
 
-/// Gives the file at the old path the new one too. Directories on its way are made where they are
-/// missing.
+/// Adds the new path as a link to the file of the old path. Makes the new path's missing parents.
 pub fn link<S: Server>(server: &mut S, old: &[u8], new: &[u8]) -> Result<(), Refused>
     ensures { Does S.reaches server.old server.new (Links old.now new.now) result }
 {

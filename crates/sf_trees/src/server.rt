@@ -1,4 +1,4 @@
-//! A server, of which sessions ask.
+//! The server on which trees are built.
 
 ghost use Rattle.std.specs.Prelude.{◌≡◌, ℕ, List, [], ◌∷◌, ◌++◌, Ok, Err, IfOk, IfErr};
 ghost use Rattle.sf_trees.specs.declared.fault.TreeFault.{TreeFault};
@@ -8,20 +8,20 @@ use crate::fault::{Place, Refused, TreeFault};
 use sf_reply::{Reply, StatusCode};
 use sf_request::WireRequest;
 
-/// A server, of which sessions ask one request after the other.
+/// An SFTP server. Each session sends one request after the other.
 pub trait Server {
-    /// What was done led from one state of the server to another.
+    /// The operations that lead from one state of the server to another.
     ghost reaches: { Self → List Operation → Self → Type 0 };
 
-    /// A session begins.
+    /// Opens a session.
     fn begin(&mut self) -> Result<u64, TreeFault>
         ensures { reaches self.old (Begins result ∷ []) self.new };
 
-    /// Asks a request of a session, and takes the reply.
+    /// Sends a request of a session, and receives the reply.
     fn ask(&mut self, session: u64, request: &WireRequest) -> Result<Reply, TreeFault>
         ensures { reaches self.old (Asks session request.now result ∷ []) self.new };
 
-    /// A session ends.
+    /// Closes a session.
     fn finish(&mut self, session: u64)
         ensures { reaches self.old (Ends session ∷ []) self.new };
 
@@ -31,7 +31,7 @@ pub trait Server {
         → reaches b second c → reaches a (first ++ second) c };
 }
 
-/// Why a reply isn't the one that is due.
+/// The error for an unexpected reply.
 pub(crate) fn refusal_of(reply: &Reply) -> TreeFault
     ensures { result ≡ fault_in_reply reply.now }
 {
@@ -59,7 +59,7 @@ fn done_by(place: Place, outcome: &Result<Reply, TreeFault>) -> Result<(), Refus
     }
 }
 
-/// Asks what is done or isn't.
+/// Sends a request that expects a status.
 pub(crate) fn succeed<S: Server>(
     server: &mut S,
     session: u64,
@@ -90,7 +90,7 @@ fn handle_by(place: Place, outcome: &Result<Reply, TreeFault>) -> Result<u64, Re
     }
 }
 
-/// Asks for a handle.
+/// Sends a request that expects a handle.
 pub(crate) fn open<S: Server>(
     server: &mut S,
     session: u64,
@@ -104,7 +104,7 @@ pub(crate) fn open<S: Server>(
     handle_by(place, &outcome)
 }
 
-/// A session begins.
+/// Opens a session.
 pub(crate) fn begin<S: Server>(server: &mut S) -> Result<u64, Refused>
     ensures ok { IfOk result (λ session.
         S.reaches server.old (Begins (Ok session) ∷ []) server.new) }

@@ -1,4 +1,4 @@
--- What a step of a call comes to.
+-- The outcomes of a step of a call.
 use Rattle.std.specs.Prelude.{◌≡◌, ◌≢◌, ◌<◌, ◌+◌, ℕ, true, false, List, [], ◌∷◌, ◌++◌, length, take, Option, Some, refl}
 use Rattle.std.proofs.Common.{sym, ap, subst, ◌∙◌, arith, inl, inr, get_or, add-one}
 use Rattle.std.proofs.Math.Seq.{take-suc}
@@ -29,11 +29,11 @@ use Rattle.sf_walk.specs.Steps.MayDecideWhere.{AtOnce, AtRoot, AtEnd}
 use Rattle.sf_walk.proofs.LookUps.{looked_none, looked_more, looked_less, looked_itself}
 use Rattle.sf_walk.proofs.Onward.{last_leads}
 
--- ---- where a call stands
+-- ---- the position of a call
 fresh_without_path : (at : Stage) → IsPosition NoPath at → at ≡ stage.Fresh
 fresh_without_path at (Starts r is) = refl
 
--- a call that walks no path decides at once
+-- a call without a path is decided at once
 pub at_once : (s : StoreState) (number : ℕ) (at : Stage) → HoldsWay s NoPath at → DecidesNow s s (walker number NoPath at) no_path
 at_once s number at stands =
     subst (λ (g : Stage). DecidesNow s s (walker number NoPath g) no_path) (sym (fresh_without_path at stands.position))
@@ -131,7 +131,7 @@ module _ (s : StoreState) (number root : ℕ) (is : root ≡ s.root) where
           state = state;
         }
 
--- ---- a look-up changes no node
+-- ---- a lookup changes no inode
 pub way_looked_up : (old new : StoreState) (path : Path) (at : Reached) → new ≡ looked_up old → LeadsOnWay old path at.walked at.node → LeadsOnWay new path at.walked at.node
 way_looked_up old new path at e h = subst (λ (s : StoreState). LeadsOnWay s path at.walked at.node) (sym e) (record { short = h.short; leads = h.leads; directory = h.directory })
 
@@ -148,7 +148,7 @@ free_along : (holder : ℕ → Option ℕ) (number : ℕ) (path : Path) (found :
 free_along holder number [] found h = tt
 free_along holder number (n ∷ path) found h = h
 
--- ---- one name further
+-- ---- one component further
 one_more : (path : Path) (walked : ℕ) → walked < length path → take (walked + 1) path ≡ take walked path ++ get_or path walked [] ∷ []
 one_more path walked less = ap (λ (k : ℕ). take k path) (add-one walked) ∙ take-suc path walked [] less
 
@@ -162,7 +162,7 @@ module _ (s : StoreState) (number : ℕ) (path : Path) (from to : Reached) (free
   pub next_short : to.walked < length path
   next_short = let a = free.walked in let b = free.on_way.short in omega (arith, a, b)
 
--- ---- after one look-up
+-- ---- after one lookup
 module _ (old new : StoreState) (looked : new ≡ looked_up old) (number : ℕ) where
   pub decides_one : (path : Path) (at : Stage) → MayDecideAt old.nodes (Along path) at → (found : Located) → found ≡ way_from old.nodes old.root old.root path → IsFreeThere (holder_of old.nodes) number found
       → DecidesNow old new (walker number (Along path) at) (along found)
@@ -228,7 +228,7 @@ module _ (old new : StoreState) (looked : new ≡ looked_up old) (number : ℕ) 
       (Comes (held_path_on path at ∷ []) (held_path_on path to ∷ []) (inr (held_path_on path at, inl refl, next_to old number path at to free way.short)) tt (refl, tt))
       (IsOn path to.walked to.node (next_short old number path at to free)) (GoesOn at.walked at.node to free.walked) refl state
 
-  -- ---- on two, which haven't parted
+  -- ---- on two paths, before they part
   pub moves_together : (from to : Path) (at next : Reached) (after : Stage) (last : StoreState) → LeadsOnWay old from at.walked at.node → IsNextFree old number from at next → ComesToBoth from to next after
       → last ≡ handed_over number (stage.At at.walked at.node) after next.node new → AdvancesTo old last (walker number (Between from to) (stage.At at.walked at.node)) after
   moves_together from to at next after last way free comes state =
@@ -250,7 +250,7 @@ module _ (old new : StoreState) (looked : new ≡ looked_up old) (number : ℕ) 
           (subst (λ (g : Stage). IsPosition (Between from to) g) (sym h.1) (IsApart from to next next next (ends_at from to next h.0)))
           (subst (λ (g : Stage). AdvancesOne (stage.At at.walked at.node) g) (sym h.1) (Parts at.walked at.node next free.walked)) refl state
 
-  -- ---- on two, which have parted
+  -- ---- on two paths, after they have parted
   module _ (from to : Path) (common a b : Reached) (is : AreEnds from to common a b) where
     pub moves_old : (next : Reached) (last : StoreState) → a.walked + 1 < length from → IsNextFree old number from a next → last ≡ handed_over number (stage.Ends common a b) (stage.Ends common next b) next.node new
         → AdvancesTo old last (walker number (Between from to) (stage.Ends common a b)) (stage.Ends common next b)
@@ -282,7 +282,7 @@ module _ (old new : StoreState) (looked : new ≡ looked_up old) (number : ℕ) 
         }))
         (NewGoesOn common a b next free.walked) refl state
 
--- with the end of its old path at its parent a call decides after two look-ups
+-- with the old path's parent held, a call is decided after two lookups
 module _ (number : ℕ) (path to : Path) (common a b : Reached) (old mid : StoreState) (looked : mid ≡ looked_up old) (parent : a.walked + 1 ≡ length path) where
   pub decides_at_old_parent : (new : StoreState) → new ≡ looked_up mid → (found : Located) → found ≡ way_from mid.nodes mid.root mid.root path → (there : Located) → EndsAt old.nodes to b
       → there ≡ way_from old.nodes old.root old.root to → IsFreeThere (holder_of old.nodes) number there → DecidesNow old new (walker number (Between path to) (stage.Ends common a b)) (between found there)

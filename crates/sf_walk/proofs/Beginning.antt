@@ -1,4 +1,4 @@
--- Beginning to write into a file.
+-- The start of writing into a file.
 use Rattle.std.specs.Prelude.{◌≡◌, ◌≢◌, ◌<◌, ℕ, true, false, List, [], ◌∷◌, length, option_map, option_and_then, Option, Some, None, refl}
 use Rattle.std.specs.Option.{option_map_or}
 use Rattle.std.proofs.Common.{sym, ap, subst, ◌∙◌, arith, inl}
@@ -24,11 +24,11 @@ pub some_blocks : (start : ℕ) (bytes : List ℕ) → 0 < length bytes → 0 < 
 some_blocks start [] some = absurd (omega (arith, some))
 some_blocks start (b ∷ bytes) some = omega arith
 
--- a store that stays has as much left as before
+-- an unchanged store has as many blocks left as before
 pub none_left : (s : StoreState) (h : OpenHandle) (offset : ℕ) (bytes : List ℕ) → blocks_left_at s.nodes h.node ≡ 0 → HasBlocksLeft s s h offset bytes
 none_left s h offset bytes none = inl none
 
--- ---- what is left of a file
+-- ---- the blocks left of a file
 left_filed : (f : FileBytes) (o : Option Node) → option_map_or (λ (node : Node). is_file_content node.content) o false ≡ true
     → option_map_or (λ (node : Node). blocks_left_in node.content) (option_map (with_content (with_file f)) o) 0 ≡ f.left
 left_filed f None file = absurd (let x : ⊥ = cc in x)
@@ -73,8 +73,8 @@ label_marked f g h None = refl
 label_marked f g h (Some node) = refl
 
 -- ---- the three changes
--- A WRITE begins in a file: it has these bytes to copy, so many blocks are left after the first one,
--- and the file is modified; with the stores between.
+-- A WRITE starts in a file. It has these bytes to copy, this many blocks are left after the first
+-- one, and the file's modification time is set; with the stores between.
 pub record WriteBegun (s new : StoreState) (node : ℕ) : Type 0 where
   pub moment : ℕ
   pub start : ℕ
@@ -119,7 +119,7 @@ module _ (s new : StoreState) (id : ℕ) (w : WriteBegun s new id) where
   pub sessions_now : new.sessions ≡ s.sessions
   sessions_now = ap (λ (x : StoreState). x.sessions) w.marked ∙ ap (λ (x : StoreState). x.sessions) w.copied ∙ ap (λ (x : StoreState). x.sessions) w.begun
 
--- ---- what is shown
+-- ---- the objects
 abbrev shown_as : ℕ → Object → Option (ℕ × Object)
 shown_as l o = Some (l, o)
 

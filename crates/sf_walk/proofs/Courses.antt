@@ -1,4 +1,4 @@
--- What a rename comes to, in the store and in the tree that it keeps.
+-- The outcome of a rename, in the store and in the tree that it represents.
 use Rattle.std.specs.Prelude.{◌≡◌, ◌≢◌, ◌<◌, ℕ, length, nat_eq, Bool, true, false, cond, if◌then◌else◌, not, ◌&&◌, ◌||◌, List, [], ◌∷◌, ◌++◌, is_some, Option, Some, None, refl}
 use Rattle.std.specs.Option.{option_map_or}
 use Rattle.std.proofs.Common.{sym, ap, subst, ◌∙◌, inl, inr, eq-eqb, eqb-true}
@@ -44,7 +44,7 @@ is_false : (b : Bool) → b ≡ true → b ≡ false → ⊥
 is_false true a b = cc
 is_false false a b = cc
 
--- paths of which neither begins with the other aren't the root
+-- neither of two paths is the root if neither is a prefix of the other
 not_rooted_apart : (p q : Path) → are_nested p q ≡ false → is_rooted p q ≡ false
 not_rooted_apart [] q apart = absurd (is_false (are_nested [] q) refl apart)
 not_rooted_apart (n ∷ p) [] apart = absurd (is_false (are_nested (n ∷ p) []) refl apart)
@@ -73,7 +73,7 @@ differ p q apart = elim (same_path p q) as (λ b. same_path p q ≡ b → b ≡ 
 ] refl
 
 module _ (s : StoreState) (old new : Path) (ways : Ways) (are : AreWays s (route_between old new) ways) where
-  -- ---- of which kind the route is tells how the paths stand to each other
+  -- ---- the kind of the route determines which path is a prefix of the other
   rooted_by : (a b : Bool) → ways.kind ≡ route_kind (if a then NoPath else if b then Along old else Between old new) → ways.kind ≡ kind.NoPath → a ≡ true
   rooted_by true b e f = refl
   rooted_by false true e f = absurd (let h : kind.Along ≡ kind.NoPath = sym e ∙ f in let x : ⊥ = cc in x)
@@ -117,7 +117,7 @@ module _ (s : StoreState) (old new : Path) (ways : Ways) (are : AreWays s (route
   pub new_named : (ways.kind ≡ kind.NoPath → ⊥) → 0 < length new
   new_named some = not_nothing new (no_roots some).1
 
-  -- ---- where the paths lead
+  -- ---- the inodes of the paths
   old_by : (a b : Bool) → a ≡ false → Lead s (if a then NoPath else if b then Along old else Between old new) ways → ways.path ≡ way_from s.nodes s.root s.root old
   old_by true b e h = cc
   old_by false true e h = h
@@ -155,14 +155,14 @@ module _ (s : StoreState) (t : Tree) (k : Keeps s t) (moment : ℕ) (old new : P
   pub past_roots : (a : Outcome) → unless_root old (unless_root new a) ≡ a
   past_roots a = no_root old (unless_root new a) ne.0 ∙ no_root new a ne.1
 
-  -- ---- old isn't there
+  -- ---- the old path leads to no inode
   pub old_no_way : (f : Lookup → Outcome) → f lookup.NoWay ≡ refuses NoSuchFile → way_from s.nodes s.root s.root old ≡ located.NoWay → unless_root old (unless_root new (f (look_up t old))) ≡ refuses NoSuchFile
   old_no_way f at e = past_roots (f (look_up t old)) ∙ ap f (no_way s t k old e) ∙ at
 
   pub old_missing : (f : Lookup → Outcome) → f lookup.Absent ≡ refuses NoSuchFile → (d : ℕ) → way_from s.nodes s.root s.root old ≡ located.Missing d → unless_root old (unless_root new (f (look_up t old))) ≡ refuses NoSuchFile
   old_missing f at d e = past_roots (f (look_up t old)) ∙ ap f (name_missing s t k old d e).0 ∙ at
 
-  -- ---- old is there
+  -- ---- the old path leads to an inode
   module _ (from node : ℕ) (at : way_from s.nodes s.root s.root old ≡ located.At from node) where
     abbrev label : ℕ
     label = (node_at s t k old from node at).2.0.label
@@ -247,7 +247,7 @@ module _ (s : StoreState) (t : Tree) (k : Keeps s t) (moment : ℕ) (old new : P
             → (unless_root old (unless_root new (posix_rename t moment old new (look_up t old))) ≡ moves t moment old new) × MayMove s old new from into
         posix_moves into e = (posix_is _ (found_missing s t new k into e), may_move_free into e)
 
-        -- both paths lead to one node, which then is a file: its paths are apart
+        -- both paths lead to one inode, which is then a file, since a directory has one path
         pub posix_one : (into target : ℕ) → way_from s.nodes s.root s.root new ≡ located.At into target → node ≡ target
             → unless_root old (unless_root new (posix_rename t moment old new (look_up t old))) ≡ succeeds []
         posix_one into target e one =
@@ -268,7 +268,7 @@ module _ (s : StoreState) (t : Tree) (k : Keeps s t) (moment : ℕ) (old new : P
             one_content l m (content.Directory es) labels never = absurd (never refl)
             one_content l m (content.File contents) labels never = ap (λ b. cond {A = Outcome} b (succeeds []) (cond (is_directory t old) (refuses Failure) (moves t moment old new))) (eq-eqb label l labels)
 
-        -- they lead to two nodes
+        -- they lead to two inodes
         module _ (into target : ℕ) (e : way_from s.nodes s.root s.root new ≡ located.At into target) (two : node ≢ target) where
           replace_content : (l : ℕ) (m : Metadata) (c : Content) → nat_eq label l ≡ false → replace_by t moment old new label (found_content l m c)
               ≡ cond (cond (is_directory_content c) (is_directory t old && is_empty t.names new) (not (is_directory t old))) (moves t moment old new) (refuses Failure)

@@ -43,7 +43,7 @@ write_nothing : (moment offset : ℕ) (bytes : List ℕ) (handle : Handle) (m : 
 write_nothing moment offset bytes handle m contents w none =
     (λ i. write moment offset (none i) (OpenFile handle m contents)) ∙ (λ i. if not (w i) then refuses PermissionDenied else succeeds [])
 
--- a handle that may write, some bytes to be written by it, and where in the contents they start
+-- a handle that may write, at least one byte to write by it, and the offset in the contents
 record WriteStart (handle : Handle) (contents bytes : List ℕ) : Type 0 where
   offset : ℕ
   start : ℕ
@@ -90,7 +90,7 @@ no_size nodes id e =
       | false ↦ λ f q. f
     ] refl e
 
--- what a file shows, and what is open then
+-- the object of a file, and its open handle
 abbrev pub IsOpenFile : List (Option Node) → ℕ → ℕ → Handle → Opened → Type 0
 IsOpenFile nodes id label handle o = (m : Metadata) × ((shown_of nodes id ≡ Some (label, File m (bytes_of nodes id))) × (o ≡ OpenFile handle m (bytes_of nodes id)))
 
@@ -158,7 +158,7 @@ module _ (s : StoreState) (t : Tree) (session number : ℕ) (h : OpenHandle) (o 
         (sym (ap (write moment offset bytes) f.1.1 ∙ write_within moment (shown_handle session h) f.0 (bytes_of s.nodes h.node) bytes begins (sym past)))
         (record { told = refl; tree = law t h.label f.0 (bytes_of s.nodes h.node) o.keeps f.1.0 })
 
--- ---- bytes are put into a file
+-- ---- bytes are written into a file
 shows_bytes : (s new : StoreState) (id label : ℕ) (m : Metadata) (old bytes : List ℕ) → shown_of s.nodes id ≡ Some (label, File m old) → new ≡ bytes_set s id bytes → shown_of new.nodes id ≡ Some (label, File m bytes)
 shows_bytes s new id label m old bytes shows state =
     ap (λ (x : StoreState). shown_of x.nodes id) state ∙ ap (option_map shown_node) (edited_itself (with_content (with_bytes bytes)) s id) ∙ shown_stored (node_in s.nodes id) label m old bytes shows

@@ -1,4 +1,4 @@
--- Where a path leads in the store and in the tree that it keeps.
+-- What a path leads to in the store and in the tree that it represents.
 use Rattle.std.specs.Prelude.{◌≡◌, ◌⊎◌, ℕ, Bool, true, false, not, cond, ◌||◌, List, [], ◌∷◌, ◌++◌, map, option_map, option_and_then, is_some, Option, Some, None, refl}
 use Rattle.std.specs.Option.{option_map_or}
 use Rattle.std.specs.List.{list_any}
@@ -21,7 +21,7 @@ use Rattle.sf_walk.specs.declared.finding.Located.{Located}
 use Rattle.sf_walk.specs.declared.finding.Located.TheVariants as located
 use Rattle.sf_walk.specs.Ways.{missing, way_from, found_content, found_node}
 
--- whether a front of the path behind `front` is no directory
+-- whether a prefix of the path after `front` is no directory
 abbrev pub fails_behind : Tree → Path → Path → Bool
 fails_behind t front rest = list_any (λ f. not (is_directory t (front ++ f))) (proper_fronts rest)
 
@@ -32,11 +32,11 @@ any-map t front n (f ∷ fs) = λ i. not (is_directory t (sym (append_assoc fron
 fails_further : (t : Tree) (front : Path) (n : Name) (rest : Path) → fails_behind t front (n ∷ rest) ≡ (not (is_directory t front) || fails_behind t (front ++ n ∷ []) rest)
 fails_further t front n rest = λ i. not (is_directory t (append-nil front i)) || any-map t front n (proper_fronts rest) i
 
--- the path is the root, or goes on from the directory `above` by a name of y
+-- the path is the root, or extends the directory `above` by a name of y
 abbrev pub Known : List (Option Node) → ℕ → Path → ℕ → ℕ → Type 0
 Known nodes root p above y = (p ≡ []) ⊎ ((r : Path) × (n : Name) × (p ≡ r ++ n ∷ []) × (walk (child_of nodes) root r ≡ Some above) × (child_of nodes above n ≡ Some y))
 
--- what was located is what the tree has
+-- the located inode is as the tree has it
 abbrev pub Fits : StoreState → Tree → Path → Path → Located → Type 0
 Fits s t front rest located.NoWay = fails_behind t front rest ≡ true
 Fits s t front rest (located.Missing d) =
@@ -53,7 +53,7 @@ object_found l m (content.Directory es) = refl
 object_found l m (content.File contents) = refl
 
 module _ (s : StoreState) (t : Tree) (h : Keeps s t) where
-  -- a node that a path leads to is there
+  -- the inode that a path leads to exists
   pub node_there : (p : Path) (x : ℕ) → walk (child_of s.nodes) s.root p ≡ Some x → (node : Node) × (node_in s.nodes x ≡ Some node)
   node_there p x at =
       elim (node_in s.nodes x) as (λ o. node_in s.nodes x ≡ o → (node : Node) × (o ≡ Some node)) [
@@ -119,7 +119,7 @@ module _ (s : StoreState) (t : Tree) (h : Keeps s t) where
             ] refl
       ] refl
 
-  -- ---- what is located from the root
+  -- ---- paths resolved from the root
   pub no_way : (p : Path) → way_from s.nodes s.root s.root p ≡ located.NoWay → look_up t p ≡ lookup.NoWay
   no_way p e = ap (λ (b : Bool). cond b lookup.NoWay (lookup_of (label_at t.names p))) (subst (λ (l : Located). Fits s t [] p l) e (way_fits p [] s.root s.root refl (inl refl)))
 

@@ -1,4 +1,4 @@
--- Who holds what after a step, and after a call has let go.
+-- The holders after a step, and after a call has released all.
 use Rattle.std.specs.Prelude.{◌≡◌, ◌≢◌, ◌≤◌, ◌⊎◌, ℕ, nat_eq, ◌||◌, true, false, if◌then◌else◌, List, [], ◌∷◌, length, option_map, option_and_then, Option, Some, None, refl}
 use Rattle.std.proofs.Common.{sym, ap, subst, ◌∙◌, arith, inl, inr, eqb-true, eq-eqb}
 use Rattle.sf_path.specs.Names.{Path}
@@ -33,7 +33,7 @@ holder_none (Some x) = refl
 pub holder_freed : (s : StoreState) (id : ℕ) → holder_of (edited (with_holder None) s id).nodes id ≡ None
 holder_freed s id = ap (option_and_then (λ (x : Node). x.holder)) (edited_itself (with_holder None) s id) ∙ holder_none (node_in s.nodes id)
 
--- ---- lists of nodes
+-- ---- lists of inodes
 first_is : (x y : ℕ) (ys : List ℕ) → x ≡ y → is_one_of x (y ∷ ys) ≡ true
 first_is x y ys e = ap (λ b. b || is_one_of x ys) (eq-eqb x y e)
 
@@ -57,14 +57,14 @@ one_or_not x ys = elim (is_one_of x ys) as (λ b. is_one_of x ys ≡ b → (is_o
 true_false : (x : ℕ) (ys : List ℕ) → is_one_of x ys ≡ true → is_one_of x ys ≡ false → ⊥
 true_false x ys e f = let z : true ≡ false = sym e ∙ f in cc
 
--- the nodes of the held paths
+-- the inodes of the held paths
 node_of_held_path : (at : List Reached) (paths : List Path) (l : ℕ) (s : HeldPath) → Holds (held_paths_on at paths) s → s.node ≡ l → is_one_of l (nodes_in at) ≡ true
 node_of_held_path [] paths l s h e = absurd h
 node_of_held_path (r ∷ at) [] l s h e = absurd h
 node_of_held_path (r ∷ at) (p ∷ paths) l s (inl i) e = first_is l r.node (nodes_in at) (sym e ∙ ap (λ (x : HeldPath). x.node) i)
 node_of_held_path (r ∷ at) (p ∷ paths) l s (inr h) e = later_is (nat_eq l r.node) (is_one_of l (nodes_in at)) (node_of_held_path at paths l s h e)
 
--- each node has a path that leads to it
+-- each inode has a path that leads to it
 abbrev AreEnough : List Reached → List Path → Type 0
 AreEnough at paths = length at ≤ length paths
 
@@ -74,7 +74,7 @@ enough route at (IsOn path walked node less) = omega arith
 enough route at (IsBefore old new walked node count part less) = omega arith
 enough route at (IsApart old new c a b is) = omega arith
 
--- a call on its way holds the directories that it has come to
+-- a call holds the directories that it has reached
 nodes_on : (route : Route) (at : Stage) → IsPosition route at → nodes_of at ≡ nodes_in (reached_at at)
 nodes_on route at (Starts r is) = refl
 nodes_on route at (IsOn path walked node less) = refl
@@ -89,7 +89,7 @@ held_path_of_node (r ∷ at) (p ∷ paths) l fits e = elim (either_is l r.node (
   | inr more ↦ let h = held_path_of_node at paths l (omega (arith, fits)) more in record { held_path = h.held_path; holds = inr h.holds; node = h.node }
 ]
 
--- ---- letting go
+-- ---- releasing
 module _ (kept : List ℕ) where
   free_by : (node l : ℕ) (s : StoreState) → (is_one_of node kept ≡ false → l ≢ node) → holder_of (free_unless kept node s).nodes l ≡ holder_of s.nodes l
   free_by node l s apart =
@@ -143,7 +143,7 @@ module _ (route : Route) (at : Stage) (is : IsPosition route at) where
   none_there : (l : ℕ) → (IsNodeOf (held_paths_of route at) l → ⊥) → is_one_of l (nodes_of at) ≡ false
   none_there l not = elim (one_or_not l (nodes_of at)) [ inl e ↦ absurd (not (held_path_there l e)) | inr e ↦ e ]
 
-  -- a call lets go of all that it holds
+  -- a call releases all that it holds
   pub freed_hands : (s : StoreState) (n : ℕ) → HandsOver (holder_of s.nodes) (holder_of (let_go [] (nodes_of at) s).nodes) n (held_paths_of route at) []
   freed_hands s n = record {
     here = λ l h. absurd h.holds;
@@ -151,7 +151,7 @@ module _ (route : Route) (at : Stage) (is : IsPosition route at) where
     rest = λ l not _. apart_held [] (nodes_of at) s l (λ e. not (held_path_there l e));
   }
 
--- hand over hand
+-- lock coupling
 pub moved_hands : (s : StoreState) {route : Route} {at after : Stage} (n node : ℕ) {x : Node} → IsPosition route at → IsPosition route after → node_in s.nodes node ≡ Some x
     → IsNodeOf (held_paths_of route after) node → ((l : ℕ) → IsNodeOf (held_paths_of route after) l → (l ≡ node) ⊎ (holder_of s.nodes l ≡ Some n))
     → HandsOver (holder_of s.nodes) (holder_of (handed_over n at after node s).nodes) n (held_paths_of route at) (held_paths_of route after)

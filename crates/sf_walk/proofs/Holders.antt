@@ -1,4 +1,4 @@
--- What the store's methods leave of holders and of the count of look-ups.
+-- What the store's methods preserve of holders and of the count of lookups.
 use Rattle.std.specs.Prelude.{◌≡◌, ℕ, zero, suc, ◌+◌, ◌-◌, ◌^◌, min, nat_eq, true, false, cond, List, Option, Some, None, slice_set, if◌then◌else◌, refl}
 use Rattle.std.specs.Option.{option_map_or}
 use Rattle.std.proofs.Common.{sym, ap, subst, ◌∙◌, eqb-true, eq-eqb}
@@ -16,7 +16,7 @@ use Rattle.sf_keeps.proofs.Laws.{node_in-set}
 use Rattle.sf_walk.specs.Served.{IsAsBefore, KeepsRest, HoldersStay, IsAlike, LookedUp, after_look_ups}
 use Rattle.sf_walk.proofs.LookUps.{looked_nodes, looked_root}
 
--- a change of a node that leaves its holder and its label, and how much of it is left to be copied
+-- a change of an inode that preserves its holder, its label and its number of blocks left
 abbrev pub LeavesAt : (Node → Node) → Node → Type 0
 LeavesAt f node = ((f node).holder ≡ node.holder) × ((f node).label ≡ node.label) × (blocks_left_in (f node).content ≡ blocks_left_in node.content)
 
@@ -35,14 +35,14 @@ pub marked_alike : (N : Option ℕ → ℕ → Type 0) (o : Option Node) (n m : 
 marked_alike N None n m eh el ec h = (subst (λ (l : ℕ). N m.holder l) (sym el) (subst (λ (k : Option ℕ). N k n.label) (sym eh) h.0), ec ∙ h.1)
 marked_alike N (Some was) n m eh el ec h = (eh ∙ h.0, el ∙ h.1, ec ∙ h.2)
 
--- nothing happened to the nodes
+-- no inode changed
 pub stays_same : {N : Option ℕ → ℕ → Type 0} (old new : StoreState) → new.nodes ≡ old.nodes → KeepsRest N old new
 stays_same {N} old new e = record { node = λ id node at. as_it_was N (node_in old.nodes id) node (sym (ap (λ (ns : List (Option Node)). node_in ns id) e) ∙ at) }
 
 pub stays_looked : {N : Option ℕ → ℕ → Type 0} (old new : StoreState) (most : ℕ) → LookedUp old new most → KeepsRest N old new
 stays_looked old new most h = stays_same old new (looked_nodes old new most h)
 
--- where none is new, none is new of any kind
+-- if no inode is new, none is new of any kind
 pub stays_none_new : {N : Option ℕ → ℕ → Type 0} (old new : StoreState) → HoldersStay old new → KeepsRest N old new
 stays_none_new {N} old new h = record { node = λ id node at. none_new N (node_in old.nodes id) node (h.node id node at) }
   where
@@ -50,7 +50,7 @@ stays_none_new {N} old new h = record { node = λ id node at. none_new N (node_i
     none_new N None node e = absurd e.0
     none_new N (Some was) node e = e
 
--- one node was changed but for its holder and its label
+-- one inode changed, except for its holder and its label
 pub stays_edited_at : {N : Option ℕ → ℕ → Type 0} (f : Node → Node) (old s : StoreState) (id : ℕ) → ((n : Node) → node_in s.nodes id ≡ Some n → LeavesAt f n) → KeepsRest N old s → KeepsRest N old (edited f s id)
 stays_edited_at {N} f old s id leaves h =
     elim (node_in s.nodes id) as (λ o. node_in s.nodes id ≡ o → KeepsRest N old (with_nodes s (edited_by f s.nodes id o))) [
@@ -69,7 +69,7 @@ stays_edited_at {N} f old s id leaves h =
 pub stays_edited : {N : Option ℕ → ℕ → Type 0} (f : Node → Node) → LeavesHolder f → (old s : StoreState) (id : ℕ) → KeepsRest N old s → KeepsRest N old (edited f s id)
 stays_edited f leaves old s id h = stays_edited_at f old s id (λ n e. leaves n) h
 
--- what is left of contents after a change of entries, and of bytes
+-- the blocks left of contents after a change of entries, and of bytes
 less_left : (n : Name) (c : Content) → blocks_left_in (less_content n c) ≡ blocks_left_in c
 less_left n (content.Directory es) = refl
 less_left n (content.File contents) = refl
@@ -86,13 +86,13 @@ pub new_left : (kind : FileType) → blocks_left_in (new_content kind) ≡ 0
 new_left file_type.Directory = refl
 new_left file_type.File = refl
 
--- a file has other bytes, and nothing of it was left
+-- a file has other bytes, and had no blocks left
 pub stays_stored : {N : Option ℕ → ℕ → Type 0} (old s : StoreState) (id : ℕ) (stored : List ℕ) → blocks_left_at s.nodes id ≡ 0 → KeepsRest N old s → KeepsRest N old (bytes_set s id stored)
 stays_stored {N} old s id stored none h =
     stays_edited_at (with_content (with_bytes stored)) old s id
     (λ n e. (refl, refl, none_left stored n.content ∙ sym (sym (ap (λ (o : Option Node). option_map_or (λ (node : Node). blocks_left_in node.content) o 0) e) ∙ none))) h
 
--- a node went, or not
+-- an inode was deleted, or not
 pub stays_released : {N : Option ℕ → ℕ → Type 0} (old s : StoreState) (id : ℕ) → KeepsRest N old s → KeepsRest N old (released s id)
 stays_released {N} old s id h =
     elim (node_in s.nodes id) as (λ o. node_in s.nodes id ≡ o → KeepsRest N old (released_if s id o)) [
@@ -145,7 +145,7 @@ stays_inserted {N} old s new e node same did is_new none_of = record {
 pub put_nodes : (s : StoreState) (session number : ℕ) (h : OpenHandle) → (handle_put s session number h).nodes ≡ s.nodes
 put_nodes s session number h = elim (handles_of s session) as (λ o. (handles_put s session number h o).nodes ≡ s.nodes) [ None ↦ refl | Some hs ↦ refl ]
 
--- with the same nodes
+-- with the same inodes
 pub stays_alike : {N : Option ℕ → ℕ → Type 0} (old mid new : StoreState) → new.nodes ≡ mid.nodes → KeepsRest N old mid → KeepsRest N old new
 stays_alike old mid new e h = record { node = λ i m at. h.node i m (sym (ap (λ (ns : List (Option Node)). node_in ns i) e) ∙ at) }
 
@@ -171,7 +171,7 @@ stays_closed {N} old s session number h =
       | Some x ↦ stays_released old (edited (λ node. with_opened (node.opens - 1) node) mid x.node) x.node (stays_edited (λ node. with_opened (node.opens - 1) node) (λ node. (refl, refl, refl)) old mid x.node kept)
     ]
 
--- ---- nothing but look-ups
+-- ---- only lookups
 after_sessions : (k : ℕ) (s : StoreState) → (after_look_ups k s).sessions ≡ s.sessions
 after_sessions zero s = refl
 after_sessions (suc k) s = after_sessions k s

@@ -1,4 +1,4 @@
--- The last name of a path, and the path before it.
+-- The last name of a path, and the path of its parent.
 use Rattle.std.specs.Prelude.{◌≡◌, ◌↔◌, ℕ, ◌-◌, Bool, true, false, IsTrue, [], ◌∷◌, ◌++◌, length, take, Some, slice_index_or, slice_get, refl}
 use Rattle.std.proofs.lemmas.Option.{get_or_from_slice_get}
 use Rattle.std.proofs.Common.{sym, ap, ◌∙◌, arith, length-append}

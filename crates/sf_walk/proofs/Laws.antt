@@ -1,26 +1,29 @@
--- For the crates above: what a way in the store says of the tree, and where a call stands after a
--- step. They speak of definitions alone. All other files here are private to this crate.
+-- For the crates above: path resolution in the store and in the tree, and the position of a call
+-- after a step. This file is about definitions alone. All other files here are private to this
+-- crate.
 
--- where there is no way in the store, there is none in the tree; what has an entry is a directory
+-- if a path leads nowhere in the store, it does so in the tree; an inode with an entry is a
+-- directory
 pub use Rattle.sf_walk.proofs.Fits.{no_way}
 pub use Rattle.sf_walk.proofs.Onward.{has_entry}
--- what look-ups alone leave as it is
+-- what lookups alone preserve
 pub use Rattle.sf_walk.proofs.LookUps.{looked_nodes, looked_root}
 pub use Rattle.sf_walk.proofs.Looked.{keeps_counted}
--- paths part, unless one begins with the other, and at one place
+-- two paths part at one place, unless one is a prefix of the other
 pub use Rattle.sf_walk.proofs.Parting.{parts, parts_once}
--- every request's route is one, and a call that starts stands on it
+-- every request has a valid route, and a call that starts is at its start
 pub use Rattle.sf_walk.proofs.Standing.{starts, stands_fresh}
--- a call that took a step stands where it led, one that waits or decides stands as before, and so
--- does each after look-ups; the root stays a directory
+-- a call that took a step holds what the step led to; one that is blocked or decides, and each
+-- after lookups, holds what it held; the root stays a directory
 pub use Rattle.sf_walk.proofs.Standing.{stands_on, stands_unmoved, stands_still, root_stands}
--- what a step and letting go leave: entries, the root, what is a directory, and so where held paths lead
+-- what a step and a release preserve: entries, the root, directories, and so what held paths lead
+-- to
 pub use Rattle.sf_walk.proofs.Standing.{IsSameGround, same_itself, same_trans, same_held, same_let_go, ground_stays, walk_same, leads_same}
--- hand over hand: who holds what after a step, and after a call has let go of all
+-- lock coupling: the holders after a step, and after a call has released all
 pub use Rattle.sf_walk.proofs.HandOver.{moved_hands, freed_hands, holder_other, holder_here, holder_freed}
--- a call that has no way to its new path moves nothing
+-- a call whose new path leads nowhere moves nothing
 pub use Rattle.sf_walk.proofs.Nowhere.{nowhere_stays}
--- a call that walks no path decides at once
+-- a call without a path is decided at once
 pub use Rattle.sf_walk.proofs.Advancing.{at_once}
--- a file that another session's handle opens is there still after a decision
+-- a decision preserves a file that another session's handle opens
 pub use Rattle.sf_walk.proofs.Spared.{file_spared}

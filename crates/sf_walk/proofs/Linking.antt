@@ -1,4 +1,4 @@
--- What a link comes to, in the store and in the tree that it keeps.
+-- The outcome of a link, in the store and in the tree that it represents.
 use Rattle.std.specs.Prelude.{◌≡◌, ◌<◌, ◌≤◌, ℕ, nat_eq, nat_lt, nat_le, true, false, cond, ◌||◌, [], ◌∷◌, ◌++◌, length, is_some, option_map, option_and_then, Option, Some, None, refl}
 use Rattle.std.specs.Option.{option_map_or}
 use Rattle.std.proofs.Common.{sym, ap, subst, ◌∙◌, arith, length-append, append-nil, eq-eqb, eqb-true}
@@ -55,7 +55,7 @@ module _ (s : StoreState) (t : Tree) (k : Keeps s t) (moment : ℕ) (old new : P
   pub link_missing : (d : ℕ) → way_from s.nodes s.root s.root old ≡ located.Missing d → whole ≡ refuses NoSuchFile
   link_missing d e = told Nothing (found_missing s t old k d e)
 
-  -- ---- old is there
+  -- ---- the old path leads to an inode
   module _ (from node : ℕ) (at : way_from s.nodes s.root s.root old ≡ located.At from node) where
     abbrev it : Node
     it = (node_at s t k old from node at).2.0
@@ -86,7 +86,7 @@ module _ (s : StoreState) (t : Tree) (k : Keeps s t) (moment : ℕ) (old new : P
       file : is_file_at s.nodes node ≡ true
       file = ap (λ (o : Option Node). option_map_or (λ (x : Node). is_file_content x.content) o false) here ∙ file_content it.content (content_at ∙ no)
 
-      -- ---- one path begins with the other
+      -- ---- one path is a prefix of the other
       below : (rest : Path) → new ≡ old ++ rest → length old < length new → look_up t new ≡ lookup.NoWay
       below [] e less = let lengths = ap (λ (p : Path). length p) e in absurd (omega (arith, less, lengths, length-append old []))
       below (name ∷ rest) e less = ap (look_up t) e ∙ file_in_way s t k old node name rest (node_at s t k old from node at).0 file
@@ -171,7 +171,7 @@ module _ (s : StoreState) (t : Tree) (k : Keeps s t) (moment : ℕ) (old new : P
               is = free ∙ ap (λ b. cond {A = Outcome} b (refuses Failure) (succeeds (NewName new it.label ∷ touched t moment (parent new)))) few;
             }
 
--- the entry and the count are not seen of a directory
+-- a directory's object shows neither its entries nor its count of names
 shown_content : (n : Name) (id l : ℕ) (m : Metadata) (c : Content) → ◌≡◌ {A = ℕ × Object} (l, object_in m (more_content n id c)) (l, object_in m c)
 shown_content n id l m (content.Directory es) = refl
 shown_content n id l m (content.File contents) = refl
@@ -192,8 +192,8 @@ shown_linked s into n node =
     shown_edited with_name (entry_put s into n node) node (λ x. refl) into
     ∙ shown_edited (with_content (more_content n node)) s into (λ x. shown_content n node x.label x.metadata x.content) into
 
--- ---- the name is made
--- a file gets a further name, whose directory is modified
+-- ---- the link is made
+-- a file gets a further name, and the modification time of its directory is set
 pub record NamesFile (s after : StoreState) (t : Tree) (moment : ℕ) (answer : Outcome) : Type 0 where
   pub new : Path
   pub node : ℕ

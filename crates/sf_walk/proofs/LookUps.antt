@@ -1,4 +1,4 @@
--- Look-ups, one more.
+-- One more lookup.
 use Rattle.std.proofs.Common.{◌≡◌, ℕ, ◌+◌, ◌≤◌, zero, suc, refl, ap, ◌∙◌, arith}
 use Rattle.sf_inode.specs.Stores.{StoreState, looked_up}
 use Rattle.sf_walk.specs.Served.{LookedUp, after_look_ups}

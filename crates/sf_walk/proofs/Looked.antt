@@ -1,4 +1,4 @@
--- What look-ups alone leave as it is.
+-- What lookups alone preserve.
 use Rattle.std.specs.Prelude.{◌≡◌, ℕ, zero, suc, List, Option}
 use Rattle.std.proofs.Common.{sym, subst, ◌∙◌}
 use Rattle.sf_path.specs.Names.{Path}
@@ -20,7 +20,7 @@ keeps_after (suc k) s t keeps = keeps_looked (after_look_ups k s) t (keeps_after
 pub keeps_counted : (old new : StoreState) (t : Tree) (most : ℕ) → LookedUp old new most → Keeps old t → Keeps new t
 keeps_counted old new t most h keeps = subst (λ (s : StoreState). Keeps s t) (sym h.state) (keeps_after h.count old t keeps)
 
--- what was located in the store before is what is located in it now
+-- path resolution in the store before and after them has the same result
 pub way_looked : (old new : StoreState) (p : Path) (most : ℕ) (l : Located) → LookedUp old new most → l ≡ way_from old.nodes old.root old.root p → way_from new.nodes new.root new.root p ≡ l
 way_looked old new p most l looked e =
     let nodes = looked_nodes old new most looked in

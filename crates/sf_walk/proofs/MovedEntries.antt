@@ -34,7 +34,7 @@ done-append t (c ∷ cs) ds = done-append (changed t c) cs ds
 abbrev seen : ℕ → Object → Option (ℕ × Object)
 seen label object = Some (label, object)
 
--- what a directory shows once its metadata is changed
+-- a directory after its metadata changed
 content_changed : (f : Metadata → Metadata) (l label : ℕ) (m k : Metadata) (c : Content) → seen l (object_in m c) ≡ seen label (Directory k) → seen l (object_in (f m) c) ≡ seen label (Directory (f k))
 content_changed f l label m k (content.Directory es) e =
     let labels : Some l ≡ Some label = ap (option_map (λ (v : ℕ × Object). v.0)) e in
@@ -68,7 +68,7 @@ module _ (s : StoreState) (t : Tree) (k : Keeps s t) (moment : ℕ) (old new : P
     | Some target ↦ λ e. keeps_replaced s t m.above from m.name m.node m.beside into m.last k m.leads m.there m.leads_new m.directory not_inside target e (m.bare target e) (m.other target e)
   ] refl
 
-  -- neither directory is what is replaced
+  -- neither directory is the replaced inode
   other_from : child_of s.nodes into m.last ≢ Some from
   other_from e = let none = bare_above s.nodes from m.name (m.bare from e) in let some = m.there in let x : ⊥ = cc in x
 
@@ -90,7 +90,7 @@ module _ (s : StoreState) (t : Tree) (k : Keeps s t) (moment : ℕ) (old new : P
   old_touched : Keeps touched_old tree_old
   old_touched = touches s mid t (changed t (Move Old New)) (record { above = m.above; name = m.name; node = from; leads = m.leads; directory = from_is }) moment k moved from_same
 
-  -- one directory for both is modified twice, with one value
+  -- if both are one directory it is modified twice, with the same value
   into_touched : Keeps (edited (with_metadata (modified_at moment)) touched_old into) (done tree_old (touched t moment (parent New)))
   into_touched = elim (nat_eq from into) as (λ b. nat_eq from into ≡ b → Keeps (edited (with_metadata (modified_at moment)) touched_old into) (done tree_old (touched t moment (parent New)))) [
     | false ↦ λ e.

@@ -147,7 +147,7 @@ others_stay t session number moment (request.Link old new) a b =
     link_cases Stays (λ code. refl) t moment old new
     (λ label _ _ _. link_to_cases Stays (λ code. refl) t moment new label (look_up t new) refl (λ _ _. touches moment (directory_at t (parent new)))) session number
 
--- what a rename comes to tells whether it moves
+-- the outcome of a rename says whether it moves an entry
 pub course_moves : (s : StoreState) (t : Tree) (moment : ℕ) (old new : Path) (answer : Outcome) (course : Course) → IsCourse s t (renaming old new moment) answer course → does_move course ≡ is_some (moved_by answer.changes)
 course_moves s t moment old new answer (Told code) e = sym (ap (λ (a : Outcome). is_some (moved_by a.changes)) e)
 course_moves s t moment old new answer (Moves from into) e = sym (ap (λ (a : Outcome). is_some (moved_by a.changes)) e.0)

@@ -1,4 +1,4 @@
--- What has no way to its new path moves nothing.
+-- A call whose new path leads nowhere moves nothing.
 use Rattle.std.specs.Prelude.{◌≡◌, ℕ, true, false, cond, [], ◌∷◌, refl}
 use Rattle.std.proofs.Common.{ap, sym, ◌∙◌}
 use Rattle.sf_path.specs.Names.{Path}

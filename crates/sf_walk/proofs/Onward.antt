@@ -1,4 +1,4 @@
--- One name further on the way of a path.
+-- One component further on a path.
 use Rattle.std.specs.Prelude.{◌≡◌, ◌≢◌, ◌<◌, ◌+◌, ℕ, suc, true, false, cond, List, [], ◌∷◌, ◌++◌, length, take, drop, slice_get, Option, Some, None, option_and_then, refl}
 use Rattle.std.specs.Option.{option_map_or}
 use Rattle.std.proofs.Common.{sym, ap, subst, ◌∙◌, arith, get_or, add-one}
@@ -25,7 +25,7 @@ content_has : (c : Content) (n : Name) (y : ℕ) → child_in c n ≡ Some y →
 content_has (content.Directory es) n y e = refl
 content_has (content.File b) n y e = cc
 
--- what has an entry is a directory
+-- an inode with an entry is a directory
 pub has_entry : (nodes : List (Option Node)) (x : ℕ) (n : Name) (y : ℕ) → child_of nodes x n ≡ Some y → is_directory_at nodes x ≡ true
 has_entry nodes x n y =
     elim (node_in nodes x) as (λ (o : Option Node). option_and_then (λ (node : Node). child_in node.content n) o ≡ Some y → option_map_or (λ (node : Node). is_directory_content node.content) o false ≡ true) [
@@ -33,7 +33,7 @@ has_entry nodes x n y =
       | Some node ↦ λ e. content_has node.content n y e
     ]
 
--- where a front leads, the way of the path goes on from
+-- path resolution continues from where a prefix leads
 walked_way : (nodes : List (Option Node)) (front : Path) (n : Name) (rest : Path) (above above' x y : ℕ) → walk (child_of nodes) x front ≡ Some y
     → way_from nodes above x (front ++ n ∷ rest) ≡ way_from nodes above' y (n ∷ rest)
 walked_way nodes [] n rest above above' x y e = let same : x ≡ y = cc in ap (λ z. way_from nodes above z (n ∷ rest)) same
@@ -51,7 +51,7 @@ one_name (Some y) = refl
 pub take_next : (p : Path) (i : ℕ) (n : Name) → i < length p → slice_get p i ≡ Some n → take (i + 1) p ≡ take i p ++ n ∷ []
 take_next p i n h g = ap (λ j. take j p) (add-one i) ∙ take-suc p i [] h ∙ ap (λ m. take i p ++ m ∷ []) (get_or_from_slice_get p i n [] g)
 
--- one name further
+-- one component further
 pub walk_next : (step : EntryMap) (x : ℕ) (p : Path) (i : ℕ) (n : Name) (y : ℕ) → i < length p → slice_get p i ≡ Some n → walk step x (take i p) ≡ Some y → walk step x (take (i + 1) p) ≡ step y n
 walk_next step x p i n y h g w =
     ap (walk step x) (take_next p i n h g) ∙ walk-append step x (take i p) (n ∷ []) ∙ ap (option_and_then (λ z. walk step z (n ∷ []))) w ∙ one_name (step y n)
@@ -93,14 +93,14 @@ module _ (s : StoreState) (path : Path) (walked node : ℕ) (way : LeadsOnWay s 
           | Some y ↦ λ some. sym (goes_on y some ∙ way_stops s.nodes node y path (walked + 1) more (file y some))
         ] refl
 
-  -- a way that ends before the last name
+  -- path resolution that ends before the last name
   pub no_way_on : walked + 1 < length path → LeadsNowhere s.nodes node (slice_get path walked) → located.NoWay ≡ way_from s.nodes s.root s.root path
   no_way_on more h =
       let n = get_or path walked [] in
       let at = slice_get-get_or path walked [] way.short in
       cut n at more (subst (LeadsNowhere s.nodes node) at h)
 
--- where a way ends, a walk ends
+-- an inode found by resolving a path is the one that the path leads to
 no_end : (x : ℕ) (q : Path) (a y : ℕ) → missing x q ≡ located.At a y → None ≡ Some y
 no_end x [] a y g = cc
 no_end x (m ∷ q) a y g = cc
@@ -117,6 +117,6 @@ way_walks nodes above x (n ∷ p) a y e =
           ] f
     ] e
 
--- what a path's last name leads to, all its names lead to
+-- what a path's last name leads to from its parent, the path leads to from the root
 pub last_leads : (s : StoreState) (path : Path) (walked a y : ℕ) → way_from s.nodes s.root s.root path ≡ located.At a y → walked + 1 ≡ length path → walk (child_of s.nodes) s.root (take (walked + 1) path) ≡ Some y
 last_leads s path walked a y e last = ap (walk (child_of s.nodes) s.root) (take_all (walked + 1) path (omega (arith, last))) ∙ way_walks s.nodes s.root s.root path a y e

@@ -1,4 +1,4 @@
--- What a handle opens, in the store and in the tree that it keeps.
+-- Open handles, in the store and in the tree that it represents.
 use Rattle.std.specs.Prelude.{◌≡◌, ℕ, false, option_map, Option, Some, refl}
 use Rattle.std.specs.Option.{option_map_or}
 use Rattle.std.proofs.Common.{sym, ap, subst, ◌∙◌}
@@ -16,7 +16,7 @@ use Rattle.sf_keeps.specs.Keeps.{Keeps}
 use Rattle.sf_keeps.proofs.Laws.{found_node, keeps_closed}
 use Rattle.sf_walk.specs.Served.{IsCarriedOut}
 
--- A session's handle, whose node is there. The tree has the handle too, and the node's object.
+-- A session's handle, whose inode exists. The tree has the handle, too, and the inode's object.
 pub record IsOpen (s : StoreState) (t : Tree) (session number : ℕ) (h : OpenHandle) : Type 0 where
   pub keeps : Keeps s t
   pub at : open_handle_at s session number ≡ Some h

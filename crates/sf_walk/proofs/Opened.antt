@@ -1,4 +1,4 @@
--- What opening makes of the tree.
+-- The effect of opening on the tree.
 use Rattle.std.specs.Prelude.{◌≡◌, ◌≢◌, ℕ, nat_eq, ◌+◌, ◌-◌, ◌^◌, ◌<◌, min, Bool, true, false, cond, not, ◌&&◌, List, [], ◌∷◌, ◌++◌, option_map, Option, Some, None, Result, OnErr, refl}
 use Rattle.std.specs.Option.{option_map_or}
 use Rattle.std.proofs.Common.{sym, ap, subst, ◌∙◌, eqb-true}
@@ -48,7 +48,7 @@ use Rattle.sf_walk.proofs.SetNodes.{ShownFile}
 use Rattle.sf_walk.proofs.Parents.{shown_directory, touches}
 use Rattle.sf_walk.proofs.PathCalls.{node_located}
 
--- ---- what nodes show
+-- ---- the objects of inodes
 shown_edited : (f : Node → Node) → ((node : Node) → shown_node (f node) ≡ shown_node node) → (s : StoreState) (id i : ℕ) → shown_of (edited f s id).nodes i ≡ shown_of s.nodes i
 shown_edited f same s id i =
     ap (option_map shown_node) (edited_node f s id i)
@@ -57,7 +57,7 @@ shown_edited f same s id i =
       | false ↦ λ e. refl
     ] refl
 
--- who opens a node can't be seen
+-- an inode's object doesn't show its open handles
 pub shown_opened : (s : StoreState) (session number id : ℕ) (marks : Marks) (i : ℕ) → shown_of (after_open s session number id marks).nodes i ≡ shown_of s.nodes i
 shown_opened s session number id marks i = elim (node_in s.nodes id) as (λ o. shown_of (option_map_or (λ (node : Node). after_open_node s session number (new_handle id marks node)) o s).nodes i ≡ shown_of s.nodes i) [
   | None ↦ refl
@@ -93,7 +93,7 @@ module _ (t : Tree) (session number : ℕ) where
       subst (λ (a : Outcome). IsCarriedOut new t a (reply.Handle number)) (sym (listing_opens it.label it.metadata it.content d e))
       (record { told = refl; tree = subst (λ (x : StoreState). Keeps x (changed t (OpenHandle number (directory_handle session it.label)))) (sym state) kept })
 
--- ---- OPEN of a node that is there
+-- ---- OPEN of an existing inode
 module _ (t : Tree) (session number moment : ℕ) (flags : OpenFlags) where
   abbrev opens_file : ℕ → Metadata → Bool → Bool → Outcome
   opens_file l m full cuts = cond full (refuses Failure) (cond cuts (opens number (new_file_handle session l flags) (SetObject l (File (modified_at moment m) []) ∷ [])) (opens number (new_file_handle session l flags) []))
@@ -114,7 +114,7 @@ module _ (t : Tree) (session number moment : ℕ) (flags : OpenFlags) where
       subst (λ (a : Outcome). IsCarriedOut new t a (reply.Handle number)) (sym (present_opens it.label it.metadata it.content false d e f))
       (record { told = refl; tree = subst (λ (x : StoreState). Keeps x (changed t (OpenHandle number (new_file_handle session it.label flags)))) (sym state) kept })
 
-  -- the law of cutting a file
+  -- the law of truncating a file
   abbrev pub CutsFile : StoreState → StoreState → ℕ → Type 0
   CutsFile mid new id = (u : Tree) (label : ℕ) (m : Metadata) (bytes : List ℕ) → Keeps mid u → shown_of mid.nodes id ≡ Some (label, File m bytes) → Keeps new (changed u (SetObject label (File (modified_at moment m) [])))
 
@@ -163,7 +163,7 @@ module _ (t : Tree) (session number moment : ℕ) (path : Path) (flags : OpenFla
       (subst (λ (q : Path). Keeps (edited (with_metadata (modified_at moment)) mid dir) (done t (OpenHandle number (new_file_handle session number flags) ∷ NewPath q number (File metadata []) ∷ touched t moment (parent q)))) (sym is) after)) in
       subst (λ (a : Outcome). IsCarriedOut new t a (reply.Handle number)) (sym (absent_is false false c f)) (record { told = refl; tree = complete })
 
--- ---- a file that is cut
+-- ---- a truncated file
 cut_node : (c : Content) (l label : ℕ) (k m : Metadata) (bytes : List ℕ) → shown_as l (object_in k c) ≡ shown_as label (File m bytes)
     → shown_as l (object_in k (with_bytes [] c)) ≡ shown_as label (File m [])
 cut_node (content.Directory es) l label k m bytes e =
@@ -196,7 +196,7 @@ cut_served s mid new t f moment k is state =
     (subst (λ (u : Tree). Keeps (edited (with_metadata (modified_at moment)) mid id) u) (object_again t label (File m []) (File (modified_at moment m) []))
     (keeps_file (modified_at moment) mid (changed t (SetObject label (File m []))) id label m [] kept shown))
 
--- ---- what opening leaves of holders
+-- ---- what opening preserves of holders
 pub stays_opened_new : {N : Option ℕ → ℕ → Type 0} (before s new : StoreState) (o : ToOpen) (made : NewNode) → s.nodes ≡ before.nodes → OpenedNew s new o made → N None made.label → KeepsRest N before new
 stays_opened_new {N} before s new o made same did is_new =
     subst (KeepsRest N before) (sym did.state) (stays_opened before did.mid o.session o.number did.id o.marks (stays_inserted before s did.mid (new_entry o.dir o.name did.id) (new_node made) same did.inserted is_new (new_left made.file_type)))
@@ -223,7 +223,7 @@ way_lacking (n ∷ p) nodes above x d =
       lacks [] f q e = let same : x ≡ d = cc in ([], n, refl, ap (λ k. child_of nodes k n) (sym same) ∙ f, ap (is_directory_at nodes) (sym same) ∙ q)
       lacks (m ∷ rest) f q e = cc
 
--- ---- what was located
+-- ---- the located inode
 module _ (old mid : StoreState) (t : Tree) (p : Path) (most : ℕ) (looked : LookedUp old mid most) (h : Keeps old t) where
   pub listing_located : (session number : ℕ) (new : StoreState) (above y : ℕ) → {E : Type 0} → (r : Result Reply E) → located.At above y ≡ way_from old.nodes old.root old.root p
       → ((it : Node) → node_in mid.nodes y ≡ Some it → ServesOutcome new t (open_directory t session number (found_node it)) r)
@@ -272,7 +272,7 @@ module _ (old mid : StoreState) (t : Tree) (p : Path) (most : ℕ) (looked : Loo
         ap answer f.2.2 ∙ ap (λ b. cond b (refuses Failure) (open_present t session (stamp number moment) flags (found_object f.2.0.label (object_of t.objects f.2.0.label)))) both ∙ ap (open_present t session (stamp number moment) flags) is in
         past_root_gives new t p (answer (look_up t p)) r ne (subst (λ (a : Outcome). ServesOutcome new t a r) (sym at_label) (served f.2.0 f.2.1))
 
--- ---- what a missing name's directory is after the look-ups
+-- ---- the directory of a missing name after the lookups
 pub missing_directory : (old mid : StoreState) (p : Path) (most d : ℕ) → LookedUp old mid most → located.Missing d ≡ way_from old.nodes old.root old.root p → is_directory_at mid.nodes d ≡ true
 missing_directory old mid p most d looked e = ap (λ (ns : List (Option Node)). is_directory_at ns d) (looked_nodes old mid most looked) ∙ (way_lacking p old.nodes old.root old.root d (sym e)).4
 

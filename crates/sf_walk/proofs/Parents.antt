@@ -1,5 +1,4 @@
--- The directory that the last name of a path stands in: it gets a name or loses one, and is
--- modified.
+-- The parent of a path: it gets a name or loses one, and its modification time is set.
 use Rattle.std.specs.Prelude.{◌≡◌, ◌≢◌, ℕ, ◌<◌, true, false, List, [], ◌∷◌, ◌++◌, length, option_map, option_and_then, Option, Some, None, refl}
 use Rattle.std.specs.Option.{option_map_or}
 use Rattle.std.proofs.Common.{sym, ap, subst, ◌∙◌, inl, inr, arith}
@@ -53,7 +52,7 @@ content_bare (content.Directory []) n e = refl
 content_bare (content.Directory (x ∷ es)) n e = cc
 content_bare (content.File contents) n e = refl
 
--- what has no entries has no entry of its own
+-- an inode without entries isn't its own entry
 pub bare_above : (nodes : List (Option Node)) (d : ℕ) (n : Name) → is_bare_at nodes d ≡ true → child_of nodes d n ≡ None
 bare_above nodes d n =
     elim (node_in nodes d) as (λ o. option_map_or (λ (node : Node). is_bare_content node.content) o false ≡ true → option_and_then (λ (node : Node). child_in node.content n) o ≡ None) [
@@ -61,7 +60,7 @@ bare_above nodes d n =
       | Some node ↦ λ e. content_bare node.content n e
     ]
 
--- a directory of a store in which a path's last name stands
+-- a directory of a store that has the last name of a path
 pub record ParentIn (s : StoreState) : Type 0 where
   pub above : Path
   pub name : Name
@@ -73,7 +72,7 @@ pub record ParentIn (s : StoreState) : Type 0 where
 abbrev pub below : {s : StoreState} → ParentIn s → Path
 below p = p.above ++ p.name ∷ []
 
--- it is modified, in the store and in the tree
+-- its modification time is set, in the store and in the tree
 pub touches : (s new : StoreState) (t u : Tree) (p : ParentIn s) (moment : ℕ) → Keeps s t → Keeps new u → shown_of new.nodes p.node ≡ shown_of s.nodes p.node
     → Keeps (edited (with_metadata (modified_at moment)) new p.node) (done u (touched t moment (parent (below p))))
 touches s new t u p moment h kept same =
@@ -83,7 +82,8 @@ touches s new t u p moment h kept same =
     (keeps_directory (modified_at moment) new u p.node w.0 w.1.0 kept (same ∙ w.1.1))
 
 -- ---- MKDIR of a missing name
--- What a MKDIR does: it looks for the path's way, puts a new node under its last name, and its parent is modified.
+-- MKDIR resolves the path, adds a new inode under its last name, and sets the parent's modification
+-- time.
 pub record MakesDirectory (old new : StoreState) (p : Path) (number : ℕ) : Type 0 where
   pub mid : StoreState
   pub made : StoreState
@@ -128,8 +128,8 @@ make_served old new t p number h fresh m =
     (subst (λ (l : ℕ). Keeps touched_dir (done t (NewPath (r ++ n ∷ []) l (object_in it.metadata (new_content it.file_type)) ∷ touched t moment (parent (r ++ n ∷ []))))) m.label after))) in
     subst (λ (a : Outcome). IsCarriedOut new t a (reply.Status Success)) (sym (ap (make_directory t (stamp number moment) p m.attrs) f.0)) (record { told = refl; tree = whole })
 
--- ---- a path less
--- a path's last name is taken out of its directory, which is modified
+-- ---- a path is removed
+-- a path's last name is removed from its directory, whose modification time is set
 pub record TakesOut (s new : StoreState) (p : Path) : Type 0 where
   pub moment : ℕ
   pub dir : ℕ

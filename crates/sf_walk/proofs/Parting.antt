@@ -1,4 +1,4 @@
--- Where two paths part.
+-- The place at which two paths part.
 use Rattle.std.specs.Prelude.{◌≡◌, ◌≢◌, ◌<◌, ◌≤◌, ℕ, zero, suc, true, false, cond, ◌||◌, [], ◌∷◌, length, take, slice_get, is_some, Option, None, refl}
 use Rattle.std.proofs.Common.{sym, ap, subst, ◌∙◌, inl, inr, arith}
 use Rattle.sf_path.specs.Names.{Name, Path}
@@ -20,7 +20,7 @@ get_take (suc n) (x ∷ p) (suc i) h = get_take n p i (omega arith)
 alike_below : (p q : Path) (n i : ℕ) → take n p ≡ take n q → i < n → slice_get p i ≡ slice_get q i
 alike_below p q n i e h = sym (get_take n p i h) ∙ ap (λ (r : Path). slice_get r i) e ∙ get_take n q i h
 
--- the longest front that two paths have in common ends where they part
+-- the longest common prefix of two paths ends where they part
 pub parts_there : (p q : Path) (r count : ℕ) → PartAt p q count → take r p ≡ take r q → r ≤ length p → r ≤ length q → (r < length p → r < length q → slice_get p r ≢ slice_get q r) → r ≡ count
 parts_there p q r count part alike in_p in_q longest =
     let short = part.short in
@@ -36,7 +36,7 @@ further n m p q e h =
     let short_new = part.short_new in
     (suc h.0, record { alike = λ i. e i ∷ part.alike i; short = omega arith; short_new = omega arith; apart = part.apart })
 
--- two paths part, unless one begins with the other
+-- two paths part, unless one is a prefix of the other
 pub parts : (p q : Path) → are_nested p q ≡ false → (count : ℕ) × PartAt p q count
 parts [] q e = cc
 parts (n ∷ p) [] e = cc
@@ -60,7 +60,7 @@ parts (n ∷ p) (m ∷ q) e =
 pub part_at_first : (old new : Path) → are_nested old new ≡ false → PartLater old new 0
 part_at_first old new h = let w = parts old new h in record { count = w.0; part = w.1; later = omega arith }
 
--- Where the next names differ, the paths part here; where they are alike, they part later.
+-- If the next names differ, the paths part here; if they are equal, the paths part later.
 module _ (old new : Path) (to : Reached) (later : PartLater old new to.walked) where
   pub comes_apart : slice_get old to.walked ≢ slice_get new to.walked → ComesToBoth old new to (stage.Ends to to to)
   comes_apart ne =

@@ -1,4 +1,4 @@
--- What calls on paths answer, case by case.
+-- The replies to calls on paths, case by case.
 use Rattle.std.specs.Prelude.{◌≡◌, ℕ, Bool, true, false, cond, ◌&&◌, if◌then◌else◌, List, [], option_map, Option, Some, None, refl}
 use Rattle.std.specs.Option.{option_map_or}
 use Rattle.std.proofs.Common.{sym, ap, subst, ◌∙◌}
@@ -30,7 +30,7 @@ use Rattle.sf_walk.proofs.Fits.{no_way, name_missing, node_at}
 use Rattle.sf_walk.proofs.Looked.{keeps_counted, way_looked}
 use Rattle.sf_walk.proofs.ReplyOnly.{tells_served, past_root, past_root_wants}
 
--- after look-ups an entry was taken out, and its directory modified
+-- an entry was removed after lookups, and its directory's modification time set
 pub stays_gone : {N : Option ℕ → ℕ → Type 0} (old mid new : StoreState) (most moment dir : ℕ) (n : Name) → LookedUp old mid most → new ≡ edited (with_metadata (modified_at moment)) (unlinked mid dir n) dir → KeepsRest N old new
 stays_gone {N} old mid new most moment dir n looked state =
     subst (λ (x : StoreState). KeepsRest N old x) (sym state)
@@ -45,7 +45,7 @@ file_bare nodes y node at d =
     ap (λ (o : Option Node). option_map_or (λ (it : Node). is_bare_content it.content) o false) at
     ∙ file_content_bare node.content (sym (ap (λ (o : Option Node). option_map_or (λ (it : Node). is_directory_content it.content) o false) at) ∙ d)
 
--- what was located, in the tree
+-- the located inode, in the tree
 module _ (s : StoreState) (t : Tree) (p : Path) (h : Keeps s t) where
   pub found_no_way : way_from s.nodes s.root s.root p ≡ located.NoWay → found_at t p ≡ Nowhere
   found_no_way e = ap (found_place t.objects) (no_way s t h p e)
@@ -57,7 +57,7 @@ module _ (old mid : StoreState) (t : Tree) (p : Path) (most : ℕ) (looked : Loo
   mid_keeps : Keeps mid t
   mid_keeps = keeps_counted old mid t most looked h
 
-  -- a path that leads nowhere, for any call that looks at what is found
+  -- a path that leads to no inode, for any call that needs one
   nothing_told : (f : FoundObject → Outcome) (code : StatusCode) → f (found_at t p) ≡ refuses NoSuchFile → code ≡ NoSuchFile → IsCarriedOut mid t (f (found_at t p)) (reply.Status code)
   nothing_told f code e is = tells_served mid t (f (found_at t p)) (reply.Status code) (e ∙ ap refuses (sym is)) mid_keeps
 
@@ -67,7 +67,7 @@ module _ (old mid : StoreState) (t : Tree) (p : Path) (most : ℕ) (looked : Loo
   nowhere_served f none nothing (located.Missing d) code not e = nothing_told f code (ap f (found_missing mid t p mid_keeps d (way_looked old mid p most (located.Missing d) looked e)) ∙ nothing) not.0
   nowhere_served f none nothing (located.At above y) code not e = absurd (not.1 tt)
 
-  -- the node that was located
+  -- the inode that was located
   pub node_located : (above y : ℕ) → located.At above y ≡ way_from old.nodes old.root old.root p → (node : Node) × ((node_in mid.nodes y ≡ Some node) × (found_at t p ≡ found_node node))
   node_located above y e = let f = node_at mid t mid_keeps p above y (way_looked old mid p most (located.At above y) looked e) in (f.2.0, (f.2.1, f.2.3))
 
@@ -99,7 +99,7 @@ module _ (old mid : StoreState) (t : Tree) (p : Path) (most : ℕ) (looked : Loo
   set_content moment attrs l m (content.Directory es) = refl
   set_content moment attrs l m (content.File contents) = refl
 
-  -- what setting the node's attributes serves, the call serves
+  -- the call's reply is that of setting the inode's attributes
   pub set_stat_at : (new : StoreState) (moment : ℕ) (attrs : Attrs) (above y : ℕ) (result : Reply) → (p ≡ [] → ⊥) → located.At above y ≡ way_from old.nodes old.root old.root p
       → ((u : Tree) (it : Node) → Keeps mid u → node_in mid.nodes y ≡ Some it → IsCarriedOut new u (sets moment it.label attrs (object_in it.metadata it.content)) result)
       → IsCarriedOut new t (unless_root p (set_stat moment attrs (found_at t p))) result

@@ -1,4 +1,4 @@
--- A store in which nothing but the count of look-ups differs keeps the tree.
+-- A store that differs only in the count of lookups represents the same tree.
 use Rattle.std.specs.Prelude.{◌≡◌, ℕ, T, List, [], Option, option_map, option_and_then}
 use Rattle.std.specs.Option.{option_map_or}
 use Rattle.std.proofs.Common.{sym, ap, subst, ◌∙◌}

@@ -1,4 +1,4 @@
--- Answers that are told.
+-- Replies without a change.
 use Rattle.std.specs.Prelude.{◌≡◌, true, false, [], ◌∷◌, Ok, Err, IsErr, OnErr, refl}
 use Rattle.std.specs.declared.result.Result.{Result}
 use Rattle.std.proofs.Common.{sym, subst}
@@ -33,7 +33,7 @@ pub on_err_any : {A E : Type 0} (r : Result A E) (P : Type 0) → P → OnErr r 
 on_err_any (Ok x) P h = tt
 on_err_any (Err e) P h = h
 
--- want of memory, in place of success
+-- "Out of memory" in place of success
 pub gives_none : {E : Type 0} (new : StoreState) (t : Tree) (answer : Outcome) (r : Result Reply E) → IsErr r → is_success answer.reply ≡ true → ServesOutcome new t answer r
 gives_none new t answer (Ok x) is h = absurd (let w : false ≡ true = is in let x : ⊥ = cc in x)
 gives_none new t answer (Err e) is h = h

@@ -1,4 +1,4 @@
--- What is located, a reply twice, and where memory may be wanting.
+-- The located inodes, a reply with its copy, and allocation failures.
 use Rattle.std.specs.Prelude.{◌≡◌, ◌⊎◌, ◌&&◌, Bool, true, false, ℕ, IfOk, Ok, Err}
 use Rattle.std.specs.declared.result.Result.{Result}
 use Rattle.std.specs.Result.{result_map_both}
@@ -17,7 +17,7 @@ use Rattle.sf_walk.specs.Served.{LookedUp, IsAlike, IsRefused, IsCarriedOut}
 use Rattle.sf_walk.proofs.Looked.{way_looked}
 use Rattle.sf_walk.proofs.Holders.{alike_looked}
 
--- what is located now is what was located before
+-- the located inode is the same as before
 pub way_before : (old mid : StoreState) (most : ℕ) (p : Path) (l : Located) → LookedUp old mid most → l ≡ way_from mid.nodes mid.root mid.root p → l ≡ way_from old.nodes old.root old.root p
 way_before old mid most p l looked h = h ∙ way_looked old mid p most (way_from old.nodes old.root old.root p) looked refl
 
@@ -29,7 +29,7 @@ twice_copies {E} r both e = subst (λ (b : Result (Reply × Reply) E). IfOk {T =
     copies (Ok x) = λ i. x
     copies (Err e) = tt
 
--- memory was wanted, and so it may be told
+-- an allocation failed, so the reply may be "Out of memory"
 pub wanted_then : (takes told : Bool) → told ≡ true → (takes ≡ false → false ≡ true) → (takes && told) ≡ false → ⊥
 wanted_then true told e may sure = absurd (let x : ⊥ = cc in x)
 wanted_then false told e may sure = absurd (let w : false ≡ true = may refl in let x : ⊥ = cc in x)

@@ -1,4 +1,4 @@
--- What a listing answers, and what tree the store keeps after it.
+-- The reply to a listing, and the tree that the store represents after it.
 use Rattle.std.specs.Prelude.{◌≡◌, ℕ, ◌-◌, true, false, List, [], ◌∷◌, length, take, map, filter_map, option_map, Option, Some, None, slice_get, refl}
 use Rattle.std.specs.List.{last_or}
 use Rattle.std.proofs.Common.{sym, ap, subst, ◌∙◌, arith}
@@ -25,7 +25,7 @@ use Rattle.sf_walk.specs.Served.{IsCarriedOut, is_success}
 use Rattle.sf_walk.proofs.ReplyOnly.{tells_served}
 use Rattle.sf_walk.proofs.OpenHandles.{IsOpen, directory_is}
 
--- ---- a node's entry
+-- ---- an inode's entry
 
 -- ---- the last name
 last_row : (o : Option Name) (e : Name × ℕ) (es : List (Name × ℕ)) (n : Name) (id : ℕ) → slice_get (e ∷ es) (length es) ≡ Some (n, id) → last_or o (map (λ (r : Name × ℕ). r.0) (e ∷ es)) ≡ Some n

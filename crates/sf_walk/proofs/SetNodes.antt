@@ -1,4 +1,4 @@
--- The attributes of a node that are set.
+-- Setting the attributes of an inode.
 use Rattle.std.specs.Prelude.{if◌then◌else◌, ◌≡◌, ℕ, ◌≤◌, nat_lt, false, List, [], ◌∷◌, option_map, Option, Some, None, refl}
 use Rattle.std.specs.Option.{option_map_or}
 use Rattle.std.proofs.lemmas.Bool.Decides.{nat_tests}
@@ -44,7 +44,7 @@ content_bytes : (l k : ℕ) (m n : Metadata) (c : Content) (old : List ℕ) → 
 content_bytes l k m n (content.Directory es) old e = let f = ap (λ (o : Option (ℕ × Object)). option_map (λ (v : ℕ × Object). v.1) o) e in cc
 content_bytes l k m n (content.File c) old e = let f = ap (λ (o : Option (ℕ × Object)). option_map (λ (v : ℕ × Object). v.1) o) e in cc
 
--- what a node shows, with other bytes or other metadata
+-- an inode's object, with other bytes or other metadata
 stored_content : (l k : ℕ) (m n : Metadata) (c : Content) (old : List ℕ) (r : List ℕ) → Some (shown_as k (object_in n c)) ≡ Some (l, File m old) → Some (shown_as k (object_in n (with_bytes r c))) ≡ Some (l, File m r)
 stored_content l k m n (content.Directory es) old r e = let f = ap (λ (o : Option (ℕ × Object)). option_map (λ (v : ℕ × Object). v.1) o) e in cc
 stored_content l k m n (content.File c) old r e =
@@ -76,7 +76,7 @@ pub stored_bytes : (o : Option Node) (l : ℕ) (m : Metadata) (old : List ℕ) �
 stored_bytes None l m old e = cc
 stored_bytes (Some node) l m old e = content_bytes l node.label m node.metadata node.content old e
 
--- a file as a store shows it: its node, its label, its metadata and its bytes
+-- a file in a store: its inode, its label, its metadata and its bytes
 pub record ShownFile (s : StoreState) : Type 0 where
   pub node : ℕ
   pub label : ℕ
@@ -84,7 +84,7 @@ pub record ShownFile (s : StoreState) : Type 0 where
   pub bytes : List ℕ
   pub shows : shown_of s.nodes node ≡ Some (label, File metadata bytes)
 
--- a node's parts are set, and no size
+-- attributes other than the size are set
 pub record SetsParts (s new : StoreState) (node : ℕ) : Type 0 where
   pub moment : ℕ
   pub attrs : Attrs
@@ -98,7 +98,7 @@ set_plain s new t node it h at p =
     (subst (λ (a : Outcome). IsCarriedOut (edited (with_metadata (λ m. with_parts m p.attrs)) s node) t a (reply.Status Success)) (sym (sets_plain p.moment it.label p.attrs it.metadata it.content p.no_size))
     (record { told = refl; tree = keeps_metadata (λ m. with_parts m p.attrs) s t node it h at }))
 
--- A file's size is set, the file is modified, and then its other parts are set: with the stores
+-- A file's size is set, then its modification time, and then its other attributes: with the stores
 -- between.
 pub record CutsFile (s new : StoreState) (node : ℕ) : Type 0 where
   pub moment : ℕ
@@ -135,7 +135,7 @@ set_cut s new t f h c =
     subst (λ (a : Outcome). IsCarriedOut new t a (reply.Status Success)) (sym (sets_cut c.moment label c.attrs m f.bytes c.size c.some c.fits))
     (record { told = refl; tree = subst (λ (b : List ℕ). Keeps new (changed t (SetObject label (File (with_parts (modified_at c.moment m) c.attrs) b)))) is_cut (subst (λ (u : Tree). Keeps new u) folded keeps_new) })
 
--- what is no directory is a file
+-- an inode that is no directory is a file
 file_object : (m : Metadata) (c : Content) → is_directory_content c ≡ false → (bytes : List ℕ) × (object_in m c ≡ File m bytes)
 file_object m (content.Directory es) d = absurd (let x : ⊥ = cc in x)
 file_object m (content.File contents) d = (contents.bytes, refl)

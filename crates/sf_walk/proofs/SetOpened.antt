@@ -1,4 +1,4 @@
--- What setting attributes by a handle answers.
+-- The reply to setting attributes by a handle.
 use Rattle.std.specs.Prelude.{◌≡◌, ◌≢◌, ℕ, nat_eq, Bool, true, false, not, cond, ◌&&◌, if◌then◌else◌, Some, is_some, refl}
 use Rattle.std.proofs.lemmas.Bool.Decides.{nat_tests}
 use Rattle.std.proofs.Common.{sym, ap, subst, ◌∙◌, arith}

@@ -1,4 +1,4 @@
--- A decision of one call spares the file that a WRITE of another session copies into: its own handle opens it.
+-- A decision preserves the file that another session's WRITE copies into: an open handle keeps it.
 use Rattle.std.specs.Prelude.{◌≡◌, ℕ, Option, Some, None, option_map, refl}
 use Rattle.std.proofs.Common.{sym, ap, ◌∙◌}
 use Rattle.sf_call.specs.declared.handle.Handle.{Handle}
@@ -11,7 +11,7 @@ use Rattle.sf_inode.specs.Stores.{StoreState, node_in, open_handle_at, shown_of,
 use Rattle.sf_keeps.specs.Keeps.{Keeps}
 use Rattle.sf_walk.specs.Served.{IsAsBefore, NodesStay}
 
--- what a session's handle opens: the handle, and the node that it leads to
+-- a session's open handle, and the inode that it opens
 record Opens (s : StoreState) (session number : ℕ) (node : ℕ) (it : Node) : Type 0 where
   handle : OpenHandle
   open' : open_handle_at s session number ≡ Some handle
@@ -37,7 +37,8 @@ shown_there : (s : StoreState) (id : ℕ) (it : Node) → node_in s.nodes id ≡
 shown_there s id it at = ap (option_map shown_node) at
 
 module _ (s new : StoreState) (t t' : Tree) (number : ℕ) (keeps : Keeps s t) (after : Keeps new t') (stays : NodesStay number s new) (unused : object_of t.objects number ≡ None) where
-  -- a file that another session's handle opens is there still, with its holder, and as much of it is left to be copied
+  -- a file that another session's handle opens still exists, with its holder and its number of
+  -- blocks left
   pub file_spared : (session handle : ℕ) (h : OpenHandle) (it : Node) → handle_in t' session handle ≡ handle_in t session handle
       → open_handle_at s session handle ≡ Some h → node_in s.nodes h.node ≡ Some it → it.label ≡ h.label
       → (k : OpenHandle) × (node : Node) × (open_handle_at new session handle ≡ Some k) × (k.node ≡ h.node) × (node_in new.nodes h.node ≡ Some node)

@@ -1,4 +1,4 @@
--- A call that took a step stands where that step led.
+-- A call that took a step holds the directory that the step led to.
 use Rattle.std.specs.Prelude.{◌≡◌, ℕ, zero, suc, true, false, Bool, if◌then◌else◌, List, [], ◌∷◌, Option, Some, None, option_map, option_and_then, refl}
 use Rattle.std.specs.Option.{option_map_or}
 use Rattle.std.proofs.Common.{sym, ap, subst, ◌∙◌, inl, inr}
@@ -24,7 +24,7 @@ use Rattle.sf_call.specs.Routes.Route.{NoPath, Along, Between}
 use Rattle.sf_walk.specs.Routes.IsPosition.{Starts}
 use Rattle.sf_walk.specs.Steps.{Walker, is_one_of, free_unless, let_go, entered, handed_over, AdvancesTo, Advances}
 
--- every request's route is one
+-- every request has a valid route
 route_is : (g : Target) → IsRoute (route_at g)
 route_is (ByHandle handle) = tt
 route_is (OnPath path) = tt
@@ -38,11 +38,11 @@ route_is (OnPaths old new) = by (is_rooted old new) (are_nested old new) refl
 pub starts : (r : Request) → IsPosition (route_of r) stage.Fresh
 starts r = Starts (route_of r) (route_is (target_of r))
 
--- and a call that starts stands there
+-- a call that starts is at its start
 pub stands_fresh : (s : StoreState) (r : Request) → HoldsWay s (route_of r) stage.Fresh
 stands_fresh s r = record { position = starts r; leads = λ held_path held. absurd held }
 
--- entries, the root, and what is a directory are the same
+-- the same entries, root and directories
 pub record IsSameGround (s new : StoreState) : Type 0 where
   pub step : (x : ℕ) (n : Name) → child_of new.nodes x n ≡ child_of s.nodes x n
   pub root : new.root ≡ s.root
@@ -95,7 +95,7 @@ same_free : (b : Bool) (node : ℕ) (s : StoreState) → IsSameGround s (if b th
 same_free true node s = same_itself s
 same_free false node s = same_held None s node
 
--- what a call lets go of it leaves where it was
+-- releasing preserves entries, the root and directories
 pub same_let_go : (kept nodes : List ℕ) (s : StoreState) → IsSameGround s (let_go kept nodes s)
 same_let_go kept [] s = same_itself s
 same_let_go kept (node ∷ nodes) s =
@@ -122,7 +122,7 @@ same_moved old new w after m =
     (same_trans old held (handed_over w.number w.at after m.held_path.node (entered w.at old)) (same_trans old (entered w.at old) held (same_entered w.at old) (same_held (Some w.number) (entered w.at old) m.held_path.node))
     (same_let_go (nodes_of after) (nodes_of w.at) held))
 
--- a call that took a step stands where it led
+-- a call that took a step holds what the step led to
 pub stands_on : (old new : StoreState) (w : Walker) (after : Stage) → HoldsWay old w.route w.at → AdvancesTo old new w after → HoldsWay new w.route after
 stands_on old new w after h m = record {
   position = m.position;
@@ -132,7 +132,7 @@ stands_on old new w after h m = record {
   ]);
 }
 
--- ---- where nothing was done but look-ups
+-- ---- if only lookups were made
 same_look_ups : (count : ℕ) (s : StoreState) → IsSameGround s (after_look_ups count s)
 same_look_ups zero s = same_itself s
 same_look_ups (suc count) s = same_trans s (after_look_ups count s) (looked_up (after_look_ups count s)) (same_look_ups count s) (same_looked (after_look_ups count s))
@@ -143,13 +143,13 @@ ground_looked old new most looked = subst (λ (s : StoreState). IsSameGround old
 pub stands_still : (old new : StoreState) (most : ℕ) (r : Route) (at : Stage) → LookedUp old new most → HoldsWay old r at → HoldsWay new r at
 stands_still old new most r at looked = stands_same old new (ground_looked old new most looked) r at
 
--- a step leaves entries, the root and what is a directory
+-- a step preserves entries, the root and the directories
 pub ground_stays : (old new : StoreState) (w : Walker) (walk : Walk) → Advances old new w walk → IsSameGround old new
 ground_stays old new w (Moved after) m = same_moved old new w after m
 ground_stays old new w (Blocked holder) waits = ground_looked old new 1 waits.looked
 ground_stays old new w (Ready ways) decides = ground_looked old new 2 decides.looked
 
--- a call that waits or decides stands as before
+-- a call that is blocked or decides holds what it held
 pub stands_unmoved : (old new : StoreState) (w : Walker) (walk : Walk) → Advances old new w walk → HoldsWay old w.route w.at → HoldsWay new w.route w.at
 stands_unmoved old new w walk a = stands_same old new (ground_stays old new w walk a) w.route w.at
 

@@ -1,4 +1,4 @@
--- What stays where memory of nodes that are gone was given back.
+-- What is preserved when the memory of deleted inodes is returned.
 use Rattle.std.specs.Prelude.{◌≡◌, ℕ, Option}
 use Rattle.std.proofs.Common.{sym, ap, ◌∙◌}
 use Rattle.sf_reply.specs.declared.reply.Reply.{Reply}
@@ -9,7 +9,7 @@ use Rattle.sf_inode.specs.Stores.{StoreState, node_in, with_nodes}
 use Rattle.sf_walk.specs.Served.{IsAlike, IsCarriedOut, KeepsRest}
 use Rattle.sf_walk.proofs.Refused.{keeps_alike}
 
--- the nodes are the same by look-ups, and all else is the same
+-- the inodes are the same by index, and all else is the same
 pub alike_trimmed : (mid new : StoreState) → ((id : ℕ) → node_in new.nodes id ≡ node_in mid.nodes id) → new ≡ with_nodes mid new.nodes → IsAlike mid new
 alike_trimmed mid new nodes rest = record { nodes = nodes; root = ap (λ (s : StoreState). s.root) rest; sessions = ap (λ (s : StoreState). s.sessions) rest }
 

@@ -1,4 +1,4 @@
--- A new node whose entry is taken out again: what was there before is there.
+-- A new inode whose entry is removed again: the store is as before.
 use Rattle.std.specs.Prelude.{◌≡◌, ◌≢◌, ℕ, ◌-◌, nat_eq, true, false, cond, ◌&&◌, List, [], ◌∷◌, option_map, option_and_then, Option, Some, None, slice_set, refl}
 use Rattle.std.specs.Option.{option_map_or}
 use Rattle.std.specs.Ordering.{is_eq, match_ordering}
@@ -31,7 +31,7 @@ put_here n id (e ∷ es) =
       | Greater ↦ λ p. ap (λ r. cond (is_eq r) (Some e.1) (lookup (same_name n) (insert_entry name_cmp es n id))) p ∙ put_here n id es
     ] refl
 
--- a new name that is taken out again
+-- a new name that is removed again
 taken_out : (n : Name) (id : ℕ) (es : List (Name × ℕ)) → lookup (same_name n) es ≡ None → remove_entry (same_name n) (insert_entry name_cmp es n id) ≡ es
 taken_out n id [] = λ h. ap (λ b. cond b [] ((n, id) ∷ [])) (same_name_itself n)
 taken_out n id (e ∷ es) =
@@ -49,7 +49,7 @@ entry_out : (n : Name) (id : ℕ) (c : Content) → child_in c n ≡ None → le
 entry_out n id (content.Directory es) h = ap content.Directory (taken_out n id es h)
 entry_out n id (content.File contents) h = refl
 
--- ---- nodes
+-- ---- inodes
 edited_at : (f : Node → Node) (nodes : List (Option Node)) (id : ℕ) (o : Option Node) → node_in nodes id ≡ o → (i : ℕ) → node_in (edited_by f nodes id o) i ≡ cond (nat_eq id i) (option_map f o) (node_in nodes i)
 edited_at f nodes id None e i = elim (nat_eq id i) as (λ b. nat_eq id i ≡ b → node_in nodes i ≡ cond b None (node_in nodes i)) [
   | true ↦ λ h. ap (node_in nodes) (sym (eqb-true id i h)) ∙ e
@@ -122,7 +122,7 @@ module _ (old mid : StoreState) (dir : ℕ) (n : Name) (id : ℕ) (node above : 
   alike_again : (new : StoreState) → new ≡ unlinked mid dir n → IsAlike old new
   alike_again new state = subst (λ (s : StoreState). IsAlike old s) (sym (state ∙ gone)) (record { nodes = node_back; root = did.root; sessions = did.sessions })
 
--- a new node was put under a name of a directory, which had no such name, and nothing opens it
+-- a new inode was added under a name that its directory lacked, and no handle opens it
 pub record NewEntryIn (old mid : StoreState) : Type 0 where
   pub dir : ℕ
   pub name : Name

@@ -1,4 +1,4 @@
--- A way in the store, one name further.
+-- Path resolution in the store, one component further.
 use Rattle.std.proofs.Common.{◌≡◌, ℕ, ◌+◌, ◌<◌, ◌≤◌, List, [], ◌∷◌, length, drop, get_or, true, false, cond, sym, ap, ◌∙◌, add-one, Option, Some, None}
 use Rattle.std.specs.Option.{option_map_or}
 use Rattle.std.specs.Prelude.{slice_get}
@@ -18,7 +18,7 @@ way_at nodes above x p i h = ap (way_from nodes above x) (drop-cons p i [] h ∙
 pub way_stops : (nodes : List (Option Node)) (above x : ℕ) (p : Path) (i : ℕ) → i < length p → is_directory_at nodes x ≡ false → way_from nodes above x (drop i p) ≡ located.NoWay
 way_stops nodes above x p i h d = way_at nodes above x p i h ∙ ap (λ b. cond b (option_map_or (λ y. way_from nodes x y (drop (i + 1) p)) (child_of nodes x (get_or p i [])) (missing x (drop (i + 1) p))) located.NoWay) d
 
--- a name of a path, and which one it is
+-- a name of a path, and its index
 pub record NameOf (p : Path) : Type 0 where
   pub at : ℕ
   pub name : Name

@@ -1,4 +1,4 @@
--- Files that a call uses, and what is still to be copied into them.
+-- The files that a call uses, and their blocks left to copy.
 use Rattle.std.specs.Prelude.{◌≡◌, ◌≢◌, ◌⊎◌, ◌+◌, ◌<◌, ℕ, Bool, true, false, ◌&&◌, if◌then◌else◌, List, length, is_some, Option, Some, None, option_map}
 use Rattle.std.specs.Option.{option_and_then}
 use Rattle.sf_block.specs.Contents.{blocks_of}
@@ -26,14 +26,14 @@ abbrev pub IsWriteRequest : Request → Type 0
 IsWriteRequest (request.Write handle offset bytes) = Unit {0}
 IsWriteRequest other = ⊥
 
--- whether a call cuts the file that its path leads to, or fills it up
+-- whether a call truncates or extends the file of its path
 abbrev pub cuts_file : Request → Bool
 cuts_file (request.SetStat path attrs) = is_some attrs.size
 cuts_file (request.Open path flags attrs) = flags.truncate && flags.write
 cuts_file other = false
 
--- Nothing is left to be copied into a file that the call reads, writes, cuts or fills up: so it is
--- where no other call holds that file.
+-- A file that the call reads, writes, truncates or extends has no blocks left to copy. This holds
+-- if no other call holds that file.
 pub record IsSettled (s : StoreState) (session : ℕ) (request : Request)
     (found : Located) : Type 0 where
   pub by_handle : (number : ℕ) (h : OpenHandle) → file_handle request ≡ Some number
@@ -41,14 +41,14 @@ pub record IsSettled (s : StoreState) (session : ℕ) (request : Request)
   pub on_path : (parent node : ℕ) → cuts_file request ≡ true → found ≡ located.At parent node
       → blocks_left_at s.nodes node ≡ 0
 
--- the call that holds a node, where it is a file
+-- the call that holds an inode, if it is a file
 abbrev pub file_holder_of : List (Option Node) → Option OpenHandle → Option ℕ
 file_holder_of nodes None = None
 file_holder_of nodes (Some h) =
     if is_file_at nodes h.node then holder_of nodes h.node else None
 
--- the call that holds the file which a session's handle opens, where the request reads, writes or
--- sets that file
+-- the call that holds the file of a session's handle, if the request reads, writes or sets that
+-- file
 abbrev pub holder_by : StoreState → ℕ → Request → Option ℕ
 holder_by s session request = option_and_then (λ number. file_holder_of s.nodes
     (open_handle_at s session number)) (file_handle request)
@@ -69,27 +69,27 @@ pub record IsFileFree (s : StoreState) (call : Call) : Type 0 where
       → open_handle_at s call.session number ≡ Some h → is_file_at s.nodes h.node ≡ true
       → IsFree (holder_of s.nodes) call.number h.node
 
--- where a write by this handle starts
+-- the offset at which a write by this handle starts
 abbrev pub start_by : StoreState → OpenHandle → ℕ → ℕ
 start_by s h offset = if h.marks.append then length (bytes_of s.nodes h.node) else offset
 
--- all blocks that a write by this handle writes but one are left to be copied into its file
+-- all blocks that a write by this handle writes, except one, are left to copy into its file
 abbrev pub HasAllButOne : StoreState → StoreState → OpenHandle → ℕ → List ℕ → Type 0
 HasAllButOne old new h offset bytes =
     blocks_left_at new.nodes h.node + 1 ≡ blocks_of (start_by old h offset) bytes
 
--- After the first step of a WRITE nothing is left to be copied into its file, or all blocks that it
--- writes but one.
+-- After the first step of a WRITE no block is left to copy into its file, or all that it writes
+-- except one.
 abbrev pub HasBlocksLeft : StoreState → StoreState → OpenHandle → ℕ → List ℕ → Type 0
 HasBlocksLeft old new h offset bytes = (blocks_left_at new.nodes h.node ≡ 0)
     ⊎ HasAllButOne old new h offset bytes
 
--- the label of a node, if it is there
+-- the label of an inode, if it exists
 abbrev pub node_label : List (Option Node) → ℕ → Option ℕ
 node_label nodes id = option_map (λ (node : Node). node.label) (node_in nodes id)
 
--- The first step of a WRITE by this handle: no other node changes, its file keeps its holder and
--- its label, and so much is left to be copied into it.
+-- The first step of a WRITE by this handle. No other inode changes, and its file keeps its holder
+-- and its label. The number of blocks left is as above.
 pub record StartsWriting (old new : StoreState) (h : OpenHandle) (offset : ℕ)
     (bytes : List ℕ) : Type 0 where
   pub others : (i : ℕ) → i ≢ h.node → node_in new.nodes i ≡ node_in old.nodes i
@@ -97,7 +97,7 @@ pub record StartsWriting (old new : StoreState) (h : OpenHandle) (offset : ℕ)
   pub label : node_label new.nodes h.node ≡ node_label old.nodes h.node
   pub left : HasBlocksLeft old new h offset bytes
 
--- what a call by handle copies into, where blocks are left
+-- the file that a call by handle copies into, if blocks are left
 pub record CopiesIntoFile (s : StoreState) (call : Call) (c : Copying) : Type 0 where
   pub number : ℕ
   pub handle : OpenHandle
@@ -107,7 +107,7 @@ pub record CopiesIntoFile (s : StoreState) (call : Call) (c : Copying) : Type 0 
   pub left : blocks_left_at s.nodes handle.node ≡ c.left
   pub some : 0 < c.left
 
--- a call holds the file that another one cuts or fills up by its path
+-- a call holds the file that another call truncates or extends by its path
 pub record IsWriter (s : StoreState) (request : Request) (found : Located)
     (w : Writer) : Type 0 where
   pub cuts : cuts_file request ≡ true

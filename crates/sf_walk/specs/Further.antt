@@ -1,5 +1,5 @@
 -- No public clause cites this module.
--- What the parts of a step do.
+-- The parts of a step.
 use Rattle.std.specs.Prelude.{◌≡◌, ◌≢◌, ◌⊎◌, ◌<◌, ◌≤◌, ◌+◌, ℕ, true, length, take, slice_get, Some}
 use Rattle.sf_path.specs.Names.{Path}
 use Rattle.sf_call.specs.declared.call.Reached.{Reached}
@@ -15,26 +15,25 @@ use Rattle.sf_walk.specs.declared.looking.Further.TheVariants as further
 use Rattle.sf_walk.specs.Routes.{PartAt}
 use Rattle.sf_walk.specs.Steps.{LeadsNowhere}
 
--- a proper front of the path, of so many names, leads to the directory
+-- a proper prefix of the path, of this length, leads to the directory
 pub record LeadsOnWay (s : StoreState) (path : Path) (walked node : ℕ) : Type 0 where
   pub short : walked < length path
   pub leads : walk (child_of s.nodes) s.root (take walked path) ≡ Some node
   pub directory : is_directory_at s.nodes node ≡ true
 
--- two paths part after so many names, or later
+-- two paths part after `walked` names or later
 pub record PartLater (old new : Path) (walked : ℕ) : Type 0 where
   pub count : ℕ
   pub part : PartAt old new count
   pub later : walked ≤ count
 
--- a call on two paths has come to a directory of both: where they part it stands there with both
--- ends
+-- a call on two paths reached a common directory; where they part, both its ends are at it
 abbrev pub ComesToBoth : Path → Path → Reached → Stage → Type 0
 ComesToBoth old new to after = ((count : ℕ) × PartAt old new count × (to.walked < count)
     × (after ≡ stage.At to.walked to.node))
     ⊎ (PartAt old new to.walked × (after ≡ stage.Ends to to to))
 
--- another call holds the node that was found
+-- another call holds the inode that was found
 pub record IsHeldThere (s : StoreState) (number : ℕ) (found : Located) (holder : ℕ) : Type 0 where
   pub parent : ℕ
   pub node : ℕ
@@ -42,7 +41,7 @@ pub record IsHeldThere (s : StoreState) (number : ℕ) (found : Located) (holder
   pub held : holder_of s.nodes node ≡ Some holder
   pub other : number ≢ holder
 
--- another call holds the directory that so many names of the path lead to
+-- another call holds the directory that this prefix of the path leads to
 pub record IsHeldOnWay (s : StoreState) (number : ℕ) (path : Path)
     (walked holder : ℕ) : Type 0 where
   pub node : ℕ
@@ -50,13 +49,13 @@ pub record IsHeldOnWay (s : StoreState) (number : ℕ) (path : Path)
   pub held : holder_of s.nodes node ≡ Some holder
   pub other : number ≢ holder
 
--- the directory is on the way after one name more, and no other call holds it
+-- one component further there is a directory that no other call holds
 pub record IsNextFree (s : StoreState) (number : ℕ) (path : Path) (at to : Reached) : Type 0 where
   pub walked : to.walked ≡ at.walked + 1
   pub on_way : LeadsOnWay s path (at.walked + 1) to.node
   pub free : IsFree (holder_of s.nodes) number to.node
 
--- what the next name of the path leads to
+-- the result of looking up the next component of the path
 abbrev pub IsFound : StoreState → ℕ → Path → Reached → Further → Type 0
 IsFound s number path at further.AtParent = Unit {0}
 IsFound s number path at further.NoDirectory =
@@ -64,7 +63,7 @@ IsFound s number path at further.NoDirectory =
 IsFound s number path at (further.Held holder) = IsHeldOnWay s number path (at.walked + 1) holder
 IsFound s number path at (further.Free to) = IsNextFree s number path at to
 
--- nothing is looked up where the last name alone is left
+-- no lookup is made if only the last name is left
 abbrev pub Looks : StoreState → StoreState → Path → Reached → Further → Type 0
 Looks old new path at further.AtParent = (new ≡ old) × (at.walked + 1 ≡ length path)
 Looks old new path at found = (new ≡ looked_up old) × (at.walked + 1 < length path)

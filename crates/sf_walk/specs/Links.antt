@@ -1,5 +1,5 @@
 -- No public clause cites this module.
--- What a link comes to in the store.
+-- The outcome of a link in the store.
 use Rattle.std.specs.Prelude.{◌≡◌, ℕ, ◌<◌, true, nat_lt, if◌then◌else◌, [], ◌∷◌, ◌++◌, length, Some, None}
 use Rattle.sf_path.specs.Names.{Name, Path}
 use Rattle.sf_path.specs.Order.{parent}
@@ -16,11 +16,11 @@ use Rattle.sf_keeps.specs.Steps.{walk}
 use Rattle.sf_walk.specs.declared.links.LinkCourse.{LinkCourse}
 use Rattle.sf_walk.specs.declared.links.LinkCourse.TheVariants.{Told, Names}
 
--- what is told where one path begins with the other, and the old one leads to a file
+-- the status if one path is a prefix of the other, and the old one leads to a file
 abbrev pub nested_code : Path → Path → StatusCode
 nested_code old new = if nat_lt (length old) (length new) then NoSuchFile else Failure
 
--- A free name of a directory may lead to a file that has fewer names than the most.
+-- A name that a directory lacks may become a link to a file that has fewer than 1024 links.
 pub record MayName (s : StoreState) (new : Path) (node into : ℕ) : Type 0 where
   pub it : Node
   pub is_node : node_in s.nodes node ≡ Some it
@@ -33,13 +33,13 @@ pub record MayName (s : StoreState) (new : Path) (node into : ℕ) : Type 0 wher
   pub directory : is_directory_at s.nodes into ≡ true
   pub free : child_of s.nodes into last ≡ None
 
--- The answer is the link, and it may be made.
+-- The answer is the link, and the link may be made.
 pub record MakesLink (s : StoreState) (t : Tree) (moment : ℕ) (new : Path) (answer : Outcome)
     (node into : ℕ) : Type 0 where
   pub may : MayName s new node into
   pub is : answer ≡ succeeds (NewName new may.it.label ∷ touched t moment (parent new))
 
--- what is told is the tree's answer, and what isn't told is a link
+-- the status is the tree's answer; or the answer is a link
 abbrev pub IsLinking : StoreState → Tree → ℕ → Path → Outcome → LinkCourse → Type 0
 IsLinking s t moment new answer (Told code) = answer ≡ tells (reply.Status code)
 IsLinking s t moment new answer (Names node into) = MakesLink s t moment new answer node into

@@ -1,5 +1,5 @@
 -- No public clause cites this module.
--- What opening does to the store.
+-- The effect of opening on the store.
 use Rattle.std.specs.Prelude.{◌≡◌, ℕ, not, ◌||◌}
 use Rattle.sf_path.specs.Names.{Name}
 use Rattle.sf_field.specs.declared.open_flags.OpenFlags.{OpenFlags}
@@ -8,13 +8,13 @@ use Rattle.sf_inode.specs.declared.node.NewNode.{NewNode}
 use Rattle.sf_inode.specs.Nodes.{new_node}
 use Rattle.sf_inode.specs.Stores.{StoreState, Inserted, after_open, new_entry}
 
--- with neither READ nor WRITE a handle reads
+-- a handle opened with neither READ nor WRITE can read
 abbrev pub marks_of : OpenFlags → Marks
 marks_of flags =
     record { read = flags.read || not flags.write; write = flags.write; append = flags.append }
 
--- what is to be opened: by which session, under which number of a handle, in which directory and
--- under which name there, and with which marks
+-- what is to be opened: the session, the handle's number, the directory, the name in it, and the
+-- access mode
 pub record ToOpen : Type 0 where
   pub session : ℕ
   pub number : ℕ
@@ -26,7 +26,7 @@ abbrev pub to_open : ℕ → ℕ → ℕ → Name → Marks → ToOpen
 to_open session number dir n marks =
     record { session = session; number = number; dir = dir; name = n; marks = marks }
 
--- a new node was put under a name of a directory, and a handle opens it
+-- a new inode was added under a name of a directory, and a handle opens it
 pub record OpenedNew (old new : StoreState) (o : ToOpen) (made : NewNode) : Type 0 where
   pub mid : StoreState
   pub id : ℕ

@@ -1,5 +1,5 @@
 -- No public clause cites this module.
--- What a rename comes to in the store.
+-- The outcome of a rename in the store.
 use Rattle.std.specs.Prelude.{◌≡◌, ◌≢◌, ◌<◌, ℕ, Bool, true, false, not, ◌&&◌, if◌then◌else◌, List, [], ◌∷◌, ◌++◌, length, Option, Some, None}
 use Rattle.sf_path.specs.Names.{Name, Path}
 use Rattle.sf_reply.specs.declared.reply.Reply.TheVariants as reply
@@ -11,14 +11,14 @@ use Rattle.sf_keeps.specs.Steps.{walk}
 use Rattle.sf_walk.specs.declared.renames.Course.{Course}
 use Rattle.sf_walk.specs.declared.renames.Course.TheVariants.{Told, Moves}
 
--- a node may take another's place: a file a file's, and a directory an empty directory's
+-- whether an inode may replace another: a file a file, and a directory an empty directory
 abbrev pub may_replace : List (Option Node) → ℕ → ℕ → Bool
 may_replace nodes node target =
     if is_directory_at nodes target then is_directory_at nodes node && is_bare_at nodes target
     else not (is_directory_at nodes node)
 
--- A path's entry may move from one directory into another, not below itself: what stands at the new
--- path is bare, and is another node.
+-- A path's entry may move from one directory into another, but not below itself. An inode at the
+-- new path is a different one, and no directory with entries.
 pub record MayMove (s : StoreState) (old new : Path) (from into : ℕ) : Type 0 where
   pub above : Path
   pub name : Name
@@ -36,7 +36,7 @@ pub record MayMove (s : StoreState) (old new : Path) (from into : ℕ) : Type 0 
       → is_bare_at s.nodes target ≡ true
   pub other : (target : ℕ) → child_of s.nodes into last ≡ Some target → node ≢ target
 
--- What a rename asks for, and its moment.
+-- The paths and the timestamp of a rename.
 pub record Renaming : Type 0 where
   pub old : Path
   pub new : Path
@@ -45,23 +45,23 @@ pub record Renaming : Type 0 where
 abbrev pub renaming : Path → Path → ℕ → Renaming
 renaming old new moment = record { old = old; new = new; moment = moment }
 
--- what is told is the tree's answer, or the answer is the move and it may be done
+-- the status is the tree's answer; or the answer is the move, and the move may be done
 abbrev pub IsCourse : StoreState → Tree → Renaming → Outcome → Course → Type 0
 IsCourse s t asked answer (Told code) = answer ≡ tells (reply.Status code)
 IsCourse s t asked answer (Moves from into) =
     (answer ≡ moves t asked.moment asked.old asked.new) × MayMove s asked.old asked.new from into
 
--- where there is a move, neither path is the root
+-- if an entry moves, neither path is the root
 abbrev pub AreNamed : Path → Path → Course → Type 0
 AreNamed old new (Told code) = Unit {0}
 AreNamed old new (Moves from into) = (0 < length old) × (0 < length new)
 
--- whether there is a move
+-- whether an entry moves
 abbrev pub does_move : Course → Bool
 does_move (Told code) = false
 does_move (Moves from into) = true
 
--- nothing moves
+-- no entry moves
 abbrev pub MovesNothing : Course → Type 0
 MovesNothing (Told code) = Unit {0}
 MovesNothing (Moves from into) = ⊥

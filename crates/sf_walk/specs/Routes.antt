@@ -1,4 +1,4 @@
--- Where a call is on the paths that it walks.
+-- The position of a call on its paths.
 use Rattle.std.specs.Prelude.{◌≡◌, ◌≢◌, ◌<◌, ◌≤◌, ◌+◌, ℕ, false, List, [], ◌∷◌, length, take, slice_get}
 use Rattle.sf_path.specs.Names.{Path}
 use Rattle.sf_call.specs.declared.call.Reached.{Reached}
@@ -10,7 +10,7 @@ use Rattle.sf_inode.specs.Stores.{StoreState, child_of, is_directory_at}
 use Rattle.sf_keeps.specs.Steps.{walk}
 use Rattle.sf_coupling.specs.Walks.{Namespace, HeldPath, Holds, LeadsTo}
 
--- so many names are alike at the front of both paths, and the next of each are not
+-- both paths have the same first `count` names, and then differ
 pub record PartAt (old new : Path) (count : ℕ) : Type 0 where
   pub alike : take count old ≡ take count new
   pub short : count < length old
@@ -20,9 +20,9 @@ pub record PartAt (old new : Path) (count : ℕ) : Type 0 where
 abbrev pub reached : ℕ → ℕ → Reached
 reached walked node = record { walked = walked; node = node }
 
--- On both ends of its route a call holds the last directory of both paths; the end of the old path
--- goes first, and the other stays at the common directory until the first is at the old path's
--- parent.
+-- After its two paths have parted, a call holds the last common directory and one directory on each
+-- path. The end on the old path proceeds first. The other stays at the common directory until the
+-- first reaches the old path's parent.
 pub record AreEnds (old new : Path) (common from to : Reached) : Type 0 where
   pub part : PartAt old new common.walked
   pub old_below : common.walked ≤ from.walked
@@ -31,13 +31,13 @@ pub record AreEnds (old new : Path) (common from to : Reached) : Type 0 where
   pub short_new : to.walked < length new
   pub in_turn : from.walked + 1 < length old → to.walked ≡ common.walked
 
--- two paths of a route part: neither begins with the other
+-- two paths of a route part: neither is a prefix of the other
 abbrev pub IsRoute : Route → Type 0
 IsRoute NoPath = Unit {0}
 IsRoute (Along path) = Unit {0}
 IsRoute (Between old new) = are_nested old new ≡ false
 
--- where a call is on its route; one that copies is on its way no more
+-- the position of a call on its route; a call that is copying has none
 pub data IsPosition : Route → Stage → Type 0 where
   Starts : (r : Route) → IsRoute r → IsPosition r stage.Fresh
   IsOn : (path : Path) (walked node : ℕ) → walked < length path
@@ -47,7 +47,7 @@ pub data IsPosition : Route → Stage → Type 0 where
   IsApart : (old new : Path) (common from to : Reached) → AreEnds old new common from to
       → IsPosition (Between old new) (stage.Ends common from to)
 
--- the directories that a call has come to, and the paths that they lie on
+-- the directories that a call has reached, with the length of the path to each
 abbrev pub reached_at : Stage → List Reached
 reached_at stage.Fresh = []
 reached_at (stage.At walked node) = reached walked node ∷ []
@@ -59,7 +59,7 @@ paths_on NoPath = []
 paths_on (Along path) = path ∷ []
 paths_on (Between old new) = old ∷ old ∷ new ∷ []
 
--- so many names of the path lead to the node
+-- this prefix of the path leads to the inode
 abbrev pub held_path_on : Path → Reached → HeldPath
 held_path_on path at = record { path = take at.walked path; node = at.node }
 
@@ -68,11 +68,11 @@ held_paths_on [] paths = []
 held_paths_on (r ∷ at) [] = []
 held_paths_on (r ∷ at) (path ∷ paths) = held_path_on path r ∷ held_paths_on at paths
 
--- what a call holds on its route
+-- the paths that a call holds on its route
 abbrev pub held_paths_of : Route → Stage → List HeldPath
 held_paths_of route at = held_paths_on (reached_at at) (paths_on route)
 
--- the nodes that a call holds: directories, or the file that it copies into
+-- the inodes that a call holds: directories, or the file that it copies into
 abbrev pub nodes_in : List Reached → List ℕ
 nodes_in [] = []
 nodes_in (r ∷ at) = r.node ∷ nodes_in at
@@ -81,14 +81,14 @@ abbrev pub nodes_of : Stage → List ℕ
 nodes_of (stage.Copies node left) = node ∷ []
 nodes_of at = nodes_in (reached_at at)
 
--- where paths lead in a store
+-- the directories and paths of a store
 abbrev pub namespace : StoreState → Namespace
 namespace s = record {
   leads = λ path. walk (child_of s.nodes) s.root path;
   is_directory = is_directory_at s.nodes;
 }
 
--- A call stands on its route: what it has walked leads to the directories that it holds.
+-- A call holds its route: the prefixes that it has resolved lead to the directories that it holds.
 pub record HoldsWay (s : StoreState) (route : Route) (at : Stage) : Type 0 where
   pub position : IsPosition route at
   pub leads : (held_path : HeldPath) → Holds (held_paths_of route at) held_path

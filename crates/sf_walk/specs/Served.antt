@@ -1,4 +1,4 @@
--- What a call does to the store.
+-- The effect of a call on the store.
 use Rattle.std.specs.Prelude.{◌≡◌, ℕ, zero, suc, ◌<◌, ◌≤◌, Bool, true, false, not, ◌&&◌, Option, Some, None, Ok, Err}
 use Rattle.std.specs.declared.result.Result.{Result}
 use Rattle.sf_reply.specs.declared.reply.Reply.{Reply}
@@ -18,31 +18,31 @@ use Rattle.sf_inode.specs.Nodes.{blocks_left_in}
 use Rattle.sf_inode.specs.Stores.{StoreState, node_in, looked_up}
 use Rattle.sf_keeps.specs.Keeps.{Keeps}
 
--- the store after so many look-ups
+-- the store after k lookups
 abbrev pub after_look_ups : ℕ → StoreState → StoreState
 after_look_ups zero s = s
 after_look_ups (suc k) s = looked_up (after_look_ups k s)
 
--- nothing but look-ups were made, so many at most
+-- only lookups were made, at most `most`
 pub record LookedUp (old new : StoreState) (most : ℕ) : Type 0 where
   pub count : ℕ
   pub few : count ≤ most
   pub state : new ≡ after_look_ups count old
 
--- so many look-ups were made at most
+-- at most `most` lookups were made
 pub record MakesLookUps (old new : StoreState) (most : ℕ) : Type 0 where
   pub count : ℕ
   pub few : count ≤ most
   pub look_ups : new.look_ups ≡ (after_look_ups count old).look_ups
 
--- nothing but the count of look-ups differs: neither a node nor a handle
+-- the stores differ at most in the count of lookups: inodes and handles are the same
 pub record IsAlike (old new : StoreState) : Type 0 where
   pub nodes : (id : ℕ) → node_in new.nodes id ≡ node_in old.nodes id
   pub root : new.root ≡ old.root
   pub sessions : new.sessions ≡ old.sessions
 
--- a node that was there has the holder and the label that it had, and as many blocks are left to be
--- copied into it; a new one has such as are given, and none is left
+-- An existing inode keeps its holder, its label and its number of blocks left to copy. A new inode
+-- has a holder and a label as given, and no blocks left.
 abbrev pub IsAsBefore : (Option ℕ → ℕ → Type 0) → Option Node → Node → Type 0
 IsAsBefore new None node = new node.holder node.label × (blocks_left_in node.content ≡ 0)
 IsAsBefore new (Some was) node = (node.holder ≡ was.holder) × (node.label ≡ was.label)
@@ -52,35 +52,35 @@ pub record KeepsRest (new_as : Option ℕ → ℕ → Type 0) (old new : StoreSt
   pub node : (id : ℕ) (node : Node) → node_in new.nodes id ≡ Some node
       → IsAsBefore new_as (node_in old.nodes id) node
 
--- each node has the holder and the label that it had, and as much is left to be copied; none is new
+-- each inode keeps its holder, its label and its number of blocks left; none is new
 abbrev pub HoldersStay : StoreState → StoreState → Type 0
 HoldersStay old new = KeepsRest (λ holder label. ⊥) old new
 
--- each node has the holder and the label that it had, and as much is left to be copied; what is new
--- has no holder, and the number as its label
+-- each inode keeps its holder, its label and its number of blocks left; a new one has no holder,
+-- and `number` as its label
 abbrev pub NodesStay : ℕ → StoreState → StoreState → Type 0
 NodesStay number old new = KeepsRest (λ holder label. (holder ≡ None) × (label ≡ number)) old new
 
--- the number is above 0, and no label and no handle of the tree has it
+-- the number is above 0, and no label and no handle of the tree
 pub record IsUnused (t : Tree) (number : ℕ) : Type 0 where
   pub above : 0 < number
   pub label : object_of t.objects number ≡ None
   pub handle : handle_of t.handles number ≡ None
 
--- the reply is the tree's, and the store keeps the tree after the call
+-- the reply is the tree's, and the store represents the tree after the call
 pub record IsCarriedOut (new : StoreState) (t : Tree) (answer : Outcome)
     (given : Reply) : Type 0 where
   pub told : given ≡ answer.reply
   pub tree : Keeps new (done t answer.changes)
 
--- want of memory is told: no node and no handle has changed, and the store keeps the tree that it
--- kept
+-- The call is answered "Out of memory": no inode and no handle has changed, and the store
+-- represents the same tree.
 pub record IsRefused (old new : StoreState) (t : Tree) (given : Reply) : Type 0 where
   pub told : given ≡ reply.NoMemory
   pub alike : IsAlike old new
   pub tree : Keeps new t
 
--- a status of another kind than success refuses; all other replies give what was asked
+-- a status other than success is a failure; every other reply is a success
 abbrev pub is_good : StatusCode → Bool
 is_good Success = true
 is_good other = false
@@ -89,13 +89,13 @@ abbrev pub is_success : Reply → Bool
 is_success (reply.Status code) = is_good code
 is_success other = true
 
--- what a call is served; want of memory stands in place of success alone
+-- the result of a call; an allocation failure replaces only a success
 abbrev pub ServesOutcome : {E : Type 0} → StoreState → Tree → Outcome → Result Reply E → Type 0
 ServesOutcome new t answer (Ok given) = IsCarriedOut new t answer given
 ServesOutcome new t answer (Err error) = is_success answer.reply ≡ true
 
--- The requests that take memory where they succeed: what is told takes it, but for a status and
--- attributes, and so does what is made, a file's bytes, and another name.
+-- The requests that allocate if they succeed: those that reply with more than a status and
+-- attributes, create an inode or a handle, write bytes, or add a name.
 abbrev pub wants_room : Wanted → Bool
 wants_room StatusAlone = false
 wants_room Attributes = false
@@ -111,6 +111,6 @@ takes_memory (request.PosixRename old new) = not (same_path old new)
 takes_memory (request.Link old new) = true
 takes_memory other = wants_room (wanted_by other)
 
--- want of memory may be told in place of this reply to the request
+-- whether "Out of memory" may replace this reply to the request
 abbrev pub may_want_memory : Request → Reply → Bool
 may_want_memory request given = takes_memory request && is_success given

@@ -1,4 +1,4 @@
--- What a step of a call on its way does.
+-- A step of path resolution, with lock coupling.
 use Rattle.std.specs.Prelude.{◌≡◌, ◌≢◌, ◌⊎◌, ◌<◌, ◌+◌, ℕ, Bool, false, nat_eq, ◌||◌, if◌then◌else◌, List, [], ◌∷◌, length, take, slice_get, Option, Some, None}
 use Rattle.sf_path.specs.Names.{Name, Path}
 use Rattle.sf_call.specs.declared.call.Reached.{Reached}
@@ -21,7 +21,7 @@ use Rattle.sf_call.specs.Routes.Route.{NoPath, Along, Between}
 use Rattle.sf_walk.specs.Ways.{IsThere, AreWays}
 use Rattle.sf_walk.specs.Served.{LookedUp}
 
--- who walks: a call by its number, its route, and where it is on it
+-- a call that resolves paths: its number, its route, and its position on it
 pub record Walker : Type 0 where
   pub number : ℕ
   pub route : Route
@@ -30,8 +30,8 @@ pub record Walker : Type 0 where
 abbrev pub walker : ℕ → Route → Stage → Walker
 walker number route at = record { number = number; route = route; at = at }
 
--- Where a call goes on from, and on which path: a call on two paths goes along the old one up to
--- its parent, and from then on along the other.
+-- The path that a call follows next, and its position on it. On two paths that is the old one up to
+-- its parent, and then the new one.
 pub data GoesFrom : Route → Stage → Path → Reached → Type 0 where
   OnOne : (path : Path) (walked node : ℕ)
       → GoesFrom (Along path) (stage.At walked node) path (reached walked node)
@@ -42,15 +42,17 @@ pub data GoesFrom : Route → Stage → Path → Reached → Type 0 where
   NewEnd : (old new : Path) (common from to : Reached) → from.walked + 1 ≡ length old
       → GoesFrom (Between old new) (stage.Ends common from to) new to
 
--- the names that a call with a path looks up next: none for the root, or one more
+-- the names that a call on a path looks up next: none for the root, or one more than it has
+-- resolved
 pub data LooksUp : Route → Stage → Path → Type 0 where
   Root : (r : Route) (path : Path) (rest : List Path) → paths_on r ≡ path ∷ rest
       → LooksUp r stage.Fresh []
   Next : (r : Route) (at : Stage) (path : Path) (from : Reached) → GoesFrom r at path from
       → LooksUp r at (take (from.walked + 1) path)
 
--- A step walks one name further: it takes the root, or goes on from the directory that it holds, or
--- with one of its two ends; where two paths part, both ends stand there.
+-- A step resolves one more component. It acquires the root, or proceeds from the directory that the
+-- call holds, or from one of its two ends. Where two paths part, both ends are at the common
+-- directory.
 pub data AdvancesOne : Stage → Stage → Type 0 where
   TakesRoot : (node : ℕ) → AdvancesOne stage.Fresh (stage.At 0 node)
   PartsAtRoot : (to : Reached) → to.walked ≡ 0 → AdvancesOne stage.Fresh (stage.Ends to to to)
@@ -68,11 +70,11 @@ abbrev pub is_one_of : ℕ → List ℕ → Bool
 is_one_of x [] = false
 is_one_of x (y ∷ ys) = nat_eq x y || is_one_of x ys
 
--- a node is freed, unless it is one of those that are kept
+-- an inode is released, unless it is in the list
 abbrev pub free_unless : List ℕ → ℕ → StoreState → StoreState
 free_unless kept node s = if is_one_of node kept then s else edited (with_holder None) s node
 
--- all of the nodes but those that are kept are freed
+-- all these inodes are released, except those in the list `kept`
 abbrev pub let_go : List ℕ → List ℕ → StoreState → StoreState
 let_go kept [] s = s
 let_go kept (node ∷ nodes) s = let_go kept nodes (free_unless kept node s)
@@ -81,12 +83,12 @@ abbrev pub entered : Stage → StoreState → StoreState
 entered stage.Fresh s = s
 entered other s = looked_up s
 
--- hand over hand: a further node is held before what isn't held any more is freed
+-- lock coupling: the next inode is acquired, and then those no longer held are released
 abbrev pub handed_over : ℕ → Stage → Stage → ℕ → StoreState → StoreState
 handed_over number was now node s =
     let_go (nodes_of now) (nodes_of was) (edited (with_holder (Some number)) s node)
 
--- the call came to a further directory, which no other call held
+-- the call acquired a further directory, which no other call held
 pub record AdvancesTo (old new : StoreState) (w : Walker) (after : Stage) : Type 0 where
   pub held_path : HeldPath
   pub takes : TakesPath held_path (held_paths_of w.route w.at) (held_paths_of w.route after)
@@ -96,7 +98,7 @@ pub record AdvancesTo (old new : StoreState) (w : Walker) (after : Stage) : Type
   pub walks : AdvancesOne w.at after
   pub state : new ≡ handed_over w.number w.at after held_path.node (entered w.at old)
 
--- another call holds the node that the next name leads to
+-- another call holds the inode of the next component
 pub record WaitsFor (old new : StoreState) (w : Walker) (holder : ℕ) : Type 0 where
   pub to : Path
   pub node : ℕ
@@ -106,19 +108,19 @@ pub record WaitsFor (old new : StoreState) (w : Walker) (holder : ℕ) : Type 0 
   pub other : w.number ≢ holder
   pub looked : LookedUp old new 1
 
--- the next name is no directory's
+-- the next component is no directory
 abbrev pub LeadsNowhere : List (Option Node) → ℕ → Option Name → Type 0
 LeadsNowhere nodes node None = Unit {0}
 LeadsNowhere nodes node (Some name) =
     (child : ℕ) → child_of nodes node name ≡ Some child → is_directory_at nodes child ≡ false
 
--- a walk ends where all names but the last are walked, or the next name is no directory's
+-- path resolution ends if only the last name is left, or if the next component is no directory
 abbrev pub EndsAt : List (Option Node) → Path → Reached → Type 0
 EndsAt nodes path at = (at.walked + 1 ≡ length path)
     ⊎ ((at.walked + 1 < length path) × LeadsNowhere nodes at.node (slice_get path at.walked))
 
--- A call may decide: at once, if it walks no path or the root's; else where the walk ends that it
--- is on, by what is said of where walks end.
+-- A call may be decided: at once, if it has no path or the root's; otherwise at the position at
+-- which its path resolution `ends`.
 pub data MayDecideWhere (ends : Path → Reached → Type 0) : Route → Stage → Type 0 where
   AtOnce : MayDecideWhere ends NoPath stage.Fresh
   AtRoot : MayDecideWhere ends (Along []) stage.Fresh
@@ -128,27 +130,28 @@ pub data MayDecideWhere (ends : Path → Reached → Type 0) : Route → Stage �
 abbrev pub MayDecideAt : List (Option Node) → Route → Stage → Type 0
 MayDecideAt nodes = MayDecideWhere (EndsAt nodes)
 
--- a node that was found is not held by another call
+-- no other call holds the inode that was found
 abbrev pub IsFreeThere : (ℕ → Option ℕ) → ℕ → Located → Type 0
 IsFreeThere holder number located.NoWay = Unit {0}
 IsFreeThere holder number (located.Missing parent) = Unit {0}
 IsFreeThere holder number (located.At parent node) = IsFree holder number node
 
--- nor is what its path, or its new one, leads to; at the root nothing is asked
+-- no other call holds the inode of the call's path, or of its new path; nothing is required at the
+-- root
 abbrev pub AreFree : (ℕ → Option ℕ) → ℕ → Route → Ways → Type 0
 AreFree holder number NoPath ways = Unit {0}
 AreFree holder number (Along []) ways = Unit {0}
 AreFree holder number (Along (name ∷ path)) ways = IsFreeThere holder number ways.path
 AreFree holder number (Between old new) ways = IsFreeThere holder number ways.new
 
--- what a call on two paths finds at the old one, it finds at that path's parent, which it holds
+-- if a call on two paths found an inode at the old path, it holds that path's parent
 abbrev pub HoldsParent : Route → Stage → Ways → Type 0
 HoldsParent (Between old new) at ways = IsThere ways.path
     → (common : Reached) × (from : Reached) × (to : Reached)
     × (at ≡ stage.Ends common from to) × (from.walked + 1 ≡ length old)
 HoldsParent other at ways = Unit {0}
 
--- the call decides now, where its paths were found to lead
+-- the call can be decided now, with these results of path resolution
 pub record DecidesNow (old new : StoreState) (w : Walker) (ways : Ways) : Type 0 where
   pub may : MayDecideAt old.nodes w.route w.at
   pub located : AreWays new w.route ways

@@ -1,4 +1,4 @@
--- Where a path leads in the store.
+-- Path resolution in the store.
 use Rattle.std.specs.Prelude.{◌≡◌, ℕ, ◌+◌, ◌-◌, if◌then◌else◌, List, [], ◌∷◌, length, Option, slice_index_or}
 use Rattle.std.specs.Option.{option_map_or}
 use Rattle.sf_path.specs.Names.{Name, Path}
@@ -19,12 +19,12 @@ use Rattle.sf_walk.specs.declared.finding.Ways.{Ways}
 use Rattle.sf_walk.specs.declared.finding.Located.{Located}
 use Rattle.sf_walk.specs.declared.finding.Located.TheVariants as located
 
--- a name is missing: the last one of the path, or one on the way
+-- a component is missing: the last one of the path, or an earlier one
 abbrev pub missing : ℕ → Path → Located
 missing x [] = located.Missing x
 missing x (m ∷ p) = located.NoWay
 
--- on from the node x, whose entry stands in the directory `above`
+-- resolves a path from the inode x, which has its entry in the directory `above`
 abbrev pub way_from : List (Option Node) → ℕ → ℕ → Path → Located
 way_from nodes above x [] = located.At above x
 way_from nodes above x (n ∷ p) =
@@ -35,7 +35,7 @@ way_from nodes above x (n ∷ p) =
 abbrev pub last_name_of : Path → Name
 last_name_of path = slice_index_or path (length path - 1) []
 
--- what is found where a node is
+-- the object that is found at an inode
 abbrev pub found_content : ℕ → Metadata → Content → FoundObject
 found_content label m (content.Directory entries) = DirectoryAt label m
 found_content label m (content.File contents) = FileAt label m contents.bytes
@@ -43,13 +43,13 @@ found_content label m (content.File contents) = FileAt label m contents.bytes
 abbrev pub found_node : Node → FoundObject
 found_node node = found_content node.label node.metadata node.content
 
--- how many names the paths have
+-- the number of names in the paths
 abbrev pub target_names : Target → ℕ
 target_names (ByHandle handle) = 0
 target_names (OnPath path) = length path
 target_names (OnPaths old new) = length old + length new
 
--- and those of a route
+-- the number of names in the paths of a route
 abbrev pub names_on : Route → ℕ
 names_on NoPath = 0
 names_on (Along path) = length path
@@ -58,33 +58,32 @@ names_on (Between old new) = length old + length new
 abbrev pub request_names : Request → ℕ
 request_names request = target_names (target_of request)
 
--- where no path is walked
+-- the result without a path
 abbrev pub no_path : Ways
 no_path = record { kind = kind.NoPath; path = located.NoWay; new = located.NoWay }
 
--- where one path leads
+-- the result for one path
 abbrev pub along : Located → Ways
 along path = record { kind = kind.Along; path = path; new = located.NoWay }
 
--- where two paths lead
+-- the result for two paths
 abbrev pub between : Located → Located → Ways
 between path new = record { kind = kind.Between; path = path; new = new }
 
--- a node was found
+-- an inode was found
 abbrev pub IsThere : Located → Type 0
 IsThere (located.NoWay) = ⊥
 IsThere (located.Missing parent) = ⊥
 IsThere (located.At parent node) = Unit {0}
 
--- what was located is where the paths of the route lead; nothing is asked of a new path where
--- nothing was found at the old one
+-- the paths of the route lead there; the new path is unconstrained if the old one leads to no inode
 abbrev pub Lead : StoreState → Route → Ways → Type 0
 Lead s NoPath ways = Unit {0}
 Lead s (Along path) ways = ways.path ≡ way_from s.nodes s.root s.root path
 Lead s (Between old new) ways = (ways.path ≡ way_from s.nodes s.root s.root old)
     × (IsThere ways.path → ways.new ≡ way_from s.nodes s.root s.root new)
 
--- what was located is of the route's kind, and where its paths lead
+-- the result is of the route's kind, and the paths of the route lead there
 abbrev pub AreWays : StoreState → Route → Ways → Type 0
 AreWays s route ways = (ways.kind ≡ route_kind route) × Lead s route ways
 

@@ -1,4 +1,4 @@
-//! Whole calls, from where they decide.
+//! Deciding a call after its paths are resolved.
 
 ghost use Rattle.std.specs.Prelude.{◌≡◌, ◌⊎◌, ℕ, Some, true, false, IfOk, IsOk, OnErr};
 ghost use Rattle.std.specs.Result.{result_map_both};
@@ -25,12 +25,15 @@ use sf_inode::Store;
 use sf_reply::Reply;
 use std::alloc::AllocError;
 
-/// Answers a call where its paths were found to lead, without a look-up: its reply twice, once for
-/// its record. A call without a path asks nothing of what was located. Nothing is left to be copied
-/// into a file that the call reads, cuts or fills up. A WRITE is decided as it starts, by `start`.
-/// The call's number is above 0, and no label and no handle of the tree. `NoMemory` changes
-/// nothing; it is told in place of success alone, and never where a call makes nothing, and neither
-/// gives nor takes bytes or names.
+/// Decides a call after its paths were resolved, without a lookup. Returns its reply and a copy for
+/// its record.
+///
+/// `ways` is ignored for a call without a path. If the call reads a file or sets its length, the
+/// file must have no blocks left to copy. A WRITE is decided by `start` instead. The call's number
+/// is above 0, and unused as a label or a handle of the tree.
+///
+/// `NoMemory` changes nothing. It replaces only a success, and only of a call that creates
+/// something, transfers bytes or returns names.
 #[tactic(auto, using(crate::proofs::Refused::keeps_alike, crate::proofs::Trimmed::served_trimmed, crate::proofs::Trimmed::stays_trimmed, crate::proofs::Trimmed::looks_same))]
 #[inline(always)]
 pub fn decide(store: &mut Store, call: &Call, ways: Ways) -> (Reply, Reply)
@@ -112,7 +115,7 @@ fn answer(store: &mut Store, call: &Call, ways: Ways) -> Result<(Reply, Reply), 
     }
 }
 
-/// A reply of neither bytes nor names, twice.
+/// A reply without bytes and names, twice.
 pub(crate) fn twice(reply: Reply) -> (Reply, Reply)
     requires { IsPlain reply }
     ensures { result ≡ (reply, reply) }
@@ -133,7 +136,7 @@ fn twice_ok(reply: Result<Reply, AllocError>) -> Result<(Reply, Reply), AllocErr
     }
 }
 
-/// READ, whose bytes are shared by both replies.
+/// READ. Both replies share the bytes.
 fn read_twice(
     store: &Store,
     session: u64,

@@ -1,4 +1,4 @@
-//! Steps of a call on two paths that have parted.
+//! Steps of a call on two paths after they have parted.
 
 ghost use Rattle.std.specs.Prelude.{◌≡◌, ◌+◌, length};
 ghost use Rattle.sf_call.specs.declared.call.Stage.TheVariants as stage;
@@ -14,8 +14,7 @@ use sf_call::{Reached, Stage};
 use sf_inode::{NodeId, Store};
 use sf_path::Path;
 
-/// Where a call on two paths stands: at the last directory that they have in common, and on the way
-/// of each.
+/// The directories that a call on two paths holds: the last common one, and one on each path.
 #[derive(Clone, Copy)]
 pub(crate) struct Ends {
     pub(crate) common: Reached,
@@ -23,7 +22,8 @@ pub(crate) struct Ends {
     pub(crate) new: Reached,
 }
 
-/// Goes one name further with the end of the old path, and with the other once it is at its parent.
+/// Resolves one more component of the old path, or of the new path once the old path's parent is
+/// held.
 pub(crate) fn at_ends(store: &mut Store, number: u64, path: &Path, other: &Path, ends: Ends) -> Walk
     requires { HoldsWay store.old (Between path.now other.now)
         (stage.Ends ends.common ends.old ends.new) }
@@ -50,7 +50,7 @@ pub(crate) fn at_ends(store: &mut Store, number: u64, path: &Path, other: &Path,
     }
 }
 
-/// Goes one name further with the end of the new path; the other is at its parent.
+/// Resolves one more component of the new path, with the old path's parent held.
 fn new_end(store: &mut Store, number: u64, path: &Path, other: &Path, ends: Ends) -> Walk
     requires stands { HoldsWay store.old (Between path.now other.now)
         (stage.Ends ends.common ends.old ends.new) }
@@ -81,8 +81,7 @@ fn new_end(store: &mut Store, number: u64, path: &Path, other: &Path, ends: Ends
     }
 }
 
-/// Decides with the parents of both paths held, unless another call holds what the new one leads
-/// to.
+/// Decides with both parents held, unless another call holds the inode of the new path.
 fn at_parents(store: &mut Store, number: u64, path: &Path, other: &Path, ends: Ends) -> Walk
     requires stands { HoldsWay store.old (Between path.now other.now)
         (stage.Ends ends.common ends.old ends.new) }
@@ -99,7 +98,8 @@ fn at_parents(store: &mut Store, number: u64, path: &Path, other: &Path, ends: E
     Walk::Ready(Ways::between(path, new))
 }
 
-/// Hand over hand: holds the directory that a call comes to, and then frees what it holds no more.
+/// Lock coupling: holds the next directory, and then releases the directories that the call no
+/// longer holds.
 fn move_on(store: &mut Store, number: u64, before: Stage, after: Stage, to: NodeId) -> Walk
     ensures state { store.new ≡ handed_over number before after to store.old }
     ensures walk { result ≡ Moved after }

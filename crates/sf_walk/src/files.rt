@@ -1,4 +1,4 @@
-//! A WRITE that copies block by block, and who waits for it.
+//! WRITEs that copy block by block, and the calls that wait for them.
 
 ghost use Rattle.std.specs.Prelude.{◌≡◌, ◌⊎◌, ℕ, List, false, None, Some, IfSome, IfNone};
 ghost use Rattle.sf_call.specs.declared.request.Request.TheVariants as request;
@@ -21,7 +21,7 @@ use sf_call::{Call, Request};
 use sf_inode::{NodeId, Store};
 use sf_reply::Reply;
 
-/// What a WRITE copies into: a file, and how many blocks are left.
+/// The file that a WRITE copies into, and the number of blocks left.
 #[derive(Clone, Copy, Debug, PartialEq, Eq)]
 pub struct Copying {
     pub node: NodeId,
@@ -35,8 +35,8 @@ pub struct Writer {
     pub number: u64,
 }
 
-/// The other call that holds the file which the call's handle opens, where the call reads, writes
-/// or sets that file.
+/// The other call that holds the file of the call's handle, if the call reads, writes or sets that
+/// file.
 pub fn file_holder(store: &Store, call: &Call) -> Option<u64>
     ensures held { IfSome result (λ holder. WaitsForFile store.now call.now holder) }
     ensures free { IfNone result (IsFileFree store.now call.now) }
@@ -46,8 +46,8 @@ pub fn file_holder(store: &Store, call: &Call) -> Option<u64>
     other_holder(store, call.number, handle.node)
 }
 
-/// The call that holds the file which a session's handle opens, where the request reads, writes or
-/// sets that file.
+/// The call that holds the file of a session's handle, if the request reads, writes or sets that
+/// file.
 pub fn holder_by(store: &Store, session: u64, request: &Request) -> Option<u64>
     ensures { result ≡ holder_by store.now session request.now }
 {
@@ -67,8 +67,8 @@ fn file_handle(request: &Request) -> Option<u64>
     }
 }
 
-/// The first step of a WRITE: its reply twice, once for its record. All blocks that it writes but
-/// one are still to be copied into its file. No look-up is made.
+/// The first step of a WRITE. Returns its reply and a copy for its record. All its blocks but one
+/// remain to be copied. Makes no lookup.
 #[tactic(auto, using(crate::proofs::Refused::keeps_alike))]
 pub fn start(store: &mut Store, call: &Call) -> (Reply, Reply)
     requires write { IsWriteRequest call.now.request }
@@ -111,7 +111,7 @@ pub fn start(store: &mut Store, call: &Call) -> (Reply, Reply)
     }
 }
 
-/// What a call copies into after its first step, where blocks are left.
+/// The file that a call copies into after its first step, if blocks remain.
 pub fn left_to_copy(store: &Store, call: &Call) -> Option<Copying>
     ensures some { IfSome result (λ c. CopiesIntoFile store.now call.now c) }
     ensures none { IfNone result ((number : ℕ) (h : OpenHandle)
@@ -129,7 +129,8 @@ pub fn left_to_copy(store: &Store, call: &Call) -> Option<Copying>
     Some(Copying { node, left })
 }
 
-/// Who holds the file that a request cuts or fills up by its path, which was found to lead there.
+/// The call that holds a file, if a request on its path sets its length. `found` is the result of
+/// resolving that path.
 pub fn writer_to_finish(store: &Store, request: &Request, found: Located) -> Option<Writer>
     ensures some { IfSome result (λ w. IsWriter store.now request.now found w) }
     ensures none { IfNone result (HasNoWriter store.now request.now found) }
@@ -145,7 +146,7 @@ pub fn writer_to_finish(store: &Store, request: &Request, found: Located) -> Opt
     Some(Writer { node, number })
 }
 
-/// Whether a request cuts the file that its path leads to, or fills it up.
+/// Whether a request truncates or extends the file of its path.
 fn cuts_file(request: &Request) -> bool
     ensures { result ≡ cuts_file request.now }
 {

@@ -1,4 +1,4 @@
-//! Where a path leads in the store.
+//! Path resolution in the store.
 
 ghost use Rattle.std.specs.Prelude.{◌≡◌, ◌≤◌, length, IfOk, IfErr};
 ghost use Rattle.sf_reply.specs.declared.reply.StatusCode.TheVariants.{NoSuchFile};
@@ -13,8 +13,9 @@ use sf_inode::{NodeId, Store};
 use sf_path::Path;
 use sf_reply::StatusCode;
 
-/// Where a path leads: no way; a missing name of a directory; or a node, with the directory that
-/// has its entry. The root stands above itself.
+/// The result of resolving a path. `NoWay`: a component other than the last is missing or no
+/// directory. `Missing`: only the last name is missing. `At`: an inode and the directory that has
+/// its entry. The root's parent is the root.
 #[derive(Clone, Copy, Debug, PartialEq, Eq)]
 pub enum Located {
     NoWay,
@@ -22,14 +23,14 @@ pub enum Located {
     At { parent: NodeId, node: NodeId },
 }
 
-/// A node that a path leads to, and the directory that has its entry.
+/// An inode that a path leads to, and the directory that has its entry.
 #[derive(Clone, Copy)]
 pub(crate) struct FoundEntry {
     pub(crate) parent: NodeId,
     pub(crate) node: NodeId,
 }
 
-/// A path's last name, where its way is there: its directory lacks it, or it is a node's.
+/// The last name of a path with an existing parent: it is missing, or it is an inode's.
 #[derive(Clone, Copy)]
 pub(crate) enum LastEntry {
     Missing { parent: NodeId },
@@ -37,7 +38,7 @@ pub(crate) enum LastEntry {
 }
 
 impl Located {
-    /// The node, or what a request of a node is answered where the path leads to none.
+    /// The inode, or `NoSuchFile` if the path leads to none.
     pub(crate) fn found(self) -> Result<FoundEntry, StatusCode>
         ensures at { IfOk result (λ found. self ≡ At found.parent found.node) }
         ensures nowhere { IfErr result (λ code. (code ≡ NoSuchFile) × (IsThere self → ⊥)) }
@@ -49,7 +50,7 @@ impl Located {
         }
     }
 
-    /// The last name, or what a request that may make it is answered where there is no way.
+    /// The last name, or `NoSuchFile` if the path has no parent directory.
     pub(crate) fn slot(self) -> Result<LastEntry, StatusCode>
         ensures on_way { IfOk result (IsLastEntry self) }
         ensures nowhere { IfErr result (λ code. (code ≡ NoSuchFile) × (self ≡ NoWay)) }
@@ -62,18 +63,18 @@ impl Located {
     }
 }
 
-/// Where the paths of a route lead: its path, or the old one of two; and the new one.
+/// The result of resolving the paths of a route: its one path, or both the old and the new one.
 #[derive(Clone, Copy, Debug, PartialEq, Eq)]
 pub struct Ways {
-    /// Of which kind the route is.
+    /// The kind of the route.
     pub kind: RouteKind,
     pub path: Located,
-    /// `NoWay` where the route is not between two paths.
+    /// `NoWay` unless the route is between two paths.
     pub new: Located,
 }
 
 impl Ways {
-    /// Those of a call that walks no path.
+    /// The result for a call without a path.
     pub fn no_path() -> Ways
         ensures { result ≡ no_path }
     {
@@ -84,7 +85,7 @@ impl Ways {
         }
     }
 
-    /// Those of a call that walks one path.
+    /// The result for a call on one path.
     pub fn along(path: Located) -> Ways
         ensures { result ≡ along path }
     {
@@ -95,7 +96,7 @@ impl Ways {
         }
     }
 
-    /// Those of a call that walks two paths.
+    /// The result for a call on two paths.
     pub fn between(path: Located, new: Located) -> Ways
         ensures { result ≡ between path new }
     {
@@ -107,8 +108,8 @@ impl Ways {
     }
 }
 
-/// Walks a path from the root, whoever holds the nodes on it. Each of its names is looked up once
-/// at most.
+/// Resolves a path from the root, regardless of the holders of its directories. Makes at most one
+/// lookup for each name.
 #[tactic(auto, using(crate::proofs::WaySteps::way_stops, crate::proofs::WaySteps::way_lacks, crate::proofs::WaySteps::way_goes, crate::proofs::WaySteps::missing_last, crate::proofs::WaySteps::missing_on, crate::proofs::WaySteps::way_ends, crate::proofs::LookUps::looked_none, crate::proofs::LookUps::looked_more, crate::proofs::LookUps::looked_less))]
 pub fn locate(store: &mut Store, path: &Path) -> Located
     ensures found { result ≡ way_from store.old.nodes store.old.root store.old.root path.now }
@@ -136,7 +137,7 @@ pub fn locate(store: &mut Store, path: &Path) -> Located
     Located::At { parent, node }
 }
 
-/// Walks all paths of a route.
+/// Resolves all paths of a route.
 pub fn locate_all(store: &mut Store, route: RoutePaths<'_>) -> Ways
     ensures located { AreWays store.old (route_in route.entry) result }
     ensures looked { LookedUp store.old store.new (names_on (route_in route.entry)) }

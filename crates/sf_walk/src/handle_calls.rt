@@ -1,4 +1,4 @@
-//! Calls by handle.
+//! Calls by handle (draft-ietf-secsh-filexfer-02, section 6).
 
 ghost use Rattle.std.specs.Prelude.{◌≡◌, ◌≢◌, ◌+◌, ◌<◌, ◌^◌, ℕ, nat_lt, if◌then◌else◌, List, length, true, false, is_some, Some, None, IsOk, IfOk, OnOk, OnErr};
 ghost use Rattle.sf_reply.specs.declared.reply.Reply.TheVariants as reply;
@@ -57,7 +57,8 @@ pub(crate) fn stat_handle(store: &Store, session: u64, number: u64) -> Reply
     }
 }
 
-/// FSETSTAT. The root's attributes can't be set, and a file's size needs the mark WRITE.
+/// FSETSTAT. The root's attributes can't be set. Setting a file's size requires a handle open for
+/// writing.
 pub(crate) fn set_stat_handle(
     store: &mut Store,
     session: u64,
@@ -121,7 +122,7 @@ pub(crate) fn read(
     Ok(Reply::Data(bytes))
 }
 
-/// WRITE's first step: all blocks that it writes but one are still to be copied into the file.
+/// The first step of WRITE: all blocks that it writes but one remain to be copied.
 pub(crate) fn start_write(
     store: &mut Store,
     session: u64,
@@ -174,15 +175,15 @@ pub(crate) fn start_write(
     Ok(Reply::Status(StatusCode::Success))
 }
 
-/// With the mark APPEND writing starts at the file's end.
+/// The offset of a write: the file's end if the handle was opened with APPEND.
 fn start_of(marks: &Marks, size: u64, offset: u64) -> u64
     ensures { result ≡ (if marks.now.append then size else offset) }
 {
     if marks.append { size } else { offset }
 }
 
-/// Begins to put bytes into a file, which is modified at the moment: all of their blocks but one
-/// are still to be copied.
+/// Starts to put bytes into a file, and sets its modification time. All blocks but one remain to be
+/// copied.
 fn start_bytes(
     store: &mut Store,
     moment: u32,
@@ -213,7 +214,7 @@ fn start_bytes(
     Ok(())
 }
 
-/// Whether a write would end above the limit of a file's size.
+/// Whether a write would end beyond the largest file size.
 fn ends_past_limit(start: u64, count: usize) -> bool
     ensures { result ≡ nat_lt MAX_FILE_SIZE (start + count) }
 {

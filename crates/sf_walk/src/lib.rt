@@ -1,12 +1,12 @@
-//! Calls on the store of nodes, walked from name to name.
+//! SFTP calls on the inode store: path resolution with lock coupling, and each request's effect.
 //!
-//! Start with `decide` in `calls`: where a call's path was found to lead, it gives the reply that
-//! the tree gives which the store keeps, and leaves a store that keeps the tree after it
-//! (`IsCarriedOut`, `specs/Served.antt`). A WRITE is decided by `start` in `files`. `advance` in
-//! `walking` is one step of a walk, which holds the next directory before it frees the one above
-//! (`specs/Steps.antt`); `locate_all` in `finding` is a whole one. Where paths lead is `way_from`
-//! in `specs/Ways.antt`. The requests are carried out in `path_calls`, `renames`, `opening`,
-//! `handle_calls` and `listing`.
+//! Start with `decide` in `calls`. For a call with resolved paths it returns the sequential tree's
+//! reply, and updates the store to represent the tree after the call (`IsCarriedOut`,
+//! `specs/Served.antt`). `start` in `files` decides a WRITE. `advance` in `walking` is one step of
+//! path resolution: it holds the next directory before it releases the one above
+//! (`specs/Steps.antt`). `locate_all` in `finding` resolves paths at once. `way_from` in
+//! `specs/Ways.antt` defines what a path leads to. The requests are in `path_calls`, `renames`,
+//! `links`, `opening`, `handle_calls` and `listing`.
 #![tactic(auto)]
 
 mod calls;

@@ -1,4 +1,4 @@
-//! Links: further paths of files.
+//! Hard links.
 
 ghost use Rattle.std.specs.Prelude.{◌≡◌, ◌<◌, ℕ, length, OnOk, OnErr, IfOk};
 ghost use Rattle.sf_reply.specs.Replies.{IsPlain};
@@ -18,16 +18,16 @@ use sf_path::Path;
 use sf_reply::{Reply, StatusCode};
 use std::alloc::AllocError;
 
-/// What a link comes to.
+/// The outcome of a link.
 #[derive(Clone, Copy)]
 pub(crate) enum LinkCourse {
-    /// It is answered this, and nothing changes.
+    /// The call is answered with this status, and nothing changes.
     Told(StatusCode),
-    /// The new path's last name leads to the node, from this directory on.
+    /// The new path's last name becomes an entry for the inode, in the directory `into`.
     Names { node: NodeId, into: NodeId },
 }
 
-/// The extension hardlink.
+/// The extension `hardlink@openssh.com` (OpenSSH's PROTOCOL).
 pub(crate) fn link(
     store: &mut Store,
     moment: u32,
@@ -48,8 +48,8 @@ pub(crate) fn link(
     name_anew(store, moment, new, course)
 }
 
-/// What a link comes to, where its paths lead. A file has nothing below it, and what lies before it
-/// is there.
+/// The outcome of a link with resolved paths. If one path is a prefix of the other, see
+/// `nested_code`.
 fn link_course(store: &Store, old: &Path, new: &Path, ways: Ways) -> LinkCourse
     requires { AreWays store.now (route_between old.now new.now) ways }
     ensures course { (t : Tree) (moment : ℕ) → Keeps store.now t
@@ -86,8 +86,8 @@ fn link_course(store: &Store, old: &Path, new: &Path, ways: Ways) -> LinkCourse
     }
 }
 
-/// What is told of a file's path and one that it begins with or that begins with it: nothing lies
-/// below a file, and all that lies before it is there.
+/// The status if one path is a prefix of the other, and the old one is a file's. Nothing exists
+/// below a file, and every prefix of its path exists.
 fn nested_code(old: &Path, new: &Path) -> StatusCode
     ensures { result ≡ nested_code old.now new.now }
 {
@@ -98,7 +98,7 @@ fn nested_code(old: &Path, new: &Path) -> StatusCode
     }
 }
 
-/// Does what a link comes to. The directory of the new path is modified at the moment.
+/// Carries out a link. Sets the modification time of the new path's directory.
 fn name_anew(
     store: &mut Store,
     moment: u32,
@@ -124,7 +124,7 @@ fn name_anew(
     }
 }
 
-/// A path's last name leads to a node, from a directory.
+/// Adds a path's last name to a directory, as an entry for the inode.
 fn link_last(store: &mut Store, new: &Path, into: NodeId, node: NodeId) -> Result<(), AllocError>
     requires { 0 < length new.now }
     ensures ok { OnOk result (store.new ≡ linked store.old into (last_name_of new.now) node) }

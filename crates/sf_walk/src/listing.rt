@@ -1,4 +1,4 @@
-//! Listing a directory.
+//! Directory listings.
 
 ghost use Rattle.std.specs.Prelude.{true, ◌≡◌, Some, filter_map, IfOk, OnErr};
 ghost use Rattle.sf_reply.specs.Longname.{HasType, longname_text};
@@ -17,7 +17,8 @@ use sf_path::Name;
 use sf_reply::{Entry, Listing, Reply, StatusCode, longname};
 use std::alloc::{AllocError, Global};
 
-/// READDIR: the reply twice, before the last name that is given is remembered in the handle.
+/// READDIR. Returns the reply and a copy for its record; the last listed name is then stored in the
+/// handle.
 pub(crate) fn read_directory(
     store: &mut Store,
     session: u64,
@@ -59,7 +60,7 @@ pub(crate) fn read_directory(
     Ok((entries, copy))
 }
 
-/// The entries as they are listed. A name that leads to no node is left out.
+/// The entries as READDIR lists them. A name without an inode is left out.
 fn entries_of(store: &Store, found: &[(Name, NodeId)]) -> Result<Listing, AllocError>
     ensures { IfOk result (λ listing. listing
         ≡ filter_map (node_entry store.now.nodes) found.now) }
@@ -73,8 +74,8 @@ fn entries_of(store: &Store, found: &[(Name, NodeId)]) -> Result<Listing, AllocE
     Listing::from_vec(entries)
 }
 
-/// A node as it is listed, with the number of names that lead to it. The name's bytes are those at
-/// the end of its line.
+/// An inode's entry in a listing, with its number of links. The filename's bytes are shared with
+/// the end of its long name.
 fn entry_of(alloc: Global, name: &Name, links: u64, attrs: Attrs) -> Result<Entry, AllocError>
     requires parts { HasAllParts attrs }
     requires kind { HasType attrs.permissions }

@@ -1,4 +1,4 @@
-//! What the next name of a path leads to, from a directory on its way.
+//! Looking up the next component of a path.
 
 ghost use Rattle.std.specs.Prelude.{◌≡◌, ◌≢◌, ◌+◌, length, Some, IfSome, IfNone};
 ghost use Rattle.sf_inode.specs.Stores.{holder_of, looked_up};
@@ -12,19 +12,19 @@ use sf_call::Reached;
 use sf_inode::{NodeId, Store};
 use sf_path::Path;
 
-/// What a call comes to that goes on from a directory.
+/// The result of looking up the next component from a directory.
 pub(crate) enum Further {
-    /// The directory is the parent of the last name: nothing was looked up.
+    /// The directory is the parent of the last name. No lookup was made.
     AtParent,
-    /// The next name is missing, or leads to a file.
+    /// The next component is missing, or is a file.
     NoDirectory,
-    /// The call of this number holds the directory that the next name leads to.
+    /// The call with this number holds the next directory.
     Held(u64),
-    /// The next name leads to this directory, which no other call holds.
+    /// The next directory, which no other call holds.
     Free(Reached),
 }
 
-/// Looks up the next name of a path, unless it is the last one.
+/// Looks up the next component of a path, unless it is the last one.
 pub(crate) fn look(store: &mut Store, number: u64, path: &Path, at: Reached) -> Further
     requires { LeadsOnWay store.old path.now at.walked at.node }
     ensures { Looks store.old store.new path.now at result
@@ -64,7 +64,7 @@ pub(crate) fn find_last(store: &mut Store, path: &Path, at: Reached) -> Located
     }
 }
 
-/// The call that holds the node that was found, if it is another one.
+/// The number of another call that holds the inode that was found.
 pub(crate) fn holder_there(store: &Store, number: u64, found: Located) -> Option<u64>
     ensures some { IfSome result (λ holder. IsHeldThere store.now number found holder) }
     ensures none { IfNone result (IsFreeThere (holder_of store.now.nodes) number found) }
@@ -76,7 +76,7 @@ pub(crate) fn holder_there(store: &Store, number: u64, found: Located) -> Option
     }
 }
 
-/// The call that holds a node, if it is another one.
+/// The number of another call that holds an inode.
 pub(crate) fn other_holder(store: &Store, number: u64, node: NodeId) -> Option<u64>
     ensures some { IfSome result (λ holder. (holder_of store.now.nodes node ≡ Some holder)
         × (number ≢ holder)) }

@@ -1,4 +1,4 @@
-//! Calls that open.
+//! OPEN and OPENDIR.
 
 ghost use Rattle.std.specs.Prelude.{◌≡◌, ℕ, ◌<◌, List, [], ◌∷◌, ◌++◌, length, ◌&&◌, Some, None, true, IfOk, OnOk, OnErr};
 ghost use Rattle.sf_path.specs.Names.{Path};
@@ -30,14 +30,14 @@ use sf_path::Path;
 use sf_reply::{Reply, StatusCode};
 use std::alloc::AllocError;
 
-/// A directory's handle has no marks.
+/// A directory's handle has no access mode.
 const NO_MARKS: Marks = Marks {
     read: false,
     write: false,
     append: false,
 };
 
-/// With neither READ nor WRITE a handle reads.
+/// The access mode of a handle. With neither READ nor WRITE it can read.
 fn file_marks(flags: OpenFlags) -> Marks
     ensures { result ≡ marks_of flags }
 {
@@ -75,7 +75,7 @@ pub(crate) fn open_directory(
     }
 }
 
-/// Opens a node that is there for listing; a file can't be listed.
+/// Opens an inode for listing; a file can't be listed.
 fn open_listing(
     store: &mut Store,
     session: u64,
@@ -139,7 +139,7 @@ pub(crate) fn open(
     }
 }
 
-/// Opens a node that is there: TRUNC with WRITE cuts a file.
+/// Opens an existing inode. TRUNC with WRITE truncates a file.
 fn open_present(
     store: &mut Store,
     session: u64,
@@ -171,7 +171,7 @@ fn open_present(
     Ok(Reply::Handle(number))
 }
 
-/// Cuts a file at its start; it is modified at the moment.
+/// Truncates a file to no bytes, and sets its modification time.
 fn truncate(store: &mut Store, moment: u32, node: NodeId)
     requires { blocks_left_at store.old.nodes node ≡ 0 }
     ensures tree { (t : Tree) (label : ℕ) (m : Metadata) (bytes : List ℕ) → Keeps store.old t
@@ -185,7 +185,7 @@ fn truncate(store: &mut Store, moment: u32, node: NodeId)
     store.touch(node, moment);
 }
 
-/// Takes out a file's bytes, which takes no memory.
+/// Removes a file's bytes. Allocates nothing.
 fn cut(store: &mut Store, node: NodeId)
     requires { blocks_left_at store.old.nodes node ≡ 0 }
     ensures { store.new ≡ bytes_set store.old node [] }
@@ -193,7 +193,7 @@ fn cut(store: &mut Store, node: NodeId)
     store.set_len(node, 0);
 }
 
-/// OPEN of a name that a directory has not.
+/// OPEN of a name that a directory lacks.
 fn open_absent(
     store: &mut Store,
     session: u64,
@@ -230,8 +230,8 @@ fn open_absent(
     Ok(Reply::Handle(number))
 }
 
-/// Puts a new file under the last name of a path and opens it. Where the handle finds no memory the
-/// file is taken out again.
+/// Adds a new file under the last name of a path, and opens it. If allocating the handle fails, the
+/// file is removed again.
 fn open_new(
     store: &mut Store,
     session: u64,

@@ -1,4 +1,4 @@
-//! Calls on paths, but those that open.
+//! Calls on paths, except those that open, rename or link.
 
 ghost use Rattle.std.specs.Prelude.{◌≡◌, ◌<◌, ◌&&◌, ℕ, true, false, is_some, length, Some, IsOk, IfOk, OnErr};
 ghost use Rattle.sf_path.specs.Names.{Path};
@@ -67,8 +67,8 @@ pub(crate) fn set_stat(
     }
 }
 
-/// Sets a node's attributes. A file's size is set first, and the file is modified at the moment; a
-/// directory's size can't be set, nor a file's above the limit. It takes no memory.
+/// Sets an inode's attributes. A file's size is set first, which also sets its modification time. A
+/// directory's size can't be set, nor a file's beyond the largest size. Allocates nothing.
 pub(crate) fn set_node(store: &mut Store, moment: u32, node: NodeId, attrs: &Attrs) -> Reply
     requires { is_some attrs.now.size ≡ true → blocks_left_at store.old.nodes node ≡ 0 }
     ensures served { (t : Tree) (it : Node) → Keeps store.old t
@@ -133,7 +133,7 @@ pub(crate) fn mkdir(
     }
 }
 
-/// Puts a new node under the last name of a path.
+/// Adds a new inode under the last name of a path.
 pub(crate) fn insert_last(
     store: &mut Store,
     parent: NodeId,
@@ -207,7 +207,7 @@ pub(crate) fn remove(store: &mut Store, moment: u32, path: &Path, located: Locat
     }
 }
 
-/// Takes the last name of a path out of its directory, which is modified at the moment.
+/// Removes the last name of a path from its directory, and sets the directory's modification time.
 fn remove_last(store: &mut Store, moment: u32, dir: NodeId, path: &Path)
     requires { 0 < length path.now }
     ensures state { store.new

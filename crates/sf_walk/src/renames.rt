@@ -1,4 +1,4 @@
-//! Both renames.
+//! RENAME and `posix-rename@openssh.com`.
 
 ghost use Rattle.std.specs.Prelude.{◌≡◌, ◌<◌, ℕ, true, length, is_some, OnOk, OnErr, IsOk, IfOk};
 ghost use Rattle.sf_path.specs.Names.{Path};
@@ -21,16 +21,16 @@ use sf_path::Path;
 use sf_reply::{Reply, StatusCode};
 use std::alloc::AllocError;
 
-/// What a rename comes to.
+/// The outcome of a rename.
 #[derive(Clone, Copy)]
 pub(crate) enum Course {
-    /// It is answered this, and nothing changes.
+    /// The call is answered with this status, and nothing changes.
     Told(StatusCode),
     /// The old path's entry moves from one directory into another.
     Moves { from: NodeId, into: NodeId },
 }
 
-/// Whether the call is a rename that moves what its old path leads to.
+/// Whether the call is a rename that moves an entry.
 pub fn is_move(store: &Store, call: &Call, ways: Ways) -> bool
     requires { IsLocated store.now call.now.request ways }
     ensures { (t : Tree) → Keeps store.now t
@@ -75,7 +75,7 @@ pub(crate) fn rename(
     carry_out(store, moment, old, new, course)
 }
 
-/// The extension posix-rename.
+/// The extension `posix-rename@openssh.com` (OpenSSH's PROTOCOL).
 pub(crate) fn posix_rename(
     store: &mut Store,
     moment: u32,
@@ -97,7 +97,7 @@ pub(crate) fn posix_rename(
     carry_out(store, moment, old, new, course)
 }
 
-/// RENAME moves to a path where nothing stands.
+/// The outcome of RENAME, which never replaces an existing entry.
 fn rename_course(ways: Ways) -> Course
     ensures course { (s : StoreState) (t : Tree) (old new : Path) (moment : ℕ) → Keeps s t
         → AreWays s (route_between old new) ways
@@ -125,8 +125,8 @@ fn rename_course(ways: Ways) -> Course
     }
 }
 
-/// The extension posix-rename also moves to where something stands that may be replaced, and does
-/// nothing where both paths name one file.
+/// The outcome of posix-rename, which may replace an entry. It does nothing if both paths name one
+/// file.
 fn posix_course(store: &Store, old: &Path, new: &Path, ways: Ways) -> Course
     requires { AreWays store.now (route_between old.now new.now) ways }
     ensures course { (t : Tree) (moment : ℕ) → Keeps store.now t
@@ -169,7 +169,7 @@ fn posix_course(store: &Store, old: &Path, new: &Path, ways: Ways) -> Course
     }
 }
 
-/// Whether a node may take another's place.
+/// Whether an inode may replace another: a directory an empty directory, or a file a file.
 fn may_replace(store: &Store, node: NodeId, target: NodeId) -> bool
     ensures { result ≡ may_replace store.now.nodes node target }
 {
@@ -180,7 +180,7 @@ fn may_replace(store: &Store, node: NodeId, target: NodeId) -> bool
     }
 }
 
-/// Does what a rename comes to. The directories of both paths are modified at the moment.
+/// Carries out a rename. Sets the modification times of both directories.
 fn carry_out(
     store: &mut Store,
     moment: u32,
@@ -209,7 +209,7 @@ fn carry_out(
     }
 }
 
-/// Moves the entry of the old path's last name to that of the new one's.
+/// Moves the entry of the old path's last name to the new one's.
 fn relink_last(
     store: &mut Store,
     old: &Path,

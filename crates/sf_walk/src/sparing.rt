@@ -1,4 +1,4 @@
-//! What a decision leaves alone.
+//! What a decision preserves.
 
 ghost use Rattle.std.specs.Prelude.{◌≡◌, ℕ, Some, None};
 ghost use Rattle.sf_call.specs.Tree.{Tree, object_of};
@@ -10,8 +10,8 @@ ghost use Rattle.sf_inode.specs.Stores.{StoreState, node_in, open_handle_at};
 ghost use Rattle.sf_keeps.specs.Keeps.{Keeps};
 ghost use Rattle.sf_walk.specs.Served.{NodesStay};
 
-/// A file that another session's handle opens is there still after a decision, with its holder, and
-/// as much is left to be copied into it.
+/// A law: a decision preserves a file that another session's handle opens, its holder, and its
+/// number of blocks left to copy.
 #[tactic(auto, using(crate::proofs::Spared::file_spared))]
 pub fn spared_file()
     ensures { (s new : StoreState) (t after : Tree) (number : ℕ) → Keeps s t → Keeps new after

@@ -1,4 +1,4 @@
-//! Steps of a call on its way.
+//! Steps of path resolution.
 
 ghost use Rattle.std.specs.Prelude.{◌≡◌, ◌+◌, ◌<◌, true, [], length};
 ghost use Rattle.sf_call.specs.declared.call.Stage.TheVariants as stage;
@@ -17,28 +17,28 @@ use sf_call::{Reached, RoutePaths, Stage};
 use sf_inode::{NodeId, Store};
 use sf_path::Path;
 
-/// What a step of a call came to.
+/// The outcome of a step of path resolution.
 #[derive(Clone, Copy, Debug, PartialEq, Eq)]
 pub enum Walk {
-    /// It holds another directory, and has come to this stage.
+    /// The call holds another directory, and reached this stage.
     Moved(Stage),
-    /// The call of this number holds what it wants.
+    /// The call with this number holds the directory that this call needs.
     Blocked(u64),
-    /// It decides now, where its paths were found to lead.
+    /// The call can be decided, with the result of resolving its paths.
     Ready(Ways),
 }
 
-/// Takes a call one step on: it takes the root, or looks up the next name of its path in the
-/// directory that it holds, holds the directory that it finds, and then frees the one above it. A
-/// call without a path, and one whose path is the root, decides at once and takes nothing; one on
-/// its way decides at the parent of its last name, or where a name is missing or leads to a file.
+/// Takes one step of a call, by lock coupling. The step acquires the root; or it looks up the next
+/// component, acquires that directory, and then releases the one above. A call without a path, or
+/// on the root's path, decides at once and holds nothing. A call on another path decides at the
+/// parent of its last name, or at a component that is missing or a file.
 ///
-/// A call on two paths walks the old one. Where they part it keeps the directory that they have in
-/// common, walks on to the old path's parent, and then from the common directory to the new one's.
-/// It decides with both parents held, once no other call holds what the new path leads to; it
-/// doesn't wait for what the old one leads to.
+/// A call on two paths follows the old one. Where they part, it keeps the last common directory. It
+/// proceeds to the old path's parent, and then from the common directory to the new path's parent.
+/// It decides with both parents held, once no other call holds the inode of the new path. It
+/// doesn't wait for the inode of the old path.
 ///
-/// The stage that it has come to is told beside it: who makes many steps notes the last one alone.
+/// Returns the stage that the call reached; the caller stores it.
 pub fn advance(store: &mut Store, number: u64, route: RoutePaths<'_>, at: Stage) -> Walk
     requires root { is_directory_at store.old.nodes store.old.root ≡ true }
     requires stands { HoldsWay store.old (route_in route) at }
@@ -76,7 +76,7 @@ pub fn advance(store: &mut Store, number: u64, route: RoutePaths<'_>, at: Stage)
     }
 }
 
-/// Takes the root, unless the path ends there.
+/// Acquires the root, unless the path is the root's.
 fn first(store: &mut Store, number: u64, path: &Path) -> Walk
     requires root { is_directory_at store.old.nodes store.old.root ≡ true }
     ensures { Advances store.old store.new (walker number (Along path.now) stage.Fresh) result }
@@ -98,7 +98,7 @@ fn first(store: &mut Store, number: u64, path: &Path) -> Walk
     })
 }
 
-/// Takes the root for a call on two paths.
+/// Acquires the root for a call on two paths.
 fn first_of_two(store: &mut Store, number: u64, old: &Path, new: &Path) -> Walk
     requires root { is_directory_at store.old.nodes store.old.root ≡ true }
     requires apart { PartLater old.now new.now 0 }
@@ -117,7 +117,7 @@ fn first_of_two(store: &mut Store, number: u64, old: &Path, new: &Path) -> Walk
     Walk::Moved(arrived(old, new, to))
 }
 
-/// Goes one name further from a directory.
+/// Resolves one more component from a directory.
 fn onward(store: &mut Store, number: u64, path: &Path, at: Reached) -> Walk
     requires on_way { LeadsOnWay store.old path.now at.walked at.node }
     ensures { Advances store.old store.new
@@ -139,7 +139,7 @@ fn onward(store: &mut Store, number: u64, path: &Path, at: Reached) -> Walk
     }
 }
 
-/// Decides at the parent of a path's last name, unless another call holds what it leads to.
+/// Decides at the parent of a path's last name, unless another call holds the inode of that name.
 fn at_parent(store: &mut Store, number: u64, path: &Path, at: Reached) -> Walk
     requires on_way { LeadsOnWay store.old path.now at.walked at.node }
     requires last { at.walked + 1 ≡ length path.now }
@@ -153,7 +153,7 @@ fn at_parent(store: &mut Store, number: u64, path: &Path, at: Reached) -> Walk
     }
 }
 
-/// Goes one name further from a directory that two paths have in common.
+/// Resolves one more component of the common prefix of two paths.
 fn together(store: &mut Store, number: u64, old: &Path, new: &Path, at: Reached) -> Walk
     requires on_way { LeadsOnWay store.old old.now at.walked at.node }
     requires before { PartLater old.now new.now (at.walked + 1) }
@@ -173,8 +173,8 @@ fn together(store: &mut Store, number: u64, old: &Path, new: &Path, at: Reached)
     }
 }
 
-/// The stage of a call on two paths that has come to a directory of both: where they part, it
-/// stands there with both its ends.
+/// The stage of a call on two paths that holds a common directory. Where the paths part, it holds
+/// that directory with both ends.
 fn arrived(old: &Path, new: &Path, to: Reached) -> Stage
     requires { PartLater old.now new.now to.walked }
     ensures { ComesToBoth old.now new.now (reached to.walked to.node) result }
@@ -192,7 +192,7 @@ fn arrived(old: &Path, new: &Path, to: Reached) -> Stage
     }
 }
 
-/// Frees what a call held, but for what it holds still.
+/// Releases what a call held before a stage and doesn't hold after it.
 #[inline(always)]
 pub fn let_go(store: &mut Store, before: Stage, after: Stage)
     ensures { store.new ≡ let_go (nodes_of after) (nodes_of before) store.old }
@@ -209,7 +209,7 @@ pub fn let_go(store: &mut Store, before: Stage, after: Stage)
     }
 }
 
-/// Frees a node, unless a call at a stage holds it.
+/// Releases an inode, unless a call at this stage holds it.
 #[inline(always)]
 fn free_unless(store: &mut Store, node: NodeId, kept: Stage)
     ensures { store.new ≡ free_unless (nodes_of kept) node store.old }
@@ -219,7 +219,7 @@ fn free_unless(store: &mut Store, node: NodeId, kept: Stage)
     }
 }
 
-/// Whether a call at a stage holds a node.
+/// Whether a call at this stage holds an inode.
 #[inline(always)]
 fn holds(at: Stage, node: NodeId) -> bool
     ensures { result ≡ is_one_of node (nodes_of at) }

@@ -20,7 +20,7 @@ use sf_serving::{CallObserver, NoObserver};
 use sf_words::{Action, ClientCommand, RefusedWords, Serving, Stdio, read_words};
 use std::env;
 use std::io::{self, ErrorKind, Input, Read};
-use std::os::fd::{AsFd, BorrowedFd};
+use std::os::fd::AsFd;
 use std::os::unix::net::UnixStream;
 use std::sync::Wait;
 use std::thread::Threads;
@@ -49,14 +49,13 @@ pub(crate) fn run<T: Threads + Wait + Sync>(rt: &HostRuntime, threads: &T) -> u8
 /// Opens /dev/null in place of each standard stream that is closed, so that no file or connection
 /// gets its descriptor.
 fn open_standard_streams(rt: &HostRuntime) {
-    let is_closed = |fd: BorrowedFd<'_>| fd.try_clone_to_owned().is_err();
-    if is_closed(rt.stdin().as_fd()) {
+    if rt.stdin().as_fd().try_clone_to_owned().is_err() {
         os::open_update(b"/dev/null");
     }
-    if is_closed(rt.stdout().as_fd()) {
+    if rt.stdout().as_fd().try_clone_to_owned().is_err() {
         os::open_update(b"/dev/null");
     }
-    if is_closed(rt.stderr().as_fd()) {
+    if rt.stderr().as_fd().try_clone_to_owned().is_err() {
         os::open_update(b"/dev/null");
     }
 }
@@ -131,7 +130,7 @@ fn serve_socket<T: Threads + Wait + Sync, G: StepObserver + Sync>(
 ) -> u8
     requires { 0 < serving.keep }
 {
-    match serve(rt, threads, serving, observer) {
+    match serve(rt, threads, serving, observer, &mut rt.stdout()) {
         Ok(()) => 0,
         Err(fault) => {
             if let Some(line) = fault.line() {

@@ -1,25 +1,26 @@
-//! Two sessions on one engine, turn by turn: prints each event with what came of it, and then what
-//! each session was sent.
+//! Two sessions on one engine, turn by turn. Prints each event with its result, and then each
+//! session's output.
 //!
-//! Start with `schedule`, which has the events: the second session looks for `/a` while the first
-//! one makes it. README.md beside this folder explains the program, and what it prints.
+//! Start with `schedule`, which has the events: the second session looks up `/a` while the first
+//! one makes it. README.md beside this folder explains the program and its output.
 #![tactic(auto)]
 
 use sf_engine::{Engine, Event};
 use std::alloc::{AllocError, Global};
 use std::io;
 
-/// INIT, and MKDIR of `/a` under the id 7.
+/// INIT, and MKDIR of `/a` with the id 7.
 const MAKES: &[u8] = b"\0\0\0\x05\x01\0\0\0\x03\0\0\0\x0f\x0e\0\0\0\x07\0\0\0\x02/a\0\0\0\0";
 
-/// INIT, and STAT of `/a` under the id 8.
+/// INIT, and STAT of `/a` with the id 8.
 const LOOKS: &[u8] = b"\0\0\0\x05\x01\0\0\0\x03\0\0\0\x0b\x11\0\0\0\x08\0\0\0\x02/a";
 
-/// Whose turns it is, one after the other. The second session looks before the first one has made
+/// The sessions of the turns, in order. The second session looks before the first one has made
 /// `/a`.
 const TURNS: &[u64] = &[1, 2, 2, 1, 1, 2, 1, 2, 2, 2, 1];
 
-/// The events: both sessions open, are fed their bytes, and take these turns at the moment 100.
+/// The events: both sessions open, are fed their bytes, and take these turns with the timestamp
+/// 100.
 fn schedule(alloc: Global) -> Result<Vec<Event>, AllocError> {
     let makes = Vec::from_slice(alloc, MAKES)?;
     let looks = Vec::from_slice(alloc, LOOKS)?;
@@ -35,7 +36,7 @@ fn schedule(alloc: Global) -> Result<Vec<Event>, AllocError> {
     Ok(events)
 }
 
-/// Applies the events, and prints each with what came of it.
+/// Applies the events, and prints each with its result.
 fn replay(rt: &impl Print, engine: &mut Engine, events: &[Event]) -> io::Result<()> {
     for event in events {
         match engine.apply(event) {

@@ -1,4 +1,4 @@
-//! A call that moves a path finishes the calls that it overtakes.
+//! Helping: a call that moves a directory completes the calls that have passed it.
 
 ghost use Rattle.std.specs.Prelude.{◌≡◌, ◌<◌, ◌≤◌, ◌+◌, ◌-◌, ◌&&◌, not, nat_eq, false, length, Some, None, is_none, is_some};
 ghost use Rattle.std.specs.Option.{option_copied};
@@ -21,8 +21,9 @@ use sf_path::Path;
 use sf_walk::{Located, Ways, decide, is_move, let_go, locate_all, writer_to_finish};
 
 impl Parts {
-    /// Before a call is decided that moves a path: all calls that it overtakes are set back, and
-    /// then carried out whole, by rising number. Their sessions fetch the replies.
+    /// Runs before a call that moves a path is decided. All other undecided calls that have passed
+    /// the path release what they hold. They are then decided in ascending order of their numbers.
+    /// Their replies are pending until their sessions fetch them.
     pub(crate) fn overtake(&mut self, number: u64, ways: Ways, numbers: &mut Vec<u64>)
         requires core { IsCore self.old }
         requires located { (c : Call) → call_at self.old.calls number ≡ Some c
@@ -58,7 +59,7 @@ impl Parts {
         }
     }
 
-    /// The call of a number frees what it holds, and stands nowhere.
+    /// The call with this number releases what it holds, and starts again at the root.
     fn set_back(&mut self, number: u64)
         ensures { self.new ≡ set_back self.old number }
     {
@@ -81,8 +82,8 @@ impl Parts {
         }
     }
 
-    /// Carries a call out whole, for its session to fetch: writes its record, for which the copy of
-    /// the request is there, and lets the reply wait.
+    /// Decides another session's call: resolves its paths, writes its record and stores its pending
+    /// reply. The record takes the copy of the request.
     fn help(&mut self, overtaken: u64)
         requires room { 0 < self.old.book.room }
         requires settled { IsSettledWhereFree self.old.store }
@@ -111,8 +112,8 @@ impl Parts {
         });
     }
 
-    /// Where the paths of a call lead. Where it cuts a file or fills it up that another call holds,
-    /// what that one has left is copied first.
+    /// Resolves the paths of a call. If the call sets the length of a file that another call holds,
+    /// the remaining blocks of that WRITE are copied first.
     fn ways_to(&mut self, number: u64) -> Ways
         requires { IsSettledWhereFree self.old.store }
         ensures ready { (c : Call) → call_at self.old.calls number ≡ Some c
@@ -130,7 +131,7 @@ impl Parts {
     }
 }
 
-/// The old path of a request on two paths, which a rename moves.
+/// The old path of a request on two paths: the path that a rename moves.
 fn old_path(request: &Request) -> Option<&Path>
     ensures { option_copied result ≡ old_at (target_of request.now) }
 {
@@ -140,7 +141,7 @@ fn old_path(request: &Request) -> Option<&Path>
     }
 }
 
-/// The numbers of the undecided calls, but for one, that have passed a path.
+/// The numbers of the other undecided calls that have passed a path.
 fn overtaken(calls: &Calls, number: u64, old: &Path, numbers: &mut Vec<u64>)
     requires { undecided_in calls.now ≤ vec_capacity numbers.old }
     ensures numbers { numbers.new.items ≡ overtaken calls.now number (Some old.now) }
@@ -154,7 +155,7 @@ fn overtaken(calls: &Calls, number: u64, old: &Path, numbers: &mut Vec<u64>)
     }
 }
 
-/// Whether a call of this number is another one, undecided, and has passed a path.
+/// Whether this is another call, undecided, that has passed a path.
 #[tactic(auto, using(crate::proofs::Maps::reply_is))]
 fn is_overtaken(placed: &PlacedCall, other: u64, number: u64, old: &Path) -> bool
     ensures { result
@@ -165,7 +166,7 @@ fn is_overtaken(placed: &PlacedCall, other: u64, number: u64, old: &Path) -> boo
     other != number && call.reply.is_none() && has_passed(call, placed.route(), old)
 }
 
-/// Whether what a call has walked begins with a path.
+/// Whether a path is a prefix of what a call has resolved.
 fn has_passed(call: &Call, route: RoutePaths<'_>, front: &Path) -> bool
     requires { route_in route ≡ route_of call.now.request }
     ensures { result ≡ has_passed call.now front.now }
@@ -195,14 +196,14 @@ fn has_passed(call: &Call, route: RoutePaths<'_>, front: &Path) -> bool
     }
 }
 
-/// Whether so many names of a path begin with another.
+/// Whether a path is a prefix of the first `walked` names of another.
 fn is_past(path: &Path, walked: usize, front: &Path) -> bool
     ensures { result ≡ has_walked path.now walked front.now }
 {
     front.len() <= walked && begins(path, front)
 }
 
-/// Whether a path begins with another.
+/// Whether a path is a prefix of another.
 fn begins(path: &Path, front: &Path) -> bool
     ensures { result ≡ is_some (after_front front.now path.now) }
 {

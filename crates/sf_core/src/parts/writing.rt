@@ -1,4 +1,4 @@
-//! The steps of a WRITE, which copies its blocks one by one.
+//! The steps of a WRITE, which copies one block a step.
 
 ghost use Rattle.std.specs.Prelude.{◌≡◌, ◌<◌, ◌+◌, ◌-◌, ℕ, Some, None, IsSome, IfSome, IfNone};
 ghost use Rattle.sf_call.specs.declared.call.Call.{Call};
@@ -13,8 +13,8 @@ use sf_reply::Reply;
 use sf_walk::{Copying, Writer, left_to_copy, start};
 
 impl Parts {
-    /// The first step of a WRITE. It is decided where nothing is left to be copied then; else its
-    /// record is written, its reply waits, and it holds its file.
+    /// The first step of a WRITE. If it copies the last block, the call is answered. Otherwise its
+    /// record is written, its reply is pending, and it holds its file.
     pub(crate) fn write(&mut self, number: u64) -> Option<Reply>
         requires there { IsSome (call_at self.old.calls number) }
         requires write { (c : Call) → call_at self.old.calls number ≡ Some c
@@ -40,7 +40,7 @@ impl Parts {
         }
     }
 
-    /// A call goes, and its record is written.
+    /// Removes a call and writes its record.
     fn answer(&mut self, number: u64, reply: Reply, copy: Reply) -> Reply
         requires there { IsSome (call_at self.old.calls number) }
         requires room { 0 < self.old.book.room }
@@ -56,7 +56,7 @@ impl Parts {
         copy
     }
 
-    /// A WRITE holds its file: its record is written, and its reply waits.
+    /// A WRITE holds its file: its record is written, and its reply is pending.
     fn hold_file(&mut self, number: u64, reply: Reply, copy: Reply, into: Copying)
         requires { 0 < self.old.book.room }
         ensures { (c : Call) → call_at self.old.calls number ≡ Some c
@@ -86,8 +86,8 @@ impl Parts {
         });
     }
 
-    /// Copies one block of a WRITE, and tells how many are left: with none left it holds its file
-    /// no more. It needs no memory.
+    /// Copies one block of a WRITE, and returns how many remain. After the last block the call
+    /// releases its file. Allocates nothing.
     pub(crate) fn copy(&mut self, number: u64) -> usize
         requires { IsCopyingOn self.old number }
         ensures { (node : ℕ) (left : ℕ) → CopiesNow self.old number node left
@@ -110,8 +110,8 @@ impl Parts {
         left
     }
 
-    /// Steps of a WRITE that copies, so many at most: the one that copies the last block fetches
-    /// its reply.
+    /// Takes up to `most` steps of a WRITE that is copying. The step that copies the last block
+    /// fetches the reply.
     pub(crate) fn copy_on(&mut self, session: u64, number: u64, most: u64) -> Option<Reply>
         requires { IsCopyingOn self.old number }
         ensures some { IfSome result (λ given. EndsCopying self.old self.new session number most
@@ -126,7 +126,8 @@ impl Parts {
         None
     }
 
-    /// The first step of a WRITE, and as many more as may be made: its reply, where it is answered.
+    /// Takes the first step of a WRITE and up to `most - 1` further steps. Returns its reply if it
+    /// is answered.
     pub(crate) fn write_on(&mut self, session: u64, number: u64, most: u64) -> Option<Reply>
         requires there { IsSome (call_at self.old.calls number) }
         requires write { (c : Call) → call_at self.old.calls number ≡ Some c
@@ -142,7 +143,7 @@ impl Parts {
         }
     }
 
-    /// Copies what is left of a WRITE: it holds its file no more. It needs no memory.
+    /// Copies the remaining blocks of a WRITE, and releases its file. Allocates nothing.
     pub(super) fn finish_write(&mut self, writer: Writer)
         ensures { self.new ≡ write_finished self.old writer.number writer.node }
     {

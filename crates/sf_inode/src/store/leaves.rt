@@ -11,8 +11,8 @@ use std::alloc::{AllocError, Global};
 use std::collections::VecDeque;
 
 impl Store {
-    /// Every path with what it names, in the order of paths. A file's bytes are shared, and those
-    /// that are still to be copied count as copied.
+    /// Each path with its object, in path order. The bytes of files are shared; those still to be
+    /// copied count as copied.
     pub fn leaves(&self, alloc: Global) -> Result<Vec<Leaf>, AllocError>
         ensures { IfOk result (λ leaves. AreLeaves self.now.nodes (([], self.now.root) ∷ [])
             leaves.items) }
@@ -30,7 +30,7 @@ impl Store {
     }
 }
 
-/// Puts paths before those that wait.
+/// Prepends paths to the pending ones.
 fn put_first(
     waiting: &mut VecDeque<(Path, NodeId)>,
     mut below: Vec<(Path, NodeId)>,

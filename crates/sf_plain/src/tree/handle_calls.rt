@@ -1,4 +1,4 @@
-//! Calls by handle.
+//! Calls on handles.
 
 ghost use Rattle.std.specs.Prelude.{◌≡◌, ◌+◌, nat_eq, nat_lt, IfOk, OnOk, OnErr};
 ghost use Rattle.std.specs.Option.{option_copied};
@@ -16,7 +16,7 @@ use sf_field::{Attrs, ByteString};
 use sf_reply::{Reply, StatusCode};
 use std::alloc::AllocError;
 
-/// The handle, if it is the session's.
+/// The handle, if it belongs to the session.
 fn if_of(handle: &Handle, session: u64) -> Option<&Handle>
     ensures { option_copied result ≡ if_of session handle.now }
 {
@@ -27,7 +27,7 @@ fn if_of(handle: &Handle, session: u64) -> Option<&Handle>
     }
 }
 
-/// Where a WRITE starts: by a handle that appends, at the end.
+/// The offset of a WRITE: the end of the file for a handle with APPEND.
 fn start_of(handle: &Handle, contents: &WholeContents, offset: u64) -> u64
     ensures { result ≡ start_of handle.now contents.now offset }
 {
@@ -38,7 +38,7 @@ fn start_of(handle: &Handle, contents: &WholeContents, offset: u64) -> u64
     }
 }
 
-/// Whether bytes from a start on would end past the longest file.
+/// Whether a write would end after MAX_FILE_SIZE.
 fn ends_past_limit(start: u64, count: usize) -> bool
     ensures { result ≡ nat_lt MAX_FILE_SIZE (start + count) }
 {
@@ -49,14 +49,14 @@ fn ends_past_limit(start: u64, count: usize) -> bool
 }
 
 impl PlainTree {
-    /// The handle of a number, if it is the session's.
+    /// The handle with this number, if it belongs to the session.
     pub(super) fn handle_in(&self, session: u64, number: u64) -> Option<&Handle>
         ensures { option_copied result ≡ handle_in self.now session number }
     {
         if_of(self.handles.get(&number)?, session)
     }
 
-    /// Closes a handle, and lets go of the object that it was the last to open.
+    /// Closes a handle, and deletes its object if it is unused.
     fn close_handle(&mut self, number: u64)
         ensures { self.new ≡ changed self.old (CloseHandle number) }
     {
@@ -91,7 +91,7 @@ impl PlainTree {
         }
     }
 
-    /// FSETSTAT. Takes memory for the map of a file's blocks, which are shared.
+    /// FSETSTAT. Allocates a map of the file's blocks, which are shared.
     #[tactic(auto, using(crate::proofs::Calls::sets_opened))]
     pub(super) fn set_stat_handle(
         &mut self,
@@ -160,7 +160,7 @@ impl PlainTree {
         Ok(Reply::Data(bytes))
     }
 
-    /// WRITE. Takes memory for the map of the file's blocks, and for the blocks that change.
+    /// WRITE. Allocates a map of the file's blocks, and the blocks that change.
     pub(super) fn write(
         &mut self,
         session: u64,

@@ -1,4 +1,4 @@
-//! Every path, with what it names.
+//! All paths with their objects.
 
 ghost use Rattle.std.specs.Prelude.{◌≡◌, IfOk};
 ghost use Rattle.sf_call.specs.Leaves.{leaf_of, leaves_of};
@@ -9,7 +9,7 @@ use sf_path::Path;
 use std::alloc::AllocError;
 
 impl PlainTree {
-    /// A path with what its label leads to.
+    /// A path with the object of its inode number.
     fn leaf(&self, path: &Path, label: u64) -> Result<Option<Leaf>, AllocError>
         ensures { IfOk result (λ leaf. leaf ≡ leaf_of self.now.objects (path.now, label)) }
     {
@@ -19,7 +19,7 @@ impl PlainTree {
         }
     }
 
-    /// Every path once, in the order of paths, with what it names. Contents are shared.
+    /// Each path once, in path order, with its object. Contents are shared.
     pub fn leaves(&self) -> Result<Vec<Leaf>, AllocError>
         ensures { IfOk result (λ leaves. leaves.items ≡ leaves_of self.now) }
     {

@@ -1,4 +1,4 @@
-//! Links: further paths of files.
+//! Hard links.
 
 ghost use Rattle.std.specs.Prelude.{◌≡◌, nat_le, IfOk, OnOk, OnErr};
 ghost use Rattle.sf_call.specs.declared.limits.TheConstants.{MAX_LINKS};
@@ -14,7 +14,7 @@ use sf_reply::{Reply, StatusCode};
 use std::alloc::AllocError;
 
 impl PlainTree {
-    /// How many paths name the object of a label.
+    /// The number of links of an inode number.
     pub(super) fn links(&self, label: u64) -> u64
         ensures { result ≡ links self.now.names label }
     {
@@ -26,14 +26,14 @@ impl PlainTree {
         count as u64
     }
 
-    /// Whether as many paths name the object as may.
+    /// Whether the object has reached the limit of links.
     fn has_all_links(&self, label: u64) -> bool
         ensures { result ≡ nat_le MAX_LINKS (links self.now.names label) }
     {
         self.links(label) >= MAX_LINKS
     }
 
-    /// A further path of what a label has.
+    /// Adds a path of an inode number.
     fn name_anew(&mut self, path: &Path, label: u64) -> Result<(), AllocError>
         ensures ok { OnOk result (self.new ≡ changed self.old (NewName path.now label)) }
         ensures err { OnErr result (self.new ≡ self.old) }
@@ -43,7 +43,7 @@ impl PlainTree {
         Ok(())
     }
 
-    /// Links a file to a path where nothing stands; its parent is modified at the moment.
+    /// Links a file at a path that must be absent, and sets its parent's modification time.
     fn link_to(&mut self, moment: u32, new: &Path, label: u64) -> Result<Reply, AllocError>
         ensures reply { IfOk result (λ reply. reply
             ≡ (link_to self.old moment new.now label (look_up self.old new.now)).reply) }

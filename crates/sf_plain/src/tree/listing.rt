@@ -1,4 +1,4 @@
-//! Listing a directory.
+//! Directory listings.
 
 ghost use Rattle.std.specs.Prelude.{◌≡◌, map, nat_eq, IfOk, IfSome, OnOk, OnErr};
 ghost use Rattle.std.specs.Option.{option_copied, option_map};
@@ -16,7 +16,7 @@ use sf_path::{Name, Path};
 use sf_reply::{Entry, Listing, Reply, StatusCode, longname};
 use std::alloc::{AllocError, Global};
 
-/// Entries, and the name of the last of them.
+/// Listed entries, and the name of the last one.
 #[derive(Drop)]
 struct Page {
     entries: Vec<Entry>,
@@ -32,7 +32,7 @@ fn is_past(last: &Option<Name>, name: &Name) -> bool
     }
 }
 
-/// The name that a path has in a directory, if it comes after the last one that was given.
+/// The name of a path in a directory, if it follows the last one that was listed.
 fn name_past<'a>(directory: &Path, last: &Option<Name>, path: &'a Path) -> Option<&'a Name>
     ensures { option_copied result ≡ name_past directory.now last.now path.now }
 {
@@ -57,7 +57,7 @@ fn entry_of(alloc: Global, name: &Name, links: u64, node: &Node) -> Result<Entry
     })
 }
 
-/// The handle, with the last name that a listing gave.
+/// The handle with the last name that was listed.
 fn with_listed(handle: &Handle, last: Option<Name>) -> Handle
     ensures { result ≡ with_listed handle.now last }
 {
@@ -72,7 +72,7 @@ fn with_listed(handle: &Handle, last: Option<Name>) -> Handle
 }
 
 impl PlainTree {
-    /// The path that a directory's label has.
+    /// The first path of an inode number.
     fn path_of(&self, label: u64) -> Option<&Path>
         ensures { option_copied result ≡ path_of self.now.names label }
     {
@@ -84,7 +84,7 @@ impl PlainTree {
         None
     }
 
-    /// A path's entry in the listing of a directory, and its name.
+    /// The listed entry of a path in a directory, and its name.
     fn listed(
         &self,
         directory: &Path,
@@ -129,7 +129,7 @@ impl PlainTree {
         Ok(page)
     }
 
-    /// What comes next for a directory's handle.
+    /// The next entries of an open directory.
     fn page_of(&self, handle: &Handle) -> Result<Page, AllocError>
         ensures entries { IfOk result (λ page. page.entries.items
             ≡ listing_of self.now handle.now.listed (path_of self.now.names handle.now.label)) }
@@ -146,7 +146,7 @@ impl PlainTree {
         }
     }
 
-    /// Puts another handle at a number.
+    /// Replaces the handle with this number.
     #[tactic(auto, using(crate::proofs::Undone::set_nowhere))]
     fn set_handle(&mut self, number: u64, handle: Handle)
         ensures { self.new ≡ changed self.old (SetHandle number handle) }

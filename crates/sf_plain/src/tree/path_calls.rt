@@ -19,7 +19,7 @@ use sf_reply::{Reply, StatusCode};
 use std::alloc::AllocError;
 use std::collections::BTreeMap;
 
-/// A directory's handle has no marks.
+/// The handle of a directory has no access mode.
 fn directory_handle(session: u64, label: u64) -> Handle
     ensures { result ≡ directory_handle session label }
 {
@@ -33,7 +33,7 @@ fn directory_handle(session: u64, label: u64) -> Handle
     }
 }
 
-/// With neither READ nor WRITE a handle reads.
+/// A handle opened with neither READ nor WRITE is readable.
 fn file_handle(session: u64, label: u64, flags: OpenFlags) -> Handle
     ensures { result ≡ new_file_handle session label flags }
 {
@@ -47,15 +47,14 @@ fn file_handle(session: u64, label: u64, flags: OpenFlags) -> Handle
     }
 }
 
-/// Whether opening cuts a file that is there.
+/// Whether OPEN truncates an existing file.
 fn cuts(flags: OpenFlags) -> bool
     ensures { result ≡ (flags.truncate && flags.write) }
 {
     flags.truncate && flags.write
 }
 
-/// Brings back what stood at a number before a handle was put there. What is there already takes no
-/// memory to replace.
+/// Undoes the insertion of a handle. Replacing an existing entry allocates nothing.
 fn put_back(handles: &mut BTreeMap<u64, Handle>, number: u64, replaced: Option<Handle>)
     requires { is_some (get nat_cmp handles.old number) ≡ true }
     ensures found { (q : ℕ)
@@ -87,7 +86,7 @@ impl PlainTree {
         }
     }
 
-    /// SETSTAT. Takes memory for the map of a file's blocks, which are shared.
+    /// SETSTAT. Allocates a map of the file's blocks, which are shared.
     #[tactic(auto, using(crate::proofs::Calls::sets_object))]
     pub(super) fn set_stat(
         &mut self,
@@ -120,7 +119,7 @@ impl PlainTree {
         Ok(Reply::Status(StatusCode::Success))
     }
 
-    /// MKDIR. The new directory's label is the call's number.
+    /// MKDIR. The new inode number is the call's number.
     pub(super) fn mkdir(
         &mut self,
         number: u64,
@@ -152,7 +151,7 @@ impl PlainTree {
         }
     }
 
-    /// Removes a path; its parent is modified at the moment.
+    /// Removes a path and sets its parent's modification time.
     fn remove_path(&mut self, moment: u32, path: &Path) -> Result<Reply, AllocError>
         ensures reply { IfOk result (λ reply. reply ≡ (goes self.old moment path.now).reply) }
         ensures tree { OnOk result (self.new
@@ -220,7 +219,7 @@ impl PlainTree {
 
 // Opening.
 impl PlainTree {
-    /// How many handles the session has open.
+    /// The number of open handles of the session.
     fn handle_count(&self, session: u64) -> usize
         ensures { result ≡ count_by (λ e. nat_eq e.1.session session) self.now.handles }
     {
@@ -230,7 +229,7 @@ impl PlainTree {
             .count()
     }
 
-    /// Whether the session has as many handles open as it may.
+    /// Whether the session has reached the limit of open handles.
     fn has_all_handles(&self, session: u64) -> bool
         ensures { result ≡ has_all_handles self.now session }
     {
@@ -266,7 +265,7 @@ impl PlainTree {
         Ok(Reply::Handle(number))
     }
 
-    /// OPEN of a path that is there.
+    /// OPEN of an existing path.
     fn open_present(
         &mut self,
         session: u64,
@@ -300,7 +299,7 @@ impl PlainTree {
         Ok(Reply::Handle(number))
     }
 
-    /// OPEN. A new file's label is the call's number.
+    /// OPEN. A new inode number is the call's number.
     pub(super) fn open(
         &mut self,
         session: u64,
@@ -342,8 +341,7 @@ impl PlainTree {
         }
     }
 
-    /// Adds a path that isn't there, with its label and its object, and a handle of the same
-    /// number.
+    /// Adds an absent path with its inode number and its object, and a handle of the same number.
     fn add_opened(
         &mut self,
         path: &Path,

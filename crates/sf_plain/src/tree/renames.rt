@@ -19,7 +19,7 @@ use sf_reply::{Reply, StatusCode};
 use std::alloc::{AllocError, Global};
 use std::collections::BTreeMap;
 
-/// Whether the path begins with a front.
+/// Whether the path has a prefix.
 fn begins(path: &Path, front: &Path) -> bool
     ensures { result ≡ is_some (after_front front.now path.now) }
 {
@@ -33,7 +33,7 @@ fn is_outside(path: &Path, old: &Path, new: &Path) -> bool
     !begins(path, old) && !begins(path, new)
 }
 
-/// Whether one of the paths begins with the other.
+/// Whether one path is a prefix of the other.
 fn are_nested(old: &Path, new: &Path) -> bool
     ensures { result
         ≡ (is_some (after_front old.now new.now) || is_some (after_front new.now old.now)) }
@@ -41,7 +41,7 @@ fn are_nested(old: &Path, new: &Path) -> bool
     begins(new, old) || begins(old, new)
 }
 
-/// The path that begins with `new` in place of `old`, if it begins with `old`.
+/// The path with its prefix `old` replaced by `new`, if it begins with `old`.
 fn carried(alloc: Global, path: &Path, old: &Path, new: &Path) -> Result<Option<Path>, AllocError>
     ensures { IfOk result (λ there. there
         ≡ option_map (λ rest. new.now ++ rest) (after_front old.now path.now)) }
@@ -69,7 +69,7 @@ impl PlainTree {
         Ok(names)
     }
 
-    /// The names, once what began with `old` begins with `new`.
+    /// The names after moving all paths at or below `old` to `new`.
     fn moved_names(&self, old: &Path, new: &Path) -> Result<BTreeMap<Path, u64>, AllocError>
         ensures { IfOk result (λ names. names.entries ≡ moved self.now.names old.now new.now) }
     {
@@ -82,7 +82,7 @@ impl PlainTree {
         Ok(names)
     }
 
-    /// Moves what begins with `old`, and lets go of what `new` was the last to name.
+    /// Moves all paths at or below `old`, and deletes an object that `new` alone named.
     fn carry(&mut self, old: &Path, new: &Path) -> Result<(), AllocError>
         ensures ok { OnOk result (self.new ≡ changed self.old (Move old.now new.now)) }
         ensures err { OnErr result (self.new ≡ self.old) }
@@ -92,7 +92,7 @@ impl PlainTree {
         Ok(())
     }
 
-    /// Moves what begins with `old`; both parents are modified at the moment.
+    /// Moves all paths at or below `old`, and sets both parents' modification times.
     #[tactic(auto, using(crate::proofs::Renames::done_then))]
     fn move_path(&mut self, moment: u32, old: &Path, new: &Path) -> Result<Reply, AllocError>
         ensures reply { IfOk result (λ reply. reply
@@ -149,14 +149,14 @@ impl PlainTree {
         }
     }
 
-    /// Whether both labels are one file's.
+    /// Whether both inode numbers are those of one file.
     fn is_same_file(&self, label: u64, other: u64) -> bool
         ensures { result ≡ is_same_file self.now label other }
     {
         label == other && self.is_file(other)
     }
 
-    /// Whether what `old` names may take the place of the other object that `new` names.
+    /// Whether the object at `old` may replace another one at `new`.
     #[tactic(auto, using(crate::proofs::Calls::replaces_object))]
     fn gives_way(&self, at: u64, old: &Path, new: &Path) -> bool
         ensures { (moment label : ℕ) → is_same_file self.now label at ≡ false

@@ -6,7 +6,7 @@ use Rattle.sf_asking.specs.Asking.{stuck_by, Turned}
 use Rattle.sf_asking.proofs.OnLogs.{feeds_by, turns_lead}
 use Rattle.sf_asking.proofs.conversing.converse.Goals as goal
 
--- turns that led to a reply wrote it
+-- if turns wrote a reply, the last one wrote it
 wrote : (r : Result Happened EngineFault) → stuck_by r ≡ None → r ≡ Ok happened.Wrote
 wrote (Ok happened.Wrote) none = refl
 wrote (Ok (happened.Opened session)) none = absurd cc

@@ -5,7 +5,7 @@ use Rattle.sf_block.specs.Blocks.{block_in, bytes_from}
 use Rattle.sf_block.proofs.Places.{from_block, from_run, length_bytes}
 use Rattle.sf_block.proofs.contents.append_from.Goals as goal
 
--- where it was appended, these are the bytes from the place on
+-- if it succeeds, the appended bytes are those from the offset on
 appended : {A E : Type 0} (result : Result A E) (block : ℕ → List ℕ) (at n : ℕ) (old new part : List ℕ) → part ≡ bytes_from block at n
     → OnOk result (new ≡ old ++ part) → OnOk result (new ≡ old ++ bytes_from block at (length new - length old))
 appended (Err e) block at n old new part is put = put

@@ -5,7 +5,7 @@ use Rattle.sf_call.specs.Tree.{after_front}
 use Rattle.sf_call.proofs.Nested.{AreAlike, begins_where}
 use Rattle.sf_call.proofs.route.are_nested.Goals as goal
 
--- what the comparison with a path's length tells
+-- the comparison with a path's length decides the prefix
 front_is : (front path : Path) (n len : ℕ) → AreAlike front path n → len ≡ length front → nat_eq n len ≡ is_some (after_front front path)
 front_is front path n len are is = ap (nat_eq n) is ∙ begins_where front path n are
 

@@ -4,7 +4,7 @@ use Rattle.std.specs.List.{flat_map}
 use Rattle.sf_log.specs.Lines.{escaped}
 use Rattle.sf_log.proofs.path.write_bytes.Given as goal
 
--- so many bytes were written
+-- this many bytes were written
 abbrev pub invariant-loop-byte : goal.invariant-loop-byte
 invariant-loop-byte g l =
     IsPlainFormatter l.initial.f → HasWritten g.W.Write.write_str_gives l.initial.f (flat_map escaped (take l.byte-index l.bytes)) l.f

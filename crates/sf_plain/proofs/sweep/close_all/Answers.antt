@@ -2,7 +2,7 @@ use Rattle.std.proofs.Common.{◌≡◌, not, nat_eq, refl, rules}
 use Rattle.std.proofs.lemmas.Map.Entries.{filter_from_retain_pairs}
 use Rattle.sf_plain.proofs.sweep.close_all.Goals as goal
 
--- the closure keeps the session, and answers whether the handle is another's
+-- the closure keeps the session, and returns whether the handle is another's
 pub returns : goal.returns
 returns c =
     filter_from_retain_pairs _ (λ f. f.0.now ≡ c.args.session) (λ e. not (nat_eq e.1.session c.args.session))

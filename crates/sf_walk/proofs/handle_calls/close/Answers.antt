@@ -11,7 +11,7 @@ use Rattle.sf_walk.proofs.Holders.{stays_closed, stays_same}
 use Rattle.sf_walk.proofs.OpenHandles.{is_open, close_served}
 use Rattle.sf_walk.proofs.handle_calls.close.Goals as goal
 
--- what a test on an option says of it
+-- what follows from a test of an option
 there : {A : Type 0} (o : Option A) → is_some o ≡ true → (x : A) × (Some x ≡ o)
 there None e = let k : false ≡ true = e in cc
 there (Some x) e = (x, refl)

@@ -75,7 +75,7 @@ returns-clause-ok c =
     ∙ ap (λ (x : List ℕ). written x start bytes) all)
     count
 
--- where memory was wanting, some places may be there
+-- after an allocation failure some places may have been made
 pub invariant_of-self : goal.invariant_of-self
 invariant_of-self c =
     let inside = c.self.inside in

@@ -1,4 +1,4 @@
--- A `Held` may go to another thread: what it has is a box that may, or nothing.
+-- A `Held` may be moved to another thread: it has a box that may be, or nothing.
 use Rattle.std.proofs.Common.{Option, Some, None}
 use mir.Raw.{raw}
 use base.Shift.{Keyless}

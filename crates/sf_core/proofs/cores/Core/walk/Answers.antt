@@ -128,7 +128,7 @@ finish-reply-requires-clause-settled c =
     let w = subst (λ (x : Walk). WalkState c.self.inside.parts lane.session c.in-Some.number c.args.most (ending (outcome.Walked x) c.walk_on.new.self)) c.in-Walked-Ready.field-0-is c.in-Walked-Ready.ensures.comes in
     made_settled lane c.in-Some.number c.in-Some.is c.self.inside.parts c.args.most (vec_capacity c.self.inside.overtaken) c.self.invariant.1 c.args.self.now c.self.view_is c.args.lane.now c.lane.view_is c.in-Walked-Ready.ways c.walk_on.new.self w c.overtake.new.self c.overtake.ensures.helped
 
--- ---- a call whose file another one holds
+-- ---- a call whose file another call holds
 pub invariant_of-self-in-FileHeld : goal.invariant_of-self-in-FileHeld
 invariant_of-self-in-FileHeld c =
     let lane : LaneView = record { session = c.lane.inside.session; call = c.lane.inside.call; begun = c.lane.inside.begun } in
@@ -141,7 +141,7 @@ returns-in-FileHeld c =
     let w = subst (λ (x : ℕ). WalkState c.self.inside.parts lane.session c.in-Some.number c.args.most (ending (outcome.FileHeld x) c.walk_on.new.self)) c.in-FileHeld.holder-is c.in-FileHeld.ensures.comes in
     (file_end lane c.in-Some.number c.in-Some.is c.self.inside.parts c.args.most (vec_capacity c.self.inside.overtaken) c.self.invariant.1 c.args.self.now c.self.view_is c.args.lane.now c.lane.view_is c.in-FileHeld.holder c.walk_on.new.self w).2
 
--- ---- a call that copies
+-- ---- a call that is copying
 pub copy_on-reply-requires : goal.copy_on-reply-requires
 copy_on-reply-requires c =
     let lane : LaneView = record { session = c.lane.inside.session; call = c.lane.inside.call; begun = c.lane.inside.begun } in

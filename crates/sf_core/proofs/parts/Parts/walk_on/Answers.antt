@@ -54,7 +54,7 @@ none_reply : (o : Option Reply) → is_some o ≡ false → o ≡ None
 none_reply None e = refl
 none_reply (Some given) e = absurd cc
 
--- a call whose reply waits, and that copies nothing, stands nowhere
+-- a call whose reply is pending, and that isn't copying, holds nothing
 rests : (p : PartsView) → IsCore p → (n : ℕ) (d : Call) → call_at p.calls n ≡ Some d → is_some d.reply ≡ true → ((node left : ℕ) → d.stage ≡ stage.Copies node left → ⊥) → d.stage ≡ stage.Fresh
 rests p core n d at some not =
     let given = some_reply d.reply some in

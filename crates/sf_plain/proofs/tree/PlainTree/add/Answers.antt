@@ -7,7 +7,7 @@ use Rattle.sf_plain.proofs.Undone.{exact_paths}
 use Rattle.sf_plain.proofs.Undone.{undone, same_tree}
 use Rattle.sf_plain.proofs.tree.PlainTree.add.Goals as goal
 
--- the path was free, was added and is removed again
+-- the path was absent, was added and is removed again
 pub returns-in-Err-clause-err : goal.returns-in-Err-clause-err
 returns-in-Err-clause-err c =
     let path = c.args.path.now in

@@ -7,7 +7,7 @@ use Rattle.sf_call.specs.Tree.{Tree, handle_of}
 use Rattle.sf_plain.proofs.Undone.{put_back, same_tree}
 use Rattle.sf_plain.proofs.tree.PlainTree.add_opened.Goals as goal
 
--- the handle was put, nothing was added, and what the handle replaced is brought back
+-- the handle was inserted, the path was not, and the replaced handle is restored
 pub returns-in-Err-clause-err : goal.returns-in-Err-clause-err
 returns-in-Err-clause-err c =
     let whole = c.self-2.view_is ∙ c.in-Err.ensures.err in

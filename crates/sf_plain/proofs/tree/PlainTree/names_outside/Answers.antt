@@ -3,7 +3,7 @@ use Rattle.std.proofs.lemmas.Map.Entries.{filter_from_retain_pairs}
 use Rattle.sf_call.specs.Moves.{is_outside}
 use Rattle.sf_plain.proofs.tree.PlainTree.names_outside.Goals as goal
 
--- the closure keeps what it captured, and answers whether the path is outside
+-- the closure keeps its captures, and returns whether the path is outside
 pub returns : goal.returns
 returns c =
     filter_from_retain_pairs _ (λ f. (f.0.now ≡ c.args.old.now) × (f.1.now ≡ c.args.new.now)) (λ e. is_outside c.args.old.now c.args.new.now e.0)

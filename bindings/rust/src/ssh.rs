@@ -1,0 +1,241 @@
+//! A server behind SSH.
+
+use crate::server::{Listener, SharedFaults};
+use crate::{sys, Faults, Server};
+use std::env;
+use std::fmt;
+use std::fs;
+use std::io::{self, BufRead, BufReader, ErrorKind, Read};
+use std::os::raw::c_int;
+use std::path::{Path, PathBuf};
+use std::process::{self, Child, ChildStderr, Command, Stdio};
+use std::sync::atomic::{AtomicU64, Ordering};
+use std::sync::{Arc, Mutex, PoisonError};
+
+const SCRIPT: &str = "sftpd-over-ssh";
+/// Where the script is in the archive and in the repository, beside the crate.
+const PLACES: [&str; 2] = ["../../bin/sftpd-over-ssh", "../../scripts/sftpd-over-ssh"];
+const HOST: &str = "127.0.0.1";
+
+/// An SSH server at a free port of 127.0.0.1, for clients that make their own connection. Its
+/// subsystem `sftp` is a session of a `Server`. There is nothing else: no shell, no command, no
+/// forwarding.
+///
+/// It is OpenSSH's `sshd`, which the script `sftpd-over-ssh` starts without root. It needs Debian's
+/// openssh-server and openssh-client. The script is the file `SFTPD_OVER_SSH`, or that of the
+/// release archive or the repository, or in PATH.
+///
+/// Dropping it ends its connections.
+///
+/// ```no_run
+/// use lucernetick::{wall_clock, Engine, Server, SshServer};
+///
+/// let server = Server::new(Engine::new()?, wall_clock);
+/// let ssh = SshServer::new(&server)?;
+/// assert!(ssh.sftp_command().status()?.success());
+/// # Ok::<(), std::io::Error>(())
+/// ```
+pub struct SshServer {
+    process: Child,
+    /// Kept open, since the script may write to it.
+    _errors: ChildStderr,
+    port: u16,
+    user: String,
+    folder: PathBuf,
+    faults: SharedFaults,
+    listener: Option<Listener>,
+}
+
+impl SshServer {
+    /// Starts an SSH server in front of this server. It makes new keys.
+    pub fn new(server: &Server) -> io::Result<Self> {
+        Self::with_faults(server, Faults::default())
+    }
+
+    /// As `new`. Each session has these faults.
+    pub fn with_faults(server: &Server, faults: Faults) -> io::Result<Self> {
+        faults.check()?;
+        let script = find_script()?;
+        let folder = new_folder()?;
+        let started = Self::start(server, faults, &script, &folder);
+        if started.is_err() {
+            let _ = fs::remove_dir_all(&folder);
+        }
+        started
+    }
+
+    fn start(server: &Server, faults: Faults, script: &Path, folder: &Path) -> io::Result<Self> {
+        let faults = Arc::new(Mutex::new(faults));
+        let socket = folder.join("socket");
+        let listener = server.listener(&socket, Arc::clone(&faults))?;
+        let keys = folder.join("keys");
+        let mut process = Command::new(script)
+            .arg(&socket)
+            .arg("0")
+            .arg(&keys)
+            .stdin(Stdio::null())
+            .stdout(Stdio::piped())
+            .stderr(Stdio::piped())
+            .spawn()
+            .map_err(|fault| {
+                io::Error::new(fault.kind(), format!("{}: {}", script.display(), fault))
+            })?;
+        let (line, errors) = first_line(&mut process)?;
+        if line.is_empty() {
+            return Err(ended(&mut process, errors));
+        }
+        let config = fs::read_to_string(keys.join("ssh_config"))?;
+        let port = option(&config, "Port")?;
+        Ok(Self {
+            process,
+            _errors: errors,
+            port: port.parse().map_err(|_| malformed(&config))?,
+            user: option(&config, "User")?.to_string(),
+            folder: folder.to_path_buf(),
+            faults,
+            listener: Some(listener),
+        })
+    }
+
+    pub fn host(&self) -> &str {
+        HOST
+    }
+
+    pub fn port(&self) -> u16 {
+        self.port
+    }
+
+    /// The user who may log in, with `client_key`. It is the user of this process.
+    pub fn user(&self) -> &str {
+        &self.user
+    }
+
+    /// The path of the private key that may log in. It is removed with the server.
+    pub fn client_key(&self) -> PathBuf {
+        self.folder.join("keys/client_key")
+    }
+
+    /// The path of a file with the host's public key, in the format of OpenSSH's `known_hosts`.
+    pub fn known_hosts(&self) -> PathBuf {
+        self.folder.join("keys/known_hosts")
+    }
+
+    /// The path of a configuration for OpenSSH's clients, in which the host is named `tree`.
+    pub fn ssh_config(&self) -> PathBuf {
+        self.folder.join("keys/ssh_config")
+    }
+
+    /// The command that connects OpenSSH's `sftp`.
+    pub fn sftp_command(&self) -> Command {
+        let mut sftp = Command::new("sftp");
+        sftp.arg("-q").arg("-F").arg(self.ssh_config());
+        sftp.arg("tree");
+        sftp
+    }
+
+    /// Sets the faults of the sessions that open from now on.
+    pub fn set_faults(&self, faults: Faults) -> io::Result<()> {
+        faults.check()?;
+        *self.faults.lock().unwrap_or_else(PoisonError::into_inner) = faults;
+        Ok(())
+    }
+}
+
+impl fmt::Debug for SshServer {
+    fn fmt(&self, f: &mut fmt::Formatter<'_>) -> fmt::Result {
+        f.debug_struct("SshServer").field("port", &self.port).finish_non_exhaustive()
+    }
+}
+
+impl Drop for SshServer {
+    /// Waits until the script has ended its connections.
+    fn drop(&mut self) {
+        // SAFETY: it has numbers as arguments, and the process was not waited for.
+        unsafe { sys::kill(self.process.id() as c_int, sys::SIGTERM) };
+        let _ = self.process.wait();
+        self.listener = None;
+        let _ = fs::remove_dir_all(&self.folder);
+    }
+}
+
+/// The script, or an error with the places that were searched.
+fn find_script() -> io::Result<PathBuf> {
+    if let Some(named) = env::var_os("SFTPD_OVER_SSH").map(PathBuf::from) {
+        if named.is_file() {
+            return Ok(named);
+        }
+        return Err(missing(&format!("SFTPD_OVER_SSH is {}, which is no file", named.display())));
+    }
+    let places = places();
+    match places.iter().find(|place| place.is_file()) {
+        Some(place) => Ok(place.clone()),
+        None => {
+            let shown: Vec<_> = places.iter().map(|place| place.display().to_string()).collect();
+            Err(missing(&format!(
+                "{} is not there: searched {}. Set SFTPD_OVER_SSH to its path",
+                SCRIPT,
+                shown.join(", ")
+            )))
+        }
+    }
+}
+
+fn places() -> Vec<PathBuf> {
+    let beside = option_env!("CARGO_MANIFEST_DIR").map(Path::new);
+    let beside = beside.into_iter().flat_map(|top| PLACES.map(|place| top.join(place)));
+    let path = env::var_os("PATH").unwrap_or_default();
+    beside.chain(env::split_paths(&path).map(|folder| folder.join(SCRIPT))).collect()
+}
+
+fn missing(why: &str) -> io::Error {
+    io::Error::new(ErrorKind::NotFound, why)
+}
+
+fn malformed(config: &str) -> io::Error {
+    io::Error::new(ErrorKind::InvalidData, format!("unexpected ssh_config: {}", config))
+}
+
+/// A new folder that only its owner can read.
+fn new_folder() -> io::Result<PathBuf> {
+    use std::os::unix::fs::DirBuilderExt;
+    static COUNT: AtomicU64 = AtomicU64::new(0);
+    loop {
+        let number = COUNT.fetch_add(1, Ordering::SeqCst);
+        let name = format!("lucernetick-{}-{}", process::id(), number);
+        let folder = env::temp_dir().join(name);
+        match fs::DirBuilder::new().mode(0o700).create(&folder) {
+            Ok(()) => return Ok(folder),
+            Err(fault) if fault.kind() == ErrorKind::AlreadyExists => {}
+            Err(fault) => return Err(fault),
+        }
+    }
+}
+
+/// The line that the script prints once it listens; empty if it ended.
+fn first_line(process: &mut Child) -> io::Result<(String, ChildStderr)> {
+    let mut line = String::new();
+    let (output, errors) = (process.stdout.take(), process.stderr.take());
+    if let Some(output) = output {
+        BufReader::new(output).read_line(&mut line)?;
+    }
+    let errors = errors.ok_or_else(|| missing("the script has no standard error"))?;
+    Ok((line, errors))
+}
+
+/// The error of a script that ended: what it printed.
+fn ended(process: &mut Child, mut errors: ChildStderr) -> io::Error {
+    let mut text = String::new();
+    let _ = errors.read_to_string(&mut text);
+    let _ = process.wait();
+    io::Error::new(ErrorKind::Other, text.trim_end().to_string())
+}
+
+/// The value of an option of `ssh_config`.
+fn option<'c>(config: &'c str, name: &str) -> io::Result<&'c str> {
+    let words = config.lines().filter_map(|line| line.trim().split_once(' '));
+    words
+        .filter(|(found, _)| *found == name)
+        .map(|(_, value)| value)
+        .next()
+        .ok_or_else(|| malformed(config))
+}
