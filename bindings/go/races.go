@@ -75,12 +75,16 @@ func NewRaces(seed uint64, clients int) *Races {
 	return races
 }
 
-// ReplayRaces replays a schedule that Schedule returned. If the schedule names no waiting client,
-// the first waiting one has the turn, and Stray says so.
-func ReplayRaces(schedule []int, clients int) *Races {
+// ReplayRaces replays a schedule that Schedule returned. It panics if the schedule is not one. If
+// the schedule names no waiting client, the first waiting one has the turn, and Stray says so.
+func ReplayRaces(schedule string, clients int) *Races {
+	replayed, err := readSchedule(schedule)
+	if err != nil {
+		panic(err)
+	}
 	races := NewRaces(0, clients)
 	races.replays = true
-	races.replayed = append(races.replayed, schedule...)
+	races.replayed = replayed
 	return races
 }
 
@@ -119,11 +123,12 @@ func (races *Races) Connect() (net.Conn, error) {
 	return one, nil
 }
 
-// Schedule returns the turns so far, each as the number of its client.
-func (races *Races) Schedule() []int {
+// Schedule returns the clients of the turns so far, as "1x4 2 1x2": four turns of client 1, one of
+// client 2, and two of client 1.
+func (races *Races) Schedule() string {
 	races.lock.Lock()
 	defer races.lock.Unlock()
-	return append([]int(nil), races.schedule...)
+	return writeSchedule(races.schedule)
 }
 
 // Stray returns why the race is not reproducible: a client was skipped, or the schedule has no turn

@@ -126,7 +126,7 @@ func (engine *Engine) WaitForCall(filter Filter, timeout time.Duration) (Call, e
 func (filter *Filter) selects(call Call) bool {
 	return (filter.Session == 0 || filter.Session == call.Session) &&
 		(filter.Kind == 0 || filter.Kind == call.Kind) &&
-		(filter.Path == "" || matchesAny(namesOf(filter.Path), call.Path, call.NewPath)) &&
+		(filter.Path == "" || matchesAny(namesOf(translated(filter.Path)), call.Path, call.NewPath)) &&
 		(filter.When == nil || filter.When(call))
 }
 
