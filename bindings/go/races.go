@@ -38,7 +38,7 @@ type Races struct {
 	engine *Engine
 	fault  error // why there is no engine, or why the race stopped
 
-	lock     sync.Mutex
+	lock     monitor
 	moved    *sync.Cond // signalled after turns, and when the races or a connection close
 	draws    splitMix
 	replayed []int // the turns of the schedule to replay
@@ -89,7 +89,8 @@ func ReplayRaces(schedule string, clients int) *Races {
 }
 
 // Engine returns the engine, to write and inspect files before the clients run and after they have
-// ended. During the race calls may be in progress, and no other session may have a turn.
+// ended, for rules and for callbacks. During the race calls may be in progress, and no other session
+// may have a turn.
 func (races *Races) Engine() *Engine { return races.engine }
 
 // Connect opens the session of the next client: 1, 2, 3 and so on. Connect all clients before any
@@ -167,6 +168,10 @@ func (races *Races) Close() error {
 // advance runs turns as long as every client waits for a reply or has disconnected. It is called
 // after each action of a client. If a callback of a turn ends the goroutine, it stops the race.
 func (races *Races) advance() {
+	if races.lock.isCalling() {
+		// A callback acts as a client. The turns go on after it.
+		return
+	}
 	isDone := false
 	defer func() {
 		if !isDone {
@@ -183,7 +188,7 @@ func (races *Races) advance() {
 		}
 		one := races.choose(waiting)
 		races.schedule = append(races.schedule, one.number)
-		one.turn(races.Time.Now())
+		races.lock.call(func() { one.turn(races.Time.Now()) })
 	}
 	isDone = true
 }

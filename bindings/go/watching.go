@@ -88,8 +88,8 @@ type Filter struct {
 // Earlier calls count too. After the timeout the error is os.ErrDeadlineExceeded, and has the last
 // calls.
 func (engine *Engine) WaitForCall(filter Filter, timeout time.Duration) (Call, error) {
-	if filter.Kind != 0 && !filter.Kind.isRequest() {
-		return Call{}, fmt.Errorf("%w: %v", ErrBadKind, filter.Kind)
+	if filter.Kind != 0 && !filter.Kind.isRecorded() {
+		return Call{}, fmt.Errorf("%w: no record has the %v", ErrBadKind, filter.Kind)
 	}
 	if err := checkPattern(filter.Path); err != nil {
 		return Call{}, err
