@@ -45,6 +45,11 @@ func (kind Kind) isRequest() bool {
 	return there
 }
 
+// isRecorded reports whether records have this kind: LSTAT is recorded as STAT, and REALPATH is not.
+func (kind Kind) isRecorded() bool {
+	return kind.isRequest() && kind != KindLstat && kind != KindRealpath
+}
+
 var kindNames = map[Kind]string{
 	KindOpen: "open", KindClose: "close", KindRead: "read", KindWrite: "write",
 	KindLstat: "lstat", KindFstat: "fstat", KindSetstat: "setstat", KindFsetstat: "fsetstat",

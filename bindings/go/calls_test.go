@@ -63,19 +63,25 @@ func TestWhatCallsAreAnswered(t *testing.T) {
 	same(t, err, ErrBadPointer)
 }
 
+// stat has a session serve a STAT.
+func stat(t *testing.T, session *Session) {
+	t.Helper()
+	must(t, session.Feed(packet(packetStat, number(1), text([]byte("/")))))
+	_, err := session.Settle(at(0), 1)
+	must(t, err)
+}
+
 // A test that asserts that something did not happen needs all calls.
 func TestAllCallsAreKept(t *testing.T) {
 	engine := NewT(t)
-	client := connect(t, engine.Engine, time.Now)
-	_, err := client.ReadDir("/")
-	must(t, err)
+	must(t, connect(t, engine.Engine, time.Now).Mkdir("/a"))
+	session := asker(t, engine.Engine)
 	for count := 0; count < 1000; count++ {
-		_, err := client.Stat("/")
-		must(t, err)
+		stat(t, session)
 	}
 	calls := engine.Calls()
-	same(t, len(calls), 3+1000)
-	same(t, calls[0].Kind, KindOpendir)
+	same(t, len(calls), 1+1000)
+	same(t, calls[0].Kind, KindMkdir)
 	same(t, engine.Dropped(), uint64(0))
 }
 
@@ -85,10 +91,9 @@ func TestCallsThatWereDropped(t *testing.T) {
 		engine, err := NewKeeping(keep)
 		must(t, err)
 		defer engine.Close()
-		client := connect(t, engine, time.Now)
+		session := asker(t, engine)
 		for count := uint64(1); count <= 1500; count++ {
-			_, err := client.Stat("/")
-			must(t, err)
+			stat(t, session)
 			last, err := engine.LastCalls()
 			must(t, err)
 			kept := count

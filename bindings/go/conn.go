@@ -22,8 +22,8 @@ type Conn struct {
 
 var _ io.ReadWriteCloser = (*Conn)(nil)
 
-// Connect opens a session for a client. The clock returns the timestamps of its calls: use time.Now,
-// or Now of a VirtualTime.
+// Connect opens a session for a client. The clock returns the timestamps of its calls: time.Now, or
+// Now of a VirtualTime.
 func (engine *Engine) Connect(clock Clock) (*Conn, error) {
 	return engine.ConnectWith(clock, Faults{})
 }

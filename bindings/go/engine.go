@@ -90,8 +90,9 @@ type Engine struct {
 	recorded uint64 // the number of records so far
 	seen     int64  // the number of the library's records that were read
 	last     seenRecord
-	highest  uint64 // the highest number of a call that was read
-	changes  uint64 // counts calls after which a new file may be complete
+	highest  uint64       // the highest number of a call that was read
+	changes  uint64       // counts calls after which a new file may be complete
+	check    func() error // why clients cannot be served; may be nil
 
 	opened   map[uint64]opened // the open handles
 	inputs   map[uint64]*input // of each session that has not ended

@@ -14,7 +14,8 @@ const asks = "\x00\x00\x00\x05\x01\x00\x00\x00\x03" +
 
 // An engine whose tree has a file, as a snapshot shows it.
 func ExampleFromFiles() {
-	engine, err := lucernetick.FromFiles(map[string][]byte{"/reports/old.csv": []byte("0\n")}, time.Unix(100, 0))
+	files := map[string][]byte{"/reports/old.csv": []byte("0\n")}
+	engine, err := lucernetick.FromFiles(files, time.Unix(100, 0))
 	if err != nil {
 		fmt.Println(err)
 		return

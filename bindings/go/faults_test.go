@@ -77,7 +77,8 @@ func TestDelay(t *testing.T) {
 	const delay, count = 300 * time.Millisecond, 40
 	requests := makes
 	for number := uint32(0); number < count; number++ {
-		requests += string(packet(packetStat, append([]byte{}, 0, 0, 0, byte(number)), text([]byte("/a"))))
+		id := []byte{0, 0, 0, byte(number)}
+		requests += string(packet(packetStat, id, text([]byte("/a"))))
 	}
 	begin := time.Now()
 	conn := faulty(t, NewT(t), Faults{Delay: delay}, requests)

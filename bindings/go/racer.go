@@ -95,6 +95,8 @@ func (one *racer) Read(room []byte) (int, error) {
 			return 0, one.fault
 		case one.ended:
 			return 0, io.EOF
+		case one.races.lock.isCalling():
+			return 0, errWaits
 		case one.isAlone():
 			return 0, ErrOneGoroutine
 		}

@@ -38,7 +38,7 @@ type Races struct {
 	engine *Engine
 	fault  error // why there is no engine, or why the race stopped
 
-	lock     sync.Mutex
+	lock     monitor
 	moved    *sync.Cond // signalled after turns, and when the races or a connection close
 	draws    splitMix
 	replayed []int // the turns of the schedule to replay
@@ -75,17 +75,22 @@ func NewRaces(seed uint64, clients int) *Races {
 	return races
 }
 
-// ReplayRaces replays a schedule that Schedule returned. If the schedule names no waiting client,
-// the first waiting one has the turn, and Stray says so.
-func ReplayRaces(schedule []int, clients int) *Races {
+// ReplayRaces replays a schedule that Schedule returned. It panics if the schedule is not one. If
+// the schedule names no waiting client, the first waiting one has the turn, and Stray says so.
+func ReplayRaces(schedule string, clients int) *Races {
+	replayed, err := readSchedule(schedule)
+	if err != nil {
+		panic(err)
+	}
 	races := NewRaces(0, clients)
 	races.replays = true
-	races.replayed = append(races.replayed, schedule...)
+	races.replayed = replayed
 	return races
 }
 
 // Engine returns the engine, to write and inspect files before the clients run and after they have
-// ended. During the race calls may be in progress, and no other session may have a turn.
+// ended, for rules and for callbacks. During the race calls may be in progress, and no other session
+// may have a turn.
 func (races *Races) Engine() *Engine { return races.engine }
 
 // Connect opens the session of the next client: 1, 2, 3 and so on. Connect all clients before any
@@ -119,11 +124,12 @@ func (races *Races) Connect() (net.Conn, error) {
 	return one, nil
 }
 
-// Schedule returns the turns so far, each as the number of its client.
-func (races *Races) Schedule() []int {
+// Schedule returns the clients of the turns so far, as "1x4 2 1x2": four turns of client 1, one of
+// client 2, and two of client 1.
+func (races *Races) Schedule() string {
 	races.lock.Lock()
 	defer races.lock.Unlock()
-	return append([]int(nil), races.schedule...)
+	return writeSchedule(races.schedule)
 }
 
 // Stray returns why the race is not reproducible: a client was skipped, or the schedule has no turn
@@ -162,6 +168,10 @@ func (races *Races) Close() error {
 // advance runs turns as long as every client waits for a reply or has disconnected. It is called
 // after each action of a client. If a callback of a turn ends the goroutine, it stops the race.
 func (races *Races) advance() {
+	if races.lock.isCalling() {
+		// A callback acts as a client. The turns go on after it.
+		return
+	}
 	isDone := false
 	defer func() {
 		if !isDone {
@@ -178,7 +188,7 @@ func (races *Races) advance() {
 		}
 		one := races.choose(waiting)
 		races.schedule = append(races.schedule, one.number)
-		one.turn(races.Time.Now())
+		races.lock.call(func() { one.turn(races.Time.Now()) })
 	}
 	isDone = true
 }

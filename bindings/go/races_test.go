@@ -80,6 +80,28 @@ func racing(t *testing.T, races *Races) []net.Conn {
 	return conns
 }
 
+// turnsOf returns the clients of the turns so far.
+func turnsOf(races *Races) []int {
+	races.lock.Lock()
+	defer races.lock.Unlock()
+	return append([]int(nil), races.schedule...)
+}
+
+func TestSchedulesAsText(t *testing.T) {
+	for text, clients := range map[string][]int{
+		"": nil, "3": {3}, "1x4 2 1x2": {1, 1, 1, 1, 2, 1, 1}, "12x3": {12, 12, 12},
+	} {
+		same(t, writeSchedule(clients), text)
+		read, err := readSchedule(text)
+		must(t, err)
+		same(t, read, clients)
+	}
+	for _, wrong := range []string{"1 b", "x", "1x", "-1", "1xx2"} {
+		says := panicked(t, func() { ReplayRaces(wrong, 2) })
+		same(t, strings.HasPrefix(says, "lucernetick: schedule must be as 1x4 2 1x2, and"), true)
+	}
+}
+
 // ask writes all requests of a client at once.
 func ask(t *testing.T, conn net.Conn, data string) {
 	t.Helper()
@@ -103,11 +125,11 @@ func TestTheTurnsOfASeed(t *testing.T) {
 	races := NewRaces(1234567, 2)
 	conns := racing(t, races)
 	ask(t, conns[0], looks)
-	same(t, races.Schedule(), []int(nil))
+	same(t, turnsOf(races), []int(nil))
 	ask(t, conns[1], makes)
-	same(t, races.Schedule(), []int{2, 2, 2, 2, 2})
+	same(t, turnsOf(races), []int{2, 2, 2, 2, 2})
 	must(t, conns[1].Close())
-	same(t, races.Schedule(), []int{2, 2, 2, 2, 2, 1, 1, 1, 1, 1})
+	same(t, turnsOf(races), []int{2, 2, 2, 2, 2, 1, 1, 1, 1, 1})
 	reply := told(t, conns[0], version+len(looked))[version:]
 	moment := string(number(1_000_000_000))
 	same(t, reply, looked[:33]+moment+moment)
@@ -121,7 +143,7 @@ func TestTheTurnsOfAnotherSeed(t *testing.T) {
 	conns := racing(t, races)
 	ask(t, conns[0], looks)
 	ask(t, conns[1], makes)
-	same(t, races.Schedule()[:5], []int{2, 1, 2, 1, 2})
+	same(t, turnsOf(races)[:5], []int{2, 1, 2, 1, 2})
 }
 
 // uploader is a client that makes /out, writes a file there and renames the directory. It reports
@@ -159,7 +181,7 @@ func writeAndRename(client *sftp.Client, name string) error {
 // A run is the result of a race.
 type run struct {
 	told     [2]string
-	schedule []int
+	schedule string
 	tree     Snapshot
 }
 
@@ -224,7 +246,7 @@ func TestAScheduleIsGivenBack(t *testing.T) {
 // The schedule of another race: missing turns, and turns of a client that does not wait, are
 // reported.
 func TestSchedulesThatDoNotFit(t *testing.T) {
-	for _, schedule := range [][]int{{}, {2, 2, 2, 2}, {2, 2, 2, 2, 2, 1, 2, 1, 1, 1}, {3, 2}} {
+	for _, schedule := range []string{"", "2x4", "2x5 1 2 1x3", "3 2"} {
 		races := ReplayRaces(schedule, 2)
 		conns := racing(t, races)
 		ask(t, conns[0], looks)
@@ -239,7 +261,7 @@ func TestSchedulesThatDoNotFit(t *testing.T) {
 			}(conn)
 		}
 		both.Wait()
-		same(t, len(races.Schedule()), 10)
+		same(t, len(turnsOf(races)), 10)
 		same(t, races.Stray() != "", true)
 	}
 }
@@ -266,7 +288,7 @@ func TestAClientThatWaitsForAnother(t *testing.T) {
 	must(t, <-done)
 	_, err := conns[0].Read(make([]byte, 1))
 	same(t, err, net.ErrClosed)
-	same(t, races.Schedule(), []int{2, 2, 2, 2, 2, 1, 1, 1, 1, 1})
+	same(t, turnsOf(races), []int{2, 2, 2, 2, 2, 1, 1, 1, 1, 1})
 }
 
 func TestAClientThatDoesNotCome(t *testing.T) {
@@ -297,9 +319,9 @@ func TestAClientThatGoesEarly(t *testing.T) {
 	same(t, err, net.ErrClosed)
 	_, err = conns[0].Read(make([]byte, 1))
 	same(t, err, net.ErrClosed)
-	same(t, len(races.Schedule()), 0)
+	same(t, len(turnsOf(races)), 0)
 	must(t, conns[1].Close())
-	same(t, len(races.Schedule()), 9)
+	same(t, len(turnsOf(races)), 9)
 	_, there := snapshot(t, races.Engine())["/a"]
 	same(t, there, true)
 	same(t, races.Stray(), "")
@@ -318,7 +340,7 @@ func TestASessionThatEndsItself(t *testing.T) {
 		same(t, err, io.ErrClosedPipe)
 		must(t, conn.Close())
 	}
-	same(t, len(races.Schedule()), 2)
+	same(t, len(turnsOf(races)), 2)
 }
 
 func TestDeadlines(t *testing.T) {
@@ -365,8 +387,8 @@ func TestATreeThatIsThereBefore(t *testing.T) {
 	found := snapshot(t, races.Engine())
 	same(t, found["/done-a/x"].Mtime, at(5))
 	same(t, found["/done-a/a"].Mtime, at(1_700_000_000))
-	for _, client := range races.Schedule() {
+	for _, client := range turnsOf(races) {
 		same(t, client, 1)
 	}
-	same(t, reflect.DeepEqual(races.Schedule(), []int{}), false)
+	same(t, reflect.DeepEqual(turnsOf(races), []int{}), false)
 }

@@ -48,7 +48,7 @@ type Rule struct {
 	Kind    Kind   // 0 is any
 	// Path selects requests for this path, in any spelling; "" is any. A request by handle, as
 	// WRITE, is for the path that the handle was opened with. A name may have the wildcards of
-	// path.Match, and the name ** is any number of names. A backslash escapes a wildcard.
+	// path.Match ([!a] is [^a]), and the name ** is any number of names. Escape escapes them.
 	Path  string
 	Flags OpenFlag           // OPEN requests that have all of these flags
 	When  func(Request) bool // requests for which it returns true, of those selected above
@@ -61,10 +61,11 @@ type Rule struct {
 
 // A GivenRule is a rule of an engine. It holds until its End.
 type GivenRule struct {
-	engine  *Engine
-	rule    Rule
-	names   []string // of the path; nil for any
-	refused uint64
+	engine   *Engine
+	rule     Rule
+	names    []string // of the path; nil for any
+	hasBytes bool     // AfterBytes was given
+	refused  uint64
 }
 
 // Refuse adds a rule. A rejected request gets a status in its place, never reaches the file system,
@@ -74,9 +75,9 @@ func (engine *Engine) Refuse(rule Rule) (*GivenRule, error) {
 	if err := rule.check(); err != nil {
 		return nil, err
 	}
-	given := &GivenRule{engine: engine, rule: rule}
+	given := &GivenRule{engine: engine, rule: rule, hasBytes: rule.AfterBytes > 0}
 	if rule.Path != "" {
-		given.names = namesOf(rule.Path)
+		given.names = namesOf(translated(rule.Path))
 	}
 	if rule.Times == 0 {
 		given.rule.Times = 1
@@ -95,8 +96,8 @@ func (engine *Engine) Refuse(rule Rule) (*GivenRule, error) {
 	return given, nil
 }
 
-// DiskFull simulates a full disk: WRITEs of this many bytes in total succeed, and all later ones
-// fail until the rule ends.
+// DiskFull simulates a full disk: WRITEs of this many bytes in total succeed. A WRITE that does not
+// fit fails, until the rule ends.
 func (engine *Engine) DiskFull(after uint64) (*GivenRule, error) {
 	writes := func(request Request) bool { return len(request.Data) > 0 }
 	return engine.Refuse(Rule{Kind: KindWrite, When: writes, AfterBytes: after, Times: Always})
@@ -150,6 +151,16 @@ func (rule *Rule) check() error {
 	return checkPattern(rule.Path)
 }
 
+var escapes = strings.NewReplacer(`\`, `\\`, "*", "[*]", "?", "[?]", "[", "[[]")
+
+// Escape escapes the wildcards of a path, so that as a pattern it matches only itself.
+func Escape(path string) string { return escapes.Replace(path) }
+
+var negations = strings.NewReplacer(`\\`, `\\`, `\[`, `\[`, "[!", "[^")
+
+// translated returns a pattern with negations as path.Match has them. Other languages have [!a].
+func translated(pattern string) string { return negations.Replace(pattern) }
+
 // checkPattern checks a path with wildcards; "" is any.
 func checkPattern(pattern string) error {
 	if pattern == "" {
@@ -158,7 +169,7 @@ func checkPattern(pattern string) error {
 	if err := checkPath(pattern); err != nil {
 		return err
 	}
-	for _, name := range strings.Split(pattern, "/") {
+	for _, name := range strings.Split(translated(pattern), "/") {
 		if _, err := path.Match(name, ""); err != nil {
 			return fmt.Errorf("%w: %q: %v", ErrBadPath, pattern, err)
 		}
@@ -176,13 +187,9 @@ func (rule *GivenRule) judge(request Request) bool {
 		given.After--
 		return false
 	}
-	if size := uint64(len(request.Data)); given.AfterBytes > 0 {
-		if given.AfterBytes >= size {
-			given.AfterBytes -= size
-			return false
-		}
-		// The disk is full, and stays full for a smaller WRITE.
-		given.AfterBytes = 0
+	if size := uint64(len(request.Data)); rule.hasBytes && given.AfterBytes >= size {
+		given.AfterBytes -= size
+		return false
 	}
 	if given.Times != Always {
 		given.Times--

@@ -210,16 +210,23 @@ func TestPatterns(t *testing.T) {
 		`/in/\[x\]`:   {"/in/[x]"},
 		"/in/*/../*":  {"/in/a", "/in/b.part", "/in/[x]"},
 		"/in/**/d/**": {"/in/c/d"},
-		"/*/[^a]":     {},
+		"/*/[^b]":     {"/in/a", "/in2/a"},
+		"/*/[!b]":     {"/in/a", "/in2/a"},
+		"/in/[[]x]":   {"/in/[x]"},
 	} {
 		must(t, checkPattern(pattern))
 		found := []string{}
 		for _, path := range paths {
-			if matchesAny(namesOf(pattern), path) {
+			if matchesAny(namesOf(translated(pattern)), path) {
 				found = append(found, path)
 			}
 		}
 		same(t, found, wanted)
+	}
+	for _, name := range []string{"a", "*", "?", "[x]", `\`, "[!a]", "**", `\[!a]`} {
+		pattern := namesOf(translated(Escape("/d/" + name)))
+		same(t, matchesAny(pattern, "/d/"+name), true)
+		same(t, matchesAny(pattern, "/d/b"), false)
 	}
 	for _, pattern := range []string{"/[", "/a[b/c]", `/a\`, "/[]"} {
 		_, err := newEngine(t).Refuse(Rule{Path: pattern})
@@ -261,7 +268,7 @@ func TestRulesByAFunction(t *testing.T) {
 	same(t, upload(t, client, "/f", "bad") != nil, true)
 }
 
-// A full disk stays full until its rule ends, also for a WRITE that is smaller than the last one.
+// A disk is full until its rule ends. A WRITE that fits succeeds, also after one that does not.
 func TestADiskThatIsFull(t *testing.T) {
 	engine := NewT(t)
 	full := engine.DiskFull(10)
@@ -273,7 +280,8 @@ func TestADiskThatIsFull(t *testing.T) {
 	must(t, upload(t, client, "/c", "123"))
 	again := engine.DiskFull(4)
 	same(t, upload(t, client, "/d", "12345") != nil, true)
-	same(t, upload(t, client, "/d", "1") != nil, true)
+	must(t, upload(t, client, "/d", "123"))
+	same(t, upload(t, client, "/e", "12") != nil, true)
 	same(t, []uint64{full.Refused(), again.Refused()}, []uint64{1, 2})
 	same(t, string(engine.Snapshot()["/c"].Contents()), "123")
 }

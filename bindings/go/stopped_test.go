@@ -52,6 +52,27 @@ func TestARaceStops(t *testing.T) {
 	}
 }
 
+// A callback may use the race, but not wait for a reply.
+func TestACallbackOfARace(t *testing.T) {
+	races := NewRaces(1, 1)
+	conn, err := races.Connect()
+	must(t, err)
+	var schedules []string
+	_, err = races.Engine().OnCall(nil, func(Call) {
+		schedules = append(schedules, races.Schedule())
+		must(t, races.Err())
+		if _, err := io.ReadFull(conn, make([]byte, 1000)); err != errWaits {
+			t.Error(err)
+		}
+	})
+	must(t, err)
+	ask(t, conn, makes)
+	must(t, conn.Close())
+	same(t, schedules, []string{"1x4"})
+	same(t, races.Schedule(), "1x5")
+	must(t, races.Close())
+}
+
 // This goroutine would wait for itself, since it has not connected the second client.
 func TestOneGoroutineForTwoClients(t *testing.T) {
 	races := NewRaces(1, 2)

@@ -11,8 +11,7 @@ import (
 // fails, the test fails and ends. Use them in the test's goroutine.
 type EngineT struct {
 	*Engine
-	t     testing.TB
-	check func() error // why the clients cannot be served
+	t testing.TB
 }
 
 // NewT makes an engine for a test, which closes it at its end. It retains the records of all calls.
@@ -23,17 +22,32 @@ func NewT(t testing.TB) *EngineT {
 		t.Fatal(err)
 	}
 	t.Cleanup(func() { engine.Close() })
-	return &EngineT{engine, t, func() error { return nil }}
+	return &EngineT{engine, t}
 }
 
-// Check sets a function whose error the engine's methods report, as that of a server. It is called
-// first.
-func (engine *EngineT) Check(check func() error) { engine.check = check }
+// Check sets a function that returns why clients cannot be served, as Err of a server, or nil. The
+// engine's methods report its error. It must not use the engine.
+func (engine *EngineT) Check(check func() error) {
+	engine.lock.Lock()
+	defer engine.lock.Unlock()
+	engine.check = check
+}
+
+// stopped returns why clients cannot be served, or nil. The lock is held.
+func (engine *Engine) stopped() error {
+	if engine.check == nil {
+		return nil
+	}
+	return engine.check()
+}
 
 // must ends the test if there is an error.
 func (engine *EngineT) must(err error) {
 	engine.t.Helper()
-	if stopped := engine.check(); stopped != nil {
+	engine.lock.Lock()
+	stopped := engine.stopped()
+	engine.lock.Unlock()
+	if stopped != nil {
 		engine.t.Fatal(stopped)
 	}
 	if err != nil {

@@ -47,9 +47,15 @@ func failed(t *testing.T, action func(engine *EngineT)) string {
 func TestATestThatFails(t *testing.T) {
 	for says, action := range map[string]func(engine *EngineT){
 		"": func(engine *EngineT) { engine.Connect(time.Now) },
-		"lucernetick: no request has this kind: kind 1":                           func(engine *EngineT) { engine.Refuse(Rule{Kind: 1}) },
-		"lucernetick: MKDIR /a: Failure":                                          func(engine *EngineT) { engine.WriteFiles(map[string][]byte{"/a": {}, "/a/b": {}}, at(0)) },
-		"lucernetick: no such call within 0s: i/o timeout; no client made a call": func(engine *EngineT) { engine.WaitForCall(Filter{}, 0) },
+		"lucernetick: no request has this kind: kind 1": func(engine *EngineT) {
+			engine.Refuse(Rule{Kind: 1})
+		},
+		"lucernetick: MKDIR /a: Failure": func(engine *EngineT) {
+			engine.WriteFiles(map[string][]byte{"/a": {}, "/a/b": {}}, at(0))
+		},
+		"lucernetick: no such call within 0s: i/o timeout; no client made a call": func(engine *EngineT) {
+			engine.WaitForCall(Filter{}, 0)
+		},
 		"stopped": func(engine *EngineT) {
 			engine.Check(func() error { return errors.New("stopped") })
 			engine.Snapshot()

@@ -88,8 +88,8 @@ type Filter struct {
 // Earlier calls count too. After the timeout the error is os.ErrDeadlineExceeded, and has the last
 // calls.
 func (engine *Engine) WaitForCall(filter Filter, timeout time.Duration) (Call, error) {
-	if filter.Kind != 0 && !filter.Kind.isRequest() {
-		return Call{}, fmt.Errorf("%w: %v", ErrBadKind, filter.Kind)
+	if filter.Kind != 0 && !filter.Kind.isRecorded() {
+		return Call{}, fmt.Errorf("%w: no record has the %v", ErrBadKind, filter.Kind)
 	}
 	if err := checkPattern(filter.Path); err != nil {
 		return Call{}, err
@@ -126,7 +126,7 @@ func (engine *Engine) WaitForCall(filter Filter, timeout time.Duration) (Call, e
 func (filter *Filter) selects(call Call) bool {
 	return (filter.Session == 0 || filter.Session == call.Session) &&
 		(filter.Kind == 0 || filter.Kind == call.Kind) &&
-		(filter.Path == "" || matchesAny(namesOf(filter.Path), call.Path, call.NewPath)) &&
+		(filter.Path == "" || matchesAny(namesOf(translated(filter.Path)), call.Path, call.NewPath)) &&
 		(filter.When == nil || filter.When(call))
 }
 
@@ -142,6 +142,9 @@ func (engine *Engine) wait(timeout time.Duration, why string, ready func() (bool
 		if engine.pointer == nil {
 			return ErrBadPointer
 		}
+		if err := engine.stopped(); err != nil {
+			return err
+		}
 		if done, err := ready(); done || err != nil {
 			return err
 		}
@@ -152,8 +155,18 @@ func (engine *Engine) wait(timeout time.Duration, why string, ready func() (bool
 		if engine.lock.isCalling() {
 			return errWaits
 		}
-		engine.waitUntil(end)
+		engine.waitUntil(earlier(end, time.Now().Add(checkEvery)))
 	}
+}
+
+// checkEvery is how often a waiting test sees whether its server has stopped.
+const checkEvery = time.Second
+
+func earlier(one, other time.Time) time.Time {
+	if one.Before(other) {
+		return one
+	}
+	return other
 }
 
 // shown returns the last calls as text.

@@ -129,8 +129,10 @@ func TestWaitingForACall(t *testing.T) {
 	_, err := engine.Engine.WaitForCall(Filter{Session: 7}, time.Millisecond)
 	same(t, errors.Is(err, os.ErrDeadlineExceeded), true)
 	same(t, strings.Contains(err.Error(), `rename "/b" "/c" -> Success`), true)
-	_, err = engine.Engine.WaitForCall(Filter{Kind: 1}, 0)
-	same(t, errors.Is(err, ErrBadKind), true)
+	for _, kind := range []Kind{1, KindLstat, KindRealpath} {
+		_, err = engine.Engine.WaitForCall(Filter{Kind: kind}, 0)
+		same(t, errors.Is(err, ErrBadKind), true)
+	}
 	same(t, len(engine.hooks), 0)
 }
 

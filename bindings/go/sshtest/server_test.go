@@ -70,6 +70,7 @@ func put(client *sftp.Client, path string, contents []byte) error {
 		return err
 	}
 	if _, err := file.ReadFrom(bytes.NewReader(contents)); err != nil {
+		file.Close()
 		return err
 	}
 	return file.Close()

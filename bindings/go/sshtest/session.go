@@ -94,14 +94,21 @@ func (server *Server) connect() *lucernetick.Conn {
 	if err != nil {
 		return nil
 	}
-	server.lock.Lock()
-	defer server.lock.Unlock()
-	if server.closed {
+	if !server.enter(conn) {
 		conn.Drop()
 		return nil
 	}
-	server.conns[conn] = true
 	return conn
+}
+
+// enter registers a connection, unless the server was closed.
+func (server *Server) enter(conn *lucernetick.Conn) bool {
+	server.lock.Lock()
+	defer server.lock.Unlock()
+	if !server.closed {
+		server.conns[conn] = true
+	}
+	return !server.closed
 }
 
 func (server *Server) leave(conn *lucernetick.Conn) {

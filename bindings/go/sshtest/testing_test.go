@@ -126,8 +126,8 @@ func TestFaultsOutOfRange(t *testing.T) {
 	server.SetFaults(lucernetick.Faults{Chunk: -1})
 }
 
-// A clock or a callback that fails stops the server: no client waits for ever, and the test gets
-// the error.
+// A clock or a callback that fails stops the server: the connections of all clients end, and the
+// test gets the error.
 func TestAServerStops(t *testing.T) {
 	early := func() time.Time { return time.Unix(-1, 0) }
 	for says, prepare := range map[string]func(*lucernetick.Engine, *sshtest.Server){
@@ -156,11 +156,9 @@ func TestAServerStops(t *testing.T) {
 		// One client waits and sends nothing, the other one uses the server.
 		idle := dial(t, server)
 		client, err := sftp.NewClient(dial(t, server))
-		if err == nil {
-			err = client.Mkdir("/a")
-		}
-		if err == nil {
-			t.Errorf("%s: the client was not notified", says)
+		// The reply to a call whose record stops the server may still be sent.
+		for err == nil {
+			_, err = client.Stat("/")
 		}
 		idle.Wait()
 		for _, err := range []error{server.Err(), server.Close()} {
@@ -172,6 +170,26 @@ func TestAServerStops(t *testing.T) {
 		if _, err := engine.Snapshot(); err != nil {
 			t.Error(err)
 		}
+	}
+}
+
+// A test that waits for a client ends when the server stops.
+func TestWaitingAtAServerThatStops(t *testing.T) {
+	engine := lucernetick.NewT(t)
+	server := sshtest.NewServer(engine.Engine)
+	engine.Check(server.Err)
+	engine.OnCall(nil, func(lucernetick.Call) { panic("no time") })
+	client, err := sftp.NewClient(dial(t, server))
+	must(t, err)
+	go client.Mkdir("/a")
+	begin := time.Now()
+	_, err = engine.Engine.WaitFor("/none", time.Minute)
+	var stopped *lucernetick.StoppedError
+	if !errors.As(err, &stopped) || time.Since(begin) > 50*time.Second {
+		t.Fatal(err)
+	}
+	if server.Close() == nil {
+		t.Fatal("the server did not stop")
 	}
 }
 
