@@ -46,18 +46,20 @@ pub(crate) fn run<T: Threads + Wait + Sync>(rt: &HostRuntime, threads: &T) -> u8
     }
 }
 
-/// Opens /dev/null in place of each standard stream that is closed, so that no file or connection
-/// gets its descriptor.
+/// Opens /dev/null in place of a standard stream that is closed. The lowest free descriptor is its
+/// own, if the streams below it are open.
+fn open_if_closed(stream: &impl AsFd) {
+    if stream.as_fd().try_clone_to_owned().is_err() {
+        os::open_update(b"/dev/null");
+    }
+}
+
+/// Opens the standard streams that are closed, so that no file or connection gets a descriptor of
+/// theirs.
 fn open_standard_streams(rt: &HostRuntime) {
-    if rt.stdin().as_fd().try_clone_to_owned().is_err() {
-        os::open_update(b"/dev/null");
-    }
-    if rt.stdout().as_fd().try_clone_to_owned().is_err() {
-        os::open_update(b"/dev/null");
-    }
-    if rt.stderr().as_fd().try_clone_to_owned().is_err() {
-        os::open_update(b"/dev/null");
-    }
+    open_if_closed(&rt.stdin());
+    open_if_closed(&rt.stdout());
+    open_if_closed(&rt.stderr());
 }
 
 /// Serves the session on standard input and output, with a log if there is an option for it.
