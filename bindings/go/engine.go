@@ -1,8 +1,10 @@
 // Package lucernetick is an in-memory SFTP server, version 3, for tests.
 //
+// NewT makes an engine for a test. Its Connect returns a Conn: a session for a client, for example
+// for sftp.NewClientPipe of github.com/pkg/sftp.
+//
 // An Engine reads no clock and starts no goroutine: the caller feeds a session bytes, gives it
-// turns, and sends its output. The same calls produce the same bytes each time. A Conn is a session
-// for a client, for example for sftp.NewClientPipe of github.com/pkg/sftp.
+// turns, and sends its output. The same calls produce the same bytes each time.
 package lucernetick
 
 /*

@@ -73,7 +73,7 @@ func TestFaultsOfASession(t *testing.T) {
 
 // It is a latency: requests that are sent ahead overlap.
 func TestADelayOverSSH(t *testing.T) {
-	const delay, most = 100 * time.Millisecond, 1 << 20
+	const delay, most = 300 * time.Millisecond, 1 << 20
 	server := sshtest.NewServerT(t)
 	server.Engine.WriteFiles(map[string][]byte{"/f": drawn(most)}, time.Unix(0, 0))
 	server.SetFaults(lucernetick.Faults{Delay: delay})
