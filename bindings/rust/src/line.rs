@@ -110,8 +110,7 @@ impl Line {
     }
 
     fn send_all(&mut self, bytes: &[u8]) -> io::Result<()> {
-        let chunk = self.faults.chunk.map_or(bytes.len(), |chunk| chunk as usize);
-        for part in bytes.chunks(chunk.max(1)) {
+        for part in bytes.chunks(self.faults.most()) {
             self.send_part(part)?;
             if self.faults.chunk.is_some() {
                 self.wait_until_received()?;

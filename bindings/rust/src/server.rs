@@ -59,7 +59,7 @@ impl Server {
         self.check()?;
         let (ours, theirs) = UnixStream::pair()?;
         let session = serve(&self.shared, theirs, faults)?;
-        Ok(Connection { stream: ours, session })
+        Ok(Connection { stream: ours, session, chunk: faults.most() })
     }
 
     /// Listens on a new Unix socket at this path: each connection is a session. The socket is
@@ -253,6 +253,8 @@ impl Drop for Server {
 pub struct Connection {
     stream: UnixStream,
     session: Session,
+    /// How many bytes it receives at most at a time.
+    chunk: usize,
 }
 
 impl Connection {
@@ -283,7 +285,8 @@ impl DerefMut for Connection {
 
 impl Read for Connection {
     fn read(&mut self, room: &mut [u8]) -> io::Result<usize> {
-        self.stream.read(room)
+        let most = room.len().min(self.chunk);
+        self.stream.read(&mut room[..most])
     }
 }
 
