@@ -72,7 +72,9 @@ fn an_upload_that_is_cut() {
     let server = server();
     let connection = connect(&server, Faults::default().cut_after(100_000));
     let mut client = Client::new(connection).unwrap();
+    assert!(!client.get_ref().is_cut());
     assert!(client.write("/g", vec![1; 1_000_000]).is_err());
+    assert!(client.get_ref().is_cut());
     assert_eq!(server.snapshot().unwrap()["/g"].size, 3 * 32768);
 }
 

@@ -168,8 +168,7 @@ fn a_client_that_waits_for_another() {
 #[test]
 fn a_client_that_is_used_too_early() {
     let races = Races::new(0, 2).unwrap();
-    let wanted =
-        "the argument is wrong: client 1 is used, and 1 of 2 clients are connected: first \
+    let wanted = "client 1 is used, and 1 of 2 clients are connected: first \
                   call connect() 2 times, then use each stream in its own thread";
     assert_eq!(Client::new(races.connect().unwrap()).unwrap_err().to_string(), wanted);
     let mut other = races.connect().unwrap();
@@ -191,7 +190,7 @@ fn two_clients_in_one_thread() {
     // The first number of this seed is odd, so client 2 has its reply, and the race waits for it.
     let begin = Instant::now();
     let refused = streams[0].read(&mut [0]).unwrap_err();
-    let wanted = "the argument is wrong: client 1 waits for client 2, which the same thread uses: \
+    let wanted = "client 1 waits for client 2, which the same thread uses: \
                   use each stream in its own thread";
     assert_eq!(refused.to_string(), wanted);
     assert!(begin.elapsed() < Duration::from_secs(25));
