@@ -110,14 +110,14 @@ fn dropped_calls_are_counted() {
 #[test]
 fn callbacks_before_and_after() {
     let server = empty_server();
-    let (told, seen) = mpsc::channel();
-    let after = told.clone();
+    let (notes, seen) = mpsc::channel();
+    let after = notes.clone();
     let hook = server
         .on_call(
             OnCall::default()
                 .before(move |engine, request| {
                     let paths = engine.snapshot().unwrap().len();
-                    told.send(format!("{} {}", request.kind, paths)).unwrap();
+                    notes.send(format!("{} {}", request.kind, paths)).unwrap();
                 })
                 .after(move |engine, call| {
                     let paths = engine.snapshot().unwrap().len();

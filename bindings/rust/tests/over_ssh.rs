@@ -102,8 +102,8 @@ impl Client {
     /// Sends `pwd`, and waits for its output, which follows all earlier output.
     fn is_done(&mut self) {
         self.asks("pwd\n");
-        let told = |line: String| line == "Remote working directory: /";
-        assert!(self.printed.by_ref().lines().map(Result::unwrap).any(told));
+        let is_last = |line: String| line == "Remote working directory: /";
+        assert!(self.printed.by_ref().lines().map(Result::unwrap).any(is_last));
     }
 
     /// Whether all its commands succeeded.
