@@ -41,6 +41,9 @@ func must(t *testing.T, err error) {
 	}
 }
 
+// at is a timestamp, in seconds since 1970.
+func at(seconds int64) time.Time { return time.Unix(seconds, 0).UTC() }
+
 func same(t *testing.T, got, wanted interface{}) {
 	t.Helper()
 	if !reflect.DeepEqual(got, wanted) {
@@ -69,7 +72,7 @@ func read(t *testing.T, client *sftp.Client, path string) []byte {
 
 func TestWriteAndRead(t *testing.T) {
 	engine := newEngine(t)
-	client := connect(t, engine, WallClock)
+	client := connect(t, engine, time.Now)
 	contents := bytes.Repeat([]byte("0123456789abcdef"), 100000)
 	write(t, client, "/f", contents)
 	same(t, bytes.Equal(read(t, client, "/f"), contents), true)
@@ -79,7 +82,7 @@ func TestWriteAndRead(t *testing.T) {
 }
 
 func TestList(t *testing.T) {
-	client := connect(t, newEngine(t), WallClock)
+	client := connect(t, newEngine(t), time.Now)
 	must(t, client.Mkdir("/d"))
 	wanted := map[string]int64{}
 	for count := 0; count < 40; count++ {
@@ -97,7 +100,7 @@ func TestList(t *testing.T) {
 }
 
 func TestRename(t *testing.T) {
-	client := connect(t, newEngine(t), WallClock)
+	client := connect(t, newEngine(t), time.Now)
 	must(t, client.Mkdir("/d"))
 	write(t, client, "/f", []byte("1"))
 	must(t, client.Rename("/f", "/d/g"))
@@ -109,7 +112,7 @@ func TestRename(t *testing.T) {
 
 func TestTwoSessionsOnOneTree(t *testing.T) {
 	engine := newEngine(t)
-	first, second := connect(t, engine, WallClock), connect(t, engine, WallClock)
+	first, second := connect(t, engine, time.Now), connect(t, engine, time.Now)
 	write(t, first, "/f", []byte("from the first"))
 	same(t, read(t, second, "/f"), []byte("from the first"))
 	must(t, second.Remove("/f"))
@@ -121,27 +124,27 @@ func TestTimesAreVirtual(t *testing.T) {
 	engine := newEngine(t)
 	clock := &VirtualTime{}
 	client := connect(t, engine, clock.Now)
-	clock.Set(1700000000)
+	clock.Set(at(1700000000))
 	must(t, client.Mkdir("/d"))
 	info, err := client.Stat("/d")
 	must(t, err)
 	same(t, info.ModTime().Unix(), int64(1700000000))
-	clock.Set(7)
+	clock.Set(at(7))
 	write(t, client, "/d/f", []byte("1"))
 	info, err = client.Stat("/d/f")
 	must(t, err)
 	same(t, info.ModTime().Unix(), int64(7))
 	found, err := engine.Snapshot()
 	must(t, err)
-	same(t, []uint32{found["/"].Mtime, found["/d"].Mtime, found["/d"].Atime},
-		[]uint32{1700000000, 7, 1700000000})
+	same(t, []time.Time{found["/"].Mtime, found["/d"].Mtime, found["/d"].Atime},
+		[]time.Time{at(1700000000), at(7), at(1700000000)})
 }
 
 // hold runs a session until its call holds the root.
 func hold(t *testing.T, session *Session) {
 	t.Helper()
 	for _, wanted := range []Turn{Wrote, Begun, Moved} {
-		turn, err := session.Turn(100)
+		turn, err := session.Turn(at(100))
 		must(t, err)
 		same(t, turn, wanted)
 	}
@@ -149,13 +152,13 @@ func hold(t *testing.T, session *Session) {
 
 func TestAConnWaitsForACallThatIsHeld(t *testing.T) {
 	engine := newEngine(t)
-	must(t, engine.WriteFiles(map[string][]byte{"/f": []byte("1")}, 0))
+	must(t, engine.WriteFiles(map[string][]byte{"/f": []byte("1")}, at(0)))
 	held := open(t, engine, makes)
 	hold(t, held)
 	_, made := snapshot(t, engine)["/a"]
 	same(t, made, false)
-	same(t, errors.Is(engine.WriteFiles(map[string][]byte{"/g": {}}, 0), ErrBlocked), true)
-	client := connect(t, engine, WallClock)
+	same(t, errors.Is(engine.WriteFiles(map[string][]byte{"/g": {}}, at(0)), ErrBlocked), true)
+	client := connect(t, engine, time.Now)
 	told := make(chan error, 1)
 	go func() {
 		_, err := client.Stat("/a")
@@ -166,7 +169,7 @@ func TestAConnWaitsForACallThatIsHeld(t *testing.T) {
 		t.Fatalf("answered %v before the other call", err)
 	case <-time.After(200 * time.Millisecond):
 	}
-	_, err := held.Settle(100, 1000)
+	_, err := held.Settle(at(100), 1000)
 	must(t, err)
 	must(t, <-told)
 }
@@ -176,7 +179,7 @@ func TestAConnGoesOnAfterRounds(t *testing.T) {
 	engine := newEngine(t)
 	held := open(t, engine, makes)
 	hold(t, held)
-	conn, err := engine.Connect(WallClock)
+	conn, err := engine.Connect(time.Now)
 	must(t, err)
 	_, err = conn.Write([]byte(looks))
 	must(t, err)
@@ -203,7 +206,7 @@ func TestManyClientsAtOnce(t *testing.T) {
 	engine := newEngine(t)
 	var group sync.WaitGroup
 	for number := 0; number < 50; number++ {
-		name, client := fmt.Sprintf("/d%d", number), connect(t, engine, WallClock)
+		name, client := fmt.Sprintf("/d%d", number), connect(t, engine, time.Now)
 		group.Add(1)
 		go func(name string) {
 			defer group.Done()
@@ -227,7 +230,7 @@ func TestManyClientsAtOnce(t *testing.T) {
 }
 
 func TestAClosedConn(t *testing.T) {
-	conn, err := newEngine(t).Connect(WallClock)
+	conn, err := newEngine(t).Connect(time.Now)
 	must(t, err)
 	must(t, conn.Close())
 	must(t, conn.Close())
@@ -241,17 +244,17 @@ func TestFilesAtTheStart(t *testing.T) {
 	long := bytes.Repeat([]byte("x"), 300000)
 	engine, err := FromFiles(map[string][]byte{
 		"/a/b": []byte("one"), "c": {}, "/a/deep/er": long, "/e": nil,
-	}, 77)
+	}, at(77))
 	must(t, err)
 	defer engine.Close()
-	client := connect(t, engine, WallClock)
+	client := connect(t, engine, time.Now)
 	same(t, read(t, client, "/a/b"), []byte("one"))
 	found, err := engine.Snapshot()
 	must(t, err)
 	paths := []string{}
 	for path, entry := range found {
 		paths = append(paths, path)
-		same(t, entry.Mtime, uint32(77))
+		same(t, entry.Mtime, at(77))
 	}
 	sort.Strings(paths)
 	same(t, paths, []string{"/", "/a", "/a/b", "/a/deep", "/a/deep/er", "/c", "/e"})
@@ -261,8 +264,8 @@ func TestFilesAtTheStart(t *testing.T) {
 	same(t, []uint32{found["/e"].Mode, found["/c"].Mode}, []uint32{0o40755, 0o100644})
 }
 
-func TestAPathThatIsRefused(t *testing.T) {
-	err := newEngine(t).WriteFiles(map[string][]byte{"a\x00b": {}}, 0)
+func TestAFileBelowAFile(t *testing.T) {
+	err := newEngine(t).WriteFiles(map[string][]byte{"/a": {}, "/a/b": {}}, at(0))
 	var status *StatusError
 	same(t, errors.As(err, &status), true)
 	same(t, []interface{}{status.Code, status.Message}, []interface{}{uint32(4), "Failure"})

@@ -1,34 +1,11 @@
+//go:build cgo && linux && amd64
+
 package lucernetick
 
 import (
 	"io"
-	"sync/atomic"
 	"time"
 )
-
-// A Clock returns the timestamp of a call that begins, in seconds since 1970.
-type Clock func() uint32
-
-// WallClock is the system's clock.
-func WallClock() uint32 {
-	now := time.Now().Unix()
-	if now < 0 {
-		return 0
-	}
-	if now > 1<<32-1 {
-		return 1<<32 - 1
-	}
-	return uint32(now)
-}
-
-// A VirtualTime is a clock that only the test advances.
-type VirtualTime struct{ moment atomic.Uint32 }
-
-// Now returns the time that was set. It is a Clock.
-func (clock *VirtualTime) Now() uint32 { return clock.moment.Load() }
-
-// Set sets the time, earlier or later than before.
-func (clock *VirtualTime) Set(moment uint32) { clock.moment.Store(moment) }
 
 // most is how many replies are written before another session may use the engine.
 const most = 64
@@ -38,19 +15,42 @@ const most = 64
 type Conn struct {
 	session *Session
 	clock   Clock
-	closed  bool // protected by the engine's lock, as the next field
+	line    stream // protected by the engine's lock, as the next fields
+	closed  bool
 	ended   bool
 }
 
 var _ io.ReadWriteCloser = (*Conn)(nil)
 
-// Connect opens a session for a client. The clock returns the timestamps of its calls.
+// Connect opens a session for a client. The clock returns the timestamps of its calls: time.Now, or
+// Now of a VirtualTime.
 func (engine *Engine) Connect(clock Clock) (*Conn, error) {
+	return engine.ConnectWith(clock, Faults{})
+}
+
+// ConnectWith is like Connect, for a connection with faults.
+func (engine *Engine) ConnectWith(clock Clock, faults Faults) (*Conn, error) {
+	if err := faults.Check(); err != nil {
+		return nil, err
+	}
+	if clock == nil {
+		clock = time.Now
+	}
 	session, err := engine.Open()
 	if err != nil {
 		return nil, err
 	}
-	return &Conn{session: session, clock: clock}, nil
+	return &Conn{session: session, clock: clock, line: stream{faults: faults}}, nil
+}
+
+// Session returns the session of the connection, for the Session of a Rule.
+func (conn *Conn) Session() *Session { return conn.session }
+
+// IsCut reports whether CutAfter has dropped the connection.
+func (conn *Conn) IsCut() bool {
+	conn.session.engine.lock.Lock()
+	defer conn.session.engine.lock.Unlock()
+	return conn.line.isCut
 }
 
 // Write feeds the session, and runs all turns that it can.
@@ -61,13 +61,23 @@ func (conn *Conn) Write(data []byte) (int, error) {
 	if conn.closed || conn.ended {
 		return 0, io.ErrClosedPipe
 	}
-	if err := conn.session.feed(data); err != nil {
+	arrived := data
+	if conn.line.isFaulty() {
+		arrived = conn.line.receive(data)
+	}
+	if err := conn.session.feed(arrived); err != nil {
 		return 0, err
 	}
 	if err := conn.turns(); err != nil {
 		return 0, err
 	}
 	engine.moved.Broadcast()
+	for !conn.closed && !conn.ended && time.Now().Before(conn.line.heard) {
+		if engine.lock.isCalling() {
+			return len(data), errWaits
+		}
+		engine.waitUntil(conn.line.heard)
+	}
 	return len(data), nil
 }
 
@@ -83,14 +93,20 @@ func (conn *Conn) Read(room []byte) (int, error) {
 		if err := conn.turns(); err != nil {
 			return 0, err
 		}
-		count, err := conn.session.take(room)
-		if count > 0 || err != nil {
+		count, err := conn.take(room)
+		isOver := conn.closed || conn.ended
+		switch late := conn.line.late; {
+		case count > 0 || err != nil:
 			return count, err
-		}
-		if conn.closed || conn.ended {
+		case isOver && len(late) == 0:
 			return 0, io.EOF
+		case engine.lock.isCalling():
+			return 0, errWaits
+		case len(late) > 0:
+			engine.waitUntil(late[0].due)
+		default:
+			engine.moved.Wait()
 		}
-		engine.moved.Wait()
 	}
 }
 
@@ -99,6 +115,27 @@ func (conn *Conn) Close() error {
 	engine := conn.session.engine
 	engine.lock.Lock()
 	defer engine.lock.Unlock()
+	return conn.close()
+}
+
+// Drop ends the session as Close does, but does not deliver late replies. If its call is blocked by
+// another session, a later Read completes it.
+func (conn *Conn) Drop() error {
+	engine := conn.session.engine
+	engine.lock.Lock()
+	defer engine.lock.Unlock()
+	conn.line.drop()
+	if conn.closed {
+		engine.moved.Broadcast()
+		return nil
+	}
+	conn.closed = true
+	return conn.session.close()
+}
+
+// The methods below are called with the engine's lock held.
+
+func (conn *Conn) close() error {
 	if conn.closed {
 		return nil
 	}
@@ -109,16 +146,62 @@ func (conn *Conn) Close() error {
 	return conn.turns()
 }
 
+func (conn *Conn) take(room []byte) (int, error) {
+	if conn.line.isFaulty() || len(conn.line.late) > 0 {
+		return conn.line.take(room), nil
+	}
+	return conn.session.take(room)
+}
+
 // turns runs the session until it waits for bytes or for another session, or has ended.
 func (conn *Conn) turns() error {
 	for !conn.ended {
-		turn, err := conn.session.settle(conn.clock(), most)
+		begins, err := conn.clock.read()
+		if err != nil {
+			return err
+		}
+		replies := uint64(most)
+		if conn.line.isFaulty() {
+			replies = 1
+		}
+		turn, err := conn.session.settle(begins, replies)
 		if err != nil {
 			return err
 		}
 		conn.ended = turn.HasEnded()
+		if err := conn.send(); err != nil {
+			return err
+		}
 		if turn != Spent {
-			return nil
+			break
+		}
+	}
+	// Complete requests have taken effect.
+	if conn.line.isCut && !conn.closed {
+		return conn.close()
+	}
+	return nil
+}
+
+// send moves output to a line with faults. It closes the session as soon as the line is cut.
+func (conn *Conn) send() error {
+	for conn.line.isFaulty() {
+		output, err := conn.session.output()
+		if err != nil || len(output) == 0 {
+			return err
+		}
+		if err := conn.session.sent(len(output)); err != nil {
+			return err
+		}
+		if conn.line.isOutputCut() {
+			continue
+		}
+		conn.line.send(output)
+		if conn.line.isOutputCut() && !conn.closed {
+			conn.closed = true
+			if err := conn.session.close(); err != nil {
+				return err
+			}
 		}
 	}
 	return nil

@@ -7,14 +7,20 @@ package lucernetick
 
 /*
 #cgo CFLAGS: -I${SRCDIR} -I${SRCDIR}/../../include
-#cgo LDFLAGS: -L${SRCDIR} -L${SRCDIR}/../../out -l:liblucernetick.a
+#cgo linux,amd64 LDFLAGS: -L${SRCDIR} -L${SRCDIR}/../../out -l:liblucernetick.a
 #include "lucernetick.h"
 */
 import "C"
 
 import (
+	"crypto/rand"
+	"encoding/hex"
+	"errors"
+	"fmt"
 	"io"
+	"math"
 	"sync"
+	"time"
 	"unsafe"
 )
 
@@ -32,13 +38,17 @@ const (
 	ErrBadPointer      Refusal = C.LT_REFUSAL_BAD_POINTER // the engine was closed
 	ErrLongPath        Refusal = C.LT_REFUSAL_LONG_PATH   // a path has more than 262080 bytes
 	ErrNoReply         Refusal = C.LT_REFUSAL_NO_REPLY    // the reply is not the expected one
-	ErrBadKind         Refusal = C.LT_REFUSAL_BAD_KIND    // the kind of a rule is not a request's
-	ErrBadStatus       Refusal = C.LT_REFUSAL_BAD_STATUS  // the status of a rule is not valid
-	ErrBadPath         Refusal = C.LT_REFUSAL_BAD_PATH    // the path of a rule is not valid
 )
 
 // Error is the library's text.
 func (refusal Refusal) Error() string { return "lucernetick: " + message(C.int64_t(refusal)) }
+
+// The errors of arguments that are not valid. Wrapping errors say which, and why.
+var (
+	ErrBadKind   = errors.New("lucernetick: no request has this kind")
+	ErrBadStatus = errors.New("lucernetick: the protocol does not have this status")
+	ErrBadPath   = errors.New("lucernetick: this is not a path")
+)
 
 // A Turn is what a turn did, or why the session ended.
 type Turn int64
@@ -70,25 +80,57 @@ func (turn Turn) HasEnded() bool { return turn > C.LT_TURN_ENDED }
 // An Engine is one file system and any number of sessions on it. Goroutines may share it; it runs
 // one call at a time.
 type Engine struct {
-	lock    sync.Mutex
+	lock    monitor
 	moved   *sync.Cond // signalled after a session made progress, was fed, or was closed
 	pointer *C.lt_engine
+
+	keep     uint64 // how many records are retained; 0 for all
+	limit    uint64 // how many of them the library retains
+	kept     []Call // the last calls, if there is a limit; otherwise the library has them
+	recorded uint64 // the number of records so far
+	seen     int64  // the number of the library's records that were read
+	last     seenRecord
+	highest  uint64       // the highest number of a call that was read
+	changes  uint64       // counts calls after which a new file may be complete
+	check    func() error // why clients cannot be served; may be nil
+
+	opened   map[uint64]opened // the open handles
+	inputs   map[uint64]*input // of each session that has not ended
+	rules    []*GivenRule
+	hooks    []*Hook
+	lost     string          // a path that no client knows, followed by the code of a status
+	statuses map[uint32]bool // the library has a rule for these statuses of lost
 }
 
-// New makes an engine with an empty root. It retains the records of its last 256 calls. Close frees
-// it.
-func New() (*Engine, error) { return over(C.lt_new()) }
+// New makes an engine with an empty root. It retains the records of all calls. Records take memory,
+// including the bytes written and read. Close frees the engine.
+func New() (*Engine, error) { return NewKeeping(0) }
 
-// NewKeeping is like New, but retains the records of the last keep calls, or of all calls if keep
-// is 0. Records take memory, including the bytes written and read. They change no reply.
-func NewKeeping(keep uint64) (*Engine, error) { return over(C.lt_new_keeping(C.uint64_t(keep))) }
-
-func over(pointer *C.lt_engine) (*Engine, error) {
-	if pointer == nil {
+// NewKeeping is like New, but retains the records of the last keep calls only, or of all calls if
+// keep is 0. Records change no reply.
+func NewKeeping(keep uint64) (*Engine, error) {
+	var random [16]byte
+	if _, err := rand.Read(random[:]); err != nil {
+		return nil, fmt.Errorf("lucernetick: %w", err)
+	}
+	engine := &Engine{
+		keep:     keep,
+		opened:   map[uint64]opened{},
+		inputs:   map[uint64]*input{},
+		lost:     "/" + hex.EncodeToString(random[:]),
+		statuses: map[uint32]bool{},
+	}
+	if keep > 0 {
+		engine.limit = leastKept
+		if keep > leastKept {
+			engine.limit = keep
+		}
+	}
+	engine.moved = sync.NewCond(&engine.lock)
+	engine.pointer = C.lt_new_keeping(C.uint64_t(engine.limit))
+	if engine.pointer == nil {
 		return nil, ErrOutOfMemory
 	}
-	engine := &Engine{pointer: pointer}
-	engine.moved = sync.NewCond(&engine.lock)
 	return engine, nil
 }
 
@@ -120,7 +162,7 @@ func (engine *Engine) RunAll() (uint64, error) {
 	defer engine.lock.Unlock()
 	rounds, err := checked(C.lt_run_all(engine.pointer))
 	if rounds > 0 {
-		engine.moved.Broadcast()
+		engine.hasMoved()
 	}
 	return uint64(rounds), err
 }
@@ -143,25 +185,36 @@ func (session *Session) Feed(data []byte) error {
 }
 
 // Turn does one thing: it writes a reply, makes one step of the session's call, or reads a packet.
-// A call that begins has the timestamp moment, in seconds since 1970.
-func (session *Session) Turn(moment uint32) (Turn, error) {
+// A call that begins has the timestamp moment, in whole seconds.
+func (session *Session) Turn(moment time.Time) (Turn, error) {
+	begins, err := timestampOf("moment", moment)
+	if err != nil {
+		return 0, err
+	}
 	session.engine.lock.Lock()
 	defer session.engine.lock.Unlock()
 	engine := session.engine
-	number, err := checked(C.lt_turn(engine.pointer, session.number, C.uint32_t(moment)))
+	if err := session.offer(); err != nil {
+		return 0, err
+	}
+	number, err := checked(C.lt_turn(engine.pointer, session.number, C.uint32_t(begins)))
 	turn := Turn(number)
 	if err == nil && turn != Idle && turn != Blocked {
-		engine.moved.Broadcast()
+		session.took(turn)
 	}
 	return turn, err
 }
 
 // Settle repeats turns until the session is idle, blocked or ended, or until it has written most
 // replies.
-func (session *Session) Settle(moment uint32, most uint64) (Turn, error) {
+func (session *Session) Settle(moment time.Time, most uint64) (Turn, error) {
+	begins, err := timestampOf("moment", moment)
+	if err != nil {
+		return 0, err
+	}
 	session.engine.lock.Lock()
 	defer session.engine.lock.Unlock()
-	return session.settle(moment, most)
+	return session.settle(begins, most)
 }
 
 // WantsBytes reports whether the session waits for bytes from its client: no call is in progress,
@@ -169,8 +222,9 @@ func (session *Session) Settle(moment uint32, most uint64) (Turn, error) {
 func (session *Session) WantsBytes() (bool, error) {
 	session.engine.lock.Lock()
 	defer session.engine.lock.Unlock()
-	wants, err := checked(C.lt_wants_bytes(session.engine.pointer, session.number))
-	return wants == 1, err
+	wants, err := session.wantsBytes()
+	in := session.engine.inputs[uint64(session.number)]
+	return wants && in != nil && in.packet() == nil, err
 }
 
 // Output copies the pending output. If a rule rejected requests, these are the bytes up to the last
@@ -204,25 +258,106 @@ func (engine *Engine) open() (*Session, error) {
 	if err != nil {
 		return nil, err
 	}
+	engine.inputs[uint64(number)] = &input{}
 	return &Session{engine, C.uint64_t(number)}, nil
 }
 
-func (session *Session) feed(data []byte) error {
-	_, err := checked(C.lt_feed(session.engine.pointer, session.number, start(data),
-		C.size_t(len(data))))
-	return err
+// hasMoved is called after a session made progress.
+func (engine *Engine) hasMoved() {
+	engine.moved.Broadcast()
+	engine.note()
 }
 
-// settle wakes blocked sessions if a turn made progress, also before an error.
-func (session *Session) settle(moment uint32, most uint64) (Turn, error) {
-	engine := session.engine
-	var moved C.bool
-	answer := C.lt_settle(engine.pointer, session.number, C.uint32_t(moment), C.uint64_t(most), &moved)
-	if moved {
+// waitUntil waits until something has moved, or until this time.
+func (engine *Engine) waitUntil(until time.Time) {
+	alarm := time.AfterFunc(time.Until(until), func() {
+		engine.lock.Lock()
+		defer engine.lock.Unlock()
 		engine.moved.Broadcast()
+	})
+	defer alarm.Stop()
+	engine.moved.Wait()
+}
+
+// feed checks that the session reads further bytes, and adds them. The library gets them packet by
+// packet when it reads them: until then rules apply.
+func (session *Session) feed(data []byte) error {
+	if _, err := checked(C.lt_feed(session.engine.pointer, session.number, nil, 0)); err != nil {
+		return err
 	}
-	number, err := checked(answer)
-	return Turn(number), err
+	in := session.engine.inputs[uint64(session.number)]
+	if in == nil {
+		return ErrHasEnded
+	}
+	in.Write(data)
+	return nil
+}
+
+func (session *Session) wantsBytes() (bool, error) {
+	wants, err := checked(C.lt_wants_bytes(session.engine.pointer, session.number))
+	return wants == 1, err
+}
+
+// offer feeds the library the session's next packet, if it waits for one.
+func (session *Session) offer() error {
+	engine := session.engine
+	in := engine.inputs[uint64(session.number)]
+	if in == nil {
+		return nil
+	}
+	packet := in.packet()
+	if packet == nil {
+		return nil
+	}
+	if wants, err := session.wantsBytes(); err != nil || !wants {
+		return err
+	}
+	length := len(packet)
+	if in.begun && (len(engine.rules) > 0 || len(engine.hooks) > 0) {
+		ruled, err := engine.ruled(session.Number(), append([]byte(nil), packet...))
+		if err != nil {
+			return err
+		}
+		packet = ruled
+	}
+	answer := C.lt_feed(engine.pointer, session.number, start(packet), C.size_t(len(packet)))
+	if _, err := checked(answer); err != nil {
+		return err
+	}
+	in.Next(length)
+	in.begun = true
+	return nil
+}
+
+// took is called after a turn that did something.
+func (session *Session) took(turn Turn) {
+	if turn.HasEnded() {
+		delete(session.engine.inputs, uint64(session.number))
+	}
+	session.engine.hasMoved()
+}
+
+// settle runs the turns of one packet after another.
+func (session *Session) settle(moment timestamp, most uint64) (Turn, error) {
+	engine := session.engine
+	for count := uint64(0); count < most; count++ {
+		if err := session.offer(); err != nil {
+			return 0, err
+		}
+		var moved C.bool
+		answer := C.lt_settle(engine.pointer, session.number, C.uint32_t(moment), 1, &moved)
+		turn := Turn(answer)
+		if bool(moved) || turn.HasEnded() {
+			session.took(turn)
+		}
+		if _, err := checked(answer); err != nil {
+			return 0, err
+		}
+		if turn != Spent {
+			return turn, nil
+		}
+	}
+	return Spent, nil
 }
 
 func (session *Session) output() ([]byte, error) {
@@ -255,8 +390,8 @@ func (session *Session) take(room []byte) (int, error) {
 }
 
 func (session *Session) sent(count int) error {
-	if count < 0 {
-		return ErrNotSent
+	if err := checkRange("count", int64(count), 0, math.MaxInt64); err != nil {
+		return err
 	}
 	_, err := checked(C.lt_sent(session.engine.pointer, session.number, C.size_t(count)))
 	return err
@@ -264,7 +399,8 @@ func (session *Session) sent(count int) error {
 
 func (session *Session) close() error {
 	_, err := checked(C.lt_close(session.engine.pointer, session.number))
-	session.engine.moved.Broadcast()
+	delete(session.engine.inputs, uint64(session.number))
+	session.engine.hasMoved()
 	return err
 }
 

@@ -6,6 +6,7 @@ import (
 	"io"
 	"os"
 	"testing"
+	"time"
 )
 
 // INIT, and MKDIR of /a under the id 7.
@@ -42,7 +43,7 @@ func replay(t *testing.T) ([]Turn, [2]string) {
 	sessions := []*Session{open(t, engine, makes), open(t, engine, looks)}
 	var did []Turn
 	for _, number := range []int{1, 2, 2, 1, 1, 2, 1, 2, 2, 2, 1} {
-		turn, err := sessions[number-1].Turn(100)
+		turn, err := sessions[number-1].Turn(at(100))
 		must(t, err)
 		did = append(did, turn)
 	}
@@ -71,7 +72,7 @@ func begun(t *testing.T, engine *Engine, old, new string) *Session {
 	rename := packet(18, number(7), text([]byte(old)), text([]byte(new)))
 	session := open(t, engine, looks[:9]+string(rename))
 	for _, wanted := range []Turn{Wrote, Begun} {
-		turn, err := session.Turn(100)
+		turn, err := session.Turn(at(100))
 		must(t, err)
 		same(t, turn, wanted)
 	}
@@ -82,7 +83,7 @@ func begun(t *testing.T, engine *Engine, old, new string) *Session {
 // written returns what a turn of the session writes.
 func written(t *testing.T, session *Session) string {
 	t.Helper()
-	turn, err := session.Turn(100)
+	turn, err := session.Turn(at(100))
 	must(t, err)
 	same(t, turn, Wrote)
 	output, err := session.Output()
@@ -94,7 +95,7 @@ func written(t *testing.T, session *Session) string {
 // other one acquires the root. That takes three more, since its target is gone.
 func TestCrossingRenamesInRounds(t *testing.T) {
 	engine := newEngine(t)
-	must(t, engine.WriteFiles(map[string][]byte{"/a/x": nil, "/b/y": nil}, 0))
+	must(t, engine.WriteFiles(map[string][]byte{"/a/x": nil, "/b/y": nil}, at(0)))
 	first, second := begun(t, engine, "/a/x", "/b/y/x"), begun(t, engine, "/b/y", "/a/x/y")
 	for _, wanted := range []uint64{8, 0} {
 		rounds, err := engine.RunAll()
@@ -124,14 +125,13 @@ func TestNoRoundsWithoutACallUnderWay(t *testing.T) {
 
 func TestOutputWaitsUntilItWasSent(t *testing.T) {
 	session := open(t, newEngine(t), makes)
-	_, err := session.Settle(100, 1)
+	_, err := session.Settle(at(100), 1)
 	must(t, err)
 	waiting, err := session.Output()
 	must(t, err)
 	same(t, len(waiting), version)
 	must(t, session.Sent(version-2))
 	same(t, session.Sent(3), ErrNotSent)
-	same(t, session.Sent(-1), ErrNotSent)
 	rest, err := session.Output()
 	must(t, err)
 	same(t, rest, waiting[version-2:])
@@ -148,7 +148,7 @@ func TestHowSessionsEnd(t *testing.T) {
 		"\x00\x00\x00\x01\x01": NoID,
 	} {
 		session := open(t, engine, data)
-		turn, err := session.Settle(0, 1000)
+		turn, err := session.Settle(at(0), 1000)
 		must(t, err)
 		same(t, turn, wanted)
 		same(t, turn.HasEnded(), true)
@@ -158,7 +158,7 @@ func TestHowSessionsEnd(t *testing.T) {
 
 func TestRefusals(t *testing.T) {
 	engine := newEngine(t)
-	_, err := (&Session{engine, 1}).Turn(0)
+	_, err := (&Session{engine, 1}).Turn(at(0))
 	same(t, err, ErrNoSuchSession)
 	for count := 0; count < 256; count++ {
 		open(t, engine, "")
@@ -181,11 +181,11 @@ func setSize(t *testing.T, engine *Engine, path string, size uint64) {
 
 // Holes of a sparse file are reported and not read.
 func TestASparseFile(t *testing.T) {
-	engine, err := FromFiles(map[string][]byte{"/d/f": []byte("one")}, 0)
+	engine, err := FromFiles(map[string][]byte{"/d/f": []byte("one")}, at(0))
 	must(t, err)
 	t.Cleanup(func() { engine.Close() })
 	setSize(t, engine, "/d/f", 1<<40)
-	client := connect(t, engine, WallClock)
+	client := connect(t, engine, time.Now)
 	file, err := client.OpenFile("/d/f", os.O_WRONLY)
 	must(t, err)
 	_, err = file.WriteAt([]byte("two"), 1<<39+5)
@@ -210,7 +210,7 @@ func TestASparseFile(t *testing.T) {
 func TestAGapIsZeros(t *testing.T) {
 	long := make([]byte, 100_000)
 	long[0] = '1'
-	engine, err := FromFiles(map[string][]byte{"/f": long, "/g": []byte("1")}, 0)
+	engine, err := FromFiles(map[string][]byte{"/f": long, "/g": []byte("1")}, at(0))
 	must(t, err)
 	t.Cleanup(func() { engine.Close() })
 	setSize(t, engine, "/g", 100_000)
@@ -222,7 +222,7 @@ func TestAGapIsZeros(t *testing.T) {
 // A snapshot opens no session, so it works when all 256 are open. It records no call, and does not
 // change.
 func TestASnapshotAsksForNothing(t *testing.T) {
-	engine, err := FromFiles(map[string][]byte{"/f": bytes.Repeat([]byte("1"), 40_000)}, 0)
+	engine, err := FromFiles(map[string][]byte{"/f": bytes.Repeat([]byte("1"), 40_000)}, at(0))
 	must(t, err)
 	t.Cleanup(func() { engine.Close() })
 	before, err := engine.Calls()
@@ -246,7 +246,7 @@ func TestASnapshotWhileACallStandsHalfWay(t *testing.T) {
 	held := open(t, engine, makes)
 	hold(t, held)
 	same(t, len(snapshot(t, engine)), 1)
-	turn, err := held.Turn(100)
+	turn, err := held.Turn(at(100))
 	must(t, err)
 	same(t, turn, Decided)
 	same(t, snapshot(t, engine)["/a"].Mode, uint32(0o40755))
@@ -267,7 +267,7 @@ func TestWhoWantsBytes(t *testing.T) {
 	must(t, session.Feed([]byte(makes[5:])))
 	for _, wanted := range []Turn{Wrote, Begun, Moved, Decided, Wrote} {
 		wants(false)
-		turn, err := session.Turn(100)
+		turn, err := session.Turn(at(100))
 		must(t, err)
 		same(t, turn, wanted)
 	}
@@ -288,7 +288,7 @@ func TestVersionAndTexts(t *testing.T) {
 func TestSettleByReplies(t *testing.T) {
 	session := open(t, newEngine(t), makes)
 	for _, wanted := range []Turn{Spent, Spent, Idle} {
-		turn, err := session.Settle(100, 1)
+		turn, err := session.Settle(at(100), 1)
 		must(t, err)
 		same(t, turn, wanted)
 	}

@@ -2,6 +2,7 @@ package lucernetick_test
 
 import (
 	"fmt"
+	"time"
 
 	"lucernetick"
 )
@@ -13,7 +14,8 @@ const asks = "\x00\x00\x00\x05\x01\x00\x00\x00\x03" +
 
 // An engine whose tree has a file, as a snapshot shows it.
 func ExampleFromFiles() {
-	engine, err := lucernetick.FromFiles(map[string][]byte{"/reports/old.csv": []byte("0\n")}, 100)
+	files := map[string][]byte{"/reports/old.csv": []byte("0\n")}
+	engine, err := lucernetick.FromFiles(files, time.Unix(100, 0))
 	if err != nil {
 		fmt.Println(err)
 		return
@@ -21,7 +23,7 @@ func ExampleFromFiles() {
 	defer engine.Close()
 	tree, err := engine.Snapshot()
 	found := tree["/reports/old.csv"]
-	fmt.Printf("%d paths, %q at %d, %v\n", len(tree), found.Contents(), found.Mtime, err)
+	fmt.Printf("%d paths, %q at %d, %v\n", len(tree), found.Contents(), found.Mtime.Unix(), err)
 	// Output: 3 paths, "0\n" at 100, <nil>
 }
 
@@ -45,7 +47,7 @@ func ExampleEngine_Calls() {
 	}
 	calls, err := engine.Calls()
 	for _, call := range calls {
-		fmt.Println(call.Number, call.Path, call.Kind == lucernetick.KindMkdir, call.Answer.IsOK())
+		fmt.Println(call.Number, call.Path, call.Kind == lucernetick.KindMkdir, call.Reply.IsOK())
 	}
 	fmt.Println(err)
 	// Output:
@@ -72,7 +74,7 @@ func ExampleSession_Turn() {
 		return
 	}
 	for turn := lucernetick.Wrote; turn != lucernetick.Idle; {
-		if turn, err = session.Turn(100); err != nil {
+		if turn, err = session.Turn(time.Unix(100, 0)); err != nil {
 			break
 		}
 		fmt.Println(turn)

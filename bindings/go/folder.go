@@ -1,3 +1,5 @@
+//go:build cgo && linux && amd64
+
 package lucernetick
 
 import (
@@ -64,8 +66,7 @@ func save(entry Entry, to string, names map[int]string) error {
 
 func saveAttributes(entry Entry, to string) error {
 	err := os.Chmod(to, entry.FileMode().Perm())
-	atime, mtime := time.Unix(int64(entry.Atime), 0), time.Unix(int64(entry.Mtime), 0)
-	return firstOf(err, os.Chtimes(to, atime, mtime))
+	return firstOf(err, os.Chtimes(to, entry.Atime, entry.Mtime))
 }
 
 func firstOf(err, other error) error {
@@ -77,7 +78,7 @@ func firstOf(err, other error) error {
 
 // FromFS makes an engine with a copy of this tree, as WriteFS does. FromFS(os.DirFS(folder),
 // moment) copies a folder of the system.
-func FromFS(tree fs.FS, moment uint32) (*Engine, error) {
+func FromFS(tree fs.FS, moment time.Time) (*Engine, error) {
 	engine, err := New()
 	if err != nil {
 		return nil, err
@@ -93,7 +94,7 @@ func FromFS(tree fs.FS, moment uint32) (*Engine, error) {
 // copies names and contents, but no permissions or times. It keeps hard links if the tree shows
 // them, as a folder of the system and a Snapshot do. Anything else than files and directories is an
 // error.
-func (engine *Engine) WriteFS(tree fs.FS, moment uint32) error {
+func (engine *Engine) WriteFS(tree fs.FS, moment time.Time) error {
 	found := gathered{files: map[string][]byte{}, names: map[interface{}]string{}}
 	err := fs.WalkDir(tree, ".", func(name string, entry fs.DirEntry, err error) error {
 		if err != nil || name == "." {

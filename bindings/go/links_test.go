@@ -5,6 +5,7 @@ import (
 	"errors"
 	"fmt"
 	"testing"
+	"time"
 )
 
 // alike returns an engine with two files of two names each and one file of one name. They differ
@@ -12,11 +13,11 @@ import (
 func alike(t *testing.T) *Engine {
 	t.Helper()
 	same := []byte("same")
-	engine, err := FromFiles(map[string][]byte{"/a": same, "/b": same, "/d/e": same}, 77)
+	engine, err := FromFiles(map[string][]byte{"/a": same, "/b": same, "/d/e": same}, at(77))
 	must(t, err)
 	t.Cleanup(func() { engine.Close() })
-	must(t, engine.Link("/b", "/c", 77))
-	must(t, engine.Link("/a", "/d/a", 77))
+	must(t, engine.Link("/b", "/c", at(77)))
+	must(t, engine.Link("/a", "/d/a", at(77)))
 	for _, path := range []string{"/a", "/b", "/d/e"} {
 		set(t, engine, path, append(number(8), append(number(5), number(9)...)...))
 	}
@@ -46,7 +47,7 @@ func snapshot(t *testing.T, engine *Engine) Snapshot {
 func asker(t *testing.T, engine *Engine) *Session {
 	t.Helper()
 	session := open(t, engine, looks[:9])
-	_, err := session.Turn(0)
+	_, err := session.Turn(at(0))
 	must(t, err)
 	must(t, session.Sent(version))
 	return session
@@ -59,7 +60,7 @@ func look(session *Session) (map[string]string, error) {
 		if err := session.Feed(packet(packetStat, number(1), text([]byte(path)))); err != nil {
 			return nil, err
 		}
-		if _, err := session.Settle(900, 1000); err != nil {
+		if _, err := session.Settle(at(900), 1000); err != nil {
 			return nil, err
 		}
 		output, err := session.Output()
@@ -85,11 +86,11 @@ func lookedAt(t *testing.T, session *Session) map[string]string {
 }
 
 func TestATreeThatBeginsWithLinks(t *testing.T) {
-	engine, err := FromFiles(map[string][]byte{"/a": []byte("one"), "/b": []byte("two")}, 77)
+	engine, err := FromFiles(map[string][]byte{"/a": []byte("one"), "/b": []byte("two")}, at(77))
 	must(t, err)
 	defer engine.Close()
 	for _, names := range [][2]string{{"/a", "/d/a"}, {"d/a", "/d/c"}, {"/b", "/e/f/b"}} {
-		must(t, engine.Link(names[0], names[1], 77))
+		must(t, engine.Link(names[0], names[1], at(77)))
 	}
 	found := snapshot(t, engine)
 	wanted := map[string]int{
@@ -98,7 +99,7 @@ func TestATreeThatBeginsWithLinks(t *testing.T) {
 	same(t, numbersOf(found), wanted)
 	same(t, string(found["/d/c"].Contents())+string(found["/e/f/b"].Contents()), "onetwo")
 	for _, entry := range found {
-		same(t, entry.Mtime, uint32(77))
+		same(t, entry.Mtime, at(77))
 	}
 }
 
@@ -116,18 +117,18 @@ func TestASnapshotLeavesAllAttributes(t *testing.T) {
 	found := snapshot(t, engine)
 	same(t, lookedAt(t, session), before)
 	for _, path := range []string{"/a", "/b", "/c", "/d/a", "/d/e"} {
-		same(t, []uint32{found[path].Atime, found[path].Mtime}, []uint32{5, 9})
+		same(t, []time.Time{found[path].Atime, found[path].Mtime}, []time.Time{at(5), at(9)})
 	}
 }
 
 func TestAllNamesAreOneFile(t *testing.T) {
 	engine := alike(t)
-	must(t, engine.WriteFiles(map[string][]byte{"/c": []byte("longer than before")}, 10))
+	must(t, engine.WriteFiles(map[string][]byte{"/c": []byte("longer than before")}, at(10)))
 	found := snapshot(t, engine)
 	same(t, found["/b"], found["/c"])
 	same(t, found["/a"], found["/d/a"])
 	same(t, bytes.Equal(found["/a"].Contents(), found["/b"].Contents()), false)
-	must(t, connect(t, engine, WallClock).Remove("/b"))
+	must(t, connect(t, engine, time.Now).Remove("/b"))
 	left := snapshot(t, engine)
 	same(t, left["/c"], found["/c"])
 	_, there := left["/b"]
@@ -136,7 +137,7 @@ func TestAllNamesAreOneFile(t *testing.T) {
 
 func TestALinkOfAClient(t *testing.T) {
 	engine := alike(t)
-	client := connect(t, engine, WallClock)
+	client := connect(t, engine, time.Now)
 	must(t, client.Link("/d/e", "/f"))
 	same(t, snapshot(t, engine)["/f"].File, 3)
 	same(t, read(t, client, "/f"), []byte("same"))
@@ -148,7 +149,7 @@ func TestLinksThatAreRefused(t *testing.T) {
 		{"/none", "/x"}: 2, {"/d", "/x"}: 4, {"/a", "/b"}: 4,
 	} {
 		var status *StatusError
-		same(t, errors.As(engine.Link(names[0], names[1], 0), &status), true)
+		same(t, errors.As(engine.Link(names[0], names[1], at(0)), &status), true)
 		same(t, status.Code, code)
 		same(t, status.Request, "hardlink@openssh.com "+names[0]+" "+names[1])
 	}
@@ -159,10 +160,10 @@ func TestLinksThatAreRefused(t *testing.T) {
 func TestTheRequestThatIsRefused(t *testing.T) {
 	engine := alike(t)
 	var status *StatusError
-	same(t, errors.As(engine.WriteFiles(map[string][]byte{"/e/f": nil, "/e/x\x00y": nil}, 0), &status),
-		true)
-	same(t, status.Error(), "lucernetick: STAT /e/x\x00y: Failure")
-	same(t, errors.As(engine.WriteFiles(map[string][]byte{"/a/b/c": {}}, 0), &status), true)
+	below := map[string][]byte{"/e/f": nil, "/x": {}, "/x/y": nil}
+	same(t, errors.As(engine.WriteFiles(below, at(0)), &status), true)
+	same(t, status.Error(), "lucernetick: MKDIR /x: Failure")
+	same(t, errors.As(engine.WriteFiles(map[string][]byte{"/a/b/c": {}}, at(0)), &status), true)
 	same(t, status.Error(), "lucernetick: MKDIR /a: Failure")
 	_, there := snapshot(t, engine)["/e/f"]
 	same(t, there, true)

@@ -29,7 +29,7 @@ func set(t *testing.T, engine *Engine, path string, attributes []byte) {
 	t.Helper()
 	session := asker(t, engine)
 	must(t, session.Feed(packet(packetSetstat, number(1), text([]byte(path)), attributes)))
-	_, err := session.Settle(0, 1000)
+	_, err := session.Settle(at(0), 1000)
 	must(t, err)
 	output, err := session.Output()
 	must(t, err)

@@ -1,3 +1,5 @@
+//go:build cgo && linux && amd64
+
 package lucernetick
 
 import (
@@ -14,10 +16,12 @@ type racer struct {
 	session *Session
 	number  int
 	packets unanswered
-	closed  bool  // by its client
-	ended   bool  // its session has no more turns
-	slow    bool  // it was skipped
-	fault   error // the error of the turn that ended its session
+
+	goroutine uint64 // which has connected it
+	closed    bool   // by its client
+	ended     bool   // its session has no more turns
+	slow      bool   // it was skipped
+	fault     error  // the error of the turn that ended its session
 
 	readUntil, writeUntil time.Time
 	alarm                 *time.Timer // for readUntil
@@ -29,7 +33,7 @@ var _ net.Conn = (*racer)(nil)
 func (one *racer) waits() bool { return !one.ended && one.packets.count > 0 }
 
 // turn runs one turn. A client that has closed its connection leaves after its last reply.
-func (one *racer) turn(moment uint32) {
+func (one *racer) turn(moment time.Time) {
 	turn, err := one.session.Turn(moment)
 	one.fault = err
 	one.ended = err != nil || turn.HasEnded()
@@ -54,6 +58,8 @@ func (one *racer) Write(data []byte) (int, error) {
 	switch {
 	case one.closed:
 		return 0, net.ErrClosed
+	case one.races.fault != nil:
+		return 0, one.races.fault
 	case one.ended:
 		return 0, io.ErrClosedPipe
 	case hasPassed(one.writeUntil):
@@ -89,9 +95,21 @@ func (one *racer) Read(room []byte) (int, error) {
 			return 0, one.fault
 		case one.ended:
 			return 0, io.EOF
+		case one.races.lock.isCalling():
+			return 0, errWaits
+		case one.isAlone():
+			return 0, ErrOneGoroutine
 		}
 		one.races.moved.Wait()
 	}
+}
+
+// isAlone reports whether the goroutine that has connected this client, and should connect further
+// ones, waits for a reply.
+func (one *racer) isAlone() bool {
+	races := one.races
+	return !races.closed && len(races.racers) < races.awaited && one.readUntil.IsZero() &&
+		one.goroutine == goroutine()
 }
 
 func (one *racer) take(room []byte) (int, error) {

@@ -1,9 +1,14 @@
+//go:build cgo && linux && amd64
+
 package lucernetick
 
 import (
 	"errors"
+	"fmt"
 	"io"
 	"net"
+	"strconv"
+	"strings"
 	"sync"
 	"time"
 )
@@ -11,13 +16,18 @@ import (
 // ErrMoreClients is the error of Connect after all clients of a Races have connected.
 var ErrMoreClients = errors.New("lucernetick: all clients of the races have connected")
 
+// ErrOneGoroutine is the error of a client's Read if it would wait for its own goroutine.
+var ErrOneGoroutine = errors.New("lucernetick: this goroutine waits for a reply before it has " +
+	"connected all clients of the races, without which there is no turn: first call Connect for " +
+	"all of them, then use each connection in its own goroutine")
+
 // A Races runs concurrent clients, each in its own goroutine, under a seeded scheduler: the same
 // seed gives the same interleaving, at any speed of the goroutines.
 //
 // A session has a turn, which is one step of a call, only when every client waits for a reply or
 // has closed its connection. The scheduler picks one of the waiting clients. So close a connection
 // when its client is done; until then the others wait. A client that neither sends nor closes for
-// longer than Patience is skipped until it sends again. Reproducible then reports false.
+// longer than Patience is skipped until it sends again. Stray then says so.
 type Races struct {
 	// Time is the clock of all turns. It is 1000000000 unless a test sets it.
 	Time VirtualTime
@@ -26,9 +36,9 @@ type Races struct {
 	Patience time.Duration
 
 	engine *Engine
-	fault  error // set if no engine could be made
+	fault  error // why there is no engine, or why the race stopped
 
-	lock     sync.Mutex
+	lock     monitor
 	moved    *sync.Cond // signalled after turns, and when the races or a connection close
 	draws    splitMix
 	replayed []int // the turns of the schedule to replay
@@ -37,18 +47,24 @@ type Races struct {
 	awaited  int // how many must connect before the first turn
 	racers   []*racer
 	schedule []int
-	strayed  bool
+	stray    string
 	timer    *time.Timer
 	since    time.Time // when a client last acted
 	closed   bool
 }
 
-// NewRaces makes a race of this number of clients on an empty file system. If memory runs out,
-// Connect returns the error.
+// mostSessions is how many sessions an engine has at most.
+const mostSessions = 256
+
+// NewRaces makes a race of this number of clients on an empty file system. It panics if the number
+// is not from 1 to 256. If memory runs out, Connect returns the error.
 func NewRaces(seed uint64, clients int) *Races {
+	if err := checkRange("clients", int64(clients), 1, mostSessions); err != nil {
+		panic(err)
+	}
 	races := &Races{Patience: 30 * time.Second, clients: clients, awaited: clients}
 	races.draws.state = seed
-	races.Time.Set(1_000_000_000)
+	races.Time.Set(time.Unix(1_000_000_000, 0))
 	races.moved = sync.NewCond(&races.lock)
 	races.engine, races.fault = New()
 	if races.fault != nil {
@@ -59,23 +75,29 @@ func NewRaces(seed uint64, clients int) *Races {
 	return races
 }
 
-// ReplayRaces replays a schedule that Schedule returned. If the schedule names no waiting client,
-// the first waiting one has the turn, and Reproducible reports false.
-func ReplayRaces(schedule []int, clients int) *Races {
+// ReplayRaces replays a schedule that Schedule returned. It panics if the schedule is not one. If
+// the schedule names no waiting client, the first waiting one has the turn, and Stray says so.
+func ReplayRaces(schedule string, clients int) *Races {
+	replayed, err := readSchedule(schedule)
+	if err != nil {
+		panic(err)
+	}
 	races := NewRaces(0, clients)
 	races.replays = true
-	races.replayed = append(races.replayed, schedule...)
+	races.replayed = replayed
 	return races
 }
 
 // Engine returns the engine, to write and inspect files before the clients run and after they have
-// ended. During the race calls may be in progress, and no other session may have a turn.
+// ended, for rules and for callbacks. During the race calls may be in progress, and no other session
+// may have a turn.
 func (races *Races) Engine() *Engine { return races.engine }
 
 // Connect opens the session of the next client: 1, 2, 3 and so on. Connect all clients before any
 // of them runs, since turns depend on their numbers. The first request of a client is part of the
-// race. So make a client that sends one when it is made, as sftp.NewClientPipe does, in its own
-// goroutine.
+// race. So make a client that waits for a reply when it is made, as sftp.NewClientPipe does, in its
+// own goroutine. If a goroutine waits for a reply before it has connected all clients, the error is
+// ErrOneGoroutine.
 //
 // Writes never block. Reads block until a reply or the deadline.
 func (races *Races) Connect() (net.Conn, error) {
@@ -84,6 +106,9 @@ func (races *Races) Connect() (net.Conn, error) {
 	if races.fault != nil {
 		return nil, races.fault
 	}
+	if err := checkDuration("Patience", races.Patience); err != nil {
+		return nil, err
+	}
 	if len(races.racers) == races.clients {
 		return nil, ErrMoreClients
 	}
@@ -91,30 +116,42 @@ func (races *Races) Connect() (net.Conn, error) {
 	if err != nil {
 		return nil, err
 	}
-	one := &racer{races: races, session: session, number: len(races.racers) + 1}
+	one := &racer{
+		races: races, session: session, number: len(races.racers) + 1, goroutine: goroutine(),
+	}
 	races.racers = append(races.racers, one)
 	races.advance()
 	return one, nil
 }
 
-// Schedule returns the turns so far, each as the number of its client.
-func (races *Races) Schedule() []int {
+// Schedule returns the clients of the turns so far, as "1x4 2 1x2": four turns of client 1, one of
+// client 2, and two of client 1.
+func (races *Races) Schedule() string {
 	races.lock.Lock()
 	defer races.lock.Unlock()
-	return append([]int(nil), races.schedule...)
+	return writeSchedule(races.schedule)
 }
 
-// Reproducible reports whether the turns so far depend only on the seed or the schedule: no client
-// was skipped, and no turn was missing.
-func (races *Races) Reproducible() bool {
+// Stray returns why the race is not reproducible: a client was skipped, or the schedule has no turn
+// of a waiting client. It returns "" if the turns so far depend only on the seed or the schedule.
+func (races *Races) Stray() string {
 	races.lock.Lock()
 	defer races.lock.Unlock()
-	return !races.strayed
+	return races.stray
+}
+
+// Err returns a StoppedError if a callback has stopped the race, as Close does. Until then it
+// returns nil.
+func (races *Races) Err() error {
+	races.lock.Lock()
+	defer races.lock.Unlock()
+	return races.stopped()
 }
 
 var _ io.Closer = (*Races)(nil)
 
-// Close ends all connections, and frees the engine.
+// Close ends all connections, and frees the engine. It returns a StoppedError if a callback has
+// stopped the race.
 func (races *Races) Close() error {
 	races.lock.Lock()
 	defer races.lock.Unlock()
@@ -123,14 +160,27 @@ func (races *Races) Close() error {
 		races.timer.Stop()
 	}
 	races.moved.Broadcast()
-	return races.engine.Close()
+	return firstOf(races.engine.Close(), races.stopped())
 }
 
 // The methods below are called with the lock held.
 
 // advance runs turns as long as every client waits for a reply or has disconnected. It is called
-// after each action of a client.
+// after each action of a client. If a callback of a turn ends the goroutine, it stops the race.
 func (races *Races) advance() {
+	if races.lock.isCalling() {
+		// A callback acts as a client. The turns go on after it.
+		return
+	}
+	isDone := false
+	defer func() {
+		if !isDone {
+			races.stop(NewStoppedError(recover()))
+		}
+		races.moved.Broadcast()
+		races.since = time.Now()
+		races.watch(races.Patience)
+	}()
 	for !races.closed && len(races.racers) >= races.awaited {
 		waiting, all := races.waiting()
 		if !all || len(waiting) == 0 {
@@ -138,11 +188,34 @@ func (races *Races) advance() {
 		}
 		one := races.choose(waiting)
 		races.schedule = append(races.schedule, one.number)
-		one.turn(races.Time.Now())
+		races.lock.call(func() { one.turn(races.Time.Now()) })
 	}
-	races.moved.Broadcast()
-	races.since = time.Now()
-	races.watch(races.Patience)
+	isDone = true
+}
+
+// stop ends all connections.
+func (races *Races) stop(why error) {
+	races.fault = why
+	for _, one := range races.racers {
+		one.ended = true
+		one.fault = why
+	}
+}
+
+// stopped returns why the race stopped, or nil.
+func (races *Races) stopped() error {
+	var why *StoppedError
+	if errors.As(races.fault, &why) {
+		return why
+	}
+	return nil
+}
+
+// strays sets why the race is not reproducible.
+func (races *Races) strays(why string) {
+	if races.stray == "" {
+		races.stray = fmt.Sprintf("before turn %d: %s", len(races.schedule)+1, why)
+	}
 }
 
 // waiting returns the clients that wait for a reply, in order, and whether all others have
@@ -174,7 +247,7 @@ func (races *Races) choose(waiting []*racer) *racer {
 			}
 		}
 	}
-	races.strayed = true
+	races.strays("the schedule has no turn of a waiting client")
 	return waiting[0]
 }
 
@@ -196,10 +269,19 @@ func (races *Races) hurry() {
 		races.watch(races.Patience - passed)
 		return
 	}
-	races.strayed = true
-	races.awaited = len(races.racers)
-	for _, one := range races.racers {
-		one.slow = !one.ended && !one.waits()
+	var slow []string
+	for number := 1; number <= races.clients; number++ {
+		if number > len(races.racers) {
+			slow = append(slow, strconv.Itoa(number))
+			continue
+		}
+		one := races.racers[number-1]
+		if one.slow = !one.ended && !one.waits(); one.slow {
+			slow = append(slow, strconv.Itoa(number))
+		}
 	}
+	races.strays(fmt.Sprintf("client %s neither sent nor closed its connection for %v",
+		strings.Join(slow, " and "), races.Patience))
+	races.awaited = len(races.racers)
 	races.advance()
 }

@@ -80,6 +80,28 @@ func racing(t *testing.T, races *Races) []net.Conn {
 	return conns
 }
 
+// turnsOf returns the clients of the turns so far.
+func turnsOf(races *Races) []int {
+	races.lock.Lock()
+	defer races.lock.Unlock()
+	return append([]int(nil), races.schedule...)
+}
+
+func TestSchedulesAsText(t *testing.T) {
+	for text, clients := range map[string][]int{
+		"": nil, "3": {3}, "1x4 2 1x2": {1, 1, 1, 1, 2, 1, 1}, "12x3": {12, 12, 12},
+	} {
+		same(t, writeSchedule(clients), text)
+		read, err := readSchedule(text)
+		must(t, err)
+		same(t, read, clients)
+	}
+	for _, wrong := range []string{"1 b", "x", "1x", "-1", "1xx2"} {
+		says := panicked(t, func() { ReplayRaces(wrong, 2) })
+		same(t, strings.HasPrefix(says, "lucernetick: schedule must be as 1x4 2 1x2, and"), true)
+	}
+}
+
 // ask writes all requests of a client at once.
 func ask(t *testing.T, conn net.Conn, data string) {
 	t.Helper()
@@ -103,16 +125,16 @@ func TestTheTurnsOfASeed(t *testing.T) {
 	races := NewRaces(1234567, 2)
 	conns := racing(t, races)
 	ask(t, conns[0], looks)
-	same(t, races.Schedule(), []int(nil))
+	same(t, turnsOf(races), []int(nil))
 	ask(t, conns[1], makes)
-	same(t, races.Schedule(), []int{2, 2, 2, 2, 2})
+	same(t, turnsOf(races), []int{2, 2, 2, 2, 2})
 	must(t, conns[1].Close())
-	same(t, races.Schedule(), []int{2, 2, 2, 2, 2, 1, 1, 1, 1, 1})
+	same(t, turnsOf(races), []int{2, 2, 2, 2, 2, 1, 1, 1, 1, 1})
 	reply := told(t, conns[0], version+len(looked))[version:]
 	moment := string(number(1_000_000_000))
 	same(t, reply, looked[:33]+moment+moment)
 	must(t, conns[0].Close())
-	same(t, races.Reproducible(), true)
+	same(t, races.Stray(), "")
 }
 
 // The numbers of this seed are odd, even, odd, even and odd.
@@ -121,7 +143,7 @@ func TestTheTurnsOfAnotherSeed(t *testing.T) {
 	conns := racing(t, races)
 	ask(t, conns[0], looks)
 	ask(t, conns[1], makes)
-	same(t, races.Schedule()[:5], []int{2, 1, 2, 1, 2})
+	same(t, turnsOf(races)[:5], []int{2, 1, 2, 1, 2})
 }
 
 // uploader is a client that makes /out, writes a file there and renames the directory. It reports
@@ -159,7 +181,7 @@ func writeAndRename(client *sftp.Client, name string) error {
 // A run is the result of a race.
 type run struct {
 	told     [2]string
-	schedule []int
+	schedule string
 	tree     Snapshot
 }
 
@@ -180,7 +202,7 @@ func race(t *testing.T, races *Races) run {
 	}
 	<-done
 	<-done
-	same(t, races.Reproducible(), true)
+	same(t, races.Stray(), "")
 	outcome.schedule = races.Schedule()
 	outcome.tree = snapshot(t, races.Engine())
 	return outcome
@@ -224,7 +246,7 @@ func TestAScheduleIsGivenBack(t *testing.T) {
 // The schedule of another race: missing turns, and turns of a client that does not wait, are
 // reported.
 func TestSchedulesThatDoNotFit(t *testing.T) {
-	for _, schedule := range [][]int{{}, {2, 2, 2, 2}, {2, 2, 2, 2, 2, 1, 2, 1, 1, 1}, {3, 2}} {
+	for _, schedule := range []string{"", "2x4", "2x5 1 2 1x3", "3 2"} {
 		races := ReplayRaces(schedule, 2)
 		conns := racing(t, races)
 		ask(t, conns[0], looks)
@@ -239,8 +261,8 @@ func TestSchedulesThatDoNotFit(t *testing.T) {
 			}(conn)
 		}
 		both.Wait()
-		same(t, len(races.Schedule()), 10)
-		same(t, races.Reproducible(), false)
+		same(t, len(turnsOf(races)), 10)
+		same(t, races.Stray() != "", true)
 	}
 }
 
@@ -257,16 +279,16 @@ func TestAClientThatWaitsForAnother(t *testing.T) {
 		conns[0].Close()
 		done <- err
 	}()
-	same(t, races.Reproducible(), true)
+	same(t, races.Stray(), "")
 	ask(t, conns[1], makes)
 	told(t, conns[1], version+28)
-	same(t, races.Reproducible(), false)
+	same(t, races.Stray() != "", true)
 	close(asked)
 	must(t, conns[1].Close())
 	must(t, <-done)
 	_, err := conns[0].Read(make([]byte, 1))
 	same(t, err, net.ErrClosed)
-	same(t, races.Schedule(), []int{2, 2, 2, 2, 2, 1, 1, 1, 1, 1})
+	same(t, turnsOf(races), []int{2, 2, 2, 2, 2, 1, 1, 1, 1, 1})
 }
 
 func TestAClientThatDoesNotCome(t *testing.T) {
@@ -276,8 +298,10 @@ func TestAClientThatDoesNotCome(t *testing.T) {
 	conn, err := races.Connect()
 	must(t, err)
 	ask(t, conn, looks)
-	told(t, conn, version)
-	same(t, races.Reproducible(), false)
+	done := make(chan string)
+	go func() { done <- told(t, conn, version) }()
+	<-done
+	same(t, races.Stray(), "before turn 1: client 2 neither sent nor closed its connection for 50ms")
 	_, err = races.Connect()
 	must(t, err)
 	_, err = races.Connect()
@@ -295,12 +319,12 @@ func TestAClientThatGoesEarly(t *testing.T) {
 	same(t, err, net.ErrClosed)
 	_, err = conns[0].Read(make([]byte, 1))
 	same(t, err, net.ErrClosed)
-	same(t, len(races.Schedule()), 0)
+	same(t, len(turnsOf(races)), 0)
 	must(t, conns[1].Close())
-	same(t, len(races.Schedule()), 9)
+	same(t, len(turnsOf(races)), 9)
 	_, there := snapshot(t, races.Engine())["/a"]
 	same(t, there, true)
-	same(t, races.Reproducible(), true)
+	same(t, races.Stray(), "")
 }
 
 func TestASessionThatEndsItself(t *testing.T) {
@@ -316,7 +340,7 @@ func TestASessionThatEndsItself(t *testing.T) {
 		same(t, err, io.ErrClosedPipe)
 		must(t, conn.Close())
 	}
-	same(t, len(races.Schedule()), 2)
+	same(t, len(turnsOf(races)), 2)
 }
 
 func TestDeadlines(t *testing.T) {
@@ -356,15 +380,15 @@ func TestRacesThatAreClosed(t *testing.T) {
 // The race has its own clock, and may start with files.
 func TestATreeThatIsThereBefore(t *testing.T) {
 	races := NewRaces(7, 1)
-	must(t, races.Engine().WriteFiles(map[string][]byte{"/out/x": []byte("1")}, 5))
-	races.Time.Set(1_700_000_000)
+	must(t, races.Engine().WriteFiles(map[string][]byte{"/out/x": []byte("1")}, at(5)))
+	races.Time.Set(at(1_700_000_000))
 	conn := racing(t, races)[0]
 	same(t, uploader(conn, "a"), "found, renamed")
 	found := snapshot(t, races.Engine())
-	same(t, found["/done-a/x"].Mtime, uint32(5))
-	same(t, found["/done-a/a"].Mtime, uint32(1_700_000_000))
-	for _, client := range races.Schedule() {
+	same(t, found["/done-a/x"].Mtime, at(5))
+	same(t, found["/done-a/a"].Mtime, at(1_700_000_000))
+	for _, client := range turnsOf(races) {
 		same(t, client, 1)
 	}
-	same(t, reflect.DeepEqual(races.Schedule(), []int{}), false)
+	same(t, reflect.DeepEqual(turnsOf(races), []int{}), false)
 }

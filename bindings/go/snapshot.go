@@ -1,3 +1,5 @@
+//go:build cgo && linux && amd64
+
 package lucernetick
 
 import (
@@ -73,7 +75,7 @@ type entryInfo struct {
 func (info entryInfo) Name() string       { return info.name }
 func (info entryInfo) Size() int64        { return int64(info.entry.Size) }
 func (info entryInfo) Mode() fs.FileMode  { return info.entry.FileMode() }
-func (info entryInfo) ModTime() time.Time { return time.Unix(int64(info.entry.Mtime), 0) }
+func (info entryInfo) ModTime() time.Time { return info.entry.Mtime }
 func (info entryInfo) IsDir() bool        { return info.entry.IsDir() }
 func (info entryInfo) Sys() interface{}   { return info.entry }
 

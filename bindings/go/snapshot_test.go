@@ -18,10 +18,10 @@ func grown(t *testing.T) Snapshot {
 		"/a/b/c": []byte("one"), "/a/b-c": []byte("two"), "/a/none": {}, "/a/empty": nil,
 		"/a name": []byte("3"), "/caf\u00e9": []byte("4"), "/s": []byte("#!/bin/sh\n"),
 		"/l": bytes.Repeat([]byte("long "), 100_000),
-	}, 77)
+	}, at(77))
 	must(t, err)
 	t.Cleanup(func() { engine.Close() })
-	must(t, engine.Link("/a/b/c", "/x/c", 77))
+	must(t, engine.Link("/a/b/c", "/x/c", at(77)))
 	// The permissions of /s are 0o6750, its times 5 and 1700000000.
 	set(t, engine, "/s", append(number(4), number(0o6750)...))
 	set(t, engine, "/s", append(number(8), append(number(5), number(1_700_000_000)...)...))
@@ -86,18 +86,18 @@ func TestASnapshotIsSavedAndTakenBack(t *testing.T) {
 	must(t, err)
 	same(t, os.SameFile(one, other), true)
 
-	engine, err := FromFS(os.DirFS(folder), 9)
+	engine, err := FromFS(os.DirFS(folder), at(9))
 	must(t, err)
 	t.Cleanup(func() { engine.Close() })
 	again := snapshot(t, engine)
-	copied, err := FromFS(tree, 9)
+	copied, err := FromFS(tree, at(9))
 	must(t, err)
 	t.Cleanup(func() { copied.Close() })
 	same(t, snapshot(t, copied), again)
 	same(t, numbersOf(again), numbersOf(tree))
 	for path, entry := range again {
 		same(t, entry.Contents(), tree[path].Contents())
-		same(t, entry.Mtime, uint32(9))
+		same(t, entry.Mtime, at(9))
 	}
 	// Nothing is replaced.
 	same(t, errors.Is(tree.Save(folder), fs.ErrExist), true)
@@ -105,7 +105,7 @@ func TestASnapshotIsSavedAndTakenBack(t *testing.T) {
 
 // Directories without permissions are saved with their contents.
 func TestASnapshotOfWhatMayNotBeRead(t *testing.T) {
-	engine, err := FromFiles(map[string][]byte{"/d/f": []byte("1")}, 7)
+	engine, err := FromFiles(map[string][]byte{"/d/f": []byte("1")}, at(7))
 	must(t, err)
 	t.Cleanup(func() { engine.Close() })
 	set(t, engine, "/d", append(number(4), number(0)...))
@@ -125,7 +125,7 @@ func TestATreeOfAnotherFS(t *testing.T) {
 		"d/f":   {Data: []byte("1"), Mode: 0o600},
 		"none":  {},
 		"empty": {Mode: fs.ModeDir},
-	}, 3)
+	}, at(3))
 	must(t, err)
 	t.Cleanup(func() { engine.Close() })
 	found := snapshot(t, engine)
@@ -133,7 +133,8 @@ func TestATreeOfAnotherFS(t *testing.T) {
 	same(t, string(found["/d/f"].Contents()), "1")
 	same(t, found["/none"].Contents(), []byte{})
 	same(t, found["/empty"].IsDir(), true)
-	same(t, []uint32{found["/d/f"].Mode, found["/d/f"].Mtime}, []uint32{0o100644, 3})
+	same(t, found["/d/f"].Mode, uint32(0o100644))
+	same(t, found["/d/f"].Mtime, at(3))
 }
 
 // Symbolic links are not supported, so they are an error.
@@ -141,8 +142,8 @@ func TestFoldersThatAreRefused(t *testing.T) {
 	folder := t.TempDir()
 	must(t, os.WriteFile(filepath.Join(folder, "f"), []byte("1"), 0o600))
 	must(t, os.Symlink("f", filepath.Join(folder, "g")))
-	_, err := FromFS(os.DirFS(folder), 0)
+	_, err := FromFS(os.DirFS(folder), at(0))
 	same(t, err.Error(), "lucernetick: g is neither a file nor a directory")
-	_, err = FromFS(os.DirFS(filepath.Join(folder, "none")), 0)
+	_, err = FromFS(os.DirFS(filepath.Join(folder, "none")), at(0))
 	same(t, errors.Is(err, fs.ErrNotExist), true)
 }

@@ -6,6 +6,7 @@ import "C"
 import (
 	"bytes"
 	"io"
+	"time"
 )
 
 const (
@@ -22,8 +23,8 @@ var zeros [unit]byte
 type Entry struct {
 	Mode         uint32 // type and permissions, as in stat(2)
 	UID, GID     uint32
-	Atime, Mtime uint32 // seconds since 1970
-	Size         uint64 // 0 for a directory
+	Atime, Mtime time.Time // in whole seconds
+	Size         uint64    // 0 for a directory
 	// Pieces are a file's bytes without its holes: all other bytes are zeros. A piece begins at a
 	// multiple of 32768. Blocks of 32768 zeros are omitted, so that files with equal bytes have
 	// equal pieces.
@@ -92,7 +93,9 @@ func (entry Entry) ReadAt(room []byte, offset int64) (int, error) {
 // records no call, and changes no time. The engine is locked only while the snapshot is taken, not
 // while files are read.
 func (engine *Engine) Snapshot() (Snapshot, error) {
+	engine.lock.Lock()
 	tree, err := engine.take()
+	engine.lock.Unlock()
 	if err != nil {
 		return nil, err
 	}
@@ -117,30 +120,59 @@ type taken struct {
 	numbers map[uint64]int // file numbers by label
 }
 
+// take takes a snapshot. The engine's lock is held.
 func (engine *Engine) take() (taken, error) {
-	engine.lock.Lock()
-	defer engine.lock.Unlock()
 	tree := taken{room: make([]byte, unit), numbers: map[uint64]int{}}
 	_, err := checked(C.lt_tree_of(engine.pointer, &tree.pointer))
 	return tree, err
 }
 
+// find returns the entry at a path in normal form, and whether there is one. The engine's lock is
+// held.
+func (engine *Engine) find(path string) (Entry, bool, error) {
+	tree, err := engine.take()
+	if err != nil {
+		return Entry{}, false, err
+	}
+	defer C.lt_tree_free(tree.pointer)
+	for at := C.uint64_t(0); ; at++ {
+		name, entry, err := tree.leaf(at)
+		if err != nil || name == "" {
+			return Entry{}, false, err
+		}
+		if name == path {
+			entry.Pieces, err = tree.pieces(at, entry.Size)
+			return entry, true, err
+		}
+	}
+}
+
 // entry returns the entry at an index, with its path; no path if there is none.
 func (tree taken) entry(at C.uint64_t) (string, Entry, error) {
+	path, entry, err := tree.leaf(at)
+	if err != nil || path == "" {
+		return "", Entry{}, err
+	}
+	entry.Pieces, err = tree.pieces(at, entry.Size)
+	return path, entry, err
+}
+
+// leaf is like entry, without the bytes of a file.
+func (tree taken) leaf(at C.uint64_t) (string, Entry, error) {
 	var told C.lt_leaf
 	count, err := checked(C.lt_tree_leaf(tree.pointer, at, &told))
 	if err != nil || at >= C.uint64_t(count) {
 		return "", Entry{}, err
 	}
-	path, found := string(bytesOf(told.path)), attributesOf(told.attributes)
+	found := attributesOf(told.attributes)
 	entry := Entry{
-		found.Permissions, found.UID, found.GID, found.Atime, found.Mtime, found.Size, nil, 0,
+		Mode: found.Permissions, UID: found.UID, GID: found.GID,
+		Atime: found.Atime, Mtime: found.Mtime, Size: found.Size,
 	}
 	if !entry.IsDir() {
 		entry.File = tree.number(uint64(told.label))
 	}
-	entry.Pieces, err = tree.pieces(at, entry.Size)
-	return path, entry, err
+	return string(bytesOf(told.path)), entry, nil
 }
 
 // number returns the number of a file.

@@ -31,6 +31,7 @@ import (
 	"errors"
 	"fmt"
 	"sort"
+	"time"
 )
 
 // ErrBlocked: a call of another session, still in progress, blocks the request. The request stays
@@ -49,7 +50,7 @@ func (status *StatusError) Error() string {
 }
 
 // FromFiles makes an engine with these files, as WriteFiles does.
-func FromFiles(files map[string][]byte, moment uint32) (*Engine, error) {
+func FromFiles(files map[string][]byte, moment time.Time) (*Engine, error) {
 	engine, err := New()
 	if err != nil {
 		return nil, err
@@ -62,17 +63,26 @@ func FromFiles(files map[string][]byte, moment uint32) (*Engine, error) {
 }
 
 // WriteFiles makes or replaces these files, in the order of their paths, with the timestamp moment.
-// It sends requests in new sessions. It makes missing parents. Nil contents make a directory.
-func (engine *Engine) WriteFiles(files map[string][]byte, moment uint32) error {
+// It drops fractions of a second, and the zero time is 1970. It sends requests in new sessions, to
+// which no rule applies. It makes missing parents. Nil contents make a directory.
+func (engine *Engine) WriteFiles(files map[string][]byte, moment time.Time) error {
+	made, err := timestampOf("moment", moment)
+	if err != nil {
+		return err
+	}
 	paths := make([]string, 0, len(files))
 	for path := range files {
+		if err := checkPath(path); err != nil {
+			return err
+		}
 		paths = append(paths, path)
 	}
 	sort.Strings(paths)
 	engine.lock.Lock()
 	defer engine.lock.Unlock()
+	defer engine.hasMoved()
 	for _, path := range paths {
-		if err := engine.place(path, files[path], C.uint32_t(moment)); err != nil {
+		if err := engine.place(path, files[path], C.uint32_t(made)); err != nil {
 			return err
 		}
 	}
@@ -81,13 +91,21 @@ func (engine *Engine) WriteFiles(files map[string][]byte, moment uint32) error {
 
 // Link adds the new path to the file at the old one (a hard link), with the timestamp moment. It
 // makes missing parents of the new path. If the new path exists, it returns a StatusError.
-func (engine *Engine) Link(old, new string, moment uint32) error {
+func (engine *Engine) Link(old, new string, moment time.Time) error {
+	made, err := timestampOf("moment", moment)
+	for _, path := range []string{old, new} {
+		err = firstOf(err, checkPath(path))
+	}
+	if err != nil {
+		return err
+	}
 	engine.lock.Lock()
 	defer engine.lock.Unlock()
+	defer engine.hasMoved()
 	var place C.lt_place
 	from, to := []byte(old), []byte(new)
 	answer := C.hard_link(engine.pointer, start(from), C.size_t(len(from)),
-		start(to), C.size_t(len(to)), C.uint32_t(moment), &place)
+		start(to), C.size_t(len(to)), C.uint32_t(made), &place)
 	if place.kind == C.LT_KIND_HARDLINK {
 		return refused(answer, place, old+" "+new)
 	}

@@ -1,4 +1,4 @@
-"""Takes the shared library that `make library` built into the package, where it is there."""
+"""Builds the package with the shared library that `make library` has built, if there is one."""
 
 from __future__ import annotations
 
@@ -19,23 +19,21 @@ BUILT = pathlib.Path(__file__).resolve().parents[2] / "out" / "liblucernetick.so
 
 
 def newest_glibc(library: pathlib.Path) -> tuple[int, int]:
-    """The newest version of glibc of which the library wants something: so it needs this one or a
-    later one."""
+    """The newest version of glibc that the library has a symbol of: it needs this version."""
     versions = re.findall(rb"GLIBC_(\d+)\.(\d+)", library.read_bytes())
     return max((int(major), int(minor)) for major, minor in versions)
 
 
 def linux_tag(library: pathlib.Path, machine: str) -> str:
-    """What pip goes by to tell whether the library runs on a machine: 2.17 is manylinux2014, and
-    the oldest that is told."""
+    """The tag by which pip decides whether the library runs on a machine: 2.17 is manylinux2014,
+    the oldest tag."""
     major, minor = max(newest_glibc(library), (2, 17))
     tag = f"manylinux_{major}_{minor}_{machine}"
     return f"{tag}.manylinux2014_{machine}" if (major, minor) == (2, 17) else tag
 
 
 class WithLibrary(build_py):
-    """Copies the library beside the modules. Without it the package looks for it when it is
-    imported."""
+    """Copies the library beside the modules. Without it, the package looks for it at its import."""
 
     def run(self) -> None:
         super().run()

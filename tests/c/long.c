@@ -1,11 +1,12 @@
 /* Long runs of the library, one by each word:
  *
- *     long keeps|engines|sessions|calls|handles|moments|files|packets|names
+ *     long keeps|engines|sessions|calls|handles|moments|files|packets|names|depth|idle
  *
  * What a run is answered is compared with what docs/PROTOCOL.md says. It stops at the first other
  * answer. */
 #include "lucernetick.h"
 
+#include <malloc.h>
 #include <stdio.h>
 #include <stdlib.h>
 #include <string.h>
@@ -282,6 +283,80 @@ static void names(void)
     lt_free(engine);
 }
 
+/* Makes HALF directories, each below another, all of this name. */
+enum { HALF = 2000 };
+static lt_bytes make_deep(uint8_t *path, char name)
+{
+    for (size_t i = 0; i < HALF; i++) {
+        path[2 * i] = '/';
+        path[2 * i + 1] = (uint8_t)name;
+    }
+    const lt_bytes whole = {path, 2 * HALF};
+    same("directories", HALF, lt_make_directory(engine, whole, MOMENT, NULL), 0);
+    return whole;
+}
+
+/* 4,000 directories, each below another: a rename moves the one half below the other. The longest
+ * path is longer than one that a request may have. */
+static void depth(void)
+{
+    static uint8_t old[2 * HALF], new[2 * HALF], request[32 + 2 * HALF];
+    lt_tree *tree;
+    lt_leaf leaf;
+    begin(1);
+    make_deep(old, 'a');
+    const lt_bytes below = make_deep(new, 'b');
+    const size_t length = below.length + 2;
+    put_u32(request, 5 + 4 + 2 + 4 + length);
+    request[4] = 18;
+    put_u32(request + 5, 6);
+    put_u32(request + 9, 2);
+    memcpy(request + 13, "/a", 2);
+    put_u32(request + 15, length);
+    memcpy(request + 19, below.at, below.length);
+    memcpy(request + 19 + below.length, "/a", 2);
+    is_ok(HALF, ask(HALF, MOMENT, request, 19 + length, OK), 6);
+    same("a tree", HALF, lt_tree_of(engine, &tree), 0);
+    same("how many leaves", HALF, lt_tree_leaf(tree, 2 * HALF, &leaf), 2 * HALF + 1);
+    same("the longest path", HALF, (int64_t)leaf.path.length, 4 * HALF);
+    same("its first half", HALF, memcmp(leaf.path.at, new, 2 * HALF), 0);
+    same("its second half", HALF, memcmp(leaf.path.at + 2 * HALF, old, 2 * HALF), 0);
+    lt_tree_free(tree);
+    lt_free(engine);
+}
+
+/* How many bytes are allocated. */
+static int64_t held(void)
+{
+    const struct mallinfo2 info = mallinfo2();
+    return (int64_t)(info.uordblks + info.hblkhd);
+}
+
+/* Sessions that were sent large replies hold no memory for them once they are idle. */
+static void idle(void)
+{
+    enum { DATA = 261120, SESSIONS = 200, MOST_EACH = 8192 };
+    uint8_t request[] = {0, 0, 0, 29, 5, 0, 0, 0, 7, 0, 0, 0, 8, 0, 0, 0, 0,
+                         0, 0, 0, 0, 0, 0, 0, 0, 0, 0, 0, 0, 0, 3, 0xfc, 0};
+    const lt_bytes path = {(const uint8_t *)"/f", 2}, contents = {bytes, DATA};
+    fill();
+    begin(1);
+    same("a file", 0, lt_write_file(engine, path, contents, MOMENT, NULL), 0);
+    const int64_t before = held();
+    for (uint32_t at = 1; at <= SESSIONS; at++) {
+        static const uint8_t OPEN[] = {0, 0, 0,   19,  3, 0, 0, 0, 4, 0, 0, 0,
+                                       2, '/', 'f', 0, 0, 0, 1, 0, 0, 0, 0};
+        session = (uint64_t)lt_open(engine);
+        ask(at, MOMENT, INIT, sizeof INIT, VERSION);
+        const uint8_t *opened = ask(at, MOMENT, OPEN, sizeof OPEN, HANDLE);
+        memcpy(request + 13, opened + 13, 8);
+        const uint8_t *reply = ask(at, MOMENT, request, sizeof request, 13 + DATA);
+        same("the file's bytes", at, memcmp(reply + 13, bytes, DATA), 0);
+        same("few bytes are held", at, held() - before < (int64_t)at * MOST_EACH + DATA, 1);
+    }
+    lt_free(engine);
+}
+
 int main(int count, char **words)
 {
     static const struct {
@@ -289,7 +364,8 @@ int main(int count, char **words)
         void (*run)(void);
     } runs[] = {{"keeps", keeps}, {"engines", engines}, {"sessions", sessions},
                 {"calls", calls}, {"handles", handles}, {"moments", moments},
-                {"files", files}, {"packets", packets}, {"names", names}};
+                {"files", files}, {"packets", packets}, {"names", names},
+                {"depth", depth}, {"idle", idle}};
     for (size_t i = 0; count == 2 && i < sizeof runs / sizeof *runs; i++)
         if (strcmp(words[1], runs[i].name) == 0) {
             runs[i].run();

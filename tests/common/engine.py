@@ -142,12 +142,13 @@ class Engine:
 
     def take(self, session):
         """What waits to be sent, which is sent."""
-        count = granted(self.library.lt_output(self.at, session, self.room, ROOM))
-        if count > ROOM:
-            raise AssertionError(f"{count} bytes wait")
-        data = ctypes.string_at(self.room, count)
-        same(self.library.lt_sent(self.at, session, count), 0)
-        return data
+        taken, waiting = b"", ROOM + 1
+        while waiting > ROOM:
+            waiting = granted(self.library.lt_output(self.at, session, self.room, ROOM))
+            data = ctypes.string_at(self.room, min(waiting, ROOM))
+            same(self.library.lt_sent(self.at, session, len(data)), 0)
+            taken += data
+        return taken
 
     def ask(self, session, data):
         """Feeds bytes, of whole packets, and gives what they are answered."""

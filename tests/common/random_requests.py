@@ -2,8 +2,11 @@
 from one seed. Paths and handles are such that calls meet."""
 
 import random
+from collections import deque
 
-from packets import CLOSE, FSETSTAT, FSTAT, OPENDIR, REMOVE, RMDIR, SETSTAT, STAT, string, u32, u64
+from packets import (
+    CLOSE, FSETSTAT, FSTAT, OPEN, OPENDIR, REMOVE, RMDIR, SETSTAT, STAT, string, u32, u64,
+)
 from schedules import (
     handle, links, lists, mkdir, opens, posix_renames, reads, renames, set_size, writes,
 )
@@ -19,25 +22,29 @@ def set_path_size(path, size):
 
 
 class Requests:
-    """Draws, and the latest handles."""
+    """Draws, and each session's latest handles of files and of directories."""
 
     sessions = 8
-    # Handles beyond these are forgotten.
-    most_handles = 16
+    # The handles before these are forgotten.
+    latest = 4
 
     def __init__(self, seed):
         self.chance = random.Random(seed)
-        self.handles = [0] * self.most_handles
+        self.handles = {OPEN: {}, OPENDIR: {}}
 
     def once_in(self, times):
         return self.chance.randrange(times) == 0
 
-    def remember(self, _session, number):
-        """A call was answered by a handle."""
-        self.handles[self.chance.randrange(len(self.handles))] = number
+    def opened(self, session, kind, number):
+        """A call of this kind was answered by a handle."""
+        self.handles[kind].setdefault(session, deque(maxlen=self.latest)).append(number)
 
-    def handle(self, _session):
-        return self.chance.choice(self.handles)
+    def handle(self, session, kind=OPEN):
+        """Mostly one of the session's own."""
+        found = self.handles[OPEN if self.once_in(12) else kind]
+        if self.once_in(12):
+            session = self.chance.choice([session, *found])
+        return self.chance.choice(found.get(session, [0]))
 
     def renamed(self, old, new):
         """A rename succeeded."""
@@ -91,7 +98,9 @@ class Names(Requests):
 
     def request(self, session):
         kind = self.chance.randrange(24)
-        if kind <= 1:
+        if kind == 0:
+            return lists(self.handle(session, OPENDIR))
+        if kind == 1:
             return self.by_handle(self.handle(session))
         if kind == 2:
             path = self.chance.choice([b"/" + self.one_of(self.roots), self.within(self.home)])
@@ -104,7 +113,7 @@ class Names(Requests):
         offset = self.chance.randrange(40)
         return self.chance.choice(
             [(CLOSE, handle(number)), (FSTAT, handle(number)), set_size(number, offset)]
-            + [reads(number, offset, 20), writes(number, offset, b"some bytes"), lists(number)] * 3
+            + [reads(number, offset, 20), writes(number, offset, b"some bytes")] * 3
         )
 
     def on_path(self):
@@ -137,18 +146,11 @@ class Writes(Requests):
     directory that renames move."""
 
     sessions = 6
+    latest = 1
 
     def __init__(self, seed):
         super().__init__(seed)
         self.home = b"a"
-        # Its own handle for each session.
-        self.handles = {}
-
-    def remember(self, session, number):
-        self.handles[session] = number
-
-    def handle(self, session):
-        return self.handles.get(session, 0)
 
     def renamed(self, old, new):
         if old == b"/" + self.home:
@@ -158,7 +160,7 @@ class Writes(Requests):
         return [mkdir(b"/a")]
 
     def request(self, session):
-        path = b"/" + self.home + b"/" + self.chance.choice([b"f", b"g"])
+        path = b"/" + self.home + b"/" + self.chance.choice([b"f", b"f", b"f", b"g"])
         size, number = self.chance.randrange(40000), self.handle(session)
         kind = self.chance.randrange(12)
         if kind <= 3:
@@ -217,9 +219,11 @@ class Kinds(Requests):
         kind = self.chance.randrange(40)
         if kind <= 3:
             return self.by_two_paths(*self.chance.choices(self.paths, k=2))
-        if kind <= 19:
+        if kind <= 17:
             return self.by_path(self.chance.choice(self.paths))
-        return self.by_handle(self.handle(session))
+        if kind <= 33:
+            return self.by_handle(self.handle(session))
+        return self.by_listing(self.handle(session, OPENDIR))
 
     def by_two_paths(self, old, new):
         return self.chance.choice([renames, posix_renames, links])(old, new)
@@ -237,22 +241,27 @@ class Kinds(Requests):
         length = self.chance.choice([*range(20), (1 << 32) - 1])
         return self.chance.choice(
             [(CLOSE, handle(number)), (FSTAT, handle(number))]
-            + [(FSETSTAT, handle(number), self.attributes()), lists(number)] * 2
-            + [reads(number, self.offset(), length)] * 4
-            + [writes(number, self.offset(), self.chance.choice(self.data))] * 5
+            + [(FSETSTAT, handle(number), self.attributes())]
+            + [reads(number, self.offset(), length)] * 3
+            + [writes(number, self.offset(), self.chance.choice(self.data))] * 4
+        )
+
+    def by_listing(self, number):
+        return self.chance.choice(
+            [(CLOSE, handle(number)), (FSTAT, handle(number))]
+            + [(FSETSTAT, handle(number), self.attributes())]
+            + [lists(number)] * 7
         )
 
 
 class Sparse(Kinds):
     """WRITEs, sizes and READs of two files around the seams of their blocks."""
 
-    def first(self):
-        return [opens(path, READS_WRITES_AND_MAKES) for path in (b"/f", b"/g")]
-
-    def handle(self, _session):
-        return self.chance.choice([1, 2])
+    latest = 2
 
     def request(self, session):
+        if self.once_in(50) or session not in self.handles[OPEN]:
+            return opens(self.chance.choice([b"/f", b"/g"]), READS_WRITES_AND_MAKES)
         number, place = self.handle(session), self.near_a_seam()
         kind = self.chance.randrange(8)
         if kind <= 1:

@@ -49,10 +49,14 @@ type Server struct {
 	engine       *lucernetick.Engine
 	host, client ed25519.PrivateKey
 
-	lock    sync.Mutex
-	lines   map[net.Conn]bool // the open connections
-	closed  bool
-	serving sync.WaitGroup
+	lock     sync.Mutex
+	lines    map[net.Conn]bool          // the open connections
+	conns    map[*lucernetick.Conn]bool // those of the sessions
+	sessions uint64
+	faults   func(session uint64) lucernetick.Faults
+	fault    error // why the server stopped
+	closed   bool
+	serving  sync.WaitGroup
 }
 
 // NewServer starts a server for the engine, with the system's clock. Close ends it. Like
@@ -74,11 +78,13 @@ func NewUnstartedServer(engine *lucernetick.Engine) *Server {
 		Listener: listener,
 		User:     "user",
 		Password: newPassword(),
-		Clock:    lucernetick.WallClock,
+		Clock:    time.Now,
 		engine:   engine,
 		host:     newKey(),
 		client:   newKey(),
 		lines:    map[net.Conn]bool{},
+		conns:    map[*lucernetick.Conn]bool{},
+		faults:   func(uint64) lucernetick.Faults { return lucernetick.Faults{} },
 	}
 	server.Config = &ssh.ServerConfig{
 		PasswordCallback:  server.checkPassword,
@@ -95,7 +101,27 @@ func (server *Server) Start() {
 	}
 	server.Addr = server.Listener.Addr().String()
 	server.serving.Add(1)
-	go server.accept()
+	go func() {
+		defer server.serving.Done()
+		server.run(server.accept)
+	}()
+}
+
+// SetFaults sets the faults of all sessions that open from now on. It panics if a number is out of
+// range.
+func (server *Server) SetFaults(faults lucernetick.Faults) {
+	if err := faults.Check(); err != nil {
+		panic(err)
+	}
+	server.SetFaultsOf(func(uint64) lucernetick.Faults { return faults })
+}
+
+// SetFaultsOf sets a function that returns the faults of each session that opens from now on. The
+// first session of a server is 1, the next one 2 and so on.
+func (server *Server) SetFaultsOf(faults func(session uint64) lucernetick.Faults) {
+	server.lock.Lock()
+	defer server.lock.Unlock()
+	server.faults = faults
 }
 
 // ClientConfig returns a configuration for ssh.Dial that logs in with the client key. It accepts
@@ -120,17 +146,55 @@ func (server *Server) KnownHosts() string {
 // be readable by others. ssh.ParsePrivateKey parses it.
 func (server *Server) ClientKey() []byte { return fileOf(server.client) }
 
-// Close ends all connections, and waits for their goroutines. The engine stays open.
-func (server *Server) Close() {
+// Close ends all connections, and waits for their goroutines. The engine stays open. It returns the
+// error of Err.
+func (server *Server) Close() error {
+	server.stop(nil)
+	server.serving.Wait()
+	return server.Err()
+}
+
+// Err returns why the server has stopped, or nil: a clock, a callback or a rule that panics, or
+// ends the goroutine, stops the server, and so does an error of the engine. All connections are
+// closed, and the error is a StoppedError.
+func (server *Server) Err() error {
+	server.lock.Lock()
+	defer server.lock.Unlock()
+	return server.fault
+}
+
+// stop closes the listener and all connections. Only the first reason counts.
+func (server *Server) stop(why error) {
 	server.lock.Lock()
 	server.closed = true
+	if server.fault == nil {
+		server.fault = why
+	}
 	// Both may be closed already.
 	server.Listener.Close()
 	for line := range server.lines {
 		line.Close()
 	}
+	var conns []*lucernetick.Conn
+	for conn := range server.conns {
+		conns = append(conns, conn)
+	}
 	server.lock.Unlock()
-	server.serving.Wait()
+	for _, conn := range conns {
+		conn.Drop()
+	}
+}
+
+// run runs a part of the server. If it ends early, the server stops.
+func (server *Server) run(part func()) {
+	isDone := false
+	defer func() {
+		if !isDone {
+			server.stop(lucernetick.NewStoppedError(recover()))
+		}
+	}()
+	part()
+	isDone = true
 }
 
 var errRefused = errors.New("sshtest: who this is may not log in")
@@ -157,7 +221,6 @@ func (server *Server) check(client ssh.ConnMetadata, shown, wanted []byte) error
 
 // accept accepts connections until the server is closed.
 func (server *Server) accept() {
-	defer server.serving.Done()
 	for {
 		line, err := server.Listener.Accept()
 		switch {
@@ -166,7 +229,10 @@ func (server *Server) accept() {
 		case err != nil:
 			time.Sleep(pause)
 		case server.begin(line):
-			go server.serve(line)
+			go func() {
+				defer server.end(line)
+				server.run(func() { server.serve(line) })
+			}()
 		default:
 			line.Close()
 		}
@@ -195,7 +261,6 @@ func (server *Server) end(line net.Conn) {
 
 // serve serves a connection to its end.
 func (server *Server) serve(line net.Conn) {
-	defer server.end(line)
 	line.SetDeadline(time.Now().Add(patience))
 	_, channels, requests, err := ssh.NewServerConn(line, server.Config)
 	if err != nil {
@@ -217,7 +282,7 @@ func (server *Server) serve(line net.Conn) {
 		sessions.Add(1)
 		go func() {
 			defer sessions.Done()
-			server.session(channel, requests)
+			server.run(func() { server.session(line, channel, requests) })
 		}()
 	}
 	sessions.Wait()

@@ -35,7 +35,7 @@ func start(t *testing.T) (*sshtest.Server, *lucernetick.Engine) {
 	must(t, err)
 	t.Cleanup(func() { engine.Close() })
 	server := sshtest.NewServer(engine)
-	t.Cleanup(server.Close)
+	t.Cleanup(func() { server.Close() })
 	return server, engine
 }
 
@@ -70,6 +70,7 @@ func put(client *sftp.Client, path string, contents []byte) error {
 		return err
 	}
 	if _, err := file.ReadFrom(bytes.NewReader(contents)); err != nil {
+		file.Close()
 		return err
 	}
 	return file.Close()
@@ -233,10 +234,10 @@ func TestAUserOfTheTests(t *testing.T) {
 	server := sshtest.NewUnstartedServer(engine)
 	server.User, server.Password = "carla", "secret"
 	clock := &lucernetick.VirtualTime{}
-	clock.Set(1_700_000_000)
+	clock.Set(time.Unix(1_700_000_000, 0))
 	server.Clock = clock.Now
 	server.Start()
-	t.Cleanup(server.Close)
+	t.Cleanup(func() { server.Close() })
 	config := server.ClientConfig()
 	config.Auth = []ssh.AuthMethod{ssh.Password("secret")}
 	client, err := ssh.Dial("tcp", server.Addr, config)
@@ -245,8 +246,8 @@ func TestAUserOfTheTests(t *testing.T) {
 	must(t, open(t, client).Mkdir("/d"))
 	tree, err := engine.Snapshot()
 	must(t, err)
-	if client.User() != "carla" || tree["/d"].Mtime != 1_700_000_000 {
-		t.Fatalf("%s made it at %d", client.User(), tree["/d"].Mtime)
+	if client.User() != "carla" || tree["/d"].Mtime.Unix() != 1_700_000_000 {
+		t.Fatalf("%s made it at %v", client.User(), tree["/d"].Mtime)
 	}
 }
 
@@ -326,7 +327,7 @@ func TestACallThatIsBlockedIsCut(t *testing.T) {
 	must(t, held.Feed([]byte("\x00\x00\x00\x05\x01\x00\x00\x00\x03"+
 		"\x00\x00\x00\x0f\x0e\x00\x00\x00\x07\x00\x00\x00\x02/a\x00\x00\x00\x00")))
 	for count := 0; count < 3; count++ {
-		_, err = held.Turn(100)
+		_, err = held.Turn(time.Unix(100, 0))
 		must(t, err)
 	}
 	line, client := cuttable(t, server)

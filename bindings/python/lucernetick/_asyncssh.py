@@ -1,5 +1,4 @@
-"""What asyncssh calls for an `SshServer`: for each connection, and for each channel on it. No other
-module imports asyncssh."""
+"""The SSH server of `SshServer`, by asyncssh. No other module imports asyncssh."""
 
 from __future__ import annotations
 
@@ -7,31 +6,43 @@ import asyncio
 import contextlib
 import os
 import secrets
-from typing import Iterable, Optional, Union, cast
+from typing import Callable, Iterable, Optional, Sequence, Union, cast
 
 import asyncssh
 
-from ._faults import RefusedError
+from ._faults import Error
+from ._lines import Faults
 from ._server import Connection, Server
+from ._users import User
 
 KIND = "ssh-ed25519"
+ATTEMPTS = 6
+"""How many wrong passwords a connection may send."""
+DELAY = 2.0
+"""How many seconds later it is closed."""
 
 
-class Front:
-    """Listens at a port. A client that has the password or one of the keys gets sessions on the
-    tree, and nothing else."""
+class Listener:
+    """Listens at a port. A client that has a user's password or one of the keys gets sessions on
+    the tree, and nothing else."""
 
     def __init__(
         self,
         server: Server,
-        user: str,
-        password: str,
+        users: Sequence[User],
         key_files: Iterable[Union[str, os.PathLike[str]]],
+        host_key: Union[None, str, os.PathLike[str]],
+        faults: Callable[[int], Faults],
     ) -> None:
         self.server = server
-        self.user = user
-        self.password = password
-        self.host_key = asyncssh.generate_private_key(KIND)
+        self.users = {user.name: user for user in users}
+        self.faults = faults
+        self.sessions = 0
+        self.host_key = (
+            asyncssh.generate_private_key(KIND)
+            if host_key is None
+            else asyncssh.read_private_key(os.fspath(host_key))
+        )
         self.client_key = asyncssh.generate_private_key(KIND)
         self.known = {asyncssh.read_public_key(os.fspath(name)).public_data for name in key_files}
         self.known.add(self.client_key.public_data)
@@ -40,7 +51,7 @@ class Front:
         self.lines: set[asyncio.Transport] = set()
 
     async def listen(self, host: str, port: int) -> int:
-        """Answers the port."""
+        """Returns the port."""
         self.acceptor = await asyncssh.listen(
             host,
             port,
@@ -54,7 +65,7 @@ class Front:
         return int(self.acceptor.sockets[0].getsockname()[1])
 
     async def close(self) -> None:
-        """Cuts all connections, and ends their sessions."""
+        """Closes all connections, and ends their sessions."""
         if self.acceptor:
             self.acceptor.close()
         cut = list(self.connections)
@@ -69,23 +80,35 @@ class Front:
         for line in list(self.lines):
             line.abort()
         await asyncio.sleep(0)
-        # Its threads looked up addresses.
+        # Its threads have looked up addresses.
         await asyncio.get_running_loop().shutdown_default_executor()
+
+    def connect(self, user: User) -> Optional[Connection]:
+        """A session; None if there is no room, or the server has stopped."""
+        try:
+            self.sessions += 1
+            return self.server._connect(self.faults(self.sessions), user.root)
+        except Error:
+            return None
+        except Exception as fault:
+            self.server._fail(fault)
+            return None
 
 
 class Login(asyncssh.SSHServer):
-    """A connection: who may come in, and what there is. asyncssh refuses what isn't asked for here,
-    as forwarding of ports and of sockets."""
+    """A connection: its login, and its channels. asyncssh rejects what isn't accepted here, as
+    forwarding of ports and sockets."""
 
-    def __init__(self, front: Front) -> None:
-        self.front = front
+    def __init__(self, listener: Listener) -> None:
+        self.listener = listener
+        self.failures = 0
 
     def connection_made(self, conn: asyncssh.SSHServerConnection) -> None:
         self.connection = conn
-        self.front.connections.add(conn)
+        self.listener.connections.add(conn)
 
     def connection_lost(self, exc: Optional[Exception]) -> None:
-        self.front.connections.discard(self.connection)
+        self.listener.connections.discard(self.connection)
 
     def begin_auth(self, username: str) -> bool:
         return True
@@ -93,29 +116,41 @@ class Login(asyncssh.SSHServer):
     def password_auth_supported(self) -> bool:
         return True
 
-    def validate_password(self, username: str, password: str) -> bool:
-        is_right = secrets.compare_digest(password.encode(), self.front.password.encode())
-        return is_right and username == self.front.user
+    async def validate_password(self, username: str, password: str) -> bool:
+        user = self.listener.users.get(username)
+        expected = user.password if user is not None else secrets.token_urlsafe()
+        if secrets.compare_digest(password.encode(), expected.encode()) and user is not None:
+            return True
+        self.failures += 1
+        if self.failures >= ATTEMPTS:
+            await asyncio.sleep(DELAY)
+            self.connection.abort()
+        return False
 
     def public_key_auth_supported(self) -> bool:
         return True
 
     def validate_public_key(self, username: str, key: asyncssh.SSHKey) -> bool:
-        return key.public_data in self.front.known and username == self.front.user
+        return key.public_data in self.listener.known and username in self.listener.users
 
     def session_requested(self) -> Channel:
-        return Channel(self.front)
+        name = self.connection.get_extra_info("username")
+        return Channel(self.listener, self.connection, self.listener.users[name])
 
 
 class Channel(asyncssh.SSHServerSession[bytes]):
-    """A channel of a connection: what its client sends is passed on to a session, as fast as that
-    takes it."""
+    """A channel of a connection. It passes on to a session what its client sends, as fast as the
+    session reads."""
 
-    def __init__(self, front: Front) -> None:
-        self.front = front
+    def __init__(
+        self, listener: Listener, connection: asyncssh.SSHServerConnection, user: User
+    ) -> None:
+        self.listener = listener
+        self.connection = connection
+        self.user = user
         self.line: Optional[asyncio.Transport] = None
         self.early: list[bytes] = []
-        """What came before there was a line."""
+        """What was received before there was a line."""
         self.has_ended = False
         """Whether the client sends no more."""
         self.is_lost = False
@@ -130,20 +165,20 @@ class Channel(asyncssh.SSHServerSession[bytes]):
         return False
 
     def subsystem_requested(self, subsystem: str) -> bool:
-        """Whether there is a session for it. What is sent meanwhile comes before there is a line to
-        it."""
+        """Whether there is a session for it."""
         if subsystem != "sftp":
             return False
-        try:
-            connection = self.front.server.connect()
-        except RefusedError:
+        connection = self.listener.connect(self.user)
+        if connection is None:
             return False
         self.joining = asyncio.ensure_future(self.join(connection))
         return True
 
     async def join(self, connection: Connection) -> None:
         loop = asyncio.get_running_loop()
-        self.line, _ = await loop.create_connection(lambda: Line(self), sock=connection)
+        self.line, _ = await loop.create_connection(
+            lambda: Line(self, connection), sock=connection
+        )
         self.line.writelines(self.early)
         self.early.clear()
         if self.has_ended:
@@ -156,12 +191,12 @@ class Channel(asyncssh.SSHServerSession[bytes]):
             self.line.write(data)
 
     def eof_received(self) -> bool:
-        """True: its client is still told what it asked for."""
+        """True: the client still receives its replies."""
         self.end()
         return True
 
     def connection_lost(self, exc: Optional[Exception]) -> None:
-        """What came whole is carried out; what that is answered goes nowhere."""
+        """Requests that are complete take effect; nobody receives the replies."""
         self.is_lost = True
         self.end()
         self.resume_writing()
@@ -181,18 +216,19 @@ class Channel(asyncssh.SSHServerSession[bytes]):
 
 
 class Line(asyncio.Protocol):
-    """The client's end of a channel's session: what the server sends is passed on to the channel,
-    as fast as that takes it."""
+    """The client's end of a channel's session. It passes on to the channel what the server sends,
+    as fast as the client reads."""
 
-    def __init__(self, channel: Channel) -> None:
+    def __init__(self, channel: Channel, connection: Connection) -> None:
         self.channel = channel
+        self.connection = connection
 
     def connection_made(self, transport: asyncio.BaseTransport) -> None:
         self.transport = cast(asyncio.Transport, transport)
-        self.channel.front.lines.add(self.transport)
+        self.channel.listener.lines.add(self.transport)
 
     def data_received(self, data: bytes) -> None:
-        # A channel that its client has closed isn't lost yet where reading is paused.
+        # A channel that its client has closed isn't lost yet while reading is paused.
         with contextlib.suppress(BrokenPipeError):
             if not self.channel.is_lost:
                 self.channel.channel.write(data)
@@ -206,10 +242,12 @@ class Line(asyncio.Protocol):
             self.channel.channel.resume_reading()
 
     def connection_lost(self, exc: Optional[Exception]) -> None:
-        """The session has ended. OpenSSH's client waits until the channel is closed too, which
-        `exit` does once all output is sent. No end of output is told before that (RFC 4254, 5.3,
-        asks for none): Go's pkg/sftp would end its own input once more then, for which asyncssh
-        breaks its connection off."""
-        self.channel.front.lines.discard(self.transport)
-        if not self.channel.is_lost:
+        """The session has ended. A cut drops the whole connection. Otherwise `exit` closes the
+        channel once all output is sent, for which OpenSSH's client waits. No end of output is sent
+        before that: Go's pkg/sftp would then end its input a second time, and asyncssh would close
+        the connection."""
+        self.channel.listener.lines.discard(self.transport)
+        if self.connection.is_cut:
+            self.channel.connection.abort()
+        elif not self.channel.is_lost:
             self.channel.channel.exit(0 if self.channel.has_ended else 1)

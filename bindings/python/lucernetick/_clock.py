@@ -1,17 +1,24 @@
-"""What tells the moment at which a call begins."""
+"""Clocks: each call of a client begins at a timestamp."""
 
 import time
 from typing import Callable
 
-Clock = Callable[[], int]
-"""Tells seconds since 1970, 0 to 4294967295."""
+from ._arguments import LATEST, integer, timestamp
 
-LATEST = 2**32 - 1
+Clock = Callable[[], int]
+"""Returns the time in whole seconds since 1970, from 0 to 4294967295."""
 
 
 def wall_clock() -> int:
     """The system's clock."""
     return min(max(int(time.time()), 0), LATEST)
+
+
+def checked_clock(clock: Clock) -> Clock:
+    if not callable(clock):
+        why = f"clock must be a function that returns seconds, not {type(clock).__name__}"
+        raise TypeError(why)
+    return clock
 
 
 class VirtualTime:
@@ -23,12 +30,13 @@ class VirtualTime:
     def __call__(self) -> int:
         return self._moment
 
+    def __repr__(self) -> str:
+        return f"VirtualTime({self._moment})"
+
     def set(self, moment: int) -> None:
-        """From now on it is `moment`, in seconds since 1970: earlier or later than before."""
-        if not 0 <= moment <= LATEST:
-            raise ValueError(f"{moment} is no time of this protocol: 0 to {LATEST}")
-        self._moment = moment
+        """Sets the time to `moment`, in whole seconds since 1970. It may go back."""
+        self._moment = timestamp("moment", moment)
 
     def advance(self, seconds: int) -> None:
-        """Goes so many seconds on."""
-        self.set(self._moment + seconds)
+        """Moves the time forward by this many whole seconds."""
+        self.set(self._moment + integer("seconds", seconds, -LATEST, LATEST))

@@ -1,4 +1,4 @@
-"""What can go wrong, by the words of the library."""
+"""Errors, with the library's messages."""
 
 import enum
 
@@ -6,45 +6,49 @@ from ._library import message
 
 
 class Error(Exception):
-    """Whatever this package raises of its own."""
+    """The base class of this package's errors."""
 
 
 class Refusal(enum.IntEnum):
-    """Why a call was refused. A refused call has changed nothing, and may be made again."""
+    """Why the engine rejected a call. A rejected call has changed nothing and may be repeated."""
 
     OUT_OF_MEMORY = -1
     NO_SUCH_SESSION = -2
     TOO_MANY_SESSIONS = -3
+    """256 sessions are open."""
     HAS_ENDED = -4
+    """The session has ended, and takes no more bytes."""
     NUMBERS_SPENT = -5
     NOT_SENT = -6
+    """`Session.sent` was given more bytes than are waiting."""
     BAD_POINTER = -7
+    """The engine was closed."""
     IS_BLOCKED = -8
-    """Of `write_files`, as those below: it is raised as `BlockedError`."""
+    """Of `write_files`; raised as `BlockedError`."""
     LONG_PATH = -10
-    """A path, or both of a link, have more bytes than a packet has room for: 262080."""
+    """Of `write_files`: the paths don't fit into a packet."""
     NO_REPLY = -11
-    """It is raised as `EndedError`."""
+    """Of `write_files`; raised as `EndedError`."""
     BAD_KIND = -12
-    """Of `refuse`, as those below."""
     BAD_STATUS = -13
     BAD_PATH = -14
-    """A path has more than 4096 bytes, a name of more than 255, or a byte 0."""
 
 
 class RefusedError(Error):
-    """The engine refused a call."""
+    """The engine rejected a call: `refusal` says why."""
 
     def __init__(self, refusal: Refusal) -> None:
         super().__init__(refusal)
         self.refusal = refusal
 
     def __str__(self) -> str:
+        if self.refusal == Refusal.BAD_POINTER:
+            return "the engine was closed"
         return message(self.refusal)
 
 
 class StatusError(Error):
-    """A request of `write_files` was answered by a status other than OK."""
+    """The server replied to a request of `write_files` with a status other than OK."""
 
     def __init__(self, code: int, message: str, request: str) -> None:
         super().__init__(code, message, request)
@@ -57,10 +61,18 @@ class StatusError(Error):
 
 
 class BlockedError(Error):
-    """The call of another session, which has yet to take its turns, holds what a request wants. The
-    request stays as it is, in a session that gets no further turn but by `Engine.run_all`: it may
-    hold a directory until then."""
+    """The call of another session, which the test has stopped, holds a mutex that a request of
+    `write_files` needs. The request stays pending. `Engine.run_all` completes both."""
 
 
 class EndedError(Error):
-    """A session ended where a reply was due."""
+    """A session of `write_files` ended before its reply."""
+
+
+class DroppedError(Error):
+    """`calls()` would be incomplete: the engine no longer has the records of its oldest calls."""
+
+
+class StoppedError(Error):
+    """A thread of a server or a race ended by an exception, which is the cause of this one. All
+    connections were closed."""

@@ -8,12 +8,12 @@ from typing import Iterator
 NAME = "liblucernetick.so"
 VARIABLE = "LUCERNETICK_LIBRARY"
 STATUS_BASE = -100
-"""The answer of a status is this less its code."""
+"""A function returns this minus the code of a status."""
 
 
 def places() -> Iterator[pathlib.Path]:
-    """Where the library may be: the file that the variable names, in this package, or where
-    `make library` leaves it in the repository that this file belongs to."""
+    """Where the library may be: at the path in the variable, in this package, or in `out/` of this
+    repository."""
     named = os.environ.get(VARIABLE)
     if named:
         yield pathlib.Path(named)
@@ -29,17 +29,17 @@ def find() -> pathlib.Path:
     for place in tried:
         if place.is_file():
             return place
-    told = ", ".join(map(str, tried))
+    looked = ", ".join(map(str, tried))
     raise ImportError(
-        f"{NAME} isn't there (looked for {told}); build it by make library, or name it by {VARIABLE}"
+        f"{NAME} not found (looked for {looked}): build it by make library, or set {VARIABLE}"
     )
 
 
 def load(path: pathlib.Path) -> ctypes.CDLL:
     library = ctypes.CDLL(str(path))
     engine, number, size, count = ctypes.c_void_p, ctypes.c_uint64, ctypes.c_size_t, ctypes.c_int64
-    moment, data, truth = ctypes.c_uint32, ctypes.c_char_p, ctypes.POINTER(ctypes.c_bool)
-    for name, answer, words in (
+    moment, data, flag = ctypes.c_uint32, ctypes.c_char_p, ctypes.POINTER(ctypes.c_bool)
+    for name, result, arguments in (
         ("lt_version", data, []),
         ("lt_message", data, [count]),
         ("lt_new_keeping", engine, [number]),
@@ -47,17 +47,16 @@ def load(path: pathlib.Path) -> ctypes.CDLL:
         ("lt_open", count, [engine]),
         ("lt_feed", count, [engine, number, data, size]),
         ("lt_turn", count, [engine, number, moment]),
-        ("lt_settle", count, [engine, number, moment, number, truth]),
+        ("lt_settle", count, [engine, number, moment, number, flag]),
         ("lt_run_all", count, [engine]),
         ("lt_wants_bytes", count, [engine, number]),
         ("lt_close", count, [engine, number]),
         ("lt_output", count, [engine, number, data, size]),
         ("lt_sent", count, [engine, number, size]),
-        ("lt_refused", count, [engine, number]),
     ):
         function = getattr(library, name)
-        function.restype = answer
-        function.argtypes = words
+        function.restype = result
+        function.argtypes = arguments
     return library
 
 
@@ -65,5 +64,5 @@ library = load(find())
 
 
 def message(answer: int) -> str:
-    """The library's text of an answer."""
+    """The library's text for a result."""
     return str(library.lt_message(answer).decode())

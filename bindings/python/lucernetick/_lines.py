@@ -3,31 +3,65 @@
 from __future__ import annotations
 
 import contextlib
+import math
 import select
 import socket
 from collections import deque
-from time import sleep
-from typing import Optional
+from dataclasses import dataclass
+from time import monotonic
+from typing import Iterator, Optional
+
+from . import _arguments as arguments
 
 PIECE = 65536
-REPLIES = 64
-"""How many replies are written before the output goes out."""
+REPLIES = 8
+"""The number of replies that are written before the output is sent."""
 MOST_AHEAD = 1 << 24
-"""How many bytes of requests are read ahead at most, while the replies before them can't be
-sent."""
+"""How many bytes are buffered at most, of requests while replies can't be sent, and of replies that
+are late."""
+
+
+@dataclass(frozen=True)
+class Faults:
+    """Faults of a connection. The numbers are of SFTP's bytes, without those of SSH."""
+
+    cut_after: Optional[int] = None
+    """The connection is dropped as soon as this many bytes were received from the client, or sent
+    to it. Requests that are complete by then take effect, and no others."""
+    delay: float = 0.0
+    """The latency of each reply, in seconds. Replies to pipelined requests overlap."""
+    bandwidth: Optional[float] = None
+    """The bytes per second in each direction, at most."""
+    chunk: Optional[int] = None
+    """The client receives at most this many bytes at a time."""
+
+    def __post_init__(self) -> None:
+        if self.cut_after is not None:
+            arguments.integer("cut_after", self.cut_after)
+        arguments.seconds("delay", self.delay)
+        if self.bandwidth is not None:
+            arguments.seconds("bandwidth", self.bandwidth, 1.0)
+        if self.chunk is not None:
+            arguments.integer("chunk", self.chunk, 1)
+
+
+class LineEnded(Exception):
+    """The client has closed its connection, or a fault has."""
 
 
 class Line:
-    """While it can't send, it reads on, and keeps what it read for later: so a client that sends
-    before it reads doesn't hang."""
+    """While it can't send, it reads on and buffers: so a client that sends before it reads doesn't
+    block."""
 
     replies = REPLIES
+    is_cut = False
 
     def __init__(self, line: socket.socket) -> None:
         self._line = line
         self._ahead: deque[bytearray] = deque()
         self._count = 0
         self._has_ended = False
+        self._is_shut = False
 
     def recv(self) -> bytes:
         """The next bytes, none at the end of the input."""
@@ -35,26 +69,36 @@ class Line:
             data = bytes(self._ahead.popleft())
             self._count -= len(data)
             return data
-        return b"" if self._has_ended else self._line.recv(PIECE)
+        with contextlib.suppress(OSError):
+            return b"" if self._has_ended else self._line.recv(PIECE)
+        return b""
 
     def sendall(self, data: bytes) -> None:
         rest = memoryview(data)
-        while rest:
-            try:
-                rest = rest[self._line.send(rest, socket.MSG_DONTWAIT) :]
-            except BlockingIOError:
-                self._wait()
+        try:
+            while rest:
+                try:
+                    rest = rest[self._line.send(rest, socket.MSG_DONTWAIT) :]
+                except BlockingIOError:
+                    self._wait()
+        except OSError as fault:
+            raise LineEnded from fault
 
     def shutdown(self) -> None:
-        """Nothing more passes, either way."""
+        """Ends both directions."""
+        self._is_shut = True
         with contextlib.suppress(OSError):
             self._line.shutdown(socket.SHUT_RDWR)
 
     def close(self) -> None:
         self._line.close()
 
+    def forget(self) -> None:
+        """Closes a forked child's copy: the parent's connection stays."""
+        self._line.close()
+
     def _wait(self) -> None:
-        """Waits until it can send, or something comes, which it reads."""
+        """Waits until it can send, or has read something."""
         poll = select.poll()
         reads = not self._has_ended and self._count < MOST_AHEAD
         poll.register(self._line, select.POLLOUT | (select.POLLIN if reads else 0))
@@ -66,46 +110,121 @@ class Line:
         data = self._line.recv(PIECE)
         self._has_ended = not data
         self._count += len(data)
-        # Small pieces are joined, so that what is kept takes no more than its bytes.
+        # Small parts are joined, so that they take no more memory than their bytes.
         if data and self._ahead and len(self._ahead[-1]) + len(data) <= PIECE:
             self._ahead[-1] += data
         elif data:
             self._ahead.append(bytearray(data))
 
 
-class BadLine(Line):
-    """A line that is cut after so many bytes either way, or that is late. Replies are sent one by
-    one, so that what its client did until then is the same each time."""
+class FaultyLine(Line):
+    """A line with faults. Replies are written one by one, so that a cut is reproducible."""
 
     replies = 1
 
-    def __init__(self, line: socket.socket, cut_after: Optional[int], delay: float) -> None:
+    def __init__(self, line: socket.socket, faults: Faults) -> None:
         super().__init__(line)
-        self._delay = delay
-        self._to_come = self._to_go = cut_after
+        self._faults = faults
+        self._to_come = self._to_go = math.inf if faults.cut_after is None else faults.cut_after
+        self._late: deque[tuple[float, bytes]] = deque()
+        """Bytes to be sent, and when."""
+        self._late_bytes = 0
+        self._free = 0.0
+        """When the bandwidth allows to send further bytes."""
 
     def recv(self) -> bytes:
-        if self._to_come is None:
-            return super().recv()
-        data = super().recv()[: self._to_come] if self._to_come else b""
-        self._to_come -= len(data)
+        self._wait_for_input()
+        data = b""
+        if self._to_come:
+            data = super().recv()
+            if len(data) >= self._to_come:
+                data = data[: int(self._to_come)]
+                self.is_cut = True
+            self._to_come -= len(data)
+        if self._faults.bandwidth:
+            with self._without_client():
+                self._send_late(monotonic() + len(data) / self._faults.bandwidth)
         return data
 
     def sendall(self, data: bytes) -> None:
-        sleep(self._delay)
-        if self._to_go is None:
-            return super().sendall(data)
-        part = data[: self._to_go]
-        self._to_go -= len(part)
-        super().sendall(part)
+        if len(data) >= self._to_go:
+            data = data[: int(self._to_go)]
+            self.is_cut = True
+        self._to_go -= len(data)
+        if self._faults.delay or self._faults.bandwidth:
+            self._add_late(data)
+        else:
+            super().sendall(data)
         if not self._to_go:
-            raise ConnectionAbortedError("the line is cut")
+            raise LineEnded("cut")
 
     def close(self) -> None:
-        """What its client has sent already is taken, so that it is told of an end, and not of a
-        reset."""
+        """Sends the late replies. The client sees an end of the stream, and no reset: what it has
+        sent is read."""
+        with contextlib.suppress(LineEnded):
+            while self._late:
+                self._send_late(self._late[0][0])
         self.shutdown()
         with contextlib.suppress(OSError):
             while self._line.recv(PIECE):
                 pass
         super().close()
+
+    def _add_late(self, data: bytes) -> None:
+        due = monotonic() + self._faults.delay
+        for at in range(0, len(data), PIECE):
+            part = data[at : at + PIECE]
+            self._free = max(due, self._free)
+            if self._faults.bandwidth:
+                self._free += len(part) / self._faults.bandwidth
+            self._late.append((self._free, part))
+            self._late_bytes += len(part)
+        while self._late_bytes > MOST_AHEAD:
+            self._send_late(self._late[0][0])
+
+    def _wait_for_input(self) -> None:
+        """Sends late replies until there is something to read."""
+        with self._without_client():
+            while self._late and not self._ahead and not self._has_ended and self._to_come:
+                if self._has_input(self._late[0][0]):
+                    return
+                self._send_late(self._late[0][0])
+
+    @contextlib.contextmanager
+    def _without_client(self) -> Iterator[None]:
+        """If the client has closed its end, late replies are dropped. What it sent is read."""
+        try:
+            yield
+        except LineEnded:
+            self._late.clear()
+            self._late_bytes = 0
+
+    def _send_late(self, until: float) -> None:
+        """Sends the replies that are due until then, and returns then."""
+        while not self._is_shut:
+            now = monotonic()
+            while self._late and self._late[0][0] <= now:
+                _, data = self._late.popleft()
+                self._late_bytes -= len(data)
+                super().sendall(data)
+            if now >= until:
+                return
+            next_due = self._late[0][0] if self._late else until
+            self._sleep(min(next_due, until) - now)
+        raise LineEnded("shut down")
+
+    def _has_input(self, until: float) -> bool:
+        poll = select.poll()
+        poll.register(self._line, select.POLLIN)
+        return bool(poll.poll(milliseconds(until - monotonic())))
+
+    def _sleep(self, seconds: float) -> None:
+        """Ends early if the connection is closed."""
+        poll = select.poll()
+        poll.register(self._line, 0)
+        if poll.poll(milliseconds(seconds)):
+            raise LineEnded("closed")
+
+
+def milliseconds(seconds: float) -> int:
+    return max(math.ceil(seconds * 1000), 0)

@@ -1,51 +1,60 @@
-"""Races of real clients, which are the same each time."""
+"""Races: concurrent clients under a seeded scheduler."""
 
 from __future__ import annotations
 
 import contextlib
+import functools
 import itertools
+import os
 import re
 import select
 import socket
 import threading
 import warnings
-from typing import Iterator, Optional, Protocol, Sequence, Union
+from typing import TYPE_CHECKING, Callable, Iterator, NoReturn, Optional, Protocol, Sequence, Union
 
+from . import _arguments as arguments
 from ._calls import Call
-from ._clock import Clock, VirtualTime
+from ._clock import Clock, VirtualTime, checked_clock
 from ._closing import Closes
 from ._engine import Engine, Session, Turn
 from ._faults import Error, Refusal, RefusedError
-from ._lines import PIECE
-from ._rules import LtRule, Refuses, Rule
-from ._server import Connection
 from ._folders import Snapshot
+from ._lines import PIECE
+from ._requests import Packets, Request
+from ._rules import Refuses, Rule, Status
+from ._server import Connection, as_engine
+from ._timeline import Race, Span, page
+from ._watching import Hook
+
+if TYPE_CHECKING:
+    from _typeshed import ReadableBuffer
 
 BEGIN = 1_000_000_000
-LONGEST = 262144
-"""The greatest length of a packet."""
+SESSIONS = 256
+"""How many sessions an engine has at most."""
 WORD = 2**64
 
 
 def seeds(count: int) -> range:
-    """So many seeds, 0, 1, 2 and so on: for a loop, or `pytest.mark.parametrize("seed",
+    """The seeds 0, 1, 2 and so on: for a loop, or for `pytest.mark.parametrize("seed",
     lucernetick.seeds(100))`."""
-    return range(count)
+    return range(arguments.integer("count", count))
 
 
 class StrayWarning(UserWarning):
-    """A race was not its seed's alone, or not its schedule's."""
+    """A race was not reproducible: its seed, or its schedule, did not decide every turn."""
 
 
 class Chooser(Protocol):
-    """Whose turn it is."""
+    """Chooses the client that takes the next turn."""
 
     def choose(self, ready: Sequence[int]) -> Optional[int]:
-        """One of these clients, by rising numbers; None where it knows none."""
+        """One of these clients, whose numbers ascend; None if it can't choose."""
 
 
 class Drawn:
-    """Draws from a seed, as `Races` says."""
+    """Draws from a seed, see `Races`."""
 
     def __init__(self, seed: int) -> None:
         self.state = seed % WORD
@@ -63,7 +72,7 @@ class Drawn:
 
 
 class Given:
-    """Goes by a schedule that was taken."""
+    """Replays a schedule."""
 
     def __init__(self, schedule: str) -> None:
         self.rest = read_schedule(schedule)
@@ -76,7 +85,7 @@ class Given:
 def chooser(seed: Union[int, str]) -> Chooser:
     if isinstance(seed, str):
         return Given(seed)
-    return Drawn(seed)
+    return Drawn(arguments.integer("seed", seed, -(WORD // 2), WORD))
 
 
 def read_schedule(schedule: str) -> Iterator[int]:
@@ -85,7 +94,7 @@ def read_schedule(schedule: str) -> Iterator[int]:
     for word in schedule.split():
         run = re.fullmatch("([0-9]+)(?:x([0-9]+))?", word)
         if run is None:
-            raise ValueError(f"{word} is no part of a schedule")
+            raise ValueError(f"seed: {word!r} is no part of a schedule, as 1x4 2 1x2")
         runs.append(itertools.repeat(int(run[1]), int(run[2] or 1)))
     return itertools.chain.from_iterable(runs)
 
@@ -96,49 +105,52 @@ def write_schedule(clients: Sequence[int]) -> str:
     return " ".join(f"{client}x{count}" if count > 1 else str(client) for client, count in runs)
 
 
-class Packets:
-    """Counts packets in bytes that come in pieces."""
+class RaceConnection(Connection):
+    """A client's connection in a race. A thread that uses it before it has connected all clients
+    would wait for itself."""
 
-    def __init__(self) -> None:
-        self.rest = bytearray()
+    _before_send: Callable[[], None]
 
-    def count(self, data: bytes) -> int:
-        """How many have become whole. One whose length ends the session counts as soon as that is
-        there."""
-        self.rest += data
-        whole = 0
-        while len(self.rest) >= 4:
-            length = int.from_bytes(self.rest[:4], "big")
-            if 0 < length <= LONGEST and len(self.rest) < 4 + length:
-                break
-            del self.rest[: 4 + length]
-            whole += 1
-        return whole
+    def send(self, data: ReadableBuffer, flags: int = 0) -> int:
+        self._before_send()
+        return super().send(data, flags)
+
+    def sendall(self, data: ReadableBuffer, flags: int = 0) -> None:
+        self._before_send()
+        super().sendall(data, flags)
 
 
 class Client:
-    """A client, as the race sees it."""
+    """A client, as the scheduler sees it."""
 
     def __init__(self, number: int, session: Session) -> None:
         self.number = number
         self.session = session
         ours, self.line = socket.socketpair()
-        self.connection = Connection(fileno=ours.detach())
+        self.connection = RaceConnection(fileno=ours.detach())
         self.connection.session = session
         self.packets = Packets()
         self.due = 0
-        """How many of its requests aren't answered."""
+        """The number of its requests without a reply."""
         self.unsent = 0
-        """How many bytes wait until it reads."""
+        """The number of bytes that wait until it reads."""
         self.is_late = False
-        """Whether it was waited for in vain, and has sent nothing since."""
+        """Whether it took longer than `patience`, and has sent nothing since."""
         self.has_left = False
         """Whether it sends no more, or its session has ended."""
         self.is_closed = False
+        self.thread: Optional[int] = None
+        """The thread that connected it."""
+        self.is_used = False
+        """Whether that thread has sent on its connection."""
+        self.request = 0
+        """The turn that read the request of its pending call; 0 if there is none."""
+        self.span: Optional[Span] = None
+        """Its call without a reply that has taken effect."""
 
     @property
     def is_busy(self) -> bool:
-        """Whether all that it sent is answered, so that it is for it to send more, or to leave."""
+        """Whether it has all its replies: it is expected to send a request, or to leave."""
         return not self.due and not self.has_left
 
     def read(self) -> None:
@@ -155,7 +167,7 @@ class Client:
             self.has_left = True
 
     def send(self) -> None:
-        """Sends what it takes now."""
+        """Sends as much as it takes now."""
         self.unsent = 0
         while not self.unsent and (waiting := self.session.output()):
             try:
@@ -169,7 +181,7 @@ class Client:
         self.end_line()
 
     def leave(self) -> None:
-        """Closes its session. Its line stays until it has read its replies."""
+        """Closes its session. Its connection stays until it has read its replies."""
         self.is_closed = True
         self.session.close()
         self.end_line()
@@ -180,24 +192,25 @@ class Client:
 
 
 class Races(Closes, Refuses):
-    """One race of clients on one tree, each with a connection of its own, most often in a thread of
-    its own. It is the same each time, however fast they are: a session has a turn only while each
-    client waits for a reply or has gone, and whose turn it is, is drawn from a seed.
+    """One race of clients on one tree, each with its own connection, usually in its own thread. It
+    is reproducible: the same seed gives the same interleaving, whatever the speed of the clients.
 
         for seed in lucernetick.seeds(100):
             with lucernetick.Races(seed, clients=2) as races, ThreadPoolExecutor() as threads:
                 list(threads.map(upload, [races.connect(), races.connect()], ["a", "b"]))
                 print(seed, list(races.snapshot()))
 
-    A turn is one step of a call, as `Session.turn`: so calls overtake each other half way. It is
-    for clients that do the same each time when they are sent the same, and that close their
-    connections when they are done. Where one waits for something else than the server, as for
-    another client, it is passed over after half a minute, and the race isn't the seed's alone: see
-    `stray`.
+    The scheduler takes one turn at a time, and only when each client waits for a reply or has left.
+    A seeded generator chooses the client. A turn is one step of a call (`Session.turn`), so calls
+    overlap and interleave.
 
-    How turns are drawn, so that it can be done again elsewhere. A client is ready where one of its
-    packets is unanswered; before each turn, each one that isn't ready has sent a whole packet more
-    or has gone. There is a number of 64 bits, at first the seed. For each turn, modulo 2^64:
+    Clients must be deterministic: with the same replies they send the same requests. They must
+    close their connections when they are done. If a client waits for something other than the
+    server, the scheduler continues without it after `patience` seconds, see `stray`.
+
+    How a turn is chosen, so that other tools can repeat it. A client is ready if one of its packets
+    has no reply. Before each turn, every client that isn't ready has sent a complete packet or has
+    left. A 64-bit number starts as the seed. For each turn, modulo 2^64 (SplitMix64):
 
         number += 0x9E3779B97F4A7C15
         mixed = number
@@ -205,9 +218,8 @@ class Races(Closes, Refuses):
         mixed = (mixed ^ (mixed >> 27)) * 0x94D049BB133111EB
         mixed = mixed ^ (mixed >> 31)
 
-    (SplitMix64), and of those that are ready, by rising numbers, the one at the place `mixed`
-    modulo their count, the first being at 0, has the turn: also where it is the only one, and where
-    its call is blocked.
+    The ready clients are sorted by number. The one at index `mixed` modulo their count takes the
+    turn, even if it is the only one or its call is blocked.
     """
 
     def __init__(
@@ -219,90 +231,168 @@ class Races(Closes, Refuses):
         clock: Optional[Clock] = None,
         patience: float = 30.0,
     ) -> None:
-        """A race of so many clients by a seed, or by a schedule that another one took. It is on the
-        tree of this engine, or of a new one. Calls begin at the clock's moments, by default at
-        1000000000 (September 2001). `patience` is how many seconds a client is waited for at most
+        """A race of this many clients, by a seed or by the `schedule` of another race. It uses the
+        tree of `engine`, or a new one. Calls begin at the clock's timestamps, by default at
+        1000000000 (September 2001). `patience` is the longest time in seconds to wait for a client
         while others wait for their replies."""
-        self.engine = engine if engine is not None else Engine()
-        self._owned = engine is None
-        self._clock: Clock = clock or VirtualTime(BEGIN)
+        self._begin()
+        self._seed = seed
         self._chooser = chooser(seed)
-        self._patience = patience
-        self._clients = [Client(number, self.engine.open()) for number in range(1, clients + 1)]
+        self._patience = arguments.seconds("patience", patience)
+        begins: Clock = VirtualTime(BEGIN)
+        self._clock = begins if clock is None else checked_clock(clock)
+        count = arguments.integer("clients", clients, 1, SESSIONS)
+        self.engine = as_engine(engine)
+        self._owned = engine is None
+        self._clients: list[Client] = []
         self._free = iter(self._clients)
         self._turns: list[tuple[int, Turn]] = []
+        self._spans: list[Span] = []
+        self._news: list[Call] = []
         self._stray: Optional[str] = None
         self._moved = threading.Condition()
-        """Held by the race's thread but where it waits for clients; told when it begins to."""
+        """Held by the scheduler's thread unless it waits for clients. Notified when it begins to
+        wait."""
+        try:
+            for number in range(1, count + 1):
+                self._clients.append(Client(number, self.engine.open()))
+        except RefusedError:
+            for client in self._clients:
+                client.session.close()
+            self._drop()
+            raise
+        for client in self._clients:
+            client.connection._before_send = functools.partial(self._before_send, client)
+        self._hook = self.engine._hook(Hook(self.engine, None, self._news.append))
         self._thread = threading.Thread(target=self._run, name="lucernetick race", daemon=True)
         self._thread.start()
 
     def connect(self) -> Connection:
-        """The connection of the next client: 1, 2, 3 and so on. A client that has none yet is
-        waited for like one that has yet to send. Call it in a fixed order, as by one thread."""
+        """The connection of the next client: 1, 2, 3 and so on.
+
+        Connect all clients, in a fixed order, before the first one is used: the race begins when
+        each client has sent a request. Then use each connection in its own thread.
+        """
+        self._check()
+        here = threading.get_ident()
+        if any(client.is_used and client.thread == here for client in self._clients):
+            self._is_alone()
         client = next(self._free, None)
         if client is None:
-            raise Error(f"the race is one of {len(self._clients)} clients")
+            raise Error(f"all {len(self._clients)} clients of the race are connected")
+        client.thread = here
         return client.connection
 
     @property
     def turns(self) -> list[tuple[int, Turn]]:
-        """The turns that were taken: whose, and what it did."""
+        """The turns that were taken: the client, and what the turn did."""
         with self._quiet():
             return list(self._turns)
 
     @property
     def schedule(self) -> str:
-        """Whose turns were taken, as `1x4 2 1x2`: four of the client 1, one of 2 and two of 1.
-        Given in the place of a seed, it makes the same race."""
+        """The clients of the turns that were taken, as `1x4 2 1x2`: four turns of client 1, one of
+        client 2, two of client 1. `Races` takes it in place of a seed, and repeats the race."""
         return write_schedule([client for client, _ in self.turns])
 
     @property
     def stray(self) -> Optional[str]:
-        """Why the race was not its seed's alone, or not its schedule's; None where it was."""
+        """Why the race is not reproducible; None if it is."""
         with self._quiet():
             return self._stray
 
     def snapshot(self) -> Snapshot:
-        """The whole tree, as `Engine.snapshot`, once all that the clients sent is answered."""
+        """The whole tree (see `Engine.snapshot`) after all replies to what the clients sent."""
         with self._quiet():
             return self.engine.snapshot()
 
     def calls(self) -> list[Call]:
-        """What the clients did, as `Engine.calls`, once all that they sent is answered."""
+        """The records of all calls (see `Engine.calls`) after all replies to what the clients
+        sent."""
         with self._quiet():
             return self.engine.calls()
 
-    def _give(self, rule: LtRule) -> Rule:
-        """Once all that the clients sent is answered, as what is told of the tree."""
+    def timeline(self, path: Union[str, os.PathLike[str]]) -> None:
+        """Writes the history of the race as a page of HTML, which needs no other file: a row for
+        each client, its calls as bars from request to reply, their linearization points, and links
+        from a call to those that it completed for other clients."""
+        schedule = self.schedule
         with self._quiet():
-            return self.engine._give(rule)
+            title = f"Race by seed {self._seed}"
+            if isinstance(self._seed, str):
+                title = "Race by a schedule"
+            clients, turns = len(self._clients), list(self._turns)
+            race = Race(clients, turns, list(self._spans), schedule, title, self._stray)
+        with open(path, "w", encoding="utf-8") as file:
+            file.write(page(race))
 
     def close(self) -> None:
-        """Ends all connections. Where the race has strayed, a `StrayWarning` says so."""
+        """Closes all connections. If the race is not reproducible, a `StrayWarning` says why."""
+        if self._is_forked:
+            self._drop()
+            return
         for client in self._clients:
             with contextlib.suppress(OSError):
                 client.connection.shutdown(socket.SHUT_RDWR)
         self._thread.join()
+        self._hook.end()
         for client in self._clients:
             client.connection.close()
         if self._owned:
             self.engine.close()
         if self._stray:
             warnings.warn(self._stray, StrayWarning, stacklevel=3)
+        self._check()
+
+    def _drop(self) -> None:
+        """Closes the descriptors alone."""
+        for client in self._clients:
+            client.connection.close()
+            client.line.close()
+
+    def _give(
+        self,
+        matches: Callable[[Request], bool],
+        after: int,
+        after_bytes: Optional[int],
+        times: Optional[int],
+        status: Status,
+    ) -> Rule:
+        """After all replies to what the clients sent."""
+        with self._quiet():
+            return self.engine._give(matches, after, after_bytes, times, status)
+
+    def _before_send(self, client: Client) -> None:
+        """Raises an error if the thread that sends would wait for itself."""
+        here = threading.get_ident()
+        if client.is_used or client.thread != here:
+            return
+        client.is_used = True
+        if self._clients[-1].thread is None and not others_run():
+            self._is_alone()
+
+    def _is_alone(self) -> NoReturn:
+        count = len(self._clients)
+        raise Error(
+            f"this thread has used a client before it has connected all {count}: the race would "
+            f"wait for it. First call connect() {count} times, then use each connection in its own "
+            "thread"
+        )
 
     @contextlib.contextmanager
     def _quiet(self) -> Iterator[None]:
-        """Waits until all that the clients sent is answered; none of them has a turn meanwhile."""
+        """Waits for all replies to what the clients sent. No turn is taken meanwhile."""
+        self._check()
         with self._moved:
             self._moved.wait_for(self._is_quiet)
+            self._check()
             yield
 
     def _is_quiet(self) -> bool:
         return not any(client.due for client in self._clients) and not polled(self._clients, 0)
 
     def _run(self) -> None:
-        """The race's thread: reads what clients send, and takes turns."""
+        """The scheduler's thread."""
         try:
             while not all(client.is_closed and not client.unsent for client in self._clients):
                 found = polled(self._clients, self._seconds())
@@ -310,13 +400,24 @@ class Races(Closes, Refuses):
                     self._pass_on(found)
                     self._go_on()
                     self._moved.notify_all()
-        except RefusedError as refused:
-            if refused.refusal != Refusal.BAD_POINTER:
-                raise
+        except BaseException as fault:
+            self._fail(fault)
+
+    def _fail(self, fault: BaseException) -> None:
+        """The scheduler can't continue. No client must wait for it."""
+        with self._moved:
+            is_closed = isinstance(fault, RefusedError) and fault.refusal == Refusal.BAD_POINTER
+            if not is_closed:
+                self._fault = fault
+            for client in self._clients:
+                client.due = client.unsent = 0
+                client.has_left = client.is_closed = True
+                client.line.close()
+            self._moved.notify_all()
 
     def _seconds(self) -> Optional[float]:
-        """How long clients are waited for: where others wait for replies, only those that aren't
-        late, and not for ever."""
+        """How long to wait for clients. If others wait for replies: not for ever, and not for those
+        that are late."""
         if not any(client.due for client in self._clients):
             return None
         return self._patience if self._waits() else 0
@@ -365,8 +466,10 @@ class Races(Closes, Refuses):
         return chosen
 
     def _take_turn(self, client: Client) -> None:
-        turn = client.session.turn(self._clock())
+        self._news.clear()
+        turn = client.session.turn(arguments.timestamp("the clock's result", self._clock()))
         self._turns.append((client.number, turn))
+        self._draw(client, turn)
         if turn == Turn.WROTE:
             client.due -= 1
             if not client.unsent:
@@ -375,10 +478,37 @@ class Races(Closes, Refuses):
             client.due = 0
             client.has_left = True
 
+    def _draw(self, client: Client, turn: Turn) -> None:
+        """Adds what the turn did to the timeline. Records of other clients' calls precede the
+        record of the call that completed them."""
+        now = len(self._turns)
+        if turn == Turn.BEGUN:
+            client.request = now
+        by = {one.session.number: one for one in self._clients}
+        own = next((call for call in self._news if call.session == client.session.number), None)
+        for call in self._news:
+            one = by.get(call.session)
+            if one is not None:
+                helper = own if one is not client else None
+                one.span = Span(call, one.number, one.request, now, helper=helper)
+                self._spans.append(one.span)
+        if turn == Turn.WROTE and client.span is not None:
+            client.span.reply = now
+            client.span = None
+
+
+def others_run() -> bool:
+    """Whether there may be another thread that connects a client."""
+    here = threading.current_thread()
+    return any(
+        thread is not here and not thread.name.startswith("lucernetick ")
+        for thread in threading.enumerate()
+    )
+
 
 def polled(clients: Sequence[Client], seconds: Optional[float]) -> list[tuple[Client, int]]:
-    """Which of them have sent or take more bytes, with the events of their lines. Those that have
-    their replies are looked at for what they send."""
+    """The clients that have sent or can receive bytes, with the events of their connections.
+    Requests are read of clients that have all their replies."""
     poll = select.poll()
     lines = {}
     for client in clients:

@@ -1,19 +1,36 @@
-"""Requests that are refused because a test says so."""
+"""Rules: requests that are rejected because a test says so."""
 
 from __future__ import annotations
 
 import ctypes
 import enum
-from typing import TYPE_CHECKING, Optional, Union
+import fnmatch
+from typing import TYPE_CHECKING, Any, Callable, Iterable, Optional, Sequence, Union
 
-from ._calls import Kind, LtBytes, path_bytes
+from . import _arguments as arguments
+from ._calls import Kind, LtBytes, text
+from ._flags import OpenFlag
 from ._library import library
-from ._numbers import unsigned
+from ._requests import Request
 
 if TYPE_CHECKING:
     from ._engine import Engine, Session
+    from ._server import Connection
 
 ALWAYS = 2**64 - 1
+CHANGES = {
+    Kind.WRITE,
+    Kind.SETSTAT,
+    Kind.FSETSTAT,
+    Kind.REMOVE,
+    Kind.MKDIR,
+    Kind.RMDIR,
+    Kind.RENAME,
+    Kind.POSIX_RENAME,
+    Kind.HARDLINK,
+}
+"""The kinds that change the tree. An OPEN changes it by some of its flags."""
+TO_CHANGE = OpenFlag.WRITE | OpenFlag.APPEND | OpenFlag.CREATE | OpenFlag.TRUNCATE
 
 
 class Status(enum.IntEnum):
@@ -29,19 +46,59 @@ class Status(enum.IntEnum):
 
 
 class Rule:
-    """A rule that refuses requests, as `refuse` has given it."""
+    """A rule that `refuse` has given. It holds until its `end`, or to the end of a `with`."""
 
-    def __init__(self, engine: Engine, number: int) -> None:
+    def __init__(
+        self,
+        engine: Engine,
+        matches: Callable[[Request], bool],
+        after: int,
+        after_bytes: Optional[int],
+        times: Optional[int],
+        status: Status,
+    ) -> None:
         self._engine = engine
-        self._number = number
+        self._matches = matches
+        self._after = after
+        self._bytes_left = after_bytes
+        self._times = times
+        self._status = status
+        self._refused = 0
 
     def __repr__(self) -> str:
-        return f"<lucernetick rule {self._number}>"
+        return f"<lucernetick rule: {self._status.name}, refused {self._refused}>"
 
     @property
     def refused(self) -> int:
-        """How many requests it has refused so far."""
-        return self._engine._refused(self._number)
+        """How many requests it has rejected so far."""
+        with self._engine._lock:
+            self._engine._check()
+            return self._refused
+
+    def end(self) -> None:
+        """Ends the rule: it rejects no further request."""
+        self._engine._forget(self)
+
+    def __enter__(self) -> Rule:
+        return self
+
+    def __exit__(self, *_fault: object) -> None:
+        self.end()
+
+    def _judge(self, request: Request) -> Optional[Status]:
+        """The status of a request that it rejects."""
+        if self._times == 0 or not self._matches(request):
+            return None
+        if self._after:
+            self._after -= 1
+            return None
+        if self._bytes_left is not None and self._bytes_left >= len(request.data):
+            self._bytes_left -= len(request.data)
+            return None
+        if self._times is not None:
+            self._times -= 1
+        self._refused += 1
+        return self._status
 
 
 class LtRule(ctypes.Structure):
@@ -62,39 +119,146 @@ library.lt_refuse.argtypes = [ctypes.c_void_p, ctypes.POINTER(LtRule)]
 
 
 class Refuses:
-    """What has an engine to which rules are given."""
+    """Gives rules to an engine."""
 
     def refuse(
         self,
         *,
-        session: Union[None, Session, int] = None,
-        kind: Optional[Kind] = None,
-        path: Union[None, str, bytes] = None,
+        session: Union[None, Session, Connection, int] = None,
+        kind: Union[None, Kind, Iterable[Kind]] = None,
+        path: Optional[arguments.Path] = None,
+        flags: Optional[int] = None,
+        when: Optional[Callable[[Request], bool]] = None,
         after: int = 0,
+        after_bytes: Optional[int] = None,
         times: Optional[int] = 1,
         status: int = Status.FAILURE,
     ) -> Rule:
-        """Refuses requests from now on: each is answered by this status in its place, never reaches
-        the tree, and is no call that is recorded.
+        """Rejects requests from now on: the reply is this status, and the request never reaches the
+        tree. No call is recorded.
 
-        It is for the requests of one session, or of all, also later ones; of one kind, or of any;
-        that name this path, in any spelling, or any. One by a handle, as WRITE, names no path. Of
-        those `after` are let through first, then `times` are refused, or all for None, and later
-        ones are let through. Of more rules for a request the first that refuses it answers. INIT is
-        never refused, and no request that a turn has taken already.
+        - `session`: requests of this session or connection only.
+        - `kind`: requests of this kind, or of one of several kinds.
+        - `path`: requests for this path, in any spelling. A request by handle, as WRITE, matches by
+          the path that the handle was opened with. A name may have the wildcards `*`, `?` and
+          `[abc]`, and the name `**` stands for any number of names. `glob.escape` escapes them.
+        - `flags`: OPEN requests that have all of these `OpenFlag` bits.
+        - `when`: requests for which this function returns true.
+
+        Of the requests that match, the first `after` pass, and WRITEs of `after_bytes` bytes in
+        total. Then the next `times` are rejected, or all for None, and later ones pass again.
+        If several rules match, the oldest one that rejects the request counts it. INIT and a
+        request that the server has begun to read are never rejected.
         """
-        text = None if path is None else path_bytes(path)
-        number = 0 if session is None else session if isinstance(session, int) else session.number
-        return self._give(
-            LtRule(
-                unsigned(number),
-                unsigned(after),
-                ALWAYS if times is None else unsigned(times),
-                LtBytes() if text is None else LtBytes.of(text),
-                Kind(kind) if kind is not None else 0,
-                Status(status),
+        kinds = as_kinds(kind, flags, after_bytes)
+        number = session_number(session)
+        pattern = None if path is None else as_pattern(path)
+        bits = 0 if flags is None else arguments.integer("flags", flags, 1, 2**32 - 1)
+        if when is not None and not callable(when):
+            raise TypeError(f"when must be a function, not {type(when).__name__}")
+
+        def matches(request: Request) -> bool:
+            return (
+                (not number or request.session == number)
+                and (kinds is None or request.kind in kinds)
+                and (not bits or (request.flags or 0) & bits == bits)
+                and (pattern is None or names_path(request, pattern))
+                and (when is None or bool(when(request)))
             )
+
+        return self._give(
+            matches,
+            arguments.integer("after", after),
+            None if after_bytes is None else arguments.integer("after_bytes", after_bytes),
+            None if times is None else arguments.integer("times", times),
+            as_status(status),
         )
 
-    def _give(self, rule: LtRule) -> Rule:
+    def disk_full(self, after: int = 0) -> Rule:
+        """Simulates a full disk: WRITEs of `after` bytes in total succeed, and all later ones fail
+        until the rule ends."""
+        return self.refuse(kind=Kind.WRITE, after_bytes=after, times=None)
+
+    def read_only(self, path: Optional[arguments.Path] = None) -> Rule:
+        """Makes the tree, or what this pattern matches, read-only for clients. Requests that would
+        change it fail with PERMISSION_DENIED until the rule ends."""
+        return self.refuse(
+            path=path, when=would_change, times=None, status=Status.PERMISSION_DENIED
+        )
+
+    def _give(
+        self,
+        matches: Callable[[Request], bool],
+        after: int,
+        after_bytes: Optional[int],
+        times: Optional[int],
+        status: Status,
+    ) -> Rule:
         raise NotImplementedError
+
+
+def would_change(request: Request) -> bool:
+    return request.kind in CHANGES or bool((request.flags or 0) & TO_CHANGE)
+
+
+def as_kinds(kind: Any, flags: Any, after_bytes: Any) -> Optional[frozenset[Kind]]:
+    """The kinds that a rule matches; None for all. Flags are those of OPEN, and bytes are those of
+    WRITE."""
+    needs = ("flags", flags, Kind.OPEN), ("after_bytes", after_bytes, Kind.WRITE)
+    for name, value, only in needs:
+        if value is None:
+            continue
+        if kind not in (None, only):
+            raise ValueError(f"{name} needs kind=Kind.{only.name}, or no kind")
+        kind = only
+    if kind is None:
+        return None
+    kinds = [kind] if isinstance(kind, int) else kind
+    try:
+        return frozenset(map(Kind, kinds))
+    except TypeError:
+        raise TypeError(f"kind must be a Kind or some Kinds, not {type(kind).__name__}") from None
+
+
+def as_status(status: Any) -> Status:
+    try:
+        return Status(status)
+    except ValueError:
+        names = ", ".join(f"Status.{one.name}" for one in Status)
+        raise ValueError(f"status must be one of {names}, not {status!r}") from None
+
+
+def session_number(session: Any) -> int:
+    """The number of a session or a connection; 0 for all."""
+    if session is None:
+        return 0
+    session = getattr(session, "session", session)
+    return arguments.integer("session", getattr(session, "number", session), 1)
+
+
+def as_pattern(path: arguments.Path) -> list[str]:
+    """The names of a path, which may have wildcards. The empty path is the root, as in the
+    protocol."""
+    return as_names(text(arguments.normal(arguments.path("path", path))))
+
+
+def as_names(path: str) -> list[str]:
+    return path.split("/")[1:] if path != "/" else []
+
+
+def names_path(request: Request, pattern: Sequence[str]) -> bool:
+    paths = (request.path, request.new_path)
+    return any(path is not None and fits(as_names(path), pattern) for path in paths)
+
+
+def fits(names: Sequence[str], pattern: Sequence[str]) -> bool:
+    """Whether names match a pattern, name by name."""
+    if not pattern:
+        return not names
+    if pattern[0] == "**":
+        return any(fits(names[at:], pattern[1:]) for at in range(len(names) + 1))
+    return (
+        bool(names)
+        and fnmatch.fnmatchcase(names[0], pattern[0])
+        and fits(names[1:], pattern[1:])
+    )

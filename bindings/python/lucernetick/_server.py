@@ -7,32 +7,47 @@ import contextlib
 import select
 import socket
 import threading
-from typing import TYPE_CHECKING, NamedTuple, Optional, Protocol
+from typing import (
+    TYPE_CHECKING,
+    Callable,
+    Iterator,
+    NamedTuple,
+    Optional,
+    Protocol,
+    TextIO,
+    Union,
+)
 
+from . import _arguments as arguments
 from ._calls import Call
-from ._clock import Clock, wall_clock
+from ._clock import Clock, checked_clock, wall_clock
 from ._closing import Closes
 from ._engine import Engine, Session, Turn
-from ._faults import RefusedError, Refusal
+from ._faults import Refusal, RefusedError
 from ._folders import Snapshot
-from ._lines import PIECE, REPLIES, BadLine, Line
+from ._lines import PIECE, REPLIES, Faults, FaultyLine, Line, LineEnded
 from ._log import Log
-from ._rules import LtRule, Refuses, Rule
+from ._requests import Request
+from ._rules import Refuses, Rule, Status
+from ._tree import Files
+from ._watching import Watches
 
 if TYPE_CHECKING:
     from _typeshed import WriteableBuffer
 
 PATIENCE = 5.0
-"""Seconds that a server which is left waits for each of its threads."""
+"""How many seconds `close` waits for each thread."""
 
 
 class Connection(socket.socket):
-    """The client's end of a connection. It has what `paramiko.SFTPClient` wants of a channel."""
+    """The client's end of a connection: a socket with the methods that `paramiko.SFTPClient` needs
+    of a channel."""
 
     session: Session
-    """Its session, which a rule may be for (`refuse`)."""
-    piece: Optional[int] = None
-    """How many bytes it is given at most at a time."""
+    """Its session, for `refuse` and `wait_for_call`."""
+    chunk: Optional[int] = None
+    """The client receives at most this many bytes at a time."""
+    _line: Optional[Line] = None
 
     def recv(self, bufsize: int, flags: int = 0) -> bytes:
         return super().recv(self._at_most(bufsize), flags)
@@ -41,12 +56,19 @@ class Connection(socket.socket):
         return super().recv_into(buffer, self._at_most(nbytes or memoryview(buffer).nbytes), flags)
 
     def _at_most(self, count: int) -> int:
-        return count if self.piece is None else min(count, self.piece)
+        return count if self.chunk is None else min(count, self.chunk)
+
+    @property
+    def is_cut(self) -> bool:
+        """Whether the connection was dropped by `cut_after`."""
+        return self._line is not None and self._line.is_cut
 
     def get_name(self) -> str:
+        """As paramiko's channels have it."""
         return "lucernetick"
 
     def recv_ready(self) -> bool:
+        """Whether there are bytes to receive, or the end of the stream."""
         return bool(select.select([self], [], [], 0)[0])
 
 
@@ -59,42 +81,50 @@ class Served(NamedTuple):
 
     @property
     def is_over(self) -> bool:
-        """Whether its client has closed it, and its session has ended."""
+        """Whether the client has closed it, and its session has ended."""
         return self.connection.fileno() == -1 and not self.thread.is_alive()
 
 
 class StreamReader(Protocol):
-    """What is read of a stream of asyncio's."""
+    """The methods of `asyncio.StreamReader` that are used."""
 
     async def read(self, n: int = -1) -> bytes:
-        """Some bytes, as many at most; none at the end."""
+        """Some bytes, at most `n`; none at the end."""
 
 
 class StreamWriter(Protocol):
-    """What is written by a stream of asyncio's."""
+    """The methods of `asyncio.StreamWriter` that are used."""
 
     def write(self, data: bytes) -> None:
-        """Writes bytes, at some time."""
+        """Buffers bytes."""
 
     async def drain(self) -> None:
-        """Waits until more should be written."""
+        """Waits while the buffer is full."""
 
     def write_eof(self) -> None:
-        """Nothing more comes."""
+        """Ends the stream."""
 
     def close(self) -> None:
         """Closes it."""
 
 
-def check_line(cut_after: Optional[int], piece: Optional[int], delay: float) -> None:
-    """Whether a line may be like that."""
-    if (cut_after is not None and cut_after < 0) or (piece is not None and piece < 1) or delay < 0:
-        told = f"cut_after={cut_after}, piece={piece}, delay={delay}"
-        raise ValueError(f"no line is like that: {told}")
+def as_log(log: Union[None, Log, TextIO]) -> Optional[Log]:
+    """A log, or a log on a text file."""
+    if log is None or isinstance(log, Log):
+        return log
+    if not hasattr(log, "write"):
+        raise TypeError(f"log must be a Log or a text file, not {type(log).__name__}")
+    return Log(log)
+
+
+def as_engine(engine: Optional[Engine]) -> Engine:
+    if engine is not None and not isinstance(engine, Engine):
+        raise TypeError(f"engine must be an Engine, not {type(engine).__name__}")
+    return Engine() if engine is None else engine
 
 
 async def _pass_on(reader: StreamReader, writer: StreamWriter) -> None:
-    """Passes bytes on to their end, which is told."""
+    """Copies a stream to its end."""
     with contextlib.suppress(ConnectionError):
         while data := await reader.read(PIECE):
             writer.write(data)
@@ -102,61 +132,75 @@ async def _pass_on(reader: StreamReader, writer: StreamWriter) -> None:
         writer.write_eof()
 
 
-class Server(Closes, Refuses):
-    """Serves sessions on one tree, each over a connected socket whose other end a thread has.
+class Server(Closes, Refuses, Watches):
+    """Serves sessions on one tree over connected sockets, each in a thread.
 
         with lucernetick.Server() as server:
             client = paramiko.SFTPClient(server.connect())
             client.mkdir("/a")
 
-    Where it is left, its connections are closed, and so is an engine that it made itself.
+    At the end of the `with` its connections are closed, and its engine too if it made that itself.
+
+    If a clock, a callback or anything else in a thread raises an exception, all connections are
+    closed. The next method raises `StoppedError` with that exception, and so does `close`.
     """
 
     def __init__(
-        self, engine: Optional[Engine] = None, clock: Clock = wall_clock, log: Optional[Log] = None
+        self,
+        engine: Optional[Engine] = None,
+        clock: Clock = wall_clock,
+        log: Union[None, Log, TextIO] = None,
     ) -> None:
-        """Serves this engine, or a new one. `clock` tells the moment at which each call begins.
-        What clients do from now on is written to `log`."""
-        self.engine = engine if engine is not None else Engine()
-        self.clock = clock
-        if log is not None:
-            self.engine._watch(log)
+        """Serves this engine, or a new one. Each call begins with a timestamp of `clock`. What
+        clients do from now on is written to `log`, a `Log` or a text file."""
+        self._begin()
+        self.clock = checked_clock(clock)
+        found = as_log(log)
+        self.engine = as_engine(engine)
+        if found is not None:
+            self.engine._watch(found)
         self._owned = engine is None
         self._served: list[Served] = []
         self._left = False
 
     def connect(
-        self, *, cut_after: Optional[int] = None, piece: Optional[int] = None, delay: float = 0.0
+        self,
+        *,
+        cut_after: Optional[int] = None,
+        delay: float = 0.0,
+        bandwidth: Optional[float] = None,
+        chunk: Optional[int] = None,
     ) -> Connection:
-        """Opens a session, and gives its client's end. Closing that ends the session; what isn't
-        closed is when the server is left.
+        """Opens a session, and returns the client's end of its connection. Closing that ends the
+        session.
 
-        The line may be a bad one. With `cut_after` it is cut as soon as so many bytes have come
-        from the client, or so many have gone to it. Requests that came whole until then are carried
-        out and answered one after the other; where a reply is cut, none after it is carried out.
-        With `piece` the client is given at most so many bytes at a time. With `delay` each reply
-        goes so many seconds late.
+        The parameters inject faults, see `Faults`: `cut_after` bytes in one direction the
+        connection is dropped, each reply has a latency of `delay` seconds, each direction has at
+        most `bandwidth` bytes per second, and the client receives at most `chunk` bytes at a time.
         """
-        check_line(cut_after, piece, delay)
-        session = self.engine.open()
+        return self._connect(Faults(cut_after, delay, bandwidth, chunk))
+
+    def _connect(self, faults: Faults, root: str = "/") -> Connection:
+        self._check()
+        session = self.engine.open(root=root)
         ours, theirs = socket.socketpair()
-        is_bad = cut_after is not None or delay
-        line = BadLine(theirs, cut_after, delay) if is_bad else Line(theirs)
+        line = Line(theirs) if faults == Faults(chunk=faults.chunk) else FaultyLine(theirs, faults)
         connection = Connection(fileno=ours.detach())
         connection.session = session
-        connection.piece = piece
+        connection.chunk = faults.chunk
+        connection._line = line
         thread = threading.Thread(
             target=self._serve, args=(session, line), name=repr(session), daemon=True
         )
-        thread.start()
         with self.engine._lock:
             self._served = [served for served in self._served if not served.is_over]
             self._served.append(Served(connection, line, thread))
+        thread.start()
         return connection
 
     async def serve(self, reader: StreamReader, writer: StreamWriter) -> None:
-        """Serves one session over asyncio's streams, or others that have their methods, to its end:
-        it is what `asyncio.start_unix_server` calls for each connection."""
+        """Serves one session over asyncio's streams, to its end. It is a callback for
+        `asyncio.start_unix_server`."""
         back, forth = await asyncio.open_connection(sock=self.connect())
         to_server = asyncio.ensure_future(_pass_on(reader, forth))
         try:
@@ -166,50 +210,112 @@ class Server(Closes, Refuses):
             forth.close()
             writer.close()
 
+    def write_files(self, files: Files, *, moment: Optional[int] = None) -> None:
+        """Creates or replaces files, see `Engine.write_files`. Without `moment` their times are
+        those of the clock."""
+        self._check()
+        moment = self._now() if moment is None else moment
+        self.engine.write_files(files, moment=moment)
+
     def snapshot(self) -> Snapshot:
-        """The whole tree now, as `Engine.snapshot`."""
+        """The whole tree, see `Engine.snapshot`."""
+        self._check()
         return self.engine.snapshot()
 
     def calls(self) -> list[Call]:
-        """What its clients did, as `Engine.calls`."""
+        """The records of all calls, see `Engine.calls`."""
+        self._check()
         return self.engine.calls()
 
-    def _give(self, rule: LtRule) -> Rule:
-        return self.engine._give(rule)
+    def last_calls(self) -> list[Call]:
+        """The records that are kept, see `Engine.last_calls`."""
+        self._check()
+        return self.engine.last_calls()
+
+    @property
+    def dropped(self) -> int:
+        """The number of records that were dropped, see `Engine.dropped`."""
+        return self.engine.dropped
 
     def close(self) -> None:
-        """Ends all connections at both ends, and waits until their threads are done."""
-        with self.engine._moved:
-            self._left = True
-            self.engine._moved.notify_all()
-        for served in self._served:
-            served.line.shutdown()
+        """Closes all connections at both ends, and waits for their threads."""
+        if self._is_forked:
+            for served in self._served:
+                served.connection.close()
+                served.line.forget()
+            return
+        self._stop()
         for served in self._served:
             served.thread.join(PATIENCE)
             served.connection.close()
         if self._owned:
             self.engine.close()
+        self._check()
+
+    def _stop(self) -> None:
+        """Closes the connections at the server's end."""
+        with self.engine._moved:
+            self._left = True
+            self.engine._moved.notify_all()
+            served = list(self._served)
+        for one in served:
+            one.line.shutdown()
+
+    def _fail(self, fault: BaseException) -> None:
+        """A thread has ended by an exception."""
+        with self.engine._moved:
+            if self._fault is None:
+                self._fault = fault
+        self._stop()
+
+    def _give(
+        self,
+        matches: Callable[[Request], bool],
+        after: int,
+        after_bytes: Optional[int],
+        times: Optional[int],
+        status: Status,
+    ) -> Rule:
+        self._check()
+        return self.engine._give(matches, after, after_bytes, times, status)
+
+    def _taken(self) -> Snapshot:
+        return self.snapshot()
+
+    def _watched(self) -> Engine:
+        return self.engine
+
+    def _now(self) -> int:
+        return arguments.timestamp("the clock's result", self.clock())
 
     def _serve(self, session: Session, line: Line) -> None:
         """Serves a session until its client, it or the engine ends."""
-        try:
-            with contextlib.closing(line), contextlib.suppress(OSError):
-                self._pump(session, line)
+        # The fault is known before the client sees the end of its connection.
+        with contextlib.closing(line), self._reporting(), contextlib.suppress(LineEnded):
+            self._pump(session, line)
+        with self._reporting():
             self._leave(session)
-        except RefusedError as refused:
-            if refused.refusal != Refusal.BAD_POINTER:
-                raise
+
+    @contextlib.contextmanager
+    def _reporting(self) -> Iterator[None]:
+        """An exception ends the server, unless its engine was closed."""
+        try:
+            yield
+        except BaseException as fault:
+            is_closed = isinstance(fault, RefusedError) and fault.refusal == Refusal.BAD_POINTER
+            if not is_closed:
+                self._fail(fault)
 
     def _pump(self, session: Session, line: Line) -> None:
-        """Passes bytes on, both ways, until the client or the session ends."""
+        """Passes bytes on in both directions, until the client or the session ends."""
         while data := line.recv():
             session.feed(data)
-            if self._settle(session, line).has_ended:
+            if self._settle(session, line).has_ended or self._left:
                 return
 
     def _settle(self, session: Session, line: Line) -> Turn:
-        """Takes the session's turns until it waits for bytes or has ended, and sends what it
-        wrote."""
+        """Takes the session's turns until it waits for bytes or has ended, and sends its
+        replies."""
         while True:
             turn = self._turns(session, line.replies)
             if output := session.take():
@@ -218,17 +324,17 @@ class Server(Closes, Refuses):
                 return turn
 
     def _turns(self, session: Session, replies: int = REPLIES) -> Turn:
-        """The turns of so many replies; where the call of another session is in its way, waits
-        until one has moved. No call stands half way while its client is slow to read, so none keeps
-        other clients waiting."""
+        """Takes the turns of this many replies. If the call of another session blocks it, it waits
+        until a session has moved. No call is pending while its client is slow to read, so a slow
+        client blocks no other."""
         with self.engine._moved:
-            turn = session.settle(self.clock(), replies)
+            turn = session.settle(self._now(), replies)
             if turn == Turn.BLOCKED and not session.output() and not self._left:
                 self.engine._moved.wait()
             return turn
 
     def _leave(self, session: Session) -> None:
-        """Ends a session whose client has gone; a call of its that is under way is carried out."""
+        """Ends a session after its client has left. Its pending call completes."""
         session.close()
         while self._turns(session) in (Turn.SPENT, Turn.BLOCKED) and not self._left:
             session.take()

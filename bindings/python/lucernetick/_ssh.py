@@ -5,36 +5,48 @@ from __future__ import annotations
 import asyncio
 import os
 import secrets
+import shutil
 import tempfile
 import threading
 import warnings
-from typing import TYPE_CHECKING, Any, Coroutine, Iterable, Optional, TypeVar, Union
+import weakref
+from typing import TYPE_CHECKING, Any, Callable, Coroutine, Iterable, Optional, TypeVar, Union
 
+from . import _arguments as arguments
 from ._closing import Closes
+from ._lines import Faults
 from ._server import Server
+from ._users import User
 
 if TYPE_CHECKING:
-    from ._asyncssh import Front
+    from ._asyncssh import Listener
 
 Answer = TypeVar("Answer")
+FaultsOf = Callable[[int], Faults]
+"""Returns the faults of a session: the first one of a server is 1."""
 
 
-def find_front() -> type[Front]:
-    """What of this package is over asyncssh, which need not be there."""
+def find_listener() -> type[Listener]:
+    """The part of this package that needs asyncssh."""
     try:
         with warnings.catch_warnings():
-            # It warns of old ciphers that it has too.
+            # It warns of old ciphers.
             warnings.simplefilter("ignore")
-            from ._asyncssh import Front
+            from ._asyncssh import Listener
     except ModuleNotFoundError as missing:
-        raise ImportError("SshServer wants asyncssh: pip install 'lucernetick[ssh]'") from missing
-    return Front
+        raise ImportError("SshServer needs asyncssh: pip install asyncssh") from missing
+    return Listener
+
+
+def remove_folder(folder: str, process: int) -> None:
+    """Removes a folder, unless this is a forked child of the process that made it."""
+    if process == os.getpid():
+        shutil.rmtree(folder, ignore_errors=True)
 
 
 class SshServer(Closes):
-    """An SSH server at a port, for clients that make their own connection: its subsystem `sftp` is
-    a session on the tree of a `Server`, one for each channel. There is nothing else: no shell, no
-    command, no forwarding.
+    """An SSH server at a port, for clients that make their own connection. Its subsystem `sftp` is
+    a session on the tree of a `Server`. There is nothing else: no shell, no command, no forwarding.
 
         with lucernetick.Server() as server, lucernetick.SshServer(server) as ssh:
             client = paramiko.SSHClient()
@@ -42,19 +54,22 @@ class SshServer(Closes):
             client.connect(ssh.host, ssh.port, ssh.user, ssh.password)
             client.open_sftp().mkdir("/a")
 
-    It listens as soon as it is made. Where it is left, its connections are cut. It wants asyncssh.
+    It listens as soon as it is made. At the end of the `with`, its connections are closed. It needs
+    asyncssh. A connection with six wrong passwords is closed, after a delay.
     """
 
     host: str
     port: int
     user: str
-    """The one user who may come in, by the password or by a key."""
+    """The user who may log in, with the password or a key."""
     password: str
     client_key: str
-    """The path of a private key that may come in, which OpenSSH, paramiko and asyncssh read. It and
-    the host's are made for this server, of the kind ed25519, and gone with it."""
+    """The path of a private key that may log in. OpenSSH, paramiko and asyncssh can read it. It is
+    made for this server, and removed with it."""
     known_hosts: str
-    """The path of a file as OpenSSH's `known_hosts`, which has the host's key."""
+    """The path of a file with the host's public key, in the format of OpenSSH's `known_hosts`."""
+    faults: Union[Faults, FaultsOf]
+    """The faults of the sessions that open from now on."""
 
     def __init__(
         self,
@@ -62,36 +77,69 @@ class SshServer(Closes):
         *,
         host: str = "127.0.0.1",
         port: int = 0,
-        user: str = "user",
+        user: Union[str, User] = "user",
         password: Optional[str] = None,
         public_keys: Iterable[Union[str, os.PathLike[str]]] = (),
+        host_key: Union[None, str, os.PathLike[str]] = None,
+        users: Iterable[User] = (),
+        cut_after: Optional[int] = None,
+        delay: float = 0.0,
+        bandwidth: Optional[float] = None,
+        chunk: Optional[int] = None,
+        faults: Optional[FaultsOf] = None,
     ) -> None:
-        """Listens at this address, by default at a port that is free. Without a password one is
-        drawn. `public_keys` are files of further keys that may come in, as OpenSSH writes them."""
-        front = find_front()
+        """Listens at this address, by default at a free port.
+
+        - `user`, `password`: the name of a user and a password, by default a random one; or a
+          `User`, who has both.
+        - `public_keys`: files with further keys that may log in, in OpenSSH's format.
+        - `host_key`: a file with the server's private key, by default a new one.
+        - `users`: further users.
+        - `cut_after`, `delay`, `bandwidth`, `chunk`: faults of every session, see `Faults`.
+        - `faults`: returns the `Faults` of a session by its number: 1, 2, 3 and so on.
+        """
+        self._begin()
+        if not isinstance(server, Server):
+            raise TypeError(f"server must be a Server, not {type(server).__name__}")
+        if not isinstance(host, str):
+            raise TypeError(f"host must be a str, not {type(host).__name__}")
+        arguments.integer("port", port, 0, 65535)
+        for_all = Faults(cut_after, delay, bandwidth, chunk)
+        if faults is not None and (for_all != Faults() or not callable(faults)):
+            raise TypeError("faults must be a function, and the only parameter for faults")
+        self.faults = for_all if faults is None else faults
         self.host = host
-        self.user = user
-        self.password = secrets.token_urlsafe(12) if password is None else password
-        self._front = front(server, self.user, self.password, public_keys)
-        self._folder = tempfile.TemporaryDirectory(prefix="lucernetick-")
+        if not isinstance(user, User):
+            user = User(user, secrets.token_urlsafe(12) if password is None else password)
+        elif password is not None:
+            raise TypeError("a User has a password already")
+        self.user, self.password = user.name, user.password
+        everybody = [user, *users]
+        find = find_listener()
+        self._listener = find(server, everybody, public_keys, host_key, self._faults_of)
+        for one in everybody:
+            if one.root.strip("/"):
+                server.write_files({one.root: None})
+        self._folder = tempfile.mkdtemp(prefix="lucernetick-")
+        self._removed = weakref.finalize(self, remove_folder, self._folder, os.getpid())
         self._loop = asyncio.new_event_loop()
         self._thread = threading.Thread(
             target=self._loop.run_forever, name="lucernetick ssh", daemon=True
         )
         self._thread.start()
         try:
-            self.port = self._do(self._front.listen(host, port))
-            self.client_key = self._write("client_key", self._front.client_key.export_private_key())
+            self.port = self._do(self._listener.listen(host, port))
+            key = self._listener.client_key.export_private_key()
+            self.client_key = self._write("client_key", key)
             self.known_hosts = self._write(
-                "known_hosts", self._names() + self._front.host_key.export_public_key()
+                "known_hosts", self._names() + self._listener.host_key.export_public_key()
             )
         except BaseException:
             self.close()
             raise
 
     def sftp_command(self, *options: str) -> list[str]:
-        """The words that start OpenSSH's `sftp` on this server, by `client_key`, with further
-        options of its own."""
+        """The command that connects OpenSSH's `sftp` with `client_key`, with further options."""
         reaches = [
             "-P",
             str(self.port),
@@ -103,24 +151,54 @@ class SshServer(Closes):
         host = f"[{self.host}]" if ":" in self.host else self.host
         return ["sftp", *reaches, "-o", "IdentitiesOnly=yes", *options, f"{self.user}@{host}"]
 
+    def write_ssh_config(self, folder: Union[str, os.PathLike[str]]) -> str:
+        """Writes `ssh_config`, `client_key` and `known_hosts` into a folder, so that
+        `sftp -F FOLDER/ssh_config lucernetick` connects. Returns the path of `ssh_config`."""
+        place = os.path.abspath(os.fspath(folder))
+        os.makedirs(place, mode=0o700, exist_ok=True)
+        paths = {}
+        for name in ("client_key", "known_hosts"):
+            with open(os.path.join(self._folder, name), "rb") as file:
+                paths[name] = write_private(os.path.join(place, name), file.read())
+        lines = [
+            "Host lucernetick",
+            f"  HostName {self.host}",
+            f"  Port {self.port}",
+            f"  User {self.user}",
+            f'  IdentityFile "{paths["client_key"]}"',
+            "  IdentitiesOnly yes",
+            f'  UserKnownHostsFile "{paths["known_hosts"]}"',
+            "  StrictHostKeyChecking yes",
+        ]
+        text = "".join(line + "\n" for line in lines)
+        return write_private(os.path.join(place, "ssh_config"), text.encode())
+
     def close(self) -> None:
-        """Cuts all connections, and listens no more."""
-        if self._loop.is_closed():
+        """Closes all connections, and listens no more."""
+        if self._is_forked or self._loop.is_closed():
             return
         try:
-            self._do(self._front.close())
+            self._do(self._listener.close())
         finally:
             self._loop.call_soon_threadsafe(self._loop.stop)
             self._thread.join()
             self._loop.close()
-            self._folder.cleanup()
+            self._removed()
+
+    def _faults_of(self, session: int) -> Faults:
+        if isinstance(self.faults, Faults):
+            return self.faults
+        found = self.faults(session)
+        if not isinstance(found, Faults):
+            raise TypeError(f"faults must return Faults, not {type(found).__name__}")
+        return found
 
     def _do(self, work: Coroutine[Any, Any, Answer]) -> Answer:
-        """Does it in the thread that asyncssh has."""
+        """Runs it in asyncssh's thread."""
         return asyncio.run_coroutine_threadsafe(work, self._loop).result()
 
     def _names(self) -> bytes:
-        """What clients may call this host, as `known_hosts` has it."""
+        """The names of this host, in the format of `known_hosts`."""
         hosts = dict.fromkeys((self.host, "127.0.0.1", "localhost"))
         return (
             ",".join(
@@ -130,8 +208,14 @@ class SshServer(Closes):
         )
 
     def _write(self, name: str, data: bytes) -> str:
-        """A file that nobody else may read."""
-        path = os.path.join(self._folder.name, name)
-        with open(os.open(path, os.O_WRONLY | os.O_CREAT | os.O_EXCL, 0o600), "wb") as file:
-            file.write(data)
-        return path
+        return write_private(os.path.join(self._folder, name), data)
+
+
+def write_private(path: str, data: bytes) -> str:
+    """Replaces a file by one that only its owner may read. Returns its path."""
+    flags = os.O_WRONLY | os.O_CREAT | os.O_EXCL | os.O_NOFOLLOW
+    if os.path.lexists(path):
+        os.unlink(path)
+    with open(os.open(path, flags, 0o600), "wb") as file:
+        file.write(data)
+    return path

@@ -1,5 +1,4 @@
-"""Whole trees: written by the library, which does it by requests of sessions of its own, and
-taken."""
+"""Whole trees: written by requests of the library's own sessions, and taken as snapshots."""
 
 from __future__ import annotations
 
@@ -7,9 +6,11 @@ import ctypes
 import stat
 import struct
 from dataclasses import dataclass
+from pathlib import PurePosixPath
 from typing import TYPE_CHECKING, Iterator, Mapping, Optional, Union
 
-from ._calls import Kind, LtAttributes, LtBytes, path_bytes, text
+from . import _arguments as arguments
+from ._calls import Kind, LtBytes, path_bytes, text
 from ._faults import BlockedError, EndedError, Refusal, RefusedError, StatusError
 from ._library import STATUS_BASE, library, message
 
@@ -18,23 +19,24 @@ if TYPE_CHECKING:
 
 INIT = 1
 UNIT = 32768
-"""A sparse file's gaps begin and end at multiples of it, or at the file's end."""
+"""The holes of a sparse file begin and end at multiples of it, or at the end of the file."""
 
 
 @dataclass(frozen=True)
 class Link:
-    """A further name of the file that is at this path."""
+    """In place of contents: a hard link to the file at this path."""
 
     path: Union[str, bytes]
 
 
-Contents = Union[bytes, Link, None]
-"""What a path is to have: a file's bytes, another name's file, or None for a directory."""
+Contents = Union[bytes, bytearray, memoryview, Link, None]
+"""A file's bytes, a hard link, or None for a directory."""
 
 Files = Union[
     Mapping[str, Contents],
     Mapping[bytes, Contents],
     Mapping[Union[str, bytes], Contents],
+    Mapping[PurePosixPath, Contents],
 ]
 """Contents by paths."""
 
@@ -44,21 +46,21 @@ class Entry:
     """A file or directory of a snapshot."""
 
     mode: int
-    """The bits of its kind and its permissions, as in `os.stat_result.st_mode`."""
+    """The bits of its file type and its permissions, as in `os.stat_result.st_mode`."""
     uid: int
     gid: int
     atime: int
     """Seconds since 1970, as `mtime`."""
     mtime: int
     size: int
-    """How many bytes a file has; 0 for a directory."""
+    """The number of bytes of a file; 0 for a directory."""
     pieces: tuple[tuple[int, bytes], ...]
-    """A file's bytes, by their offsets, without the gaps of a sparse one: all that is in no piece
-    is zeros. A piece begins at a multiple of 32768. None is 32768 zeros, so that files of the same
-    bytes have the same pieces."""
+    """A file's bytes, by their offsets, without the holes of a sparse file: all other bytes are
+    zeros. Files with the same bytes have the same pieces: a piece begins at a multiple of 32768,
+    and has no 32768 zeros from such a multiple on."""
     file: Optional[int]
-    """A file's number, which all of its names share and no other one has; None for a directory.
-    Numbers are given by each snapshot, from 1 in its order."""
+    """The number of a file; None for a directory. All names of one file have the same number. Each
+    snapshot numbers its files, from 1 on."""
 
     def __init__(
         self,
@@ -71,7 +73,7 @@ class Entry:
         pieces: tuple[tuple[int, bytes], ...],
         file: Optional[int],
     ) -> None:
-        # That of a frozen class takes three times as long, which a tree of many files shows.
+        # The __init__ that dataclass makes takes three times as long.
         fields = self.__dict__
         fields["mode"] = mode
         fields["uid"] = uid
@@ -84,7 +86,7 @@ class Entry:
 
     @property
     def contents(self) -> Optional[bytes]:
-        """All bytes of a file, a sparse one's gaps as zeros; None for a directory."""
+        """All bytes of a file, with zeros for the holes; None for a directory."""
         if self.file is None:
             return None
         if len(self.pieces) == 1 and len(self.pieces[0][1]) == self.size:
@@ -109,7 +111,7 @@ class LtPlace(ctypes.Structure):
     _fields_ = [("length", ctypes.c_uint64), ("kind", ctypes.c_uint32)]
 
     def request(self, *paths: bytes) -> str:
-        """The request's name, and its paths."""
+        """The request as text: its name and its paths."""
         names = {0: "", INIT: "INIT", Kind.HARDLINK: "hardlink@openssh.com"}
         name = names[self.kind] if self.kind in names else Kind(self.kind).name
         return " ".join([name, *map(text, paths)])
@@ -119,11 +121,11 @@ LEAF = struct.Struct("PNQ6IQ")
 """The fields of lt_leaf in include/lucernetick.h."""
 
 MANY = 1024
-"""How many leaves are asked for at once."""
+"""The number of leaves that are read at once."""
 
 
 def declare() -> None:
-    """The library's functions for trees."""
+    """Declares the library's functions for trees."""
     engine, moment, answer = ctypes.c_void_p, ctypes.c_uint32, ctypes.c_int64
     place, tree, number = ctypes.POINTER(LtPlace), ctypes.c_void_p, ctypes.c_uint64
     for name, words in (
@@ -148,7 +150,7 @@ declare()
 
 
 def done(answer: int, request: str) -> None:
-    """Raises why a request wasn't done."""
+    """Raises an error if a request was rejected."""
     if answer <= STATUS_BASE:
         raise StatusError(STATUS_BASE - answer, message(answer), request)
     if answer == Refusal.IS_BLOCKED:
@@ -160,7 +162,7 @@ def done(answer: int, request: str) -> None:
 
 
 def place(engine: Optional[int], path: bytes, contents: Contents, moment: int) -> None:
-    """Makes what this path is to have, and the directories on its way where they are missing."""
+    """Writes one path, and creates its missing parent directories."""
     at, name = LtPlace(), LtBytes.of(path)
     if contents is None:
         answer = library.lt_make_directory(engine, name, moment, at)
@@ -170,20 +172,39 @@ def place(engine: Optional[int], path: bytes, contents: Contents, moment: int) -
         if at.kind == Kind.HARDLINK:
             done(answer, at.request(old, path))
     else:
-        answer = library.lt_write_file(engine, name, LtBytes.of(contents), moment, at)
+        answer = library.lt_write_file(engine, name, LtBytes.of(bytes(contents)), moment, at)
     done(answer, at.request(path[: at.length]))
 
 
+def checked_files(files: Files) -> list[tuple[bytes, Contents]]:
+    """The paths and contents, links last."""
+    parts: list[tuple[bytes, Contents]] = []
+    for name, contents in files.items():
+        path = arguments.path("a path", name)
+        if isinstance(contents, Link):
+            contents = Link(arguments.path("the path of a Link", contents.path))
+        elif contents is not None:
+            contents = arguments.data(f"the contents of {name!r}", contents)
+            if arguments.normal(path) == b"/":
+                raise ValueError("/ is a directory: its contents must be None")
+        parts.append((path, contents))
+    return sorted(parts, key=lambda part: isinstance(part[1], Link))
+
+
 def write_tree(engine: Engine, files: Files, moment: int) -> None:
-    """Links come last, in their order."""
-    parts = sorted(files.items(), key=lambda part: isinstance(part[1], Link))
-    with engine._lock:
-        for name, contents in parts:
-            place(engine._engine, path_bytes(name), contents, moment)
+    """Checks all arguments before the first one is written."""
+    parts = checked_files(files)
+    with engine._moved:
+        engine._check()
+        for path, contents in parts:
+            try:
+                place(engine._engine, path, contents, moment)
+            finally:
+                engine._has_moved()
 
 
 class Tree:
-    """A tree that the library took. It stays as it is, and is freed at the end of a `with`."""
+    """A snapshot of the library. It is freed at the end of a `with`."""
 
     def __init__(self, engine: Engine) -> None:
         self._tree = ctypes.c_void_p()
@@ -191,7 +212,7 @@ class Tree:
         self._room = ctypes.create_string_buffer(2 * UNIT)
         self._unit = ctypes.create_string_buffer(UNIT)
         self._numbers: dict[int, int] = {}
-        """Of files, by their labels."""
+        """The numbers of files, by their labels."""
         with engine._lock:
             done(library.lt_tree_of(engine._engine, self._tree), "")
 
@@ -202,27 +223,27 @@ class Tree:
         library.lt_tree_free(self._tree)
 
     def entries(self) -> dict[str, Entry]:
-        """What is at each path, in the order of the tree."""
+        """The entries by their paths, in the order of the tree."""
         found: dict[str, Entry] = {}
         at, count = 0, library.lt_tree_leaf(self._tree, 2**64 - 1, self._leaves)
         if count < 0:
             done(count, "")
         while at < count:
-            told = library.lt_tree_leaves(
+            read = library.lt_tree_leaves(
                 self._tree, at, self._leaves, MANY, self._room, len(self._room)
             )
-            if told < 0:
-                done(told, "")
-            if told == 0:
-                # The path alone is longer.
+            if read < 0:
+                done(read, "")
+            if read == 0:
+                # There is no room for the path.
                 self._room = ctypes.create_string_buffer(2 * len(self._room))
-            self._add(found, at, told)
-            at += told
+            self._add(found, at, read)
+            at += read
         return found
 
     def _add(self, found: dict[str, Entry], at: int, count: int) -> None:
-        """Adds the leaves that were told, of which the first one is at this place. A tree of many
-        files spends its time here."""
+        """Adds the leaves that were read, from place `at` on. For a large tree, most of the time is
+        spent here."""
         room, end, numbers = self._room.raw, 0, self._numbers
         leaves = LEAF.iter_unpack(self._leaves.raw[: count * LEAF.size])
         for _, length, size, _, uid, gid, mode, atime, mtime, label in leaves:
@@ -241,14 +262,14 @@ class Tree:
             at += 1
 
     def _read(self, at: int, offset: int) -> bytes:
-        """The unit at this offset."""
+        """The bytes of the unit at this offset."""
         count = library.lt_tree_read(self._tree, at, offset, self._unit, UNIT)
         if count < 0:
             done(count, "")
         return ctypes.string_at(self._unit, count)
 
     def _units(self, at: int, size: int) -> Iterator[tuple[int, bytes]]:
-        """The units that aren't in a gap."""
+        """The units that aren't in a hole."""
         offset = 0
         while offset < size:
             gap = library.lt_tree_gap(self._tree, at, offset)
@@ -257,7 +278,7 @@ class Tree:
             offset += gap or UNIT
 
     def _joined(self, at: int, size: int) -> Iterator[tuple[int, bytes]]:
-        """Those that aren't all zeros, joined where they are next to each other."""
+        """The units that aren't all zeros. Adjacent ones are joined."""
         begin = 0
         units: list[bytes] = []
         for offset, unit in self._units(at, size):
@@ -274,11 +295,11 @@ class Tree:
 
 
 def has_bytes(unit: bytes) -> bool:
-    """Whether there is anything but zeros."""
+    """Whether any byte isn't 0."""
     return unit != bytes(len(unit))
 
 
 def read_tree(engine: Engine) -> dict[str, Entry]:
-    """The engine's lock is held while its tree is taken, and no longer."""
+    """The engine is locked while the library takes the snapshot, and not while it is read."""
     with Tree(engine) as tree:
         return tree.entries()

@@ -36,7 +36,7 @@ def test_sessions_at_a_socket_of_asyncio(sftp_tree: Server, tmp_path: Path) -> N
 
 
 def test_servers_by_async_with() -> None:
-    """Where they are left the loop goes on, which a client on it wants that is cut."""
+    """While they close, the event loop runs, as their client needs."""
 
     async def main() -> None:
         async with Server() as server, SshServer(server) as ssh:

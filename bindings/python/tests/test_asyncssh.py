@@ -12,7 +12,7 @@ LIMIT = 120
 
 
 class Subsystem(asyncssh.SSHServerSession):
-    """A session of SSH whose bytes are those of one of SFTP: the writer of its streams too."""
+    """An SSH session that passes its bytes on to an SFTP session, also as its streams' writer."""
 
     def __init__(self, server: Server) -> None:
         self.server = server

@@ -1,4 +1,4 @@
-"""The engine by its own calls: bytes and moments in, bytes out."""
+"""The engine: bytes and timestamps in, bytes out."""
 
 import threading
 
@@ -21,7 +21,7 @@ from packets import (
     u32,
 )
 
-# Whose turns it is. The second session looks at /a before the first one has made it.
+# The sessions that take the turns. The second session looks at /a before the first one has made it.
 TURNS = (1, 2, 2, 1, 1, 2, 1, 2, 2, 2, 1)
 DID = (
     Turn.WROTE,
@@ -54,14 +54,14 @@ def test_a_schedule_gives_the_same_bytes_each_time() -> None:
     did, made, looked = runs[0]
     assert tuple(did) == DID
     assert replies(made)[1] == status(7, OK, b"Success")
-    # The look began before /a was made, and is told of it: size 0, nobody's, 0o755, of the moment
+    # The STAT began before /a was made, and its reply has it: size 0, owner 0, mode 0o755, times
     # 100.
     directory = u32(15) + bytes(8) + u32(0) + u32(0) + u32(0o40755) + u32(100) + u32(100)
     assert replies(looked)[1] == bytes([ATTRS]) + u32(8) + directory
 
 
 def begun(engine: Engine, old: bytes, new: bytes) -> Session:
-    """A session whose rename, under the id 7, has begun."""
+    """A session with a pending RENAME, with the id 7."""
     session = engine.open()
     session.feed(packet(INIT, u32(3)) + packet(RENAME, u32(7), string(old), string(new)))
     assert [session.turn(100), session.turn(100)] == [Turn.WROTE, Turn.BEGUN]
@@ -70,8 +70,8 @@ def begun(engine: Engine, old: bytes, new: bytes) -> Session:
 
 
 def test_crossing_renames_in_rounds() -> None:
-    """Five rounds until the first rename is decided, in the last of which the other one takes the
-    root; and three more, since what it moves to is gone."""
+    """The first RENAME is decided in the fifth round. The other one acquires the root in the same
+    round, and needs three more: its new path is missing."""
     with Engine.from_files({"/a/x": None, "/b/y": None}) as engine:
         first, second = begun(engine, b"/a/x", b"/b/y/x"), begun(engine, b"/b/y", b"/a/x/y")
         assert engine.run_all() == 8
@@ -188,18 +188,7 @@ def test_a_closed_engine_refuses() -> None:
         with pytest.raises(RefusedError) as refused:
             action()
         assert refused.value.refusal == Refusal.BAD_POINTER
-
-
-def test_numbers_that_the_protocol_does_not_have() -> None:
-    with Engine() as engine:
-        session = engine.open()
-        for moment in (-1, 2**32):
-            with pytest.raises(ValueError):
-                session.turn(moment)
-            with pytest.raises(ValueError):
-                session.settle(moment)
-        with pytest.raises(ValueError):
-            session.sent(-1)
+        assert str(refused.value) == "the engine was closed"
 
 
 def test_a_snapshot_while_a_call_stands_half_way() -> None:
@@ -215,7 +204,7 @@ def test_a_snapshot_while_a_call_stands_half_way() -> None:
 
 
 def test_rounds_carry_out_a_request_that_was_blocked() -> None:
-    """A file whose directory is held is left in the root, and holds it until the rounds."""
+    """A request that is blocked stays pending, and blocks others, until the rounds complete it."""
     with Engine.from_files({"/a/f": b"1"}) as engine:
         held = engine.open()
         held.feed(packet(INIT, u32(3)) + packet(STAT, u32(8), string(b"/a/f")))

@@ -3,12 +3,17 @@
 from __future__ import annotations
 
 import os
+import socket
 import stat
+import subprocess
+import threading
+import time
 from pathlib import Path
+from typing import Iterator
 
 import pytest
 
-from lucernetick import Engine, Link
+from lucernetick import Engine, Entry, Link, Snapshot
 
 from packets import INIT, SETSTAT, packet, string, u32
 
@@ -70,7 +75,7 @@ def test_into_a_folder(tmp_path: Path) -> None:
 
 
 def test_permissions_of_a_folder_s_files(tmp_path: Path) -> None:
-    """Also where a directory's forbid to write in it; of the others the nine bits alone."""
+    """Also if those of a directory forbid to write in it. Only the lowest nine bits."""
     with Engine.from_files({"/d/f": b"1"}) as engine:
         chmod(engine, b"/d/f", 0o4640)
         chmod(engine, b"/d", 0o500)
@@ -108,3 +113,154 @@ def test_a_folder_that_is_not_empty(tmp_path: Path) -> None:
     with Engine.from_files({"/f": b"2"}) as engine, pytest.raises(FileExistsError):
         engine.snapshot().save(tmp_path)
     assert (tmp_path / "f").read_bytes() == b"1"
+
+
+def test_attributes_of_a_folder(tmp_path: Path) -> None:
+    """As `sftpd --tree` copies them; by default they are the same everywhere."""
+    (tmp_path / "d").mkdir()
+    (tmp_path / "d" / "f").write_bytes(b"1")
+    os.chown(tmp_path / "d" / "f", 3, 4)
+    os.chmod(tmp_path / "d" / "f", 0o4640)
+    os.utime(tmp_path / "d" / "f", (5, 6))
+    os.chmod(tmp_path / "d", 0o1700)
+    os.utime(tmp_path / "d", (-5, 2**33))
+    with Engine.from_folder(tmp_path, attributes=True) as engine:
+        tree = engine.snapshot()
+    file, folder = tree["/d/f"], tree["/d"]
+    assert (file.permissions, file.uid, file.gid) == (0o4640, 3, 4)
+    assert (file.atime, file.mtime, file.contents) == (5, 6, b"1")
+    assert (folder.permissions, folder.atime, folder.mtime) == (0o1700, 0, 2**32 - 1)
+    with Engine.from_folder(tmp_path) as engine:
+        assert engine.snapshot()["/d/f"].permissions == 0o644
+
+
+def test_what_is_skipped(tmp_path: Path) -> None:
+    (tmp_path / "link").symlink_to("/etc")
+    os.mkfifo(tmp_path / "pipe")
+    with socket.socket(socket.AF_UNIX) as listening:
+        listening.bind(str(tmp_path / "socket"))
+    (tmp_path / "f").write_bytes(b"1")
+    skipped: list[tuple[str, str]] = []
+    with Engine.from_folder(tmp_path, skip=lambda *words: skipped.append(words)) as engine:
+        assert list(engine.snapshot()) == ["/", "/f"]
+    assert skipped == [
+        (f"{tmp_path}/link", "a symbolic link"),
+        (f"{tmp_path}/pipe", "a FIFO"),
+        (f"{tmp_path}/socket", "a socket"),
+    ]
+    with pytest.raises(ValueError, match="neither a file nor a directory"):
+        Engine.from_folder(tmp_path)
+
+
+def test_a_sparse_file_of_a_folder(tmp_path: Path) -> None:
+    """Its hole is neither read nor written."""
+    with open(tmp_path / "f", "wb") as file:
+        file.write(b"one")
+        file.seek(2**39)
+        file.write(b"two")
+        file.truncate(2**40)
+    begin = time.monotonic()
+    with Engine.from_folder(tmp_path, moment=7) as engine:
+        found = engine.snapshot()["/f"]
+    assert time.monotonic() - begin < 60
+    assert (found.size, found.mtime) == (2**40, 7)
+    assert [(offset, piece.rstrip(b"\0")) for offset, piece in found.pieces] == [
+        (0, b"one"), (2**39, b"two")
+    ]
+
+
+def test_a_deep_folder(tmp_path: Path) -> None:
+    """Deeper than Python's recursion, and than descriptors."""
+    depth = 1500
+    before = os.open(".", os.O_RDONLY)
+    try:
+        os.chdir(tmp_path)
+        for _ in range(depth):
+            os.mkdir("d")
+            os.chdir("d")
+        Path("f").write_bytes(b"1")
+        with Engine.from_folder(tmp_path) as engine:
+            tree = engine.snapshot()
+    finally:
+        os.chdir(before)
+        os.close(before)
+        # pytest's own cleaning is recursive.
+        subprocess.run(["rm", "-rf", str(tmp_path / "d")], check=True)
+    assert tree["/d" * depth + "/f"].contents == b"1"
+
+
+@pytest.fixture
+def swapped(tmp_path: Path) -> Iterator[Path]:
+    """A folder in which a name is now a file, and now a link to a secret or a FIFO."""
+    folder = tmp_path / "folder"
+    folder.mkdir()
+    (tmp_path / "secret").write_bytes(b"secret")
+    ends = threading.Event()
+
+    def swap() -> None:
+        while not ends.is_set():
+            for make in (
+                lambda name: os.symlink(tmp_path / "secret", name),
+                os.mkfifo,
+                lambda name: Path(name).write_bytes(b"fine"),
+            ):
+                make(tmp_path / "new")
+                os.rename(tmp_path / "new", folder / "f")
+
+    thread = threading.Thread(target=swap)
+    thread.start()
+    yield folder
+    ends.set()
+    thread.join()
+
+
+def test_a_name_that_becomes_a_link(swapped: Path) -> None:
+    """It is never followed, and never waited for."""
+    found = set()
+    end = time.monotonic() + 3
+    while time.monotonic() < end:
+        try:
+            with Engine.from_folder(swapped, skip=lambda *words: None) as engine:
+                found.add(engine.snapshot().get("/f", Entry(0, 0, 0, 0, 0, 0, (), None)).contents)
+        except (OSError, ValueError):
+            pass
+    assert b"secret" not in found and b"fine" in found
+
+
+def test_a_file_that_shrinks(tmp_path: Path, monkeypatch: pytest.MonkeyPatch) -> None:
+    (tmp_path / "f").write_bytes(bytes(range(256)) * 16384)
+    pread = os.pread
+
+    def shrinking(descriptor: int, count: int, offset: int) -> bytes:
+        os.truncate(tmp_path / "f", 10)
+        return pread(descriptor, count, offset)
+
+    monkeypatch.setattr("lucernetick._folders.os.pread", shrinking)
+    with pytest.raises(ValueError, match="f: it shrank while it was read"):
+        Engine.from_folder(tmp_path)
+
+
+def test_a_file_that_vanishes(tmp_path: Path, monkeypatch: pytest.MonkeyPatch) -> None:
+    (tmp_path / "f").write_bytes(b"1")
+    listdir = os.listdir
+
+    def vanishing(folder: int) -> list[str]:
+        names = listdir(folder)
+        (tmp_path / "f").unlink()
+        return names
+
+    monkeypatch.setattr("lucernetick._folders.os.listdir", vanishing)
+    with pytest.raises(FileNotFoundError, match=f"{tmp_path}/f"):
+        Engine.from_folder(tmp_path)
+
+
+def test_what_cannot_be_saved(tmp_path: Path) -> None:
+    """The rest is."""
+    whole = Entry(stat.S_IFREG | 0o644, 0, 0, 1, 2, 1, ((0, b"1"),), 1)
+    top = Entry(stat.S_IFDIR | 0o755, 0, 0, 1, 2, 0, (), None)
+    tree = Snapshot({"/": top, "/" + "x" * 255 + "y": whole, "/a": whole})
+    with pytest.raises(OSError, match="File name too long"):
+        tree.save(tmp_path / "one")
+    [(path, fault)] = Snapshot(tree).save_all(tmp_path / "two")
+    assert path.endswith("xy") and fault.strerror == "File name too long"
+    assert (tmp_path / "two" / "a").stat().st_mtime == 2

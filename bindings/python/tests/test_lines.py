@@ -1,9 +1,8 @@
-"""Lines that fail."""
+"""Connections with faults."""
 
 from __future__ import annotations
 
 import socket
-import threading
 import time
 
 import paramiko
@@ -15,8 +14,8 @@ from packets import INIT, LOOKS, MAKES, MKDIR, STAT, VERSION, packet, replies, s
 
 LIMIT = 120
 CONTENTS = bytes(range(256)) * 4000
-TOLD = (paramiko.SSHException, OSError)
-"""How paramiko says that the line has ended."""
+ENDED = (paramiko.SSHException, OSError)
+"""What paramiko raises if the connection has ended."""
 
 
 def all_of(line: socket.socket) -> bytes:
@@ -52,8 +51,8 @@ def test_cut_after_so_many_bytes_from_the_client(
 def test_cut_after_so_many_bytes_to_the_client(
     sftp_tree: Server, cut_after: int, calls: int
 ) -> None:
-    """VERSION has 71 bytes, and each reply to STAT 41, where its request has 14. The call whose
-    reply is cut is the last one that is carried out."""
+    """VERSION has 71 bytes, a STAT 14 and its reply 41. The call with the reply that is cut is the
+    last one to take effect."""
     line = sftp_tree.connect(cut_after=cut_after)
     line.sendall(packet(INIT, u32(3)) + packet(STAT, u32(8), string(b"/")) * 5)
     assert len(all_of(line)) == cut_after
@@ -65,10 +64,10 @@ def test_cut_at_once(sftp_tree: Server) -> None:
 
 
 def test_an_upload_that_is_cut(sftp_tree: Server) -> None:
-    """paramiko is told, and what came of the file is there each time the same."""
+    """paramiko reports it. Each time the file has the same contents."""
     for _ in range(3):
         client = paramiko.SFTPClient(sftp_tree.connect(cut_after=500_000))
-        with pytest.raises(TOLD):
+        with pytest.raises(ENDED):
             with client.open("/f", "w") as file:
                 file.write(CONTENTS)
         left = sftp_tree.snapshot()["/f"].contents
@@ -79,7 +78,7 @@ def test_an_upload_that_is_cut(sftp_tree: Server) -> None:
 def test_a_download_that_is_cut(sftp_tree: Server) -> None:
     sftp_tree.engine.write_files({"/f": CONTENTS})
     client = paramiko.SFTPClient(sftp_tree.connect(cut_after=500_000))
-    with pytest.raises(TOLD):
+    with pytest.raises(ENDED):
         with client.open("/f") as file:
             file.read()
 
@@ -91,9 +90,9 @@ def test_a_line_that_is_not_reached(sftp_tree: Server) -> None:
     assert sftp_tree.snapshot()["/f"].contents == CONTENTS
 
 
-def test_pieces(sftp_tree: Server) -> None:
-    """Whoever reads is given no more at a time, by whichever call."""
-    line = sftp_tree.connect(piece=10)
+def test_chunks(sftp_tree: Server) -> None:
+    """The client receives no more at a time, by either method."""
+    line = sftp_tree.connect(chunk=10)
     line.sendall(MAKES)
     line.settimeout(LIMIT)
     first, room = line.recv(1000), bytearray(1000)
@@ -103,36 +102,87 @@ def test_pieces(sftp_tree: Server) -> None:
     assert [reply[0] for reply in replies(first + room[:10] + all_of(line))] == [2, 101]
 
 
-def test_paramiko_takes_pieces(sftp_tree: Server) -> None:
+def test_paramiko_takes_chunks(sftp_tree: Server) -> None:
     sftp_tree.engine.write_files({"/f": CONTENTS[:100_000]})
-    with paramiko.SFTPClient(sftp_tree.connect(piece=7)) as client:
+    with paramiko.SFTPClient(sftp_tree.connect(chunk=7)) as client:
         with client.open("/f") as file:
             assert file.read() == CONTENTS[:100_000]
 
 
-def test_replies_that_are_late(sftp_tree: Server) -> None:
-    """Each one is."""
-    late = sftp_tree.connect(delay=0.2)
+def test_late_replies_overlap(sftp_tree: Server) -> None:
+    """40 pipelined requests take one latency and not 40; each of two in turn takes one."""
+    late = sftp_tree.connect(delay=0.5)
     begin = time.monotonic()
-    late.sendall(MAKES)
-    late.shutdown(socket.SHUT_WR)
-    assert len(replies(all_of(late))) == 2
-    assert time.monotonic() - begin >= 0.4
+    with late.makefile("rb") as replies:
+        late.sendall(packet(INIT, u32(3)) + packet(STAT, u32(1), string(b"/")) * 40)
+        assert len(replies.read(VERSION + 40 * 41)) == VERSION + 40 * 41
+        once = time.monotonic() - begin
+        for _ in range(2):
+            late.sendall(packet(STAT, u32(1), string(b"/")))
+            assert len(replies.read(41)) == 41
+    assert once >= 0.5
+    assert once < 20 * 0.5
+    assert time.monotonic() - begin >= 1.5
 
 
-def test_other_lines_are_not_late(sftp_tree: Server, monkeypatch: pytest.MonkeyPatch) -> None:
-    """They have their replies while the one that is late has none, however long that takes."""
-    goes_on = threading.Event()
-    monkeypatch.setattr("lucernetick._lines.sleep", lambda seconds: goes_on.wait(LIMIT))
-    late, line = sftp_tree.connect(delay=1.0), sftp_tree.connect()
+def test_a_late_call_takes_effect_at_once(sftp_tree: Server) -> None:
+    """Its reply alone is late."""
+    late = sftp_tree.connect(delay=1000.0)
     late.sendall(MAKES)
-    late.shutdown(socket.SHUT_WR)
-    line.settimeout(LIMIT)
-    line.sendall(LOOKS)
-    assert len(line.recv(VERSION, socket.MSG_WAITALL)) == VERSION
+    assert sftp_tree.wait_for("/a", timeout=LIMIT).is_directory
     assert not late.recv_ready()
-    goes_on.set()
+
+
+def test_late_replies_come_after_the_client_s_last_request(sftp_tree: Server) -> None:
+    late = sftp_tree.connect(delay=0.2)
+    late.sendall(MAKES)
+    late.shutdown(socket.SHUT_WR)
     assert len(replies(all_of(late))) == 2
+
+
+def test_requests_of_a_client_that_does_not_wait(sftp_tree: Server) -> None:
+    late = sftp_tree.connect(delay=1000.0)
+    late.sendall(MAKES)
+    sftp_tree.wait_for("/a", timeout=LIMIT)
+    late.sendall(packet(MKDIR, u32(7), string(b"/b"), u32(0)))
+    late.close()
+    assert sftp_tree.wait_for("/b", timeout=LIMIT).is_directory
+
+
+def test_a_server_closes_though_replies_are_late() -> None:
+    begin = time.monotonic()
+    with Server() as server:
+        line = server.connect(delay=1000.0)
+        line.sendall(MAKES)
+        server.wait_for("/a", timeout=LIMIT)
+    assert time.monotonic() - begin < 500
+
+
+def test_bandwidth_of_an_upload(sftp_tree: Server) -> None:
+    """300 KB at 1 MB a second, and nothing of the reply."""
+    begin = time.monotonic()
+    with paramiko.SFTPClient(sftp_tree.connect(bandwidth=1_000_000)) as client:
+        with client.open("/f", "w") as file:
+            file.write(CONTENTS[:300_000])
+    assert time.monotonic() - begin >= 0.3
+    assert sftp_tree.snapshot()["/f"].contents == CONTENTS[:300_000]
+
+
+def test_bandwidth_of_a_download(sftp_tree: Server) -> None:
+    sftp_tree.write_files({"/f": CONTENTS[:300_000]})
+    begin = time.monotonic()
+    with paramiko.SFTPClient(sftp_tree.connect(bandwidth=1_000_000)) as client:
+        with client.open("/f") as file:
+            assert file.read() == CONTENTS[:300_000]
+    assert time.monotonic() - begin >= 0.3
+
+
+def test_a_late_line_that_is_cut(sftp_tree: Server) -> None:
+    """The same bytes come, only later."""
+    line = sftp_tree.connect(cut_after=100, delay=0.1)
+    line.sendall(packet(INIT, u32(3)) + packet(STAT, u32(8), string(b"/")) * 5)
+    assert len(all_of(line)) == 100
+    assert line.is_cut and len(sftp_tree.calls()) == 1
 
 
 def test_a_cut_line_leaves_no_session(sftp_tree: Server) -> None:
@@ -141,10 +191,3 @@ def test_a_cut_line_leaves_no_session(sftp_tree: Server) -> None:
         line = sftp_tree.connect(cut_after=20)
         line.sendall(MAKES)
         assert len(all_of(line)) == 20
-
-
-@pytest.mark.parametrize("words", [{"cut_after": -1}, {"piece": 0}, {"delay": -1.0}])
-def test_numbers_that_a_line_cannot_have(sftp_tree: Server, words: dict[str, int]) -> None:
-    with pytest.raises(ValueError):
-        sftp_tree.connect(**words)
-    assert sftp_tree.engine.open().number == 1

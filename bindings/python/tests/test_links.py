@@ -35,7 +35,7 @@ def ask(session: Session, request: bytes) -> bytes:
 
 
 def look(session: Session) -> list[bytes]:
-    """All attributes of what is at the paths of `ALIKE`, as the server tells them."""
+    """All attributes at the paths of `ALIKE`, as in the server's replies."""
     found = [ask(session, packet(STAT, u32(1), string(path.encode()))) for path in ALIKE_NUMBERS]
     assert {reply[0] for reply in found} == {ATTRS}
     return found
@@ -132,7 +132,7 @@ def test_links_that_are_refused(files: dict[str, Contents], code: int) -> None:
 
 
 def test_the_request_that_is_refused() -> None:
-    """It is told with its path, and what was done before stays."""
+    """The error has it with its path. What was written before stays."""
     with Engine.from_files({"/a": b""}) as engine:
         with pytest.raises(StatusError) as refused:
             engine.write_files({"/e/f": None, "/a/b/c": b""})

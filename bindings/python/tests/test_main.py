@@ -2,15 +2,20 @@
 
 from __future__ import annotations
 
+import base64
 import contextlib
+import http.client
+import json
+import os
 import re
 import shlex
 import signal
 import socket
 import subprocess
 import sys
+import time
 from pathlib import Path
-from typing import Iterator
+from typing import Any, Iterator, Optional
 
 import asyncssh
 import paramiko
@@ -117,8 +122,15 @@ def test_a_tree_at_the_start_and_at_the_end(tmp_path: Path) -> None:
 @pytest.mark.parametrize(
     ("words", "code", "says"),
     [
-        (["--user", "ann"], 2, "argument --user: it is NAME:PASSWORD"),
-        (["--port", "x"], 2, "argument --port: invalid int value: 'x'"),
+        (["--user", "ann"], 2, "argument --user: it must be NAME:PASSWORD or NAME:PASSWORD:ROOT"),
+        (["--port", "x"], 2, "argument --port: it must be from 0 to 65535, not 'x'"),
+        (["--port", "99999"], 2, "argument --port: it must be from 0 to 65535, not '99999'"),
+        (["--control", "99999"], 2, "argument --control: it must be from 0 to 65535"),
+        (["--control", ""], 2, "argument --control: it must not be empty"),
+        (["--save", ""], 2, "argument --save: it must not be empty"),
+        (["--tree", ""], 2, "argument --tree: it must not be empty"),
+        (["--password-file", "/none"], 2, "--password-file: /none: No such file or directory"),
+        (["--host-key", "/none"], 1, "No such file or directory: '/none'"),
         (["--tree", "/none"], 1, "No such file or directory: '/none'"),
         (["--key", "/none"], 1, "No such file or directory: '/none'"),
         (["--port", "TAKEN"], 1, "address already in use"),
@@ -138,3 +150,238 @@ def test_its_version() -> None:
     words = [sys.executable, "-m", "lucernetick", "--version"]
     told = subprocess.run(words, capture_output=True, text=True, timeout=LIMIT)
     assert told.stdout == f"lucernetick {__version__}\n"
+
+
+def test_a_folder_keeps_its_attributes(tmp_path: Path) -> None:
+    """As with `sftpd --tree`. What is neither a file nor a directory is skipped, with a line."""
+    shelf = tmp_path / "shelf"
+    shelf.mkdir()
+    (shelf / "f").write_bytes(b"1")
+    os.chmod(shelf / "f", 0o600)
+    os.utime(shelf / "f", (5, 6))
+    (shelf / "link").symlink_to("f")
+    begins = [sys.executable, "-m", "lucernetick", "--port", "0"]
+    words = [*begins, "--tree", str(shelf), "--save", str(tmp_path / "left")]
+    with subprocess.Popen(
+        words, stdout=subprocess.PIPE, stderr=subprocess.PIPE, text=True
+    ) as process:
+        assert process.stdout is not None
+        process.stdout.readline()
+        process.send_signal(signal.SIGHUP)
+        _, wrong = process.communicate(timeout=LIMIT)
+    assert wrong == f"python -m lucernetick: skipped: '{shelf}/link' is a symbolic link\n"
+    status = (tmp_path / "left" / "f").stat()
+    assert (status.st_mode & 0o777, status.st_atime, status.st_mtime) == (0o600, 5, 6)
+    assert os.listdir(tmp_path / "left") == ["f"]
+
+
+def test_a_tree_that_cannot_be_saved_whole(tmp_path: Path) -> None:
+    """By renames clients make a path that is longer than the system's. The rest is saved."""
+    deep = ("/" + "x" * 255) * 15
+    with running("--save", str(tmp_path / "left")) as (process, words):
+        sftp(words, "mkdir /precious\nmkdir /z\n")
+        config = ssh_words(words)
+        with log_in(config) as client:
+            files = client.open_sftp()
+            for name in "ab":
+                make_deep(files, "/" + name, deep)
+            files.rename("/b", "/a" + deep[:2560] + "/b")
+        process.send_signal(signal.SIGTERM)
+        _, wrong = process.communicate(timeout=LIMIT)
+    assert process.returncode == 1
+    assert re.match("python -m lucernetick: not saved: '/a/xxx.*: File name too long\n", wrong)
+    assert {"a", "precious", "z"} <= set(os.listdir(tmp_path / "left"))
+
+
+def make_deep(files: paramiko.SFTPClient, top: str, deep: str) -> None:
+    files.mkdir(top)
+    for end in range(256, len(deep) + 1, 256):
+        files.mkdir(top + deep[:end])
+
+
+def ssh_words(words: list[str]) -> dict[str, Any]:
+    """How to connect by the command that was printed."""
+    option = dict(zip(words[1:-1:2], words[2:-1:2]))
+    return {"port": int(option["-P"]), "client_key": option["-i"], "user": "user"}
+
+
+def log_in(reached: dict[str, Any], password: Optional[str] = None) -> paramiko.SSHClient:
+    client = paramiko.SSHClient()
+    client.set_missing_host_key_policy(paramiko.AutoAddPolicy())
+    words: dict[str, Any] = {"look_for_keys": False, "allow_agent": False}
+    words |= {"banner_timeout": LIMIT, "auth_timeout": LIMIT, "username": reached["user"]}
+    words |= {"password": password} if password else {"key_filename": reached["client_key"]}
+    client.connect("127.0.0.1", reached["port"], **words)
+    return client
+
+
+def test_how_it_tells_that_it_is_ready(tmp_path: Path) -> None:
+    ready, config = tmp_path / "ready", tmp_path / "config"
+    words = ["--json", "--ready-file", str(ready), "--write-ssh-config", str(config)]
+    begins = [sys.executable, "-m", "lucernetick", "--port", "0", *words]
+    with subprocess.Popen(begins, stdout=subprocess.PIPE, text=True) as process:
+        try:
+            assert process.stdout is not None
+            found = json.loads(process.stdout.readline())
+            assert json.loads(ready.read_text()) == found
+            assert ready.stat().st_mode & 0o777 == 0o600
+            assert found["pid"] == process.pid and found["control"] is None
+            with log_in(found, found["password"]) as client:
+                assert client.open_sftp().listdir("/") == []
+            batch = ["sftp", "-q", "-b", "-", "-F", str(config / "ssh_config"), "lucernetick"]
+            subprocess.run(batch, input="mkdir /a\n", text=True, check=True, timeout=LIMIT)
+        finally:
+            process.kill()
+
+
+def test_users_of_a_file(tmp_path: Path) -> None:
+    (tmp_path / "users").write_text("ann:a:b:/home/ann\n\nbob:c\n")
+    with running("--password-file", str(tmp_path / "users"), "--user", "eve:d") as (_, words):
+        assert words[-1] == "eve@127.0.0.1"
+        reached = ssh_words(words)
+        for user, password, names in (("ann", "a:b", []), ("bob", "c", ["home"])):
+            with log_in({**reached, "user": user}, password) as client:
+                assert client.open_sftp().listdir("/") == names
+
+
+def test_read_only(tmp_path: Path) -> None:
+    (tmp_path / "f").write_bytes(b"1")
+    with running("--read-only", "--tree", str(tmp_path)) as (_, words):
+        with log_in(ssh_words(words)) as client:
+            files = client.open_sftp()
+            with pytest.raises(PermissionError):
+                files.remove("/f")
+            with files.open("/f") as file:
+                assert file.read() == b"1"
+
+
+class Control:
+    """A client of --control."""
+
+    def __init__(self, address: str) -> None:
+        self.address = address
+
+    def raw(self, method: str, path: str, body: bytes = b"") -> tuple[int, bytes]:
+        if self.address.startswith("http://"):
+            connection = http.client.HTTPConnection(self.address[7:], timeout=LIMIT)
+        else:
+            connection = http.client.HTTPConnection("unix", timeout=LIMIT)
+            connection.sock = socket.socket(socket.AF_UNIX)
+            connection.sock.connect(self.address)
+        with contextlib.closing(connection):
+            connection.request(method, path, body)
+            reply = connection.getresponse()
+            return reply.status, reply.read()
+
+    def ask(self, method: str, path: str, words: Optional[dict[str, Any]] = None) -> Any:
+        status, body = self.raw(method, path, json.dumps(words or {}).encode())
+        assert status == 200, body
+        return json.loads(body)
+
+
+@contextlib.contextmanager
+def controlled(address: str) -> Iterator[tuple[Control, dict[str, Any]]]:
+    begins = [sys.executable, "-m", "lucernetick", "--port", "0", "--json", "--control", address]
+    with subprocess.Popen(begins, stdout=subprocess.PIPE, text=True) as process:
+        try:
+            assert process.stdout is not None
+            found = json.loads(process.stdout.readline())
+            yield Control(found["control"]), found
+        finally:
+            process.terminate()
+            process.communicate(timeout=LIMIT)
+
+
+def test_control_at_a_port() -> None:
+    """Files, calls, rules, faults, the clock and the reset, beside a client."""
+    with controlled("0") as (control, reached), log_in(reached) as client:
+        assert control.address.startswith("http://127.0.0.1:")
+        files = client.open_sftp()
+        contents = {"base64": base64.b64encode(bytes(range(256))).decode()}
+        control.ask("PUT", "/tree", {"/a/b": "text", "/c": contents, "/d": {"link": "/c"}})
+        control.ask("PUT", "/tree", {"/e": None})
+        assert control.raw("PUT", "/files/with%20space", b"\0\1") == (200, b"{}\n")
+        assert control.raw("GET", "/files/c") == (200, bytes(range(256)))
+        assert files.listdir("/") == ["a", "c", "d", "e", "with space"]
+        tree = control.ask("GET", "/tree?contents=1")
+        assert tree["/c"]["file"] == tree["/d"]["file"] and tree["/e"]["type"] == "directory"
+        assert base64.b64decode(tree["/with space"]["base64"]) == b"\0\1"
+        assert tree["/a/b"]["size"] == 4 and "base64" not in control.ask("GET", "/tree")["/a/b"]
+
+        rule = control.ask("POST", "/rules", {"kind": "mkdir", "path": "/x*", "times": None})
+        with pytest.raises(OSError):
+            files.mkdir("/x1")
+        files.mkdir("/y")
+        assert control.ask("GET", f"/rules/{rule['rule']}") == {"refused": 1}
+        control.ask("DELETE", f"/rules/{rule['rule']}")
+        files.mkdir("/x1")
+        control.ask("POST", "/rules", {"flags": "write|create", "status": "PERMISSION_DENIED"})
+        with pytest.raises(PermissionError):
+            files.open("/z", "w")
+
+        assert control.ask("PUT", "/clock", {"set": 1000}) == {"now": 1000}
+        assert control.ask("PUT", "/clock", {"advance": 5}) == {"now": 1005}
+        files.mkdir("/late")
+        assert files.stat("/late").st_mtime == 1005
+        assert control.ask("PUT", "/clock", {"wall": True})["now"] > 1_700_000_000
+        calls = control.ask("GET", "/calls")
+        assert calls["dropped"] == 0 and calls["calls"][-1]["kind"] == "STAT"
+        assert 'mkdir "/late"' in calls["calls"][-2]["text"]
+
+        control.ask("PUT", "/faults", {"delay": 0.4})
+        begin = time.monotonic()
+        client.open_sftp().listdir("/")
+        assert time.monotonic() - begin >= 0.8
+        control.ask("POST", "/rules", {"times": None})
+        control.ask("POST", "/reset")
+        assert files.listdir("/") == []
+        begin = time.monotonic()
+        client.open_sftp().listdir("/")
+        assert time.monotonic() - begin < 0.8
+        kinds = {call["kind"] for call in control.ask("GET", "/calls")["calls"]}
+        assert kinds == {"OPENDIR", "READDIR", "CLOSE"}
+
+
+@pytest.mark.parametrize(
+    ("method", "path", "body", "status", "says"),
+    [
+        ("GET", "/none", b"", 404, "not found"),
+        ("GET", "/files/none", b"", 404, "not found"),
+        ("GET", "/rules/7", b"", 404, "not found"),
+        ("DELETE", "/tree", b"", 404, "not found"),
+        ("PUT", "/tree", b"{", 400, "Expecting property name"),
+        ("PUT", "/tree", b"[]", 400, "the body must be a JSON object"),
+        ("PUT", "/tree", b'{"/a": 3}', 400, "/a must be a text"),
+        ("PUT", "/tree", b'{"/a": {"link": "/none"}}', 400, "No such file"),
+        ("POST", "/rules", b'{"kind": "x"}', 400, "kind must be one of OPEN, CLOSE"),
+        ("POST", "/rules", b'{"when": 1}', 400, "a rule has no when"),
+        ("PUT", "/faults", b'{"delay": -1}', 400, "delay must be at least 0"),
+        ("PUT", "/clock", b'{"set": -1}', 400, "moment must be from 0"),
+        ("PUT", "/clock", b"{}", 400, "the clock takes"),
+    ],
+)
+def test_control_at_a_socket_rejects(
+    control: Control, method: str, path: str, body: bytes, status: int, says: str
+) -> None:
+    found, told = control.raw(method, path, body)
+    assert found == status and says in json.loads(told)["error"]
+
+
+@pytest.fixture(scope="module")
+def control(tmp_path_factory: pytest.TempPathFactory) -> Iterator[Control]:
+    path = tmp_path_factory.mktemp("control") / "socket"
+    with controlled(str(path)) as (found, _):
+        assert path.stat().st_mode & 0o777 == 0o600
+        yield found
+    assert not path.exists()
+
+
+def test_a_log_that_cannot_be_written(tmp_path: Path) -> None:
+    """It ends, and reports why. The tree is saved."""
+    left = tmp_path / "left"
+    with running("--log", "/dev/full", "--save", str(left)) as (process, words):
+        with log_in(ssh_words(words)) as client, contextlib.suppress(Exception):
+            client.open_sftp().mkdir("/a")
+        _, wrong = process.communicate(timeout=LIMIT)
+    assert process.returncode == 1 and "No space left on device" in wrong
+    assert left.is_dir()

@@ -43,7 +43,7 @@ def test_names_that_it_has() -> None:
 
 
 def test_what_it_says_of_itself() -> None:
-    """As an index of packages shows it, and as pip goes by it."""
+    """The metadata that a package index and pip use."""
     found = importlib.metadata.metadata("lucernetick")
     wanted = (
         "Name Version Summary Author Keywords Classifier Requires-Python Provides-Extra "

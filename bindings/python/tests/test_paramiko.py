@@ -14,7 +14,7 @@ from lucernetick import Engine, Server, Turn, VirtualTime
 from packets import DATA, HANDLE, INIT, LOOKS, MAKES, OPEN, READ, STAT, VERSION, packet, string, u32
 
 LIMIT = 120
-"""Seconds for what comes at once where the machine has nothing else to do."""
+"""Seconds: much longer than needed on an idle machine."""
 
 
 @pytest.fixture
@@ -129,7 +129,7 @@ def test_clients_that_go_free_their_sessions() -> None:
 
 
 def test_a_connection_waits_for_a_call_that_is_held(sftp_tree: Server) -> None:
-    """A session that the test holds in the root keeps a client waiting until it goes on."""
+    """A session that the test has stopped in the root blocks a client until it continues."""
     held = sftp_tree.engine.open()
     held.feed(MAKES)
     for _ in range(3):
@@ -146,7 +146,7 @@ def test_a_connection_waits_for_a_call_that_is_held(sftp_tree: Server) -> None:
 
 
 def test_rounds_carry_out_the_calls_of_connections(sftp_tree: Server) -> None:
-    """A client that a held session keeps waiting goes on when `run_all` has carried out both
+    """A client that a stopped session blocks gets its reply when `run_all` has completed both
     calls."""
     held = sftp_tree.engine.open()
     held.feed(MAKES)
@@ -172,7 +172,7 @@ def test_a_session_that_ends_closes_its_connection(sftp_tree: Server) -> None:
 
 @pytest.mark.parametrize("depth", range(1, 9))
 def test_a_client_that_reads_nothing_keeps_nobody_waiting(sftp_tree: Server, depth: int) -> None:
-    """Wherever on its way a call is where the line is full, it isn't left there."""
+    """However far a call is when the output is full, it is completed."""
     path = b"/a" * depth
     sftp_tree.engine.write_files({path: None})
     lazy = sftp_tree.connect()

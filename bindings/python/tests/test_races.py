@@ -14,7 +14,7 @@ from typing import Callable, Union
 import paramiko
 import pytest
 
-from lucernetick import Connection, Engine, Error, Races, StrayWarning, Turn, seeds
+from lucernetick import Connection, Engine, Error, Races, RefusedError, StrayWarning, Turn, seeds
 from lucernetick._races import Drawn
 
 from packets import (
@@ -44,8 +44,8 @@ Work = Callable[[Connection, str], Did]
 
 
 def upload(connection: Connection, name: str, pause: Callable[[], None] = lambda: None) -> Did:
-    """What races: it makes a directory, writes a file into it, and renames it away. It tells how
-    far it came."""
+    """What races: it makes a directory, writes a file into it, and renames it away. Returns
+    how far it got."""
     with paramiko.SFTPClient(connection) as client:
         try:
             client.mkdir("/out")
@@ -86,7 +86,7 @@ class Client:
 
 
 def spell(connection: Connection, name: str) -> Did:
-    """As `upload`, by packets, which takes less time than a real client. It tells all replies."""
+    """As `upload`, by packets, which is faster than a real client. Returns all replies."""
     with connection:
         client, path = Client(connection), f"/out/{name}".encode()
         client.ask(MKDIR, string(b"/out"), u32(0))
@@ -166,8 +166,8 @@ def test_all_outcomes_come_up() -> None:
 
 
 def test_50_races_a_second() -> None:
-    """By the processor's time, of which a busy machine gives less in a second; the best of some
-    times, since others share its caches."""
+    """By CPU time, since the machine may be busy; the best of some times, since others share its
+    caches."""
 
     def rate(count: int) -> float:
         begin = time.process_time()
@@ -182,8 +182,8 @@ def test_50_races_a_second() -> None:
 
 def test_the_turns_of_a_seed() -> None:
     """The first five numbers of this seed are odd: so client 2 has five turns, by which it was sent
-    VERSION, and its MKDIR was read, took the root, was decided and was answered. Client 1 goes on
-    once it has gone. (The other languages' tests have the same race.)"""
+    VERSION, and its MKDIR was read, took the root, was decided and was answered. Client 1 continues
+    after it has left. (The other languages' tests have the same race.)"""
     with Races(1234567, clients=2) as races:
         looks, makes = races.connect(), races.connect()
         looks.sendall(LOOKS)
@@ -210,7 +210,7 @@ def test_a_schedule_in_the_place_of_a_seed(seed: int) -> None:
 
 
 def test_turns_by_a_schedule_written_down() -> None:
-    """The second client looks for what the first one has yet to make, and is told of it."""
+    """The second client's STAT begins before the directory exists, and its reply has it."""
     with Races("1 2x2 1x2 2 1 2x3 1", clients=2, clock=lambda: 100) as races:
         makes, looks = races.connect(), races.connect()
         send_all(makes, MAKES)
@@ -235,7 +235,7 @@ def test_turns_by_a_schedule_written_down() -> None:
 
 
 def test_a_schedule_that_does_not_fit() -> None:
-    """It goes on by the first client that is ready, and says so."""
+    """The first client that is ready takes the turn, and a warning says so."""
     with pytest.warns(
         StrayWarning, match="before turn 3: the schedule has no turn of a client that is ready"
     ):
@@ -298,7 +298,7 @@ def test_a_client_may_send_much_before_it_reads() -> None:
 
 
 def test_a_session_that_ends() -> None:
-    """By a packet of length 0, or one too long, of which the rest never comes."""
+    """By a packet of length 0, or by the length of a packet that is too long."""
     for data in (bytes(4), b"\xff" * 4):
         with Races(1, clients=2) as races:
             fails, looks = races.connect(), races.connect()
@@ -328,7 +328,10 @@ def test_a_client_that_never_connects_is_passed_over() -> None:
     with pytest.warns(StrayWarning, match="before turn 1: client 1 and 3"):
         with Races(1, clients=3, patience=0.2) as races:
             races.connect()
-            races.connect().sendall(MAKES)
+            line = races.connect()
+            sends = threading.Thread(target=line.sendall, args=(MAKES,))
+            sends.start()
+            sends.join()
             assert list(races.snapshot()) == ["/", "/a"]
 
 
@@ -351,9 +354,19 @@ def test_a_tree_and_a_clock_of_the_test_s() -> None:
 
 def test_where_it_is_left_its_threads_end() -> None:
     before = set(threading.enumerate())
-    with Races(1, clients=3) as races:
-        line = races.connect()
+    with Races(1, clients=2) as races:
+        line, _ = races.connect(), races.connect()
         line.sendall(MAKES)
     assert set(threading.enumerate()) <= before
     with pytest.raises(OSError):
         line.recv(1)
+
+
+def test_no_room_for_all_clients() -> None:
+    """Those that found room leave none of their sessions open."""
+    with Engine() as engine:
+        opened = [engine.open() for _ in range(250)]
+        with pytest.raises(RefusedError, match="256 sessions are open"):
+            Races(1, clients=7, engine=engine)
+        assert len([engine.open() for _ in range(6)]) == 6
+        assert opened[0].number == 1

@@ -1,17 +1,30 @@
-"""Requests that are refused because a test says so."""
+"""Rules: requests that are rejected because a test says so."""
 
 from __future__ import annotations
 
 import contextlib
 import errno
+import glob
+import time
 from concurrent.futures import ThreadPoolExecutor
 from typing import Iterable, Optional, Union
 
 import paramiko
 import pytest
 
-from lucernetick import Connection, Engine, Kind, Races, Refusal, RefusedError, Server, Session
-from lucernetick import Status, Turn
+from lucernetick import (
+    Connection,
+    Engine,
+    Kind,
+    OpenFlag,
+    Races,
+    Refusal,
+    RefusedError,
+    Server,
+    Session,
+    Status,
+    Turn,
+)
 from packets import INIT, MKDIR, REMOVE, STAT, packet, replies, status, string, u32
 
 MESSAGES = {
@@ -80,7 +93,7 @@ def others(kind: Kind) -> list[bytes]:
 @pytest.mark.parametrize("at", [0, 1, 2])
 @pytest.mark.parametrize("kind", FIELDS)
 def test_each_kind_at_each_cut(kind: Kind, at: int) -> None:
-    """The others are answered as where they come alone, and the status stands in its place."""
+    """The other requests have the replies that they have alone. The status is in its place."""
     batch = others(kind)
     with Engine() as engine:
         wanted = told(engine.open(), BEGIN + b"".join(batch))
@@ -108,7 +121,7 @@ def test_each_status(code: Status) -> None:
 
 
 def refused_of(count: int, **words: object) -> tuple[list[int], int]:
-    """Which of so many MKDIRs a rule refuses, and what it tells."""
+    """Which of `count` MKDIRs a rule rejects, and how many it counts."""
     with Engine() as engine:
         rule = engine.refuse(**words)
         asked = b"".join(mkdir(number, b"/a") for number in range(count))
@@ -134,7 +147,8 @@ def test_after_so_many_so_many(after: int, times: Optional[int], wanted: list[in
 
 
 @pytest.mark.parametrize(
-    ("path", "is_for"), [("/a", 1), (b"a", 1), ("/b/.././/a/", 1), ("/b", 0), ("/a/b", 0)]
+    ("path", "is_for"),
+    [("/a", 1), (b"a", 1), ("/b/.././/a/", 1), ("/b", 0), ("/a/b", 0), ("", 0), ("/", 0)],
 )
 def test_a_path_in_any_spelling(path: Union[str, bytes], is_for: int) -> None:
     assert refused_of(1, path=path, status=Status.PERMISSION_DENIED)[1] == is_for
@@ -199,11 +213,11 @@ def test_output_up_to_a_refusal() -> None:
         session.feed(BEGIN + mkdir(1, b"/a") + stat_root(2))
         assert session.settle(100) == Turn.IDLE
         assert not session.wants_bytes() or session.output()
-        front = session.output()
-        assert [reply[0] for reply in replies(front)] == [2, 101]
-        session.sent(len(front) - 1)
-        assert session.output() == front[-1:]
-        assert [reply[0] for reply in replies((front[:-1] + session.take()))] == [2, 101, 105]
+        first = session.output()
+        assert [reply[0] for reply in replies(first)] == [2, 101]
+        session.sent(len(first) - 1)
+        assert session.output() == first[-1:]
+        assert [reply[0] for reply in replies((first[:-1] + session.take()))] == [2, 101, 105]
         assert session.output() == b""
         assert session.wants_bytes()
 
@@ -219,20 +233,184 @@ def test_a_turn_refuses() -> None:
         assert session.turn(100) == Turn.BEGUN
 
 
-def test_what_no_rule_can_be() -> None:
+def test_rules_of_a_closed_engine() -> None:
     with Engine() as engine:
-        for words in ({"kind": 1}, {"status": 6}, {"after": -1}, {"times": 2**63}, {"session": -1}):
-            with pytest.raises(ValueError):
-                engine.refuse(**words)
-        for path in ("/" + "a" * 256, "/a/" * 2000, "/a\0"):
-            with pytest.raises(RefusedError) as refused:
-                engine.refuse(path=path)
-            assert refused.value.refusal == Refusal.BAD_PATH
         rule = engine.refuse()
-    with pytest.raises(RefusedError):
-        rule.refused
-    with pytest.raises(RefusedError):
-        engine.refuse()
+    for action in (lambda: rule.refused, engine.refuse):
+        with pytest.raises(RefusedError) as refused:
+            action()
+        assert refused.value.refusal == Refusal.BAD_POINTER
+
+
+def test_a_rule_ends() -> None:
+    with Engine() as engine:
+        session = engine.open()
+        rule = engine.refuse(kind=Kind.MKDIR, times=None)
+        assert told(session, BEGIN + mkdir(1, b"/a"))[1][8] == 4
+        rule.end()
+        rule.end()
+        assert told(session, mkdir(1, b"/a"))[0][8] == 0
+        with engine.refuse(kind=Kind.MKDIR, times=None) as other:
+            assert told(session, mkdir(1, b"/b") + mkdir(1, b"/c"))[1][8] == 4
+        assert told(session, mkdir(1, b"/b"))[0][8] == 0
+        assert (rule.refused, other.refused) == (1, 2)
+        assert list(engine.snapshot()) == ["/", "/a", "/b"]
+
+
+@pytest.mark.parametrize(
+    ("path", "is_for"),
+    [
+        ("/in/*", {"/in/a", "/in/b.part"}),
+        ("/in/*.part", {"/in/b.part"}),
+        ("/*/?", {"/in/a"}),
+        ("/**/d", {"/in/c/d", "/d"}),
+        ("/in/**", {"/in", "/in/a", "/in/b.part", "/in/c/d"}),
+        ("**", {"/", "/in", "/in/a", "/in/b.part", "/in/c/d", "/d", "/[x]"}),
+        ("/[a-d]", {"/d"}),
+        ("/[[]x]", {"/[x]"}),
+        (glob.escape("/[x]"), {"/[x]"}),
+        ("/in/../d", {"/d"}),
+        ("/", {"/"}),
+        ("", {"/"}),
+        (b"/i*/a", {"/in/a"}),
+    ],
+)
+def test_patterns(path: Union[str, bytes], is_for: set[str]) -> None:
+    paths = ["/", "/in", "/in/a", "/in/b.part", "/in/c/d", "/d", "/[x]"]
+    with Engine() as engine:
+        engine.refuse(path=path, times=None, status=Status.PERMISSION_DENIED)
+        stats = [packet(STAT, u32(1), string(one.encode())) for one in paths]
+        found = told(engine.open(), BEGIN + b"".join(stats))[1:]
+    denied = status(1, 3, b"Permission denied")
+    assert {one for one, reply in zip(paths, found) if reply == denied} == is_for
+
+
+def test_a_handle_s_path(sftp_tree: Server) -> None:
+    """Also of a handle that was opened before the rule was given, by another session's name for
+    the file, and not after its path was opened again."""
+    sftp_tree.write_files({"/f": b"1", "/g": b"2"})
+    with paramiko.SFTPClient(sftp_tree.connect()) as client:
+        first, other = client.open("/f", "r+"), client.open("g", "r+")
+        rule = sftp_tree.refuse(kind=Kind.WRITE, path="/f", times=None)
+        with pytest.raises(OSError, match="Failure"):
+            first.write(b"3")
+        other.write(b"4")
+        client.rename("/f", "/h")
+        with pytest.raises(OSError, match="Failure"):
+            first.write(b"3")
+        first.close()
+        with client.open("/h", "r+") as file:
+            file.write(b"5")
+    assert rule.refused == 2
+    contents = {path: entry.contents for path, entry in sftp_tree.snapshot().items()}
+    assert contents == {"/": None, "/g": b"4", "/h": b"5"}
+
+
+@pytest.mark.parametrize(
+    ("flags", "refused"),
+    [
+        (OpenFlag.READ, "r"),
+        (OpenFlag.WRITE, "wa"),
+        (OpenFlag.CREATE, "wa"),
+        (OpenFlag.TRUNCATE, "w"),
+        (OpenFlag.CREATE | OpenFlag.TRUNCATE, "w"),
+        (OpenFlag.APPEND, "a"),
+        (OpenFlag.EXCL, ""),
+    ],
+)
+def test_flags_of_open(sftp_tree: Server, flags: OpenFlag, refused: str) -> None:
+    """By what the modes of Python's `open` ask for: w creates and truncates, a creates and
+    appends."""
+    sftp_tree.write_files({"/f": b"1"})
+    sftp_tree.refuse(flags=flags, times=None)
+    found = ""
+    with paramiko.SFTPClient(sftp_tree.connect()) as client:
+        for mode in "rwa":
+            try:
+                client.open("/f", mode).close()
+            except OSError:
+                found += mode
+        client.stat("/f")
+    assert found == refused
+
+
+def test_a_disk_that_is_full_and_freed(sftp_tree: Server) -> None:
+    """WRITEs of 10 bytes: 2 of them fit into 25 bytes, and smaller ones still do."""
+    with paramiko.SFTPClient(sftp_tree.connect()) as client, client.open("/f", "w") as file:
+        with sftp_tree.disk_full(after=25) as full:
+            file.write(b"1" * 10)
+            file.write(b"2" * 10)
+            with pytest.raises(OSError, match="Failure"):
+                file.write(b"3" * 10)
+            file.write(b"4" * 5)
+            with pytest.raises(OSError, match="Failure"):
+                file.write(b"5")
+        file.write(b"6")
+    assert full.refused == 2
+    assert sftp_tree.snapshot()["/f"].size == 26
+
+
+def test_a_tree_that_is_read_only(sftp_tree: Server) -> None:
+    sftp_tree.write_files({"/d/f": b"1", "/e": b""})
+    before = sftp_tree.snapshot()
+    with paramiko.SFTPClient(sftp_tree.connect()) as client, client.open("/d/f", "r+") as opened:
+        changes = (
+            lambda: client.open("/d/f", "w"),
+            lambda: client.open("/d/f", "a"),
+            lambda: client.open("/new", "x"),
+            lambda: opened.write(b"2"),
+            lambda: opened.chmod(0o600),
+            lambda: client.chmod("/d/f", 0o600),
+            lambda: client.truncate("/d/f", 0),
+            lambda: client.mkdir("/g"),
+            lambda: client.rmdir("/d"),
+            lambda: client.remove("/d/f"),
+            lambda: client.rename("/e", "/g"),
+            lambda: client.posix_rename("/e", "/g"),
+        )
+        with sftp_tree.read_only() as rule:
+            for change in changes:
+                with pytest.raises(PermissionError):
+                    change()
+            with client.open("/d/f") as file:
+                assert file.read() == b"1"
+            assert client.listdir("/") == ["d", "e"]
+            assert sftp_tree.snapshot() == before
+        assert rule.refused == len(changes)
+        with sftp_tree.read_only("/d/**"):
+            with pytest.raises(PermissionError):
+                client.remove("/d/f")
+            client.remove("/e")
+    assert list(sftp_tree.snapshot()) == ["/", "/d", "/d/f"]
+
+
+def test_several_kinds_and_a_predicate(sftp_tree: Server) -> None:
+    odd = sftp_tree.refuse(
+        kind={Kind.MKDIR, Kind.RMDIR},
+        when=lambda request: len(str(request.path)) > 2,
+        times=None,
+    )
+    with paramiko.SFTPClient(sftp_tree.connect()) as client:
+        client.mkdir("/a")
+        with pytest.raises(OSError):
+            client.mkdir("/bb")
+        with pytest.raises(OSError):
+            client.rmdir("/cc")
+        client.rename("/a", "/dd")
+    assert odd.refused == 2
+
+
+def test_many_refusals(sftp_tree: Server) -> None:
+    """The last ones take no longer than the first."""
+    with Engine() as engine, engine.read_only():
+        session = engine.open()
+        told(session, BEGIN)
+        times = []
+        for _ in range(20):
+            begin = time.process_time()
+            told(session, mkdir(1, b"/a") * 1000)
+            times.append(time.process_time() - begin)
+    assert min(times[-5:]) < 4 * min(times[:5])
 
 
 def test_paramiko_s_open_is_refused(sftp_tree: Server) -> None:
@@ -270,7 +448,7 @@ def test_one_connection_of_more(sftp_tree: Server) -> None:
 
 
 def test_large_replies_behind_refusals(sftp_tree: Server) -> None:
-    """More than a socket takes at once, some of which is refused."""
+    """More than a socket's buffer, with rejected requests in between."""
     contents = bytes(range(256)) * 8000
     sftp_tree.engine.write_files({"/f": contents})
     rule = sftp_tree.refuse(kind=Kind.STAT, times=None)

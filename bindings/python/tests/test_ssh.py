@@ -1,5 +1,5 @@
-"""An SSH server, with clients of OpenSSH, paramiko and asyncssh. tests/clients/python_ssh has
-more of them, with files of 100 MB."""
+"""An SSH server, with clients of OpenSSH, paramiko and asyncssh. tests/clients/python_ssh has more
+of them, with files of 100 MB."""
 
 from __future__ import annotations
 
@@ -19,9 +19,9 @@ import asyncssh
 import paramiko
 import pytest
 
-from lucernetick import Engine, Kind, Server, SshServer, Status, VirtualTime
+from lucernetick import Engine, Faults, Kind, Server, SshServer, Status, User, VirtualTime
 
-from packets import MAKES
+from packets import INIT, MAKES, OPEN, READ, VERSION, packet, string, u32
 
 LARGE = random.Random(1).randbytes(10_000_000)
 LIMIT = 300
@@ -299,7 +299,7 @@ def test_openssh_is_killed_in_the_middle(
 
 
 def test_a_cut_connection_leaves_no_session(sftp_ssh: SshServer) -> None:
-    """Of 200 and 200 channels all find room, of which there is for 256."""
+    """200 channels twice: at most 256 sessions are open at a time."""
     for _ in range(2):
         with connected(sftp_ssh, password=sftp_ssh.password) as client:
             files = [client.open_sftp() for _ in range(200)]
@@ -330,8 +330,8 @@ def test_a_client_that_is_slow_to_read_keeps_nobody_waiting(
 
 
 def test_a_session_that_ends_closes_its_channel(client: paramiko.SSHClient) -> None:
-    """By a packet of length 0: its client is told by the exit status. The end of its output is told
-    by closing alone: for Go's pkg/sftp would answer to it by a second end of input."""
+    """By a packet of length 0: the client receives an exit status. There is no EOF before the
+    channel is closed: Go's pkg/sftp would reply to it with a second EOF."""
     transport = client.get_transport()
     assert transport is not None
     channel = transport.open_session(timeout=LIMIT)
@@ -370,12 +370,12 @@ def test_a_port_that_is_taken(sftp_ssh: SshServer, sftp_tree: Server) -> None:
     assert set(threading.enumerate()) <= before
 
 
-def test_without_asyncssh_it_says_what_it_wants(
+def test_without_asyncssh_it_says_what_it_needs(
     sftp_tree: Server, monkeypatch: pytest.MonkeyPatch
 ) -> None:
     monkeypatch.delitem(sys.modules, "lucernetick._asyncssh", raising=False)
     monkeypatch.setitem(sys.modules, "asyncssh", None)
-    with pytest.raises(ImportError, match=r"lucernetick\[ssh\]"):
+    with pytest.raises(ImportError, match="SshServer needs asyncssh: pip install asyncssh"):
         SshServer(sftp_tree)
 
 
@@ -425,3 +425,216 @@ def test_paramiko_s_open_and_write_are_refused(
         file.write(b"1")
     assert (opens.refused, writes.refused) == (1, 2)
     assert sftp_tree.snapshot()["/f"].contents == b"1"
+
+
+def test_a_cut_connection(sftp_tree: Server) -> None:
+    """Its client loses the whole connection. What came of the file is the same each time: 15 WRITEs
+    of 32768 bytes are complete."""
+    for _ in range(3):
+        with SshServer(sftp_tree, cut_after=500_000) as ssh:
+            with connected(ssh, password=ssh.password) as client:
+                with pytest.raises((OSError, EOFError, paramiko.SSHException)):
+                    with client.open_sftp().open("/f", "w") as file:
+                        file.write(LARGE[:1_000_000])
+                transport = client.get_transport()
+                assert transport is not None
+                wait_for(lambda: not transport.is_active())
+        assert sftp_tree.snapshot()["/f"].contents == LARGE[: 15 * 32768]
+
+
+def test_openssh_is_cut(sftp_tree: Server, tmp_path: Path) -> None:
+    (tmp_path / "f").write_bytes(LARGE)
+    with SshServer(sftp_tree, cut_after=1_000_000) as ssh:
+        with pytest.raises(subprocess.CalledProcessError):
+            sftp(ssh, f"put {tmp_path}/f /f\n")
+    size = sftp_tree.snapshot()["/f"].size
+    assert 0 < size < 1_000_000
+
+
+def test_faults_by_session(sftp_tree: Server) -> None:
+    """The second session is cut, and the third one isn't."""
+
+    def faults(session: int) -> Faults:
+        return Faults(cut_after=0) if session == 2 else Faults()
+
+    with SshServer(sftp_tree, faults=faults) as ssh:
+        for is_cut in (False, True, False):
+            with connected(ssh, password=ssh.password) as client:
+                if is_cut:
+                    with pytest.raises((OSError, EOFError, paramiko.SSHException)):
+                        client.open_sftp().listdir("/")
+                else:
+                    assert client.open_sftp().listdir("/") == []
+
+
+def test_faults_from_now_on(sftp_ssh: SshServer) -> None:
+    with connected(sftp_ssh, password=sftp_ssh.password) as client:
+        assert client.open_sftp().listdir("/") == []
+        sftp_ssh.faults = Faults(delay=0.3)
+        late = client.open_sftp()
+        begin = time.monotonic()
+        assert late.listdir("/") == []
+        # OPENDIR, READDIR and CLOSE, one after the other.
+        assert time.monotonic() - begin >= 0.6
+
+
+def test_latency_of_pipelined_requests(sftp_tree: Server) -> None:
+    """30 READs, which paramiko sends ahead, wait once."""
+    sftp_tree.write_files({"/f": LARGE[:1_000_000]})
+    with SshServer(sftp_tree, delay=0.4) as ssh, connected(ssh, password=ssh.password) as client:
+        with client.open_sftp().open("/f") as file:
+            begin = time.monotonic()
+            file.prefetch(1_000_000)
+            assert file.read() == LARGE[:1_000_000]
+            assert 0.4 <= time.monotonic() - begin < 0.4 * 20
+
+
+def test_bandwidth_over_ssh(sftp_tree: Server) -> None:
+    with SshServer(sftp_tree, bandwidth=1_000_000) as ssh:
+        with connected(ssh, password=ssh.password) as client:
+            begin = time.monotonic()
+            with client.open_sftp().open("/f", "w") as file:
+                file.write(LARGE[:400_000])
+            assert time.monotonic() - begin >= 0.4
+    assert sftp_tree.snapshot()["/f"].contents == LARGE[:400_000]
+
+
+def test_chunks_over_ssh(sftp_tree: Server) -> None:
+    """The client receives at most 7 bytes in each SSH packet."""
+    sftp_tree.write_files({"/f": LARGE[:10_000]})
+    with SshServer(sftp_tree, chunk=7) as ssh, connected(ssh, password=ssh.password) as client:
+        transport = client.get_transport()
+        assert transport is not None
+        channel = transport.open_session(timeout=LIMIT)
+        channel.invoke_subsystem("sftp")
+        channel.sendall(MAKES)
+        assert len(channel.recv(1)) == 1
+        with client.open_sftp().open("/f") as file:
+            assert file.read() == LARGE[:10_000]
+
+
+def test_users_and_their_roots(sftp_tree: Server) -> None:
+    """Each sees its own directory as /, and nothing else."""
+    ann, bob = User("ann", "1", "/home/ann"), User("bob", "2", "/home/bob")
+    with SshServer(sftp_tree, user=ann, users=[bob, User("root", "3")]) as ssh:
+        with connected(ssh, username="ann", password="1") as client:
+            files = client.open_sftp()
+            files.mkdir("/d")
+            with files.open("d/../../f", "w") as file:
+                file.write(b"1")
+            files.chdir("/d")
+            assert files.normalize("..") == "/" and files.normalize(".") == "/d"
+            files.rename("/f", "/d/g")
+            files.posix_rename("/d/g", "/d/h")
+            assert files.listdir("/") == ["d"] and files.listdir("/d") == ["h"]
+            for change in (files.rmdir, files.remove, lambda path: files.rename(path, "/d/x")):
+                with pytest.raises(OSError):
+                    change("/")
+        with connected(ssh, username="bob", password="2") as client:
+            files = client.open_sftp()
+            assert files.listdir("/") == [] and files.stat("/").st_mode
+            with pytest.raises(FileNotFoundError):
+                files.stat("/home/ann/d")
+        with connected(ssh, username="root", password="3") as client:
+            assert client.open_sftp().listdir("/home") == ["ann", "bob"]
+        with pytest.raises(paramiko.AuthenticationException):
+            connected(ssh, username="bob", password="1")
+    assert list(sftp_tree.snapshot()) == [
+        "/", "/home", "/home/ann", "/home/ann/d", "/home/ann/d/h", "/home/bob"
+    ]
+
+
+def test_six_wrong_passwords_close_the_connection(sftp_ssh: SshServer) -> None:
+    """After a delay. Other connections can log in."""
+
+    class Guesses(asyncssh.SSHClient):
+        count = 0
+
+        def password_auth_requested(self) -> str:
+            self.count += 1
+            return f"wrong{self.count}"
+
+        def kbdint_auth_requested(self) -> None:
+            return None
+
+    client = Guesses()
+
+    async def main() -> None:
+        words = {"known_hosts": sftp_ssh.known_hosts, "username": "user", "client_keys": None}
+        await asyncssh.create_connection(lambda: client, sftp_ssh.host, sftp_ssh.port, **words)
+
+    begin = time.monotonic()
+    with pytest.raises((asyncssh.Error, OSError)):
+        asyncio.run(asyncio.wait_for(main(), LIMIT))
+    assert client.count == 6
+    assert time.monotonic() - begin >= 2
+    with connected(sftp_ssh, password=sftp_ssh.password) as other:
+        assert other.open_sftp().listdir("/") == []
+
+
+def test_a_fixed_host_key(sftp_tree: Server, tmp_path: Path) -> None:
+    key = asyncssh.generate_private_key("ssh-ed25519")
+    key.write_private_key(str(tmp_path / "key"))
+    with SshServer(sftp_tree, host_key=tmp_path / "key") as ssh:
+        assert Path(ssh.known_hosts).read_bytes().split()[2] == key.export_public_key().split()[1]
+        with connected(ssh, password=ssh.password) as client:
+            assert client.open_sftp().listdir("/") == []
+
+
+def test_an_ssh_config(sftp_ssh: SshServer, tmp_path: Path) -> None:
+    config = sftp_ssh.write_ssh_config(tmp_path / "with space")
+    assert sftp_ssh.write_ssh_config(tmp_path / "with space") == config
+    words = ["sftp", "-q", "-b", "-", "-F", config, "lucernetick"]
+    ran = subprocess.run(
+        words, input="mkdir /a\nls\n", capture_output=True, text=True, timeout=LIMIT, check=True
+    )
+    assert "a" in ran.stdout.split()
+    for name in ("ssh_config", "client_key", "known_hosts"):
+        assert os.stat(tmp_path / "with space" / name).st_mode & 0o777 == 0o600
+
+
+def test_clients_that_read_nothing_take_little_memory(tmp_path: Path) -> None:
+    """10 of them ask for 60 MB each, by READs of 256 KB, in a process of its own."""
+    code = (
+        "import lucernetick, resource, sys\n"
+        "with lucernetick.Server() as server, lucernetick.SshServer(server) as ssh:\n"
+        "    server.write_files({'/f': bytes(range(256)) * 240_000})\n"
+        "    before = resource.getrusage(resource.RUSAGE_SELF).ru_maxrss\n"
+        "    print(ssh.port, ssh.password, flush=True)\n"
+        "    sys.stdin.readline()\n"
+        "    print(resource.getrusage(resource.RUSAGE_SELF).ru_maxrss - before)\n"
+    )
+    words = [sys.executable, "-c", code]
+    with subprocess.Popen(
+        words, stdin=subprocess.PIPE, stdout=subprocess.PIPE, text=True
+    ) as process:
+        assert process.stdin is not None and process.stdout is not None
+        port, password = process.stdout.readline().split()
+        clients = [reads_nothing(int(port), password) for _ in range(10)]
+        time.sleep(3)
+        process.stdin.write("\n")
+        process.stdin.flush()
+        grown = int(process.stdout.readline())
+        for client in clients:
+            client.close()
+    print(f"{grown // 10} KB for each")
+    assert grown < 10 * 12_000
+
+
+def reads_nothing(port: int, password: str) -> paramiko.SSHClient:
+    client = paramiko.SSHClient()
+    client.set_missing_host_key_policy(paramiko.AutoAddPolicy())
+    words = {"look_for_keys": False, "allow_agent": False, "banner_timeout": LIMIT}
+    client.connect("127.0.0.1", port, "user", password, auth_timeout=LIMIT, **words)
+    transport = client.get_transport()
+    assert transport is not None
+    channel = transport.open_session(timeout=LIMIT)
+    channel.invoke_subsystem("sftp")
+    channel.sendall(packet(INIT, u32(3)) + packet(OPEN, u32(0), string(b"/f"), u32(1), u32(0)))
+    opened = channel.makefile("rb").read(VERSION + 21)
+    reads = (
+        packet(READ, u32(0), opened[-12:], (offset << 18).to_bytes(8, "big"), u32(262_000))
+        for offset in range(234)
+    )
+    channel.sendall(b"".join(reads))
+    return client

@@ -1,11 +1,12 @@
 //! Tests of the engine's crates, for what no contract says.
 //!
-//! Contracts allow most calls to run out of memory, so a test calls each function once that no
-//! program calls: `promised.rt` uses an engine by the trait `Sftp` alone, and `plain.rt` the slow
-//! tree. `capacity.rt` bounds the room of the history, `streams.rt` has streams that fail,
-//! `words.rt` the texts of errors, and `threads.rt` the types that may cross threads. The engine's
-//! known cases are rows of data, which the program `replay` replays, and drawn events come from
-//! scripts.
+//! A contract lets most calls run out of memory. So each function that no program calls is called
+//! here once: `promised.rt` uses an engine by the trait `Sftp`, and `plain.rt` the slow tree.
+//! `capacity.rt` bounds the room of a trimmed history. `streams.rt` has streams that fail, and
+//! `words.rt` the texts of errors. `threads.rt` has the types that may cross threads.
+//!
+//! Other tests need no proof: the program `replay` runs known schedules, and scripts run random
+//! ones.
 #![tactic(auto)]
 
 #[cfg(test)]

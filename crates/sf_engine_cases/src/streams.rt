@@ -10,31 +10,28 @@ struct Failing {
     calls: u32,
 }
 
-impl Failing {
-    fn next(&mut self, len: usize) -> io::Result<usize> {
+impl Read for Failing {
+    fn read(&mut self, buf: &mut [u8]) -> io::Result<usize> {
         self.calls = self.calls.saturating_add(1);
         match self.calls {
             1 => Err(ErrorKind::Interrupted.into()),
-            2 if len > 0 => Ok(1),
+            2 if !buf.is_empty() => {
+                buf[0] = b'x';
+                Ok(1)
+            }
             _ => Err(ErrorKind::ConnectionReset.into()),
         }
     }
 }
 
-impl Read for Failing {
-    fn read(&mut self, buf: &mut [u8]) -> io::Result<usize> {
-        let n = self.next(buf.len())?;
-        if !buf.is_empty() {
-            buf[0] = b'x';
-        }
-        Ok(n.min(buf.len()))
-    }
-}
-
 impl Write for Failing {
     fn write(&mut self, buf: &[u8]) -> io::Result<usize> {
-        let n = self.next(buf.len())?;
-        Ok(n.min(buf.len()))
+        self.calls = self.calls.saturating_add(1);
+        match self.calls {
+            1 => Err(ErrorKind::Interrupted.into()),
+            2 if !buf.is_empty() => Ok(1),
+            _ => Err(ErrorKind::ConnectionReset.into()),
+        }
     }
 
     fn flush(&mut self) -> io::Result<()> {

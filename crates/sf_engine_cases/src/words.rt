@@ -2,28 +2,42 @@
 
 use sf_call::CoreFault;
 use sf_path::PathFault;
-use sf_session::{Cause, SessionFault};
-use std::alloc::Global;
-use std::fmt::Display;
+use sf_session::SessionFault;
 use std::test::*;
 
-fn says<F: Display + Drop>(alloc: Global, fault: F, want: &str) -> Result<bool, Fail> {
-    Ok(format!(in alloc; "{fault}")?.as_str() == want)
+#[test]
+fn texts_of_path_faults(rt: HostRuntime) -> Result<(), Fail> {
+    for (fault, words) in [
+        (PathFault::TooLong, "path above 4096 bytes"),
+        (PathFault::NameTooLong, "name above 255 bytes"),
+        (PathFault::NulByte, "byte 0 in a path"),
+        (PathFault::OutOfMemory, "out of memory"),
+    ] {
+        assert_eq!(rt; format!(in rt.alloc(); "{fault}")?.as_str(), words);
+    }
+    Ok(())
 }
 
 #[test]
-fn texts_of_faults(rt: HostRuntime) -> Result<(), Fail> {
-    let alloc = rt.alloc();
-    assert!(rt; says(alloc, PathFault::TooLong, "path above 4096 bytes")?);
-    assert!(rt; says(alloc, PathFault::NameTooLong, "name above 255 bytes")?);
-    assert!(rt; says(alloc, PathFault::NulByte, "byte 0 in a path")?);
-    assert!(rt; says(alloc, PathFault::OutOfMemory, "out of memory")?);
-    assert!(rt; says(alloc, CoreFault::OutOfMemory, "out of memory")?);
-    assert!(rt; says(alloc, CoreFault::Sessions, "too many sessions")?);
-    assert!(rt; says(alloc, CoreFault::NumbersSpent, "numbers spent")?);
-    assert!(rt; says(alloc, CoreFault::Stranger, "not of this core")?);
-    assert!(rt; says(alloc, SessionFault::OutOfMemory, "out of memory")?);
-    assert!(rt; says(alloc, SessionFault::Ended, "the session has ended")?);
-    assert!(rt; says(alloc, Cause::TooLong, Cause::TooLong.words())?);
+fn texts_of_core_faults(rt: HostRuntime) -> Result<(), Fail> {
+    for (fault, words) in [
+        (CoreFault::OutOfMemory, "out of memory"),
+        (CoreFault::Sessions, "too many sessions"),
+        (CoreFault::NumbersSpent, "numbers spent"),
+        (CoreFault::Stranger, "not of this core"),
+    ] {
+        assert_eq!(rt; format!(in rt.alloc(); "{fault}")?.as_str(), words);
+    }
+    Ok(())
+}
+
+#[test]
+fn texts_of_session_faults(rt: HostRuntime) -> Result<(), Fail> {
+    for (fault, words) in [
+        (SessionFault::OutOfMemory, "out of memory"),
+        (SessionFault::Ended, "the session has ended"),
+    ] {
+        assert_eq!(rt; format!(in rt.alloc(); "{fault}")?.as_str(), words);
+    }
     Ok(())
 }

@@ -106,7 +106,7 @@ fn serve<R: Threads + Wait + Sync>(
 /// Serves these clients. Each has one session, together they make this number of calls, and no wait
 /// was given up. Returns the core, and how many calls were answered before the one that the scene
 /// is about.
-fn plays<R: Threads + Wait + Abort + Sync>(
+fn play<R: Threads + Wait + Abort + Sync>(
     rt: &R,
     alloc: Global,
     script: Script<'_>,
@@ -119,7 +119,10 @@ fn plays<R: Threads + Wait + Abort + Sync>(
     }
     let signs = Signs::new(script.at_once);
     let mut all = Vec::new(alloc);
-    for (client, input) in clients.iter().zip(&inputs) {
+    for (place, client) in clients.iter().enumerate() {
+        let Some(input) = inputs.get(place) else {
+            panic!(rt; "no input");
+        };
         all.push(ClientLine::new(alloc, client, input, &signs))?;
     }
     let director = Director {
@@ -149,7 +152,7 @@ fn gate_two_calls(rt: HostRuntime) -> Result<(), Fail> {
         ..STOPS
     };
     let clients = [sends(&[INIT, MKDIR_A, STAT_A_F]), sends(&[INIT, MKDIR_B])];
-    plays(&rt, rt.alloc(), script, &clients, 3)?;
+    play(&rt, rt.alloc(), script, &clients, 3)?;
     Ok(())
 }
 
@@ -165,7 +168,7 @@ fn a_sleeper_is_woken(rt: HostRuntime) -> Result<(), Fail> {
         ..STOPS
     };
     let clients = [sends(&[INIT, MKDIR_A]), sends(&[INIT, MKDIR_B])];
-    plays(&rt, alloc, script, &clients, 2)?;
+    play(&rt, alloc, script, &clients, 2)?;
 
     // the second step of a STAT leaves the root; the STAT is held then
     let script = Script {
@@ -174,7 +177,7 @@ fn a_sleeper_is_woken(rt: HostRuntime) -> Result<(), Fail> {
         ..STOPS
     };
     let clients = [sends(&[INIT, MKDIR_A, STAT_A_F]), sends(&[INIT, MKDIR_B])];
-    plays(&rt, alloc, script, &clients, 3)?;
+    play(&rt, alloc, script, &clients, 3)?;
 
     // the last step of a WRITE copies its last block
     let script = Script {
@@ -184,7 +187,7 @@ fn a_sleeper_is_woken(rt: HostRuntime) -> Result<(), Fail> {
         ..STOPS
     };
     let clients = [sends(&[INIT, OPEN_F, WRITE_1]), sends(&[INIT, SIZE_F])];
-    plays(&rt, alloc, script, &clients, 3)?;
+    play(&rt, alloc, script, &clients, 3)?;
 
     // a rename helps the call, and the WRITE for which that waits, which is held
     let script = Script {
@@ -202,8 +205,17 @@ fn a_sleeper_is_woken(rt: HostRuntime) -> Result<(), Fail> {
         sends(&[INIT, SIZE_A_F]),
         sends(&[INIT, RENAME_A]),
     ];
-    plays(&rt, alloc, script, &clients, 5)?;
+    play(&rt, alloc, script, &clients, 5)?;
     Ok(())
+}
+
+/// Of three WRITEs the waker is held until three calls sleep, and the others until the scene is done.
+fn write_until(call: u64, waker: u64) -> Until {
+    if call == waker {
+        Until::Asleep(3)
+    } else {
+        Until::Done
+    }
 }
 
 /// Each of three calls that sleep waits for a WRITE of its own, and is woken by it. The other two
@@ -219,18 +231,11 @@ fn each_of_three_sleepers_is_woken(rt: HostRuntime) -> Result<(), Fail> {
         sends(&[INIT, SIZE_C_F]),
     ];
     for (waker, woken) in [(3, 4), (6, 5), (9, 6)] {
-        let until = |call: u64| {
-            if call == waker {
-                Until::Asleep(3)
-            } else {
-                Until::Done
-            }
-        };
         let script = Script {
             holds: &[
-                (3, 1, until(3)),
-                (6, 1, until(6)),
-                (9, 1, until(9)),
+                (3, 1, write_until(3, waker)),
+                (6, 1, write_until(6, waker)),
+                (9, 1, write_until(9, waker)),
                 (10, SLEEPS, Until::Asleep(2)),
                 (11, SLEEPS, Until::Asleep(1)),
             ],
@@ -239,7 +244,7 @@ fn each_of_three_sleepers_is_woken(rt: HostRuntime) -> Result<(), Fail> {
             woken,
             ..STOPS
         };
-        plays(&rt, rt.alloc(), script, &clients, 12)?;
+        play(&rt, rt.alloc(), script, &clients, 12)?;
     }
     Ok(())
 }
@@ -265,7 +270,7 @@ fn an_idle_client_wakes_whom_it_helped(rt: HostRuntime) -> Result<(), Fail> {
         sends(&[INIT, MKDIR_A, OPEN_A_F, WRITE_7]),
         sends(&[INIT, SIZE_A_F]),
     ];
-    plays(&rt, rt.alloc(), script, &clients, 10)?;
+    play(&rt, rt.alloc(), script, &clients, 10)?;
     Ok(())
 }
 
@@ -277,7 +282,7 @@ fn one_call_beside_a_deaf_client(rt: HostRuntime) -> Result<(), Fail> {
         room: 16384,
         ..sends(&[INIT])
     };
-    plays(
+    play(
         &rt,
         rt.alloc(),
         FREE,
@@ -304,7 +309,7 @@ fn one_call_beside_many(rt: HostRuntime) -> Result<(), Fail> {
         more: (STAT_A, 2000),
         ..sends(&[INIT])
     };
-    let (_core, before) = plays(&rt, rt.alloc(), script, &[one, many], 2001)?;
+    let (_core, before) = play(&rt, rt.alloc(), script, &[one, many], 2001)?;
     assert!(rt; before >= 20 && before < 200, "after {before} calls");
     Ok(())
 }
@@ -349,7 +354,7 @@ fn lookups_side_by_side(rt: HostRuntime) -> Result<(), Fail> {
     };
     let mut found = 0;
     for _ in 0..100 {
-        let (core, _before) = plays(&rt, rt.alloc(), script, &[deep, root], 16_004)?;
+        let (core, _before) = play(&rt, rt.alloc(), script, &[deep, root], 16_004)?;
         found = overtakings(&core);
         if found > 0 {
             break;

@@ -124,20 +124,13 @@ fn listen_and_accept<T: Wait>(
 fn load_and_accept<T: Wait>(
     rt: &HostRuntime,
     threads: &T,
-    listener: Option<&UnixListener>,
     serving: Serving<'_>,
     lines: Sender<SocketLine>,
 ) -> Result<(), ServerFault> {
     if let Some(tree) = serving.tree {
         load_by_line(rt, threads, tree, &lines)?;
     }
-    match listener {
-        Some(listener) => {
-            accept(rt, threads, listener, &lines, serving);
-            Ok(())
-        }
-        None => listen_and_accept(rt, threads, &lines, serving),
-    }
+    listen_and_accept(rt, threads, &lines, serving)
 }
 
 /// `count` clocks.
@@ -156,7 +149,6 @@ fn clocks(rt: &HostRuntime, count: u32) -> Result<Vec<SystemClock<'_, HostRuntim
 fn serve_core<T: Threads + Wait + Sync, G: StepObserver + Sync>(
     rt: &HostRuntime,
     threads: &T,
-    listener: Option<&UnixListener>,
     serving: Serving<'_>,
     core: Core,
     observer: &G,
@@ -179,9 +171,7 @@ fn serve_core<T: Threads + Wait + Sync, G: StepObserver + Sync>(
             requires few { vec_len clocks < 2 ^ 32 }
             ensures { IfOk result (λ ended. HasTold keeps ended.core ended.transcripts.items) }
         {
-            let accepting = scope.spawn(move || load_and_accept(
-                rt, threads, listener, serving, sender,
-            ));
+            let accepting = scope.spawn(move || load_and_accept(rt, threads, serving, sender));
             let Ok(accepting) = accepting else {
                 return Err(ServerFault::OutOfMemory);
             };
@@ -210,14 +200,13 @@ fn serve_to_end<T: Threads + Wait + Sync, G: StepObserver + Sync>(
     Ok(serve_on_core(threads, alloc, core, &lines, clocks, observer, keeps)?)
 }
 
-/// Serves connections at `listener`, or at the socket's path, where it listens once the folder is
-/// loaded. If `serving.sessions` is given, it ends after that number of sessions and writes the
-/// totals to `output`. The session that loads the folder is not counted, but its calls are. The
-/// observer receives all sessions and calls.
-pub fn serve_on<T: Threads + Wait + Sync, G: StepObserver + Sync, W: Write>(
+/// Serves connections at the socket's path, where it listens once the folder is loaded. If
+/// `serving.sessions` is given, it ends after that number of sessions and writes the totals to
+/// `output`. The session that loads the folder is not counted, but its calls are. The observer
+/// receives all sessions and calls.
+pub fn serve<T: Threads + Wait + Sync, G: StepObserver + Sync, W: Write>(
     rt: &HostRuntime,
     threads: &T,
-    listener: Option<&UnixListener>,
     serving: Serving<'_>,
     observer: &G,
     output: &mut W,
@@ -228,19 +217,7 @@ pub fn serve_on<T: Threads + Wait + Sync, G: StepObserver + Sync, W: Write>(
         (W.contents output.old) (W.contents output.new)) }
 {
     let core = Core::with_keep(rt.alloc(), serving.keep)?;
-    let ended = serve_core(rt, threads, listener, serving, core, observer)?;
+    let ended = serve_core(rt, threads, serving, core, observer)?;
     let sessions = serving.sessions.unwrap_or(u64::MAX);
     tell(&ended.core, ended.transcripts.as_slice(), sessions, output)
-}
-
-/// Serves sessions at a Unix socket.
-pub fn serve<T: Threads + Wait + Sync, G: StepObserver + Sync>(
-    rt: &HostRuntime,
-    threads: &T,
-    serving: Serving<'_>,
-    observer: &G,
-) -> Result<(), ServerFault>
-    requires { 0 < serving.keep }
-{
-    serve_on(rt, threads, None, serving, observer, &mut rt.stdout())
 }

@@ -20,7 +20,7 @@ use sf_serving::{CallObserver, NoObserver};
 use sf_words::{Action, ClientCommand, RefusedWords, Serving, Stdio, read_words};
 use std::env;
 use std::io::{self, ErrorKind, Input, Read};
-use std::os::fd::{AsFd, BorrowedFd};
+use std::os::fd::AsFd;
 use std::os::unix::net::UnixStream;
 use std::sync::Wait;
 use std::thread::Threads;
@@ -46,19 +46,20 @@ pub(crate) fn run<T: Threads + Wait + Sync>(rt: &HostRuntime, threads: &T) -> u8
     }
 }
 
-/// Opens /dev/null in place of each standard stream that is closed, so that no file or connection
-/// gets its descriptor.
+/// Opens /dev/null in place of a standard stream that is closed. The lowest free descriptor is its
+/// own, if the streams below it are open.
+fn open_if_closed(stream: &impl AsFd) {
+    if stream.as_fd().try_clone_to_owned().is_err() {
+        os::open_update(b"/dev/null");
+    }
+}
+
+/// Opens the standard streams that are closed, so that no file or connection gets a descriptor of
+/// theirs.
 fn open_standard_streams(rt: &HostRuntime) {
-    let is_closed = |fd: BorrowedFd<'_>| fd.try_clone_to_owned().is_err();
-    if is_closed(rt.stdin().as_fd()) {
-        os::open_update(b"/dev/null");
-    }
-    if is_closed(rt.stdout().as_fd()) {
-        os::open_update(b"/dev/null");
-    }
-    if is_closed(rt.stderr().as_fd()) {
-        os::open_update(b"/dev/null");
-    }
+    open_if_closed(&rt.stdin());
+    open_if_closed(&rt.stdout());
+    open_if_closed(&rt.stderr());
 }
 
 /// Serves the session on standard input and output, with a log if there is an option for it.
@@ -131,7 +132,7 @@ fn serve_socket<T: Threads + Wait + Sync, G: StepObserver + Sync>(
 ) -> u8
     requires { 0 < serving.keep }
 {
-    match serve(rt, threads, serving, observer) {
+    match serve(rt, threads, serving, observer, &mut rt.stdout()) {
         Ok(()) => 0,
         Err(fault) => {
             if let Some(line) = fault.line() {

@@ -64,7 +64,7 @@ pub(super) struct ClientLine<'a> {
 impl<'a> ClientLine<'a> {
     pub(super) fn new(
         alloc: Global,
-        client: &Client<'a>,
+        client: &Client<'_>,
         input: &'a [u8],
         signs: &'a Signs,
     ) -> ClientLine<'a> {
@@ -104,7 +104,7 @@ impl Line for ClientLine<'_> {
         self.written = 0;
         if let Some(until) = self.waits.get(self.reads) {
             self.signs.wait(*until);
-            self.reads += 1;
+            self.reads = self.reads.saturating_add(1);
         }
         match self.line.read(buffer) {
             Ok(n) => Ok(n),

@@ -5,7 +5,7 @@ use Rattle.std.specs.Io.KnownBytes.{Appends}
 use Rattle.sf_book.specs.Books.{is_call}
 use Rattle.sf_audit.specs.Audits.{AgreesWith}
 use Rattle.sf_server.specs.Totals.{totals_text}
-use Rattle.sf_server.proofs.server.serve_on.Goals as goal
+use Rattle.sf_server.proofs.server.serve.Goals as goal
 
 so_if_ok : {A E P Q : Type 0} → (r : Result A E) → (P → Q) → OnOk r P → OnOk r Q
 so_if_ok (Ok x) f p = f p

@@ -1,0 +1,219 @@
+package sshtest_test
+
+import (
+	"errors"
+	"fmt"
+	"io"
+	"os"
+	"runtime"
+	"strings"
+	"testing"
+	"time"
+
+	"github.com/pkg/sftp"
+	"lucernetick"
+	"lucernetick/sshtest"
+)
+
+func TestAServerOfATest(t *testing.T) {
+	clock := lucernetick.NewVirtualTime(time.Unix(1_700_000_000, 0))
+	server := sshtest.NewServerT(t, func(server *sshtest.Server) { server.Clock = clock.Now })
+	must(t, open(t, server.Dial()).Mkdir("/d"))
+	if found := server.Engine.Snapshot()["/d"]; found.Mtime != clock.Now() {
+		t.Fatalf("made at %v", found.Mtime)
+	}
+}
+
+// The client's connection ends after this many bytes of the subsystem in one direction.
+func TestACutOverSSH(t *testing.T) {
+	const begun = 10_000
+	for _, more := range []int64{0, 1, 50_000} {
+		server := sshtest.NewServerT(t)
+		server.SetFaults(lucernetick.Faults{CutAfter: begun + more})
+		client := server.Dial()
+		session := open(t, client)
+		file, err := session.Create("/f")
+		must(t, err)
+		for wrote := 0; err == nil; wrote += 1000 {
+			if wrote > begun+50_000 {
+				t.Fatal("the connection is not cut")
+			}
+			_, err = file.Write(make([]byte, 1000))
+		}
+		if client.Wait() == nil {
+			t.Error("the connection did not end")
+		}
+		// A WRITE has 29 bytes before its data, INIT and OPEN fewer than 100 together.
+		size := int64(server.Engine.Snapshot()["/f"].Size)
+		if wanted := (begun + more - 100) / 1029 * 1000; size < wanted-1000 || size > wanted+1000 {
+			t.Errorf("%d bytes arrived, not about %d", size, wanted)
+		}
+		if err := server.Err(); err != nil {
+			t.Error(err)
+		}
+	}
+}
+
+// Only the second session is cut.
+func TestFaultsOfASession(t *testing.T) {
+	server := sshtest.NewServerT(t)
+	server.SetFaultsOf(func(session uint64) lucernetick.Faults {
+		if session == 2 {
+			return lucernetick.Faults{CutAfter: 1}
+		}
+		return lucernetick.Faults{}
+	})
+	for number := 1; number <= 3; number++ {
+		_, err := sftp.NewClient(server.Dial())
+		if (err != nil) != (number == 2) {
+			t.Fatalf("session %d: %v", number, err)
+		}
+	}
+}
+
+// It is a latency: requests that are sent ahead overlap.
+func TestADelayOverSSH(t *testing.T) {
+	const delay, most = 100 * time.Millisecond, 1 << 20
+	server := sshtest.NewServerT(t)
+	server.Engine.WriteFiles(map[string][]byte{"/f": drawn(most)}, time.Unix(0, 0))
+	server.SetFaults(lucernetick.Faults{Delay: delay})
+	client := open(t, server.Dial())
+	begin := time.Now()
+	_, err := client.Stat("/f")
+	must(t, err)
+	if passed := time.Since(begin); passed < delay {
+		t.Fatalf("a reply after %v", passed)
+	}
+	// 32 chunks, which the client requests ahead.
+	begin = time.Now()
+	got, err := get(client, "/f")
+	must(t, err)
+	if passed := time.Since(begin); len(got) != most || passed > 32*delay*3/4 {
+		t.Fatalf("%d bytes after %v", len(got), passed)
+	}
+}
+
+// A server closes although replies are late.
+func TestALateReplyAndClose(t *testing.T) {
+	server := sshtest.NewServerT(t)
+	server.SetFaults(lucernetick.Faults{Delay: time.Hour})
+	told := make(chan error, 1)
+	client := server.Dial()
+	go func() {
+		_, err := sftp.NewClient(client)
+		told <- err
+	}()
+	time.Sleep(100 * time.Millisecond)
+	must(t, server.Close())
+	if err := <-told; err == nil {
+		t.Fatal("the client has a session")
+	}
+}
+
+func TestChunksOverSSH(t *testing.T) {
+	server := sshtest.NewServerT(t)
+	server.SetFaults(lucernetick.Faults{Chunk: 100})
+	must(t, putAndGet(open(t, server.Dial()), "/f", drawn(10_000)))
+}
+
+func TestFaultsOutOfRange(t *testing.T) {
+	server := sshtest.NewServerT(t)
+	defer func() {
+		if told := fmt.Sprint(recover()); !strings.Contains(told, "Chunk must be from 0") {
+			t.Fatal(told)
+		}
+	}()
+	server.SetFaults(lucernetick.Faults{Chunk: -1})
+}
+
+// A clock or a callback that fails stops the server: the connections of all clients end, and the
+// test gets the error.
+func TestAServerStops(t *testing.T) {
+	early := func() time.Time { return time.Unix(-1, 0) }
+	for says, prepare := range map[string]func(*lucernetick.Engine, *sshtest.Server){
+		"the clock's result must be from 1970": func(_ *lucernetick.Engine, server *sshtest.Server) {
+			server.Clock = early
+		},
+		"a panic: no time": func(_ *lucernetick.Engine, server *sshtest.Server) {
+			server.Clock = func() time.Time { panic("no time") }
+		},
+		"a panic: EOF": func(engine *lucernetick.Engine, _ *sshtest.Server) {
+			engine.OnCall(nil, func(lucernetick.Call) { panic(io.EOF) })
+		},
+		"runtime.Goexit, as by t.FailNow": func(engine *lucernetick.Engine, _ *sshtest.Server) {
+			engine.OnCall(func(lucernetick.Request) { runtime.Goexit() }, nil)
+		},
+		"a panic: no faults": func(_ *lucernetick.Engine, server *sshtest.Server) {
+			server.SetFaultsOf(func(uint64) lucernetick.Faults { panic("no faults") })
+		},
+	} {
+		engine, err := lucernetick.New()
+		must(t, err)
+		defer engine.Close()
+		server := sshtest.NewUnstartedServer(engine)
+		prepare(engine, server)
+		server.Start()
+		// One client waits and sends nothing, the other one uses the server.
+		idle := dial(t, server)
+		client, err := sftp.NewClient(dial(t, server))
+		// The reply to a call whose record stops the server may still be sent.
+		for err == nil {
+			_, err = client.Stat("/")
+		}
+		idle.Wait()
+		for _, err := range []error{server.Err(), server.Close()} {
+			var stopped *lucernetick.StoppedError
+			if !errors.As(err, &stopped) || !strings.Contains(err.Error(), says) {
+				t.Errorf("wanted %s, got %v", says, err)
+			}
+		}
+		if _, err := engine.Snapshot(); err != nil {
+			t.Error(err)
+		}
+	}
+}
+
+// A test that waits for a client ends when the server stops.
+func TestWaitingAtAServerThatStops(t *testing.T) {
+	engine := lucernetick.NewT(t)
+	server := sshtest.NewServer(engine.Engine)
+	engine.Check(server.Err)
+	engine.OnCall(nil, func(lucernetick.Call) { panic("no time") })
+	client, err := sftp.NewClient(dial(t, server))
+	must(t, err)
+	go client.Mkdir("/a")
+	begin := time.Now()
+	_, err = engine.Engine.WaitFor("/none", time.Minute)
+	var stopped *lucernetick.StoppedError
+	if !errors.As(err, &stopped) || time.Since(begin) > 50*time.Second {
+		t.Fatal(err)
+	}
+	if server.Close() == nil {
+		t.Fatal("the server did not stop")
+	}
+}
+
+// Rules, and waiting, over a port.
+func TestAnUploadOverSSH(t *testing.T) {
+	server := sshtest.NewServerT(t)
+	full := server.Engine.DiskFull(5)
+	client := open(t, server.Dial())
+	done := make(chan error, 1)
+	go func() {
+		first := put(client, "/f", []byte("123456"))
+		full.End()
+		if first == nil {
+			done <- errors.New("the disk was not full")
+			return
+		}
+		done <- put(client, "/f", []byte("123456"))
+	}()
+	must(t, <-done)
+	if found := server.Engine.WaitFor("/f", time.Minute); found.Size != 6 {
+		t.Fatalf("%d bytes", found.Size)
+	}
+	server.Engine.ReadOnly("")
+	if err := client.Remove("/f"); !errors.Is(err, os.ErrPermission) {
+		t.Fatal(err)
+	}
+}
