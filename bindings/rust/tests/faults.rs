@@ -88,7 +88,7 @@ fn latencies_overlap() {
     connection.write_all(&[INIT, &STAT.repeat(40)].concat()).unwrap();
     receive(&mut connection, VERSION + 40 * ATTRS);
     let taken = begin.elapsed();
-    assert!(delay <= taken && taken < 10 * delay, "{:?}", taken);
+    assert!(delay <= taken && taken < 20 * delay, "{:?}", taken);
 }
 
 /// A client that waits for each reply waits for each latency.
