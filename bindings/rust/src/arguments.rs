@@ -93,10 +93,9 @@ mod tests {
         for (moment, found) in
             [(late, "4294967296 seconds after 1970"), (early, "7 seconds before 1970")]
         {
-            let wanted = "the argument is wrong: moment must be from 1970 to 4294967295 seconds \
-                          after that, not ";
-            let told = seconds("moment", moment).unwrap_err().to_string();
-            assert_eq!(told, format!("{}{}", wanted, found));
+            let wanted = "moment must be from 1970 to 4294967295 seconds after that, not ";
+            let text = seconds("moment", moment).unwrap_err().to_string();
+            assert_eq!(text, format!("{}{}", wanted, found));
         }
     }
 }

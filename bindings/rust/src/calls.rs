@@ -184,21 +184,21 @@ pub struct Call {
 
 impl Call {
     /// SAFETY: the bytes of the record must still be valid: no other call was made on its engine.
-    pub(crate) unsafe fn of(told: &sys::Call) -> Self {
+    pub(crate) unsafe fn of(record: &sys::Call) -> Self {
         Call {
-            number: told.number,
-            session: told.session,
-            moment: unix_time(told.moment),
-            kind: Kind::of_number(told.kind),
-            path: bytes_of(&told.path),
-            new_path: bytes_of(&told.new_path),
-            handle: told.handle,
-            offset: told.offset,
-            length: told.length,
-            flags: told.flags,
-            data: bytes_of(&told.written),
-            attributes: Attributes::of(&told.attributes),
-            answer: answer_of(told),
+            number: record.number,
+            session: record.session,
+            moment: unix_time(record.moment),
+            kind: Kind::of_number(record.kind),
+            path: bytes_of(&record.path),
+            new_path: bytes_of(&record.new_path),
+            handle: record.handle,
+            offset: record.offset,
+            length: record.length,
+            flags: record.flags,
+            data: bytes_of(&record.written),
+            attributes: Attributes::of(&record.attributes),
+            answer: answer_of(record),
         }
     }
 }
@@ -242,15 +242,15 @@ pub(crate) fn status_text(code: u32) -> &'static str {
 }
 
 /// SAFETY: as for `Call::of`.
-unsafe fn answer_of(told: &sys::Call) -> Answer {
-    let bytes = bytes_of(&told.answer_bytes);
-    match told.answer {
+unsafe fn answer_of(record: &sys::Call) -> Answer {
+    let bytes = bytes_of(&record.answer_bytes);
+    match record.answer {
         100 => Answer::NoMemory,
-        101 => Answer::Status(told.status),
-        102 => Answer::Handle(told.answer_handle),
+        101 => Answer::Status(record.status),
+        102 => Answer::Handle(record.answer_handle),
         103 => Answer::Data(bytes),
         104 => Answer::Names(names_of(&bytes)),
-        105 => Answer::Attributes(Attributes::of(&told.answer_attributes)),
+        105 => Answer::Attributes(Attributes::of(&record.answer_attributes)),
         other => Answer::Other(other),
     }
 }

@@ -118,7 +118,7 @@ impl fmt::Display for Error {
     fn fmt(&self, f: &mut fmt::Formatter<'_>) -> fmt::Result {
         match self {
             Error::Refused(refusal) => refusal.fmt(f),
-            Error::Argument(why) => write!(f, "the argument is wrong: {}", why),
+            Error::Argument(why) | Error::TimedOut(why) => f.write_str(why),
             Error::Status { message, request, .. } => write!(f, "{}: {}", request, message),
             Error::Blocked => f.write_str("a call of another session blocks the request"),
             Error::Ended => f.write_str("the session ended before the expected reply"),
@@ -126,7 +126,6 @@ impl fmt::Display for Error {
                 write!(f, "{} calls were dropped: the engine keeps only the last ones", count)
             }
             Error::Stopped(why) => write!(f, "all connections were closed: {}", why),
-            Error::TimedOut(why) => f.write_str(why),
         }
     }
 }

@@ -43,7 +43,8 @@ impl Faults {
         Faults { bandwidth: Some(bytes), ..self }
     }
 
-    /// The client receives at most this many bytes at a time.
+    /// The client receives at most this many bytes at a time. With a socket that is not a
+    /// `Connection`, it may receive several such chunks at once, if it reads while they are sent.
     pub fn chunk(self, bytes: u64) -> Self {
         Faults { chunk: Some(bytes), ..self }
     }
@@ -53,6 +54,11 @@ impl Faults {
         in_range("bandwidth", self.bandwidth.unwrap_or(1), 1, MOST)?;
         in_range("chunk", self.chunk.unwrap_or(1), 1, MOST)?;
         in_range("delay in seconds", self.delay.as_secs(), 0, 1 << 31).map(drop)
+    }
+
+    /// How many bytes the client receives at most at a time.
+    pub(crate) fn most(&self) -> usize {
+        self.chunk.map_or(usize::MAX, |chunk| chunk as usize)
     }
 
     /// The time that bytes take.

@@ -7,6 +7,8 @@ use std::net::Shutdown;
 use std::os::raw::{c_int, c_short};
 use std::os::unix::io::AsRawFd;
 use std::os::unix::net::UnixStream;
+use std::sync::atomic::{AtomicBool, Ordering};
+use std::sync::Arc;
 use std::thread;
 use std::time::{Duration, Instant};
 
@@ -27,6 +29,8 @@ pub(crate) struct Line {
     /// How many bytes are received, and sent, before it is cut.
     to_come: u64,
     to_go: u64,
+    /// Whether it was cut.
+    is_cut: Arc<AtomicBool>,
     /// Replies, and when to send them.
     late: VecDeque<(Instant, Vec<u8>)>,
     late_bytes: usize,
@@ -35,7 +39,7 @@ pub(crate) struct Line {
 }
 
 impl Line {
-    pub(crate) fn new(stream: UnixStream, faults: Faults) -> Self {
+    pub(crate) fn new(stream: UnixStream, faults: Faults, is_cut: Arc<AtomicBool>) -> Self {
         let left = faults.cut_after.unwrap_or(u64::MAX);
         Self {
             stream,
@@ -44,6 +48,7 @@ impl Line {
             faults,
             to_come: left,
             to_go: left,
+            is_cut,
             late: VecDeque::new(),
             late_bytes: 0,
             free: Instant::now(),
@@ -54,7 +59,8 @@ impl Line {
     /// sent.
     pub(crate) fn read(&mut self, room: &mut [u8]) -> io::Result<usize> {
         let most = self.to_come.min(room.len() as u64) as usize;
-        if most == 0 || self.to_go == 0 {
+        if self.to_come == 0 || self.to_go == 0 {
+            self.is_cut.store(true, Ordering::SeqCst);
             return Ok(0);
         }
         self.wait_for_input();
@@ -110,8 +116,7 @@ impl Line {
     }
 
     fn send_all(&mut self, bytes: &[u8]) -> io::Result<()> {
-        let chunk = self.faults.chunk.map_or(bytes.len(), |chunk| chunk as usize);
-        for part in bytes.chunks(chunk.max(1)) {
+        for part in bytes.chunks(self.faults.most()) {
             self.send_part(part)?;
             if self.faults.chunk.is_some() {
                 self.wait_until_received()?;

@@ -204,7 +204,7 @@ impl RaceStream {
                 state.racers.len(),
                 state.clients
             );
-            return Err(Error::Argument(why).into());
+            return Err(io::Error::new(ErrorKind::Other, why));
         }
         state.racers[self.number].thread = Some(thread::current().id());
         Ok(state)
@@ -335,7 +335,7 @@ impl State {
     }
 
     /// An error if a thread that reads waits for a client that only it has used, so for itself.
-    fn check_threads(&self, number: usize, begin: Instant) -> Result<(), Error> {
+    fn check_threads(&self, number: usize, begin: Instant) -> io::Result<()> {
         let here = Some(thread::current().id());
         let is_own = |other: &usize| {
             let racer = &self.racers[*other];
@@ -343,12 +343,13 @@ impl State {
         };
         match (0..self.racers.len()).find(is_own) {
             Some(other) if begin.elapsed() >= GRACE.min(self.patience) => {
-                Err(Error::Argument(format!(
+                let why = format!(
                     "client {} waits for client {}, which the same thread uses: use each stream in \
                      its own thread",
                     number + 1,
                     other + 1
-                )))
+                );
+                Err(io::Error::new(ErrorKind::Other, why))
             }
             _ => Ok(()),
         }

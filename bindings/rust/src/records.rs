@@ -220,18 +220,18 @@ impl Engine {
 
     /// The library's record at this index, and their number.
     fn record(&mut self, at: u64) -> Result<(Option<Record>, u64), Refusal> {
-        let mut told = sys::Call::default();
+        let mut record = sys::Call::default();
         // SAFETY: the pointer is an engine's, which only `drop` frees, and the other one is of a
         // local variable.
-        let answer = unsafe { sys::lt_calls(self.pointer.as_ptr(), at, &mut told) };
+        let answer = unsafe { sys::lt_calls(self.pointer.as_ptr(), at, &mut record) };
         let count = checked(answer)?;
         if at >= count {
             return Ok((None, count));
         }
-        if told.kind == 0 {
-            return Ok((Some(Record::Left(told.session)), count));
+        if record.kind == 0 {
+            return Ok((Some(Record::Left(record.session)), count));
         }
         // SAFETY: no call was made since.
-        Ok((Some(Record::Call(Box::new(unsafe { Call::of(&told) }))), count))
+        Ok((Some(Record::Call(Box::new(unsafe { Call::of(&record) }))), count))
     }
 }

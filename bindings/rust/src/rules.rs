@@ -83,8 +83,8 @@ impl Rule {
         Rule::default().kind(Kind::Write).after_bytes(after).always()
     }
 
-    /// Makes the tree read-only for clients, or with `path` a part of it: requests that would change
-    /// it fail with `Status::PermissionDenied`, until the rule ends.
+    /// Makes the tree read-only for clients, or with `path` a part of it. Requests that would
+    /// change it fail with `Status::PermissionDenied`, until the rule ends.
     pub fn read_only() -> Self {
         Rule::default().when(would_change).always().status(Status::PermissionDenied)
     }

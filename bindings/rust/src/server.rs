@@ -16,6 +16,7 @@ use std::os::unix::io::OwnedFd;
 use std::os::unix::net::{UnixListener, UnixStream};
 use std::panic::{catch_unwind, AssertUnwindSafe};
 use std::path::{Path, PathBuf};
+use std::sync::atomic::{AtomicBool, Ordering};
 use std::sync::{Arc, Mutex, PoisonError};
 use std::thread::{self, JoinHandle};
 use std::time::{Duration, Instant, SystemTime};
@@ -58,8 +59,9 @@ impl Server {
     pub fn connect_with(&self, faults: Faults) -> io::Result<Connection> {
         self.check()?;
         let (ours, theirs) = UnixStream::pair()?;
-        let session = serve(&self.shared, theirs, faults)?;
-        Ok(Connection { stream: ours, session })
+        let is_cut = Arc::default();
+        let session = serve(&self.shared, theirs, faults, Arc::clone(&is_cut))?;
+        Ok(Connection { stream: ours, session, chunk: faults.most(), is_cut })
     }
 
     /// Listens on a new Unix socket at this path: each connection is a session. The socket is
@@ -253,12 +255,20 @@ impl Drop for Server {
 pub struct Connection {
     stream: UnixStream,
     session: Session,
+    /// How many bytes it receives at most at a time.
+    chunk: usize,
+    is_cut: Arc<AtomicBool>,
 }
 
 impl Connection {
     /// Its session, for `Rule::session`.
     pub fn session(&self) -> Session {
         self.session
+    }
+
+    /// Whether it was dropped by `Faults::cut_after`.
+    pub fn is_cut(&self) -> bool {
+        self.is_cut.load(Ordering::SeqCst)
     }
 
     /// The socket, for a client that takes one.
@@ -283,7 +293,8 @@ impl DerefMut for Connection {
 
 impl Read for Connection {
     fn read(&mut self, room: &mut [u8]) -> io::Result<usize> {
-        self.stream.read(room)
+        let most = room.len().min(self.chunk);
+        self.stream.read(&mut room[..most])
     }
 }
 
@@ -342,13 +353,18 @@ impl Shared {
 }
 
 /// Opens a session, and serves it over this socket in its own thread.
-fn serve(shared: &Arc<Shared>, line: UnixStream, faults: Faults) -> io::Result<Session> {
+fn serve(
+    shared: &Arc<Shared>,
+    line: UnixStream,
+    faults: Faults,
+    is_cut: Arc<AtomicBool>,
+) -> io::Result<Session> {
     faults.check()?;
     let served = Served::new(shared, line.try_clone()?)?;
     let session = served.session;
     let name = format!("lucernetick session {}", session.number());
     let work = move || {
-        let pump = AssertUnwindSafe(|| served.pump(&mut Line::new(line, faults)));
+        let pump = AssertUnwindSafe(|| served.pump(&mut Line::new(line, faults, is_cut)));
         let fault = match catch_unwind(pump) {
             Ok(Ok(())) => None,
             Ok(Err(fault)) => Some(fault),
@@ -499,7 +515,7 @@ fn accept(shared: &Arc<Shared>, listener: &UnixListener, faults: &Mutex<Faults>)
             return;
         }
         let faults = *faults.lock().unwrap_or_else(PoisonError::into_inner);
-        match line.and_then(|line| serve(shared, line, faults)) {
+        match line.and_then(|line| serve(shared, line, faults, Arc::default())) {
             Err(fault) if fault.kind() == ErrorKind::InvalidInput => return,
             Err(_) => thread::sleep(PAUSE),
             Ok(_) => {}

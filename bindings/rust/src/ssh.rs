@@ -4,11 +4,12 @@ use crate::server::{Listener, SharedFaults};
 use crate::{sys, Faults, Server};
 use std::env;
 use std::fmt;
-use std::fs;
+use std::fs::{self, DirBuilder};
 use std::io::{self, BufRead, BufReader, ErrorKind, Read};
 use std::os::raw::c_int;
+use std::os::unix::fs::DirBuilderExt;
 use std::path::{Path, PathBuf};
-use std::process::{self, Child, ChildStderr, Command, Stdio};
+use std::process::{self, Child, Command, Stdio};
 use std::sync::atomic::{AtomicU64, Ordering};
 use std::sync::{Arc, Mutex, PoisonError};
 
@@ -32,18 +33,17 @@ const HOST: &str = "127.0.0.1";
 ///
 /// let server = Server::new(Engine::new()?, wall_clock);
 /// let ssh = SshServer::new(&server)?;
-/// assert!(ssh.sftp_command().status()?.success());
+/// assert!(ssh.sftp_command(&["-b", "batch"]).status()?.success());
 /// # Ok::<(), std::io::Error>(())
 /// ```
 pub struct SshServer {
-    process: Child,
-    /// Kept open, since the script may write to it.
-    _errors: ChildStderr,
+    // They are dropped in this order.
+    _script: Script,
+    _listener: Listener,
+    folder: Folder,
     port: u16,
     user: String,
-    folder: PathBuf,
     faults: SharedFaults,
-    listener: Option<Listener>,
 }
 
 impl SshServer {
@@ -55,46 +55,17 @@ impl SshServer {
     /// As `new`. Each session has these faults.
     pub fn with_faults(server: &Server, faults: Faults) -> io::Result<Self> {
         faults.check()?;
-        let script = find_script()?;
-        let folder = new_folder()?;
-        let started = Self::start(server, faults, &script, &folder);
-        if started.is_err() {
-            let _ = fs::remove_dir_all(&folder);
-        }
-        started
-    }
-
-    fn start(server: &Server, faults: Faults, script: &Path, folder: &Path) -> io::Result<Self> {
+        let program = find_script()?;
+        let folder = Folder::new()?;
+        let socket = folder.0.join("socket");
         let faults = Arc::new(Mutex::new(faults));
-        let socket = folder.join("socket");
         let listener = server.listener(&socket, Arc::clone(&faults))?;
-        let keys = folder.join("keys");
-        let mut process = Command::new(script)
-            .arg(&socket)
-            .arg("0")
-            .arg(&keys)
-            .stdin(Stdio::null())
-            .stdout(Stdio::piped())
-            .stderr(Stdio::piped())
-            .spawn()
-            .map_err(|fault| {
-                io::Error::new(fault.kind(), format!("{}: {}", script.display(), fault))
-            })?;
-        let (line, errors) = first_line(&mut process)?;
-        if line.is_empty() {
-            return Err(ended(&mut process, errors));
-        }
+        let keys = folder.0.join("keys");
+        let script = Script::start(&program, &socket, &keys)?;
         let config = fs::read_to_string(keys.join("ssh_config"))?;
-        let port = option(&config, "Port")?;
-        Ok(Self {
-            process,
-            _errors: errors,
-            port: port.parse().map_err(|_| malformed(&config))?,
-            user: option(&config, "User")?.to_string(),
-            folder: folder.to_path_buf(),
-            faults,
-            listener: Some(listener),
-        })
+        let port = option(&config, "Port")?.parse().map_err(|_| malformed(&config))?;
+        let user = option(&config, "User")?.to_string();
+        Ok(Self { _script: script, _listener: listener, folder, port, user, faults })
     }
 
     pub fn host(&self) -> &str {
@@ -112,24 +83,23 @@ impl SshServer {
 
     /// The path of the private key that may log in. It is removed with the server.
     pub fn client_key(&self) -> PathBuf {
-        self.folder.join("keys/client_key")
+        self.folder.0.join("keys/client_key")
     }
 
     /// The path of a file with the host's public key, in the format of OpenSSH's `known_hosts`.
     pub fn known_hosts(&self) -> PathBuf {
-        self.folder.join("keys/known_hosts")
+        self.folder.0.join("keys/known_hosts")
     }
 
     /// The path of a configuration for OpenSSH's clients, in which the host is named `tree`.
     pub fn ssh_config(&self) -> PathBuf {
-        self.folder.join("keys/ssh_config")
+        self.folder.0.join("keys/ssh_config")
     }
 
-    /// The command that connects OpenSSH's `sftp`.
-    pub fn sftp_command(&self) -> Command {
+    /// The command that connects OpenSSH's `sftp`, with further options.
+    pub fn sftp_command(&self, options: &[&str]) -> Command {
         let mut sftp = Command::new("sftp");
-        sftp.arg("-q").arg("-F").arg(self.ssh_config());
-        sftp.arg("tree");
+        sftp.arg("-F").arg(self.ssh_config()).args(options).arg("tree");
         sftp
     }
 
@@ -147,14 +117,69 @@ impl fmt::Debug for SshServer {
     }
 }
 
-impl Drop for SshServer {
-    /// Waits until the script has ended its connections.
+/// A new folder that only its owner can read. It is removed when this is dropped.
+struct Folder(PathBuf);
+
+impl Folder {
+    fn new() -> io::Result<Self> {
+        static COUNT: AtomicU64 = AtomicU64::new(0);
+        loop {
+            let number = COUNT.fetch_add(1, Ordering::SeqCst);
+            let name = format!("lucernetick-{}-{}", process::id(), number);
+            let folder = env::temp_dir().join(name);
+            match DirBuilder::new().mode(0o700).create(&folder) {
+                Ok(()) => return Ok(Self(folder)),
+                Err(fault) if fault.kind() == ErrorKind::AlreadyExists => {}
+                Err(fault) => return Err(fault),
+            }
+        }
+    }
+}
+
+impl Drop for Folder {
+    fn drop(&mut self) {
+        let _ = fs::remove_dir_all(&self.0);
+    }
+}
+
+/// The running script. When this is dropped, the script ends its connections.
+struct Script(Child);
+
+impl Script {
+    /// Starts it, and waits until it listens. If it ends instead, the error is what it printed.
+    fn start(program: &Path, socket: &Path, keys: &Path) -> io::Result<Self> {
+        let child = Command::new(program)
+            .arg(socket)
+            .arg("0")
+            .arg(keys)
+            .stdin(Stdio::null())
+            .stdout(Stdio::piped())
+            .stderr(Stdio::piped())
+            .spawn();
+        let failed = |fault: io::Error| {
+            io::Error::new(fault.kind(), format!("{}: {}", program.display(), fault))
+        };
+        let mut script = Self(child.map_err(failed)?);
+        let mut line = String::new();
+        if let Some(output) = script.0.stdout.take() {
+            BufReader::new(output).read_line(&mut line)?;
+        }
+        match &mut script.0.stderr {
+            Some(errors) if line.is_empty() => {
+                let mut text = String::new();
+                errors.read_to_string(&mut text)?;
+                Err(io::Error::new(ErrorKind::Other, text.trim_end().to_string()))
+            }
+            _ => Ok(script),
+        }
+    }
+}
+
+impl Drop for Script {
     fn drop(&mut self) {
         // SAFETY: it has numbers as arguments, and the process was not waited for.
-        unsafe { sys::kill(self.process.id() as c_int, sys::SIGTERM) };
-        let _ = self.process.wait();
-        self.listener = None;
-        let _ = fs::remove_dir_all(&self.folder);
+        unsafe { sys::kill(self.0.id() as c_int, sys::SIGTERM) };
+        let _ = self.0.wait();
     }
 }
 
@@ -193,41 +218,6 @@ fn missing(why: &str) -> io::Error {
 
 fn malformed(config: &str) -> io::Error {
     io::Error::new(ErrorKind::InvalidData, format!("unexpected ssh_config: {}", config))
-}
-
-/// A new folder that only its owner can read.
-fn new_folder() -> io::Result<PathBuf> {
-    use std::os::unix::fs::DirBuilderExt;
-    static COUNT: AtomicU64 = AtomicU64::new(0);
-    loop {
-        let number = COUNT.fetch_add(1, Ordering::SeqCst);
-        let name = format!("lucernetick-{}-{}", process::id(), number);
-        let folder = env::temp_dir().join(name);
-        match fs::DirBuilder::new().mode(0o700).create(&folder) {
-            Ok(()) => return Ok(folder),
-            Err(fault) if fault.kind() == ErrorKind::AlreadyExists => {}
-            Err(fault) => return Err(fault),
-        }
-    }
-}
-
-/// The line that the script prints once it listens; empty if it ended.
-fn first_line(process: &mut Child) -> io::Result<(String, ChildStderr)> {
-    let mut line = String::new();
-    let (output, errors) = (process.stdout.take(), process.stderr.take());
-    if let Some(output) = output {
-        BufReader::new(output).read_line(&mut line)?;
-    }
-    let errors = errors.ok_or_else(|| missing("the script has no standard error"))?;
-    Ok((line, errors))
-}
-
-/// The error of a script that ended: what it printed.
-fn ended(process: &mut Child, mut errors: ChildStderr) -> io::Error {
-    let mut text = String::new();
-    let _ = errors.read_to_string(&mut text);
-    let _ = process.wait();
-    io::Error::new(ErrorKind::Other, text.trim_end().to_string())
 }
 
 /// The value of an option of `ssh_config`.

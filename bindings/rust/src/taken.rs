@@ -46,14 +46,14 @@ impl Taken {
 
     /// The entry at an index, if any, with its path.
     fn entry(&mut self, at: u64) -> Result<Option<(Vec<u8>, Entry)>, Refusal> {
-        let mut told = sys::Leaf::default();
+        let mut leaf = sys::Leaf::default();
         // SAFETY: the pointer is a tree's, and the other one is of a local variable.
-        if at >= checked(unsafe { sys::lt_tree_leaf(self.pointer, at, &mut told) })? {
+        if at >= checked(unsafe { sys::lt_tree_leaf(self.pointer, at, &mut leaf) })? {
             return Ok(None);
         }
         // SAFETY: no other leaf was read since.
-        let path = unsafe { bytes_of(&told.path) };
-        let found = &told.attributes;
+        let path = unsafe { bytes_of(&leaf.path) };
+        let found = &leaf.attributes;
         let mut entry = Entry {
             mode: found.permissions,
             uid: found.uid,
@@ -66,7 +66,7 @@ impl Taken {
         };
         if !entry.is_directory() {
             let next = self.numbers.len() as u64 + 1;
-            entry.file = Some(*self.numbers.entry(told.label).or_insert(next));
+            entry.file = Some(*self.numbers.entry(leaf.label).or_insert(next));
         }
         Ok(Some((path, entry)))
     }

@@ -170,7 +170,7 @@ impl Engine {
         I: IntoIterator<Item = (P, C)>,
     {
         for (path, contents) in files {
-            let contents = told(contents.as_ref());
+            let contents = as_bytes(contents.as_ref());
             self.place(path.as_ref(), None, moment, |engine, path, moment, place| {
                 // SAFETY: the pointer is an engine's, which only `drop` frees, the bytes are of
                 // slices that outlive the call, and the place is a local variable.
@@ -204,7 +204,7 @@ impl Engine {
         arguments::path("old", old)?;
         self.place(new.as_ref(), Some(old), moment, |engine, new, moment, place| {
             // SAFETY: as above.
-            unsafe { sys::lt_link(engine, told(old), new, moment, place) }
+            unsafe { sys::lt_link(engine, as_bytes(old), new, moment, place) }
         })
     }
 
@@ -219,7 +219,7 @@ impl Engine {
         let moment = seconds("moment", moment)?;
         arguments::path("path", path)?;
         let mut place = sys::Place { length: 0, kind: 0 };
-        let answer = write(self.pointer.as_ptr(), told(path), moment, &mut place);
+        let answer = write(self.pointer.as_ptr(), as_bytes(path), moment, &mut place);
         // If the records cannot be read now, they are read later.
         let _ = self.read_news();
         if answer >= 0 {
@@ -239,7 +239,7 @@ impl Engine {
 }
 
 /// A slice in the library's form.
-fn told(bytes: &[u8]) -> sys::Bytes {
+fn as_bytes(bytes: &[u8]) -> sys::Bytes {
     sys::Bytes { at: bytes.as_ptr(), length: bytes.len() }
 }
 

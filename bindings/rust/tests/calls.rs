@@ -98,7 +98,7 @@ fn dropped_calls_are_counted() {
     let mut engine = Engine::with_keep(3).unwrap();
     engine.write_files([("/f", vec![1; 600 << 18])], at(0)).unwrap();
     let calls = engine.last_calls().unwrap();
-    assert_eq!(calls.iter().map(|call| call.kind).last(), Some(Kind::Close));
+    assert_eq!((calls.len(), calls[2].kind), (3, Kind::Close));
     let last = calls[2].number;
     assert!(last > 600);
     assert_eq!(engine.dropped(), last - 3);
@@ -110,14 +110,14 @@ fn dropped_calls_are_counted() {
 #[test]
 fn callbacks_before_and_after() {
     let server = empty_server();
-    let (told, seen) = mpsc::channel();
-    let after = told.clone();
+    let (notes, seen) = mpsc::channel();
+    let after = notes.clone();
     let hook = server
         .on_call(
             OnCall::default()
                 .before(move |engine, request| {
                     let paths = engine.snapshot().unwrap().len();
-                    told.send(format!("{} {}", request.kind, paths)).unwrap();
+                    notes.send(format!("{} {}", request.kind, paths)).unwrap();
                 })
                 .after(move |engine, call| {
                     let paths = engine.snapshot().unwrap().len();

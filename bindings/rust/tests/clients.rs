@@ -115,7 +115,7 @@ impl Client {
             match line.trim_end() {
                 "Remote working directory: /" => return lines,
                 echo if echo.starts_with("sftp> ") => {}
-                told => lines.push(told.to_string()),
+                printed => lines.push(printed.to_string()),
             }
         }
     }
@@ -521,6 +521,14 @@ fn a_callback_that_uses_its_server_stops_it() {
     assert!(fault.to_string().contains("this thread would wait for itself"), "{}", fault);
 }
 
+/// As above, without a callback.
+#[test]
+#[should_panic(expected = "this thread would wait for itself")]
+fn an_engine_that_is_lent_twice() {
+    let server = Server::new(Engine::new().unwrap(), || at(0));
+    server.with_engine(|_| server.snapshot().is_ok());
+}
+
 #[test]
 fn a_server_without_faults_is_closed() {
     let server = Server::new(Engine::new().unwrap(), || at(0));
@@ -555,7 +563,6 @@ fn the_small_client() {
     assert!(server.snapshot().unwrap().paths().eq(["/", "/d", "/d/b"]));
 }
 
-/// As in the documents of `Server::write_files`.
 #[test]
 fn files_with_the_time_of_the_clock() {
     let server = Server::new(Engine::new().unwrap(), || at(7));

@@ -72,7 +72,9 @@ fn an_upload_that_is_cut() {
     let server = server();
     let connection = connect(&server, Faults::default().cut_after(100_000));
     let mut client = Client::new(connection).unwrap();
+    assert!(!client.get_ref().is_cut());
     assert!(client.write("/g", vec![1; 1_000_000]).is_err());
+    assert!(client.get_ref().is_cut());
     assert_eq!(server.snapshot().unwrap()["/g"].size, 3 * 32768);
 }
 
@@ -86,7 +88,7 @@ fn latencies_overlap() {
     connection.write_all(&[INIT, &STAT.repeat(40)].concat()).unwrap();
     receive(&mut connection, VERSION + 40 * ATTRS);
     let taken = begin.elapsed();
-    assert!(delay <= taken && taken < 10 * delay, "{:?}", taken);
+    assert!(delay <= taken && taken < 20 * delay, "{:?}", taken);
 }
 
 /// A client that waits for each reply waits for each latency.

@@ -41,10 +41,10 @@ fn ask(engine: &mut Engine, session: Session, kind: u8, fields: &[u8]) -> Vec<u8
 
 /// The server's attributes of all paths of `alike`.
 fn look(engine: &mut Engine, session: Session) -> Vec<Vec<u8>> {
-    let told = ALIKE.iter().map(|(path, _)| ask(engine, session, 17, &string(path.as_bytes())));
-    let told: Vec<Vec<u8>> = told.collect();
-    assert!(told.iter().all(|reply| reply[4] == ATTRS));
-    told
+    let replies = ALIKE.iter().map(|(path, _)| ask(engine, session, 17, &string(path.as_bytes())));
+    let replies: Vec<Vec<u8>> = replies.collect();
+    assert!(replies.iter().all(|reply| reply[4] == ATTRS));
+    replies
 }
 
 /// Two files of two names each and one file of one name. They differ only in their names: their

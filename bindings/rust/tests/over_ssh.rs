@@ -102,8 +102,8 @@ impl Client {
     /// Sends `pwd`, and waits for its output, which follows all earlier output.
     fn is_done(&mut self) {
         self.asks("pwd\n");
-        let told = |line: String| line == "Remote working directory: /";
-        assert!(self.printed.by_ref().lines().map(Result::unwrap).any(told));
+        let is_last = |line: String| line == "Remote working directory: /";
+        assert!(self.printed.by_ref().lines().map(Result::unwrap).any(is_last));
     }
 
     /// Whether all its commands succeeded.
@@ -213,7 +213,7 @@ fn the_parts_of_the_address() {
     client.stdin.take().unwrap().write_all(b"mkdir /a\n").unwrap();
     assert!(client.wait().unwrap().success());
     assert!(over.server.snapshot().unwrap().contains("/a"));
-    let mut sftp = over.ssh.sftp_command().stdin(Stdio::piped()).spawn().unwrap();
+    let mut sftp = over.ssh.sftp_command(&["-b", "-"]).stdin(Stdio::piped()).spawn().unwrap();
     sftp.stdin.take().unwrap().write_all(b"rmdir /a\n").unwrap();
     assert!(sftp.wait().unwrap().success());
     assert!(!over.server.snapshot().unwrap().contains("/a"));

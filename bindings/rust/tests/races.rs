@@ -78,7 +78,7 @@ type Run = (Vec<(bool, bool)>, String, BTreeMap<String, Option<Vec<u8>>>);
 /// Runs two uploaders.
 fn race(races: &Races) -> Run {
     let streams = streams(races, 2);
-    let told = thread::scope(|scope| {
+    let outcomes = thread::scope(|scope| {
         let uploads: Vec<_> = streams
             .into_iter()
             .zip(["a", "b"])
@@ -91,7 +91,7 @@ fn race(races: &Races) -> Run {
     let tree = tree.map(|(path, entry)| {
         (String::from_utf8(path).unwrap(), entry.contents().map(Cow::into_owned))
     });
-    (told, races.schedule(), tree.collect())
+    (outcomes, races.schedule(), tree.collect())
 }
 
 #[test]
@@ -103,11 +103,12 @@ fn the_same_each_time() {
     let schedules: BTreeSet<_> = runs.iter().map(|(_, schedule, _)| schedule).collect();
     assert!(schedules.len() > 500, "{} schedules", schedules.len());
     // Who made it, and who renamed it.
-    let outcomes: BTreeSet<_> = runs[..200].iter().map(|(told, _, _)| told.as_slice()).collect();
+    let outcomes: BTreeSet<_> =
+        runs[..200].iter().map(|(outcome, _, _)| outcome.as_slice()).collect();
     let (made, renamed) = ((true, false), (false, true));
     let (both, neither) = ((true, true), (false, false));
     let all = [[neither, both], [renamed, made], [made, renamed], [both, neither]];
-    assert!(outcomes.into_iter().eq(all.iter().map(|told| &told[..])));
+    assert!(outcomes.into_iter().eq(all.iter().map(|outcome| &outcome[..])));
 }
 
 #[test]
@@ -146,10 +147,10 @@ fn a_client_that_waits_for_another() {
     let mut streams = streams(&races, 2);
     let mut second = streams.pop().unwrap();
     let mut first = streams.pop().unwrap();
-    let (told, asked) = mpsc::channel();
+    let (ready, is_ready) = mpsc::channel();
     thread::scope(|scope| {
         scope.spawn(move || {
-            asked.recv().unwrap();
+            is_ready.recv().unwrap();
             first.write_all(LOOKS).unwrap();
             take(&mut first, VERSION + ATTRS);
         });
@@ -158,7 +159,7 @@ fn a_client_that_waits_for_another() {
         take(&mut second, VERSION + OK);
         let why = "before turn 1: client 1 neither sent nor left for 50ms";
         assert_eq!(races.stray().as_deref(), Some(why));
-        told.send(()).unwrap();
+        ready.send(()).unwrap();
         drop(second);
     });
     assert_eq!(races.schedule(), "2x5 1x5");
@@ -168,8 +169,7 @@ fn a_client_that_waits_for_another() {
 #[test]
 fn a_client_that_is_used_too_early() {
     let races = Races::new(0, 2).unwrap();
-    let wanted =
-        "the argument is wrong: client 1 is used, and 1 of 2 clients are connected: first \
+    let wanted = "client 1 is used, and 1 of 2 clients are connected: first \
                   call connect() 2 times, then use each stream in its own thread";
     assert_eq!(Client::new(races.connect().unwrap()).unwrap_err().to_string(), wanted);
     let mut other = races.connect().unwrap();
@@ -191,7 +191,7 @@ fn two_clients_in_one_thread() {
     // The first number of this seed is odd, so client 2 has its reply, and the race waits for it.
     let begin = Instant::now();
     let refused = streams[0].read(&mut [0]).unwrap_err();
-    let wanted = "the argument is wrong: client 1 waits for client 2, which the same thread uses: \
+    let wanted = "client 1 waits for client 2, which the same thread uses: \
                   use each stream in its own thread";
     assert_eq!(refused.to_string(), wanted);
     assert!(begin.elapsed() < Duration::from_secs(25));
@@ -224,8 +224,8 @@ fn a_rule_that_panics() {
 fn a_race_with_a_rule() {
     let races = Races::new(3, 2).unwrap();
     let rule = races.refuse(Rule::default().kind(Kind::Write).path("/out/*")).unwrap();
-    let (told, seen) = mpsc::channel();
-    let note = move |_: &mut Engine, call: &lucernetick::Call| told.send(call.number).unwrap();
+    let (notes, seen) = mpsc::channel();
+    let note = move |_: &mut Engine, call: &lucernetick::Call| notes.send(call.number).unwrap();
     races.with_engine(|engine| engine.on_call(OnCall::default().after(note)));
     let (outcomes, _, tree) = race(&races);
     assert_eq!(rule.refused(), 1);
