@@ -175,8 +175,8 @@ class Refuses:
         )
 
     def disk_full(self, after: int = 0) -> Rule:
-        """Simulates a full disk: WRITEs of `after` bytes in total succeed, and all later ones fail
-        until the rule ends."""
+        """Simulates a disk with room for `after` more bytes: a WRITE that doesn't fit fails until the
+        rule ends, and takes no room."""
         return self.refuse(kind=Kind.WRITE, after_bytes=after, times=None)
 
     def read_only(self, path: Optional[arguments.Path] = None) -> Rule:
