@@ -77,24 +77,24 @@ class Server:
         connection.connect(self.path)
         return connection
 
-    def end(self, seconds=SECONDS):
-        """The server has ended well, and its file is gone. Gives its count of calls."""
+    def end(self, seconds=SECONDS, reported=()):
+        """The server has ended well, and its file is gone. Returns its count of calls. `reported` has
+        the lines that it may have written to standard error."""
         printed, told = self.process.communicate(timeout=seconds)
-        same((self.process.returncode, told), (0, ""))
+        same((self.process.returncode, {*told.splitlines()} - {*reported}), (0, set()))
         found = re.fullmatch(rf"sessions {self.sessions} calls ([0-9]+)\naudit ok\n", printed)
         if not found:
             raise AssertionError(f"the server printed {printed!r}")
         same(os.path.exists(self.path), False)
         return int(found[1])
 
-    def end_after_the_rest(self):
-        """As `end`, where clients chose how many sessions to open: the rest of them ask for
-        nothing."""
+    def end_after_the_rest(self, *reported):
+        """As `end`, if clients chose how many sessions to open: the others send nothing."""
         while self.process.poll() is None:
             with contextlib.suppress(OSError):
                 self.connect().close()
             time.sleep(0.01)
-        return self.end()
+        return self.end(reported=reported)
 
 
 def bridge(room, path):
