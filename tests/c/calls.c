@@ -807,6 +807,26 @@ static void rules(void)
     lt_free(engine);
 }
 
+/* STAT of / under the id 9. */
+static const uint8_t STAT_ROOT[] = {0, 0, 0, 10, 17, 0, 0, 0, 9, 0, 0, 0, 1, '/'};
+
+/* A rule of an empty path is for the root, and for no other path. */
+static void rule_of_the_root(void)
+{
+    lt_engine *engine = lt_new();
+    uint64_t session = (uint64_t)lt_open(engine);
+    lt_rule rule = rule_of(LT_KIND_STAT, bytes_of(""), 0, 2);
+    same("a rule of an empty path", lt_refuse(engine, &rule), 0);
+    lt_feed(engine, session, INIT, sizeof INIT);
+    lt_feed(engine, session, STAT, sizeof STAT);
+    lt_settle(engine, session, MOMENT, 2, NULL);
+    same("another path", lt_refused(engine, 0), 0);
+    lt_feed(engine, session, STAT_ROOT, sizeof STAT_ROOT);
+    lt_settle(engine, session, MOMENT, 1, NULL);
+    same("the root", lt_refused(engine, 0), 1);
+    lt_free(engine);
+}
+
 static void many_sessions(void)
 {
     lt_engine *engine = lt_new();
@@ -836,6 +856,7 @@ int main(void)
     long_paths();
     large_trees();
     rules();
+    rule_of_the_root();
     many_sessions();
     for (int i = 0; i < MANY_ENGINES; i++)
         one_session();

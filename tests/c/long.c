@@ -1,6 +1,6 @@
 /* Long runs of the library, one by each word:
  *
- *     long keeps|engines|sessions|calls|handles|moments|files|packets|names|depth|idle
+ *     long keeps|engines|sessions|calls|handles|moments|files|packets|names|depth|idle|large
  *
  * What a run is answered is compared with what docs/PROTOCOL.md says. It stops at the first other
  * answer. */
@@ -10,6 +10,8 @@
 #include <stdio.h>
 #include <stdlib.h>
 #include <string.h>
+#include <sys/mman.h>
+#include <sys/resource.h>
 
 enum { MOMENT = 100, DAY = 86400, ROOM = 1 << 20, MOST = 262144 };
 
@@ -357,6 +359,22 @@ static void idle(void)
     lt_free(engine);
 }
 
+/* Contents of more than 4 GiB are not cut: memory runs out for them. */
+static void large(void)
+{
+    const size_t length = ((size_t)1 << 32) + 5;
+    const struct rlimit limit = {(rlim_t)1 << 28, (rlim_t)1 << 28};
+    const lt_bytes path = {(const uint8_t *)"/f", 2};
+    void *zeros = mmap(NULL, length, PROT_READ, MAP_PRIVATE | MAP_ANONYMOUS, -1, 0);
+    same("a map of zeros", length, zeros != MAP_FAILED, 1);
+    same("a limit for what is written", length, setrlimit(RLIMIT_DATA, &limit), 0);
+    engine = lt_new();
+    const lt_bytes contents = {zeros, length};
+    same("a large file", length, lt_write_file(engine, path, contents, MOMENT, NULL),
+         LT_REFUSAL_OUT_OF_MEMORY);
+    lt_free(engine);
+}
+
 int main(int count, char **words)
 {
     static const struct {
@@ -365,7 +383,7 @@ int main(int count, char **words)
     } runs[] = {{"keeps", keeps}, {"engines", engines}, {"sessions", sessions},
                 {"calls", calls}, {"handles", handles}, {"moments", moments},
                 {"files", files}, {"packets", packets}, {"names", names},
-                {"depth", depth}, {"idle", idle}};
+                {"depth", depth}, {"idle", idle}, {"large", large}};
     for (size_t i = 0; count == 2 && i < sizeof runs / sizeof *runs; i++)
         if (strcmp(words[1], runs[i].name) == 0) {
             runs[i].run();
