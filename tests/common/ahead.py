@@ -18,6 +18,8 @@ from packets import (
 
 MIB = 1 << 20
 READS_WRITES_AND_MAKES = 0x01 | 0x02 | 0x08
+# For how many seconds nothing is read after all was sent.
+PAUSE = 2
 CONTENTS = random.Random(3).randbytes(16 * MIB)
 
 
@@ -80,7 +82,7 @@ def sends_reads(session, count):
     session.send(
         b"".join(session.request(READ, handle, u64(0), u32(len(data))) for _ in range(count))
     )
-    time.sleep(1)
+    time.sleep(PAUSE)
     for number in range(first, first + count):
         same(session.packet(), bytes([DATA]) + u32(number) + string(data))
     session.ask(CLOSE, handle)
@@ -98,7 +100,7 @@ def sends_writes(session, count):
             session.request(WRITE, handle, u64(at), string(data[at : at + size])) for at in offsets
         )
     )
-    time.sleep(1)
+    time.sleep(PAUSE)
     for number in range(first, first + count):
         reply = session.packet()
         same((reply[0], reply[1:9]), (STATUS, u32(number) + u32(OK)))

@@ -97,6 +97,13 @@ class Server:
         return self.end(reported=reported)
 
 
+def processor_time(process):
+    """In seconds."""
+    with open(f"/proc/{process.pid}/stat", encoding="ascii") as stat:
+        fields = stat.read().rpartition(")")[2].split()
+    return (int(fields[11]) + int(fields[12])) / os.sysconf("SC_CLK_TCK")
+
+
 def bridge(room, path):
     """A command that clients start in the place of `ssh`. It takes no notice of their words."""
     command = os.path.join(room, "bridge")
