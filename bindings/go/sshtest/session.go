@@ -9,11 +9,13 @@ import (
 	"lucernetick"
 )
 
-// session serves a channel: it waits for a request for the subsystem, then forwards bytes in both
-// directions.
-func (server *Server) session(line net.Conn, channel ssh.Channel, requests <-chan *ssh.Request) {
+// session serves a channel of a user with this root: it waits for a request for the subsystem, then
+// forwards bytes in both directions.
+func (server *Server) session(
+	line net.Conn, channel ssh.Channel, requests <-chan *ssh.Request, root string,
+) {
 	defer channel.Close()
-	conn := server.subsystem(requests)
+	conn := server.subsystem(requests, root)
 	if conn == nil {
 		return
 	}
@@ -65,10 +67,10 @@ func (from reader) Read(room []byte) (int, error) {
 
 // subsystem opens a session of the engine when a request asks for the subsystem sftp. It rejects
 // all other requests. It returns nil if the channel ends without one.
-func (server *Server) subsystem(requests <-chan *ssh.Request) *lucernetick.Conn {
+func (server *Server) subsystem(requests <-chan *ssh.Request, root string) *lucernetick.Conn {
 	for request := range requests {
 		if isSubsystem(request) {
-			if conn := server.connect(); conn != nil {
+			if conn := server.connect(root); conn != nil {
 				request.Reply(true, nil)
 				return conn
 			}
@@ -80,7 +82,7 @@ func (server *Server) subsystem(requests <-chan *ssh.Request) *lucernetick.Conn 
 
 // connect opens a session with its faults. It returns nil if there is none, or the server has
 // stopped.
-func (server *Server) connect() *lucernetick.Conn {
+func (server *Server) connect(root string) *lucernetick.Conn {
 	server.lock.Lock()
 	faultsOf, number := server.faults, server.sessions+1
 	server.sessions = number
@@ -90,7 +92,7 @@ func (server *Server) connect() *lucernetick.Conn {
 		server.report(err)
 		return nil
 	}
-	conn, err := server.engine.ConnectWith(server.Clock, faults)
+	conn, err := server.engine.ConnectAt(root, server.Clock, faults)
 	if err != nil {
 		return nil
 	}

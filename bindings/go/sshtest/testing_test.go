@@ -1,16 +1,22 @@
 package sshtest_test
 
 import (
+	"crypto/ed25519"
+	"crypto/rand"
 	"errors"
 	"fmt"
 	"io"
 	"os"
+	"os/exec"
+	"path"
+	"path/filepath"
 	"runtime"
 	"strings"
 	"testing"
 	"time"
 
 	"github.com/pkg/sftp"
+	"golang.org/x/crypto/ssh"
 	"lucernetick"
 	"lucernetick/sshtest"
 )
@@ -215,5 +221,82 @@ func TestAnUploadOverSSH(t *testing.T) {
 	server.Engine.ReadOnly("")
 	if err := client.Remove("/f"); !errors.Is(err, os.ErrPermission) {
 		t.Fatal(err)
+	}
+}
+
+// Each user has a password and a root. All of them may log in by a further key.
+func TestUsersWithRoots(t *testing.T) {
+	_, private, err := ed25519.GenerateKey(rand.Reader)
+	must(t, err)
+	signer, err := ssh.NewSignerFromKey(private)
+	must(t, err)
+	server := sshtest.NewServerT(t, func(server *sshtest.Server) {
+		server.Users = []sshtest.User{
+			{Name: "ann", Password: "1", Root: "/homes/ann"}, {Name: "root", Password: "2"},
+		}
+		server.PublicKeys = []ssh.PublicKey{signer.PublicKey()}
+	})
+	login := func(user string, auth ssh.AuthMethod) (*ssh.Client, error) {
+		config := server.ClientConfig()
+		config.User, config.Auth = user, []ssh.AuthMethod{auth}
+		return ssh.Dial("tcp", server.Addr, config)
+	}
+	for _, one := range []struct {
+		user string
+		auth ssh.AuthMethod
+		made string
+	}{
+		{"ann", ssh.Password("1"), "/homes/ann/d1"},
+		{"ann", ssh.PublicKeys(signer), "/homes/ann/d2"},
+		{"root", ssh.Password("2"), "/d3"},
+		{"user", ssh.PublicKeys(signer), "/d4"},
+		{"ann", ssh.Password("2"), ""},
+		{"bob", ssh.PublicKeys(signer), ""},
+		{"bob", ssh.Password(""), ""},
+	} {
+		client, err := login(one.user, one.auth)
+		if (err == nil) != (one.made != "") {
+			t.Fatalf("%s: %v", one.user, err)
+		}
+		if err != nil {
+			continue
+		}
+		must(t, open(t, client).Mkdir("/"+path.Base(one.made)))
+		if !server.Engine.Snapshot()[one.made].IsDir() {
+			t.Errorf("%s is missing", one.made)
+		}
+		client.Close()
+	}
+}
+
+// The same host key in each run.
+func TestAFixedHostKey(t *testing.T) {
+	_, private, err := ed25519.GenerateKey(rand.Reader)
+	must(t, err)
+	signer, err := ssh.NewSignerFromKey(private)
+	must(t, err)
+	for round := 0; round < 2; round++ {
+		server := sshtest.NewServerT(t, func(server *sshtest.Server) { server.HostSigner = signer })
+		config := server.ClientConfig()
+		config.HostKeyCallback = ssh.FixedHostKey(signer.PublicKey())
+		client, err := ssh.Dial("tcp", server.Addr, config)
+		must(t, err)
+		must(t, client.Close())
+	}
+}
+
+// OpenSSH's client connects by a configuration, also from a folder with a space.
+func TestOpenSSHByAConfiguration(t *testing.T) {
+	server := sshtest.NewServerT(t)
+	config, err := server.WriteSSHConfig(filepath.Join(t.TempDir(), "a folder"))
+	must(t, err)
+	client := exec.Command("sftp", "-q", "-b", "-", "-F", config, "lucernetick")
+	client.Stdin = strings.NewReader("mkdir /d\n")
+	printed, err := client.CombinedOutput()
+	if err != nil {
+		t.Fatalf("%v: %s", err, printed)
+	}
+	if !server.Engine.Snapshot()["/d"].IsDir() {
+		t.Fatal("no directory was made")
 	}
 }
