@@ -106,16 +106,16 @@ func firstOf(err, other error) error {
 // FromFS makes an engine with a copy of this tree, as WriteFS does. FromFS(os.DirFS(folder),
 // moment) copies a folder of the system.
 func FromFS(tree fs.FS, moment time.Time) (*Engine, error) {
-	return written(func(engine *Engine) error { return engine.WriteFS(tree, moment) })
+	return engineWith(func(engine *Engine) error { return engine.WriteFS(tree, moment) })
 }
 
 // FromFolder makes an engine with a copy of a folder of the system, as WriteFolder does.
 func FromFolder(folder string, options FolderOptions) (*Engine, error) {
-	return written(func(engine *Engine) error { return engine.WriteFolder(folder, options) })
+	return engineWith(func(engine *Engine) error { return engine.WriteFolder(folder, options) })
 }
 
-// written makes an engine with files that a function writes.
-func written(write func(*Engine) error) (*Engine, error) {
+// engineWith makes an engine with files that a function writes.
+func engineWith(write func(*Engine) error) (*Engine, error) {
 	engine, err := New()
 	if err != nil {
 		return nil, err

@@ -70,8 +70,9 @@ var misuses = []struct {
 	}, "count must be from 0 to 9223372036854775807, not -1"},
 	{"many clients", func(*Engine) error { return caught(func() { NewRaces(1, 1000) }) },
 		"clients must be from 1 to 256, not 1000"},
-	{"a text that is no schedule", func(*Engine) error { return caught(func() { ReplayRaces("1 b", 2) }) },
-		`schedule must be as 1x4 2 1x2, and "b" is not`},
+	{"a text that is no schedule", func(*Engine) error {
+		return caught(func() { ReplayRaces("1 b", 2) })
+	}, `schedule must be as 1x4 2 1x2, and "b" is not`},
 	{"two clients of a race in one goroutine", func(*Engine) error {
 		races := NewRaces(1, 2)
 		defer races.Close()

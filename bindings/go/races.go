@@ -78,8 +78,8 @@ func RacesOver(engine *Engine, seed uint64, clients int) *Races {
 		panic(err)
 	}
 	races := &Races{
-		Patience: 30 * time.Second, clients: clients, awaited: clients, engine: engine, isLent: true,
-		name: fmt.Sprintf("seed %d", seed),
+		Patience: 30 * time.Second, clients: clients, awaited: clients, engine: engine,
+		isLent: true, name: fmt.Sprintf("seed %d", seed),
 	}
 	races.draws.state = seed
 	races.Time.Set(time.Unix(1_000_000_000, 0))

@@ -173,7 +173,7 @@ func TestAFolderWithItsAttributes(t *testing.T) {
 	same(t, []uint32{tree["/d"].Mode, tree["/d/f"].Mode}, []uint32{0o41750, 0o104640})
 	same(t, []time.Time{tree["/d"].Mtime, tree["/d/f"].Mtime, tree["/d/f"].Atime},
 		[]time.Time{at(1_700_000_000), at(5), at(6)})
-	same(t, []uint32{tree["/d/f"].UID, tree["/g"].GID}, []uint32{uint32(os.Getuid()), uint32(os.Getgid())})
+	same(t, []int{int(tree["/d/f"].UID), int(tree["/g"].GID)}, []int{os.Getuid(), os.Getgid()})
 	// The time is before 1970.
 	same(t, []interface{}{tree["/g"].Mtime, tree["/g"].File}, []interface{}{at(0), tree["/h"].File})
 

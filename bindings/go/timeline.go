@@ -24,12 +24,12 @@ type raceTurn struct {
 
 // A timeline is the data of the page. Turns are numbered from 1.
 type timeline struct {
-	Title    string   `json:"title"`
-	Clients  int      `json:"clients"`
-	Schedule string   `json:"schedule"`
-	Stray    string   `json:"stray"`
-	Turns    []moved  `json:"turns"`
-	Calls    []*span  `json:"calls"` // in the order in which they took effect
+	Title    string  `json:"title"`
+	Clients  int     `json:"clients"`
+	Schedule string  `json:"schedule"`
+	Stray    string  `json:"stray"`
+	Turns    []moved `json:"turns"`
+	Calls    []*span `json:"calls"` // in the order in which they took effect
 }
 
 // A moved is a turn of the page.
@@ -49,7 +49,7 @@ type span struct {
 	Request int      `json:"request"` // the turn that read the request
 	Point   int      `json:"point"`   // the turn in which the call took effect
 	Reply   int      `json:"reply"`   // the turn that wrote the reply; 0 if none has yet
-	Helper  uint64   `json:"helper"`  // the number of the other client's call that completed it; 0 if none
+	Helper  uint64   `json:"helper"`  // the other client's call that completed it; 0 if none
 }
 
 // Timeline writes the history of the race as a page of HTML, which needs no other file: a row for

@@ -48,7 +48,8 @@ func TestTheTurnsOfATimeline(t *testing.T) {
 	calls := [][]interface{}{}
 	for _, call := range found.Calls {
 		calls = append(calls, []interface{}{
-			call.Client, call.Kind, call.Paths, call.Request, call.Point, call.Reply, call.Helper, call.Failed,
+			call.Client, call.Kind, call.Paths, call.Request, call.Point, call.Reply, call.Helper,
+			call.Failed,
 		})
 	}
 	same(t, calls, [][]interface{}{
@@ -96,7 +97,7 @@ func TestATimelineInABrowser(t *testing.T) {
 		`class="call"`: 2, `class="helps"`: 1, `class="point helped"`: 1, "<tr": 3,
 		"2 clients, 2 calls, ": 1, "stat /a/f": 1, "/&lt;b&gt;": 1,
 	} {
-		if count := strings.Count(string(page), part); count < wanted || part[0] == '<' && count != wanted {
+		if count := strings.Count(string(page), part); count < wanted {
 			t.Errorf("%s is there %d times", part, count)
 		}
 	}

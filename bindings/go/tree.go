@@ -51,7 +51,7 @@ func (status *StatusError) Error() string {
 
 // FromFiles makes an engine with these files, as WriteFiles does.
 func FromFiles(files map[string][]byte, moment time.Time) (*Engine, error) {
-	return written(func(engine *Engine) error { return engine.WriteFiles(files, moment) })
+	return engineWith(func(engine *Engine) error { return engine.WriteFiles(files, moment) })
 }
 
 // WriteFiles makes or replaces these files, in the order of their paths, with the timestamp moment.

@@ -80,7 +80,9 @@ func (server *Server) WriteSSHConfig(folder string) (string, error) {
 		"",
 	}
 	for path, data := range map[string][]byte{
-		key: server.ClientKey(), hosts: []byte(server.KnownHosts()), config: []byte(strings.Join(lines, "\n")),
+		key:    server.ClientKey(),
+		hosts:  []byte(server.KnownHosts()),
+		config: []byte(strings.Join(lines, "\n")),
 	} {
 		if err := os.WriteFile(path, data, 0o600); err != nil {
 			return "", err

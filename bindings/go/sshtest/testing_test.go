@@ -132,27 +132,29 @@ func TestFaultsOutOfRange(t *testing.T) {
 	server.SetFaults(lucernetick.Faults{Chunk: -1})
 }
 
+// What stops a server, and a part of its error.
+var stops = map[string]func(*lucernetick.Engine, *sshtest.Server){
+	"the clock's result must be from 1970": func(_ *lucernetick.Engine, server *sshtest.Server) {
+		server.Clock = func() time.Time { return time.Unix(-1, 0) }
+	},
+	"a panic: no time": func(_ *lucernetick.Engine, server *sshtest.Server) {
+		server.Clock = func() time.Time { panic("no time") }
+	},
+	"a panic: EOF": func(engine *lucernetick.Engine, _ *sshtest.Server) {
+		engine.OnCall(nil, func(lucernetick.Call) { panic(io.EOF) })
+	},
+	"runtime.Goexit, as by t.FailNow": func(engine *lucernetick.Engine, _ *sshtest.Server) {
+		engine.OnCall(func(lucernetick.Request) { runtime.Goexit() }, nil)
+	},
+	"a panic: no faults": func(_ *lucernetick.Engine, server *sshtest.Server) {
+		server.SetFaultsOf(func(uint64) lucernetick.Faults { panic("no faults") })
+	},
+}
+
 // A clock or a callback that fails stops the server: the connections of all clients end, and the
 // test gets the error.
 func TestAServerStops(t *testing.T) {
-	early := func() time.Time { return time.Unix(-1, 0) }
-	for says, prepare := range map[string]func(*lucernetick.Engine, *sshtest.Server){
-		"the clock's result must be from 1970": func(_ *lucernetick.Engine, server *sshtest.Server) {
-			server.Clock = early
-		},
-		"a panic: no time": func(_ *lucernetick.Engine, server *sshtest.Server) {
-			server.Clock = func() time.Time { panic("no time") }
-		},
-		"a panic: EOF": func(engine *lucernetick.Engine, _ *sshtest.Server) {
-			engine.OnCall(nil, func(lucernetick.Call) { panic(io.EOF) })
-		},
-		"runtime.Goexit, as by t.FailNow": func(engine *lucernetick.Engine, _ *sshtest.Server) {
-			engine.OnCall(func(lucernetick.Request) { runtime.Goexit() }, nil)
-		},
-		"a panic: no faults": func(_ *lucernetick.Engine, server *sshtest.Server) {
-			server.SetFaultsOf(func(uint64) lucernetick.Faults { panic("no faults") })
-		},
-	} {
+	for says, prepare := range stops {
 		engine, err := lucernetick.New()
 		must(t, err)
 		defer engine.Close()
@@ -224,6 +226,13 @@ func TestAnUploadOverSSH(t *testing.T) {
 	}
 }
 
+// A login is of a user, who then makes a directory at this path; "" if it is rejected.
+type login struct {
+	user string
+	auth ssh.AuthMethod
+	made string
+}
+
 // Each user has a password and a root. All of them may log in by a further key.
 func TestUsersWithRoots(t *testing.T) {
 	_, private, err := ed25519.GenerateKey(rand.Reader)
@@ -236,16 +245,7 @@ func TestUsersWithRoots(t *testing.T) {
 		}
 		server.PublicKeys = []ssh.PublicKey{signer.PublicKey()}
 	})
-	login := func(user string, auth ssh.AuthMethod) (*ssh.Client, error) {
-		config := server.ClientConfig()
-		config.User, config.Auth = user, []ssh.AuthMethod{auth}
-		return ssh.Dial("tcp", server.Addr, config)
-	}
-	for _, one := range []struct {
-		user string
-		auth ssh.AuthMethod
-		made string
-	}{
+	for _, one := range []login{
 		{"ann", ssh.Password("1"), "/homes/ann/d1"},
 		{"ann", ssh.PublicKeys(signer), "/homes/ann/d2"},
 		{"root", ssh.Password("2"), "/d3"},
@@ -254,7 +254,9 @@ func TestUsersWithRoots(t *testing.T) {
 		{"bob", ssh.PublicKeys(signer), ""},
 		{"bob", ssh.Password(""), ""},
 	} {
-		client, err := login(one.user, one.auth)
+		config := server.ClientConfig()
+		config.User, config.Auth = one.user, []ssh.AuthMethod{one.auth}
+		client, err := ssh.Dial("tcp", server.Addr, config)
 		if (err == nil) != (one.made != "") {
 			t.Fatalf("%s: %v", one.user, err)
 		}

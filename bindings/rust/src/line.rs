@@ -58,8 +58,8 @@ impl Line {
         }
     }
 
-    /// The next bytes; none at the end of the input, or if it is cut. After a cut by bytes that were
-    /// sent, only those that were received before it. Meanwhile late replies are sent.
+    /// The next bytes; none at the end of the input, or if it is cut. After a cut by bytes that
+    /// were sent, only those received before it. Meanwhile late replies are sent.
     pub(crate) fn read(&mut self, room: &mut [u8]) -> io::Result<usize> {
         let most = self.to_come.min(room.len() as u64) as usize;
         if self.to_come == 0 || self.to_go == 0 && self.ahead.is_empty() {
@@ -77,8 +77,8 @@ impl Line {
         Ok(count)
     }
 
-    /// Sends the bytes, or buffers them if they are late. Those after a cut are discarded, and those
-    /// for a client that has closed its connection.
+    /// Sends the bytes, or buffers them if they are late. Those after a cut are discarded, and
+    /// those for a client that has closed its connection.
     pub(crate) fn write_all(&mut self, bytes: &[u8]) {
         let most = self.to_go.min(bytes.len() as u64) as usize;
         self.to_go -= most as u64;

@@ -141,8 +141,8 @@ impl Races {
     }
 
     /// Writes the history of the race as a page of HTML, which needs no other file: a row for each
-    /// client, its calls as bars from request to reply, their linearization points, and arrows from a
-    /// call to those that it completed for other clients.
+    /// client, its calls as bars from request to reply, their linearization points, and arrows from
+    /// a call to those that it completed for other clients.
     pub fn timeline(&self, path: impl AsRef<Path>) -> io::Result<()> {
         let mut state = self.shared.state.lock();
         state.check()?;

@@ -105,9 +105,10 @@ impl Served {
         Ok(false)
     }
 
-    /// Runs turns until a reply is written, no complete packet is buffered, or the session has ended.
-    /// If another session's call blocks this one, it waits for progress. Calls are completed before
-    /// their replies are sent, so a slow client delays no others. None if the server has ended.
+    /// Runs turns until a reply is written, no complete packet is buffered, or the session has
+    /// ended. If another session's call blocks this one, it waits for progress. Calls are completed
+    /// before their replies are sent, so a slow client delays no others. None if the server has
+    /// ended.
     fn reply(&self) -> Result<Option<(Turn, Vec<u8>)>, Error> {
         let mut state = self.shared.state.lock();
         while !state.left {

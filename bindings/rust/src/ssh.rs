@@ -26,8 +26,8 @@ const HOST: &str = "127.0.0.1";
 /// openssh-server and openssh-client. The script is the file `SFTPD_OVER_SSH`, or that of the
 /// release archive or the repository, or in PATH.
 ///
-/// It has one user, this process's, and one key. For several users with a root directory each, start
-/// several of them in front of one `Server`. `sshd` without root knows no passwords.
+/// It has one user, this process's, and one key. For several users with a root directory each,
+/// start several of them in front of one `Server`. `sshd` without root knows no passwords.
 ///
 /// Dropping it ends its connections.
 ///
@@ -200,18 +200,20 @@ impl Drop for Folder {
 
 /// Copies the host's key to where the script looks for it, with the public key beside it.
 fn copy_key(from: &Path, keys: &Path) -> io::Result<()> {
-    fs::create_dir(keys)?;
+    DirBuilder::new().mode(0o700).create(keys)?;
     let to = keys.join("host_key");
+    let create =
+        |path: &Path| OpenOptions::new().write(true).create_new(true).mode(0o600).open(path);
     let key = fs::read(from).map_err(|fault| {
         io::Error::new(fault.kind(), format!("host_key: {}: {}", from.display(), fault))
     })?;
-    OpenOptions::new().write(true).create_new(true).mode(0o600).open(&to)?.write_all(&key)?;
+    create(&to)?.write_all(&key)?;
     let public = Command::new("ssh-keygen").args(["-y", "-P", "", "-f"]).arg(&to).output()?;
     if !public.status.success() {
         let why = String::from_utf8_lossy(&public.stderr).trim_end().to_string();
         return Err(io::Error::new(ErrorKind::InvalidInput, format!("host_key: {}", why)));
     }
-    fs::write(keys.join("host_key.pub"), public.stdout)
+    create(&keys.join("host_key.pub"))?.write_all(&public.stdout)
 }
 
 /// The running script. When this is dropped, the script ends its connections.

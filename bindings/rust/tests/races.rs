@@ -328,13 +328,19 @@ fn the_turns_of_a_timeline() {
     streams[1].write_all(LOOKS).unwrap();
     drop(streams);
     let found = timeline(&races, "turns");
-    for part in [
+    let call = |kind: &str, turns: &str| {
+        let head = format!("\"kind\":\"{}\",\"paths\":[\"/a\"],\"failed\":false,", kind);
+        format!("{}{},\"helper\":0}}", head, turns)
+    };
+    let [head, blocked] = [
         "\"title\":\"Race by a schedule\",\"clients\":2,\"schedule\":\"1 2x2 1x2 2 1 2x3 1\"",
         "{\"client\":2,\"did\":\"BLOCKED\"}",
-        "\"kind\":\"mkdir\",\"paths\":[\"/a\"],\"failed\":false,\"request\":4,\"point\":7,\"reply\":11,\"helper\":0}",
-        "\"kind\":\"stat\",\"paths\":[\"/a\"],\"failed\":false,\"request\":3,\"point\":9,\"reply\":10,\"helper\":0}",
-    ] {
-        assert_eq!(found.matches(part).count(), 1, "{}", part);
+    ]
+    .map(String::from);
+    let made = call("mkdir", "\"request\":4,\"point\":7,\"reply\":11");
+    let looked = call("stat", "\"request\":3,\"point\":9,\"reply\":10");
+    for part in [head, blocked, made, looked] {
+        assert_eq!(found.matches(&part).count(), 1, "{}", part);
     }
 }
 
