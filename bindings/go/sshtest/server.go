@@ -44,6 +44,9 @@ type Server struct {
 	// may change them, and the next fields, before the server starts.
 	Users      []User
 	PublicKeys []ssh.PublicKey
+	// Races are those whose clients connect by SSH: the users, in their order. Each user opens one
+	// session, without faults. Make the server with the engine of the races.
+	Races *lucernetick.Races
 	// HostSigner has the server's private key, a new one for each server. ssh.ParsePrivateKey reads
 	// one from a file.
 	HostSigner ssh.Signer
@@ -56,8 +59,9 @@ type Server struct {
 	client ed25519.PrivateKey
 
 	lock     sync.Mutex
-	lines    map[net.Conn]bool          // the open connections
-	conns    map[*lucernetick.Conn]bool // those of the sessions
+	lines    map[net.Conn]bool // the open connections
+	conns    map[conn]bool     // those of the sessions
+	racers   map[string]conn   // of the users who have no session yet
 	sessions uint64
 	faults   func(session uint64) lucernetick.Faults
 	fault    error // why the server stopped
@@ -97,7 +101,8 @@ func NewUnstartedServer(engine *lucernetick.Engine) *Server {
 		engine:     engine,
 		client:     newKey(),
 		lines:      map[net.Conn]bool{},
-		conns:      map[*lucernetick.Conn]bool{},
+		conns:      map[conn]bool{},
+		racers:     map[string]conn{},
 		faults:     func(uint64) lucernetick.Faults { return lucernetick.Faults{} },
 	}
 	server.Config = &ssh.ServerConfig{
@@ -107,7 +112,7 @@ func NewUnstartedServer(engine *lucernetick.Engine) *Server {
 	return server
 }
 
-// Start starts the server. It panics if a root cannot be made.
+// Start starts the server. It panics if a root cannot be made, or Races have other clients.
 func (server *Server) Start() {
 	if server.Addr != "" {
 		panic("sshtest: the server was started before")
@@ -117,6 +122,9 @@ func (server *Server) Start() {
 		if err := server.makeRoot(user.Root); err != nil {
 			panic(err)
 		}
+	}
+	if err := server.connectRaces(); err != nil {
+		panic(err)
 	}
 	server.Addr = server.Listener.Addr().String()
 	server.serving.Add(1)
@@ -194,7 +202,7 @@ func (server *Server) stop(why error) {
 	for line := range server.lines {
 		line.Close()
 	}
-	var conns []*lucernetick.Conn
+	var conns []conn
 	for conn := range server.conns {
 		conns = append(conns, conn)
 	}
@@ -245,9 +253,14 @@ func check(isGood bool) error {
 	return nil
 }
 
+// users returns all users.
+func (server *Server) users() []User {
+	return append([]User{{server.User, server.Password, ""}}, server.Users...)
+}
+
 // find returns the user of this name, or nil.
 func (server *Server) find(name string) *User {
-	for _, user := range append([]User{{server.User, server.Password, ""}}, server.Users...) {
+	for _, user := range server.users() {
 		if user.Name == name {
 			user := user
 			return &user
@@ -334,7 +347,7 @@ func (server *Server) serve(line net.Conn) {
 		sessions.Add(1)
 		go func() {
 			defer sessions.Done()
-			server.run(func() { server.session(line, channel, requests, server.rootOf(client.User())) })
+			server.run(func() { server.session(line, channel, requests, client.User()) })
 		}()
 	}
 	sessions.Wait()

@@ -12,6 +12,7 @@ import (
 	"path/filepath"
 	"runtime"
 	"strings"
+	"sync"
 	"testing"
 	"time"
 
@@ -300,5 +301,63 @@ func TestOpenSSHByAConfiguration(t *testing.T) {
 	}
 	if !server.Engine.Snapshot()["/d"].IsDir() {
 		t.Fatal("no directory was made")
+	}
+}
+
+// left is what two clients leave that race over SSH, by a seed.
+func left(t *testing.T, seed uint64) string {
+	t.Helper()
+	races := lucernetick.NewRaces(seed, 2)
+	defer races.Close()
+	server := sshtest.NewUnstartedServer(races.Engine())
+	server.Races = races
+	server.Users = []sshtest.User{{Name: "bob", Password: "2"}}
+	server.Start()
+	defer server.Close()
+	var both sync.WaitGroup
+	for _, user := range []string{server.User, "bob"} {
+		config := server.ClientConfig()
+		config.User = user
+		both.Add(1)
+		go func() {
+			defer both.Done()
+			client, err := ssh.Dial("tcp", server.Addr, config)
+			if err != nil {
+				t.Error(err)
+				return
+			}
+			defer client.Close()
+			session, err := sftp.NewClient(client)
+			if err != nil {
+				t.Error(err)
+				return
+			}
+			defer session.Close()
+			session.Mkdir("/d")
+			session.Rename("/d", "/by-"+config.User)
+		}()
+	}
+	both.Wait()
+	tree, err := races.Engine().Snapshot()
+	must(t, err)
+	if races.Stray() != "" || server.Err() != nil {
+		t.Fatal(races.Stray(), server.Err())
+	}
+	return fmt.Sprintf("%s: %v", races.Schedule(), len(tree))
+}
+
+// Clients that make their own connections race as a seed says. The second session of a user is
+// rejected.
+func TestARaceOverSSH(t *testing.T) {
+	found := map[string]bool{}
+	for seed := uint64(0); seed < 10; seed++ {
+		first := left(t, seed)
+		if again := left(t, seed); again != first {
+			t.Errorf("seed %d: %s, then %s", seed, first, again)
+		}
+		found[first] = true
+	}
+	if len(found) < 5 {
+		t.Errorf("found only %v", found)
 	}
 }
