@@ -2,6 +2,7 @@ package sshtest
 
 import (
 	"errors"
+	"fmt"
 	"io"
 	"net"
 	"time"
@@ -30,6 +31,9 @@ func (server *Server) connectRaces() error {
 		return nil
 	}
 	for _, user := range server.users() {
+		if user.Root != "" {
+			return fmt.Errorf("sshtest: %s has a Root, and users of races have none", user.Name)
+		}
 		one, err := server.Races.Connect()
 		if err != nil {
 			return err
