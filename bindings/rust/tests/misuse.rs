@@ -38,13 +38,6 @@ fn dropped() -> String {
     engine.calls().unwrap_err().to_string()
 }
 
-fn closed() -> String {
-    let server = Server::new(Engine::new().unwrap(), || at(0));
-    let mut client = Client::new(server.connect().unwrap()).unwrap();
-    server.close().unwrap();
-    client.make_directory("/a").unwrap_err().to_string()
-}
-
 fn sent() -> String {
     let mut engine = Engine::new().unwrap();
     let session = engine.open().unwrap();
@@ -88,7 +81,6 @@ fn misuse() {
             "flags needs Kind::Open, or no kind",
         ),
         (dropped, "3 calls were dropped"),
-        (closed, ""),
     ];
     for (number, (does, says)) in rows.into_iter().enumerate() {
         let begin = Instant::now();
