@@ -378,3 +378,22 @@ fn clients_with_roots() {
     assert!(bob.write("/n", "1").is_err() && ann.write("/n", "1").is_ok());
     assert_eq!(rule.refused(), 1);
 }
+
+/// The output of a test that panics has the last calls.
+#[test]
+fn a_test_that_panics() {
+    let words = ["--exact", "it_panics", "--ignored", "--nocapture"];
+    let run = process::Command::new(std::env::current_exe().unwrap()).args(words).output();
+    let text = String::from_utf8_lossy(&run.unwrap().stderr).into_owned();
+    let line = "\n  session 1 call 1 at 7: mkdir \"/a\" -> Success";
+    assert!(text.contains("a failed assertion") && text.contains(line), "{}", text);
+}
+
+/// Run by `a_test_that_panics` in another process.
+#[test]
+#[ignore]
+fn it_panics() {
+    let server = Server::new(Engine::new().unwrap(), || at(7));
+    Client::new(server.connect().unwrap()).unwrap().make_directory("/a").unwrap();
+    panic!("a failed assertion");
+}
