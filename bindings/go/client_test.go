@@ -270,3 +270,39 @@ func TestAFileBelowAFile(t *testing.T) {
 	same(t, errors.As(err, &status), true)
 	same(t, []interface{}{status.Code, status.Message}, []interface{}{uint32(4), "Failure"})
 }
+
+// Clients with a root each, which they can neither leave nor remove.
+func TestClientsWithRoots(t *testing.T) {
+	engine := NewT(t)
+	engine.WriteFiles(map[string][]byte{"/ann/f": []byte("1"), "/bob/g": []byte("2")}, at(0))
+	at := func(root string) *sftp.Client {
+		conn, err := engine.ConnectAt(root, time.Now, Faults{})
+		must(t, err)
+		client, err := sftp.NewClientPipe(conn, conn)
+		must(t, err)
+		t.Cleanup(func() { client.Close() })
+		return client
+	}
+	ann, bob := at("/ann"), at("/bob/")
+	found, err := ann.ReadDir("/")
+	must(t, err)
+	same(t, []interface{}{len(found), found[0].Name()}, []interface{}{1, "f"})
+	_, err = ann.Stat("/../bob/g")
+	same(t, errors.Is(err, os.ErrNotExist), true)
+	where, err := ann.RealPath(".")
+	must(t, err)
+	same(t, where, "/")
+	must(t, ann.Rename("/f", "h"))
+	must(t, ann.PosixRename("h", "/d/../i"))
+	must(t, bob.Remove("/g"))
+	same(t, bob.RemoveDirectory("/") != nil && ann.Rename("/", "/x") != nil, true)
+	tree := engine.Snapshot()
+	_, there := tree["/ann/i"]
+	same(t, []interface{}{len(tree), there}, []interface{}{4, true})
+	rule := engine.Refuse(Rule{Path: "/bob/n"})
+	write(t, ann, "/n", []byte("1"))
+	_, err = bob.Create("/n")
+	same(t, err != nil && rule.Refused() == 1, true)
+	_, err = engine.OpenAt("")
+	same(t, errors.Is(err, ErrBadPath), true)
+}

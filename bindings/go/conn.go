@@ -12,6 +12,8 @@ const most = 64
 
 // A Conn is a client's connection to a session: write requests to it, and read replies from it. One
 // goroutine may read while another one writes.
+//
+// However it ends, a request takes effect if it was received completely before that.
 type Conn struct {
 	session *Session
 	clock   Clock
@@ -30,13 +32,18 @@ func (engine *Engine) Connect(clock Clock) (*Conn, error) {
 
 // ConnectWith is like Connect, for a connection with faults.
 func (engine *Engine) ConnectWith(clock Clock, faults Faults) (*Conn, error) {
+	return engine.ConnectAt("/", clock, faults)
+}
+
+// ConnectAt is like ConnectWith, for a client that sees the directory root of the tree as "/".
+func (engine *Engine) ConnectAt(root string, clock Clock, faults Faults) (*Conn, error) {
 	if err := faults.Check(); err != nil {
 		return nil, err
 	}
 	if clock == nil {
 		clock = time.Now
 	}
-	session, err := engine.Open()
+	session, err := engine.OpenAt(root)
 	if err != nil {
 		return nil, err
 	}
@@ -58,7 +65,7 @@ func (conn *Conn) Write(data []byte) (int, error) {
 	engine := conn.session.engine
 	engine.lock.Lock()
 	defer engine.lock.Unlock()
-	if conn.closed || conn.ended {
+	if conn.closed || conn.ended || conn.line.isCut {
 		return 0, io.ErrClosedPipe
 	}
 	arrived := data
@@ -110,7 +117,7 @@ func (conn *Conn) Read(room []byte) (int, error) {
 	}
 }
 
-// Close ends the session. If its call is blocked by another session, a later Read completes it.
+// Close ends the session. If another session blocks its requests, a later Read completes them.
 func (conn *Conn) Close() error {
 	engine := conn.session.engine
 	engine.lock.Lock()
@@ -118,19 +125,15 @@ func (conn *Conn) Close() error {
 	return conn.close()
 }
 
-// Drop ends the session as Close does, but does not deliver late replies. If its call is blocked by
-// another session, a later Read completes it.
+// Drop ends the session as Close does, but does not deliver late replies.
 func (conn *Conn) Drop() error {
 	engine := conn.session.engine
 	engine.lock.Lock()
 	defer engine.lock.Unlock()
 	conn.line.drop()
-	if conn.closed {
-		engine.moved.Broadcast()
-		return nil
-	}
 	conn.closed = true
-	return conn.session.close()
+	engine.moved.Broadcast()
+	return conn.leave()
 }
 
 // The methods below are called with the engine's lock held.
@@ -140,10 +143,20 @@ func (conn *Conn) close() error {
 		return nil
 	}
 	conn.closed = true
-	if err := conn.session.close(); err != nil {
-		return err
+	return firstOf(conn.leave(), conn.turns())
+}
+
+// leave ends the session, unless requests that were received wait for another session.
+func (conn *Conn) leave() error {
+	in := conn.session.engine.inputs[conn.session.Number()]
+	if in != nil && in.packet() != nil {
+		return nil
 	}
-	return conn.turns()
+	conn.closed = true
+	if in == nil {
+		return nil
+	}
+	return conn.session.close()
 }
 
 func (conn *Conn) take(room []byte) (int, error) {
@@ -176,14 +189,13 @@ func (conn *Conn) turns() error {
 			break
 		}
 	}
-	// Complete requests have taken effect.
-	if conn.line.isCut && !conn.closed {
-		return conn.close()
+	if conn.closed || conn.line.isCut {
+		return conn.leave()
 	}
 	return nil
 }
 
-// send moves output to a line with faults. It closes the session as soon as the line is cut.
+// send moves output to a line with faults, which discards what follows a cut.
 func (conn *Conn) send() error {
 	for conn.line.isFaulty() {
 		output, err := conn.session.output()
@@ -193,16 +205,7 @@ func (conn *Conn) send() error {
 		if err := conn.session.sent(len(output)); err != nil {
 			return err
 		}
-		if conn.line.isOutputCut() {
-			continue
-		}
 		conn.line.send(output)
-		if conn.line.isOutputCut() && !conn.closed {
-			conn.closed = true
-			if err := conn.session.close(); err != nil {
-				return err
-			}
-		}
 	}
 	return nil
 }

@@ -43,7 +43,13 @@ const (
 )
 
 // Error is the library's text.
-func (refusal Refusal) Error() string { return "lucernetick: " + message(C.int64_t(refusal)) }
+func (refusal Refusal) Error() string {
+	if refusal == ErrBadPointer {
+		// The library has other reasons too, but this package passes valid pointers.
+		return "lucernetick: the engine was closed"
+	}
+	return "lucernetick: " + message(C.int64_t(refusal))
+}
 
 // The errors of arguments that are not valid. Wrapping errors say which, and why.
 var (
@@ -150,10 +156,16 @@ func (engine *Engine) Close() error {
 }
 
 // Open opens a session. At most 256 are open at a time.
-func (engine *Engine) Open() (*Session, error) {
+func (engine *Engine) Open() (*Session, error) { return engine.OpenAt("/") }
+
+// OpenAt is like Open, for a client that sees the directory root of the tree as "/".
+func (engine *Engine) OpenAt(root string) (*Session, error) {
+	if err := checkPath(root); err != nil {
+		return nil, err
+	}
 	engine.lock.Lock()
 	defer engine.lock.Unlock()
-	return engine.open()
+	return engine.open(namesOf(root))
 }
 
 // RunAll runs rounds until no call is in progress. In a round every session with a call in progress
@@ -237,6 +249,23 @@ func (session *Session) Output() ([]byte, error) {
 	return session.output()
 }
 
+// Take returns and discards all pending output.
+func (session *Session) Take() ([]byte, error) {
+	session.engine.lock.Lock()
+	defer session.engine.lock.Unlock()
+	var taken []byte
+	for {
+		output, err := session.output()
+		if err != nil || len(output) == 0 {
+			return taken, err
+		}
+		if err := session.sent(len(output)); err != nil {
+			return taken, err
+		}
+		taken = append(taken, output...)
+	}
+}
+
 // Sent discards the first count bytes of the pending output, which were sent.
 func (session *Session) Sent(count int) error {
 	session.engine.lock.Lock()
@@ -255,12 +284,12 @@ func (session *Session) Close() error {
 
 // The methods below are called with the engine's lock held.
 
-func (engine *Engine) open() (*Session, error) {
+func (engine *Engine) open(root []string) (*Session, error) {
 	number, err := checked(C.lt_open(engine.pointer))
 	if err != nil {
 		return nil, err
 	}
-	engine.inputs[uint64(number)] = &input{}
+	engine.inputs[uint64(number)] = &input{root: root}
 	return &Session{engine, C.uint64_t(number)}, nil
 }
 
@@ -315,6 +344,9 @@ func (session *Session) offer() error {
 		return err
 	}
 	length := len(packet)
+	if in.begun && len(in.root) > 0 {
+		packet = belowRoot(packet, in.root)
+	}
 	if in.begun && (len(engine.rules) > 0 || len(engine.hooks) > 0) {
 		ruled, err := engine.ruled(session.Number(), append([]byte(nil), packet...))
 		if err != nil {

@@ -11,7 +11,7 @@ import (
 // value has none.
 type Faults struct {
 	// CutAfter drops the connection as soon as this many bytes were received from the client, or
-	// sent to it; 0 is never. Requests that are complete by then take effect, and no others.
+	// sent to it; 0 is never. Requests received completely before that take effect, and no others.
 	CutAfter int64
 	// Delay is the latency of each reply. Replies to pipelined requests overlap.
 	Delay time.Duration
@@ -63,11 +63,6 @@ type stream struct {
 
 // isFaulty reports whether replies are taken one by one, and may be late.
 func (line *stream) isFaulty() bool { return line.faults != Faults{} }
-
-// isOutputCut reports whether the client receives no further bytes.
-func (line *stream) isOutputCut() bool {
-	return line.faults.CutAfter > 0 && line.sent == line.faults.CutAfter
-}
 
 // left returns how many of these bytes pass before the connection is cut.
 func (line *stream) left(passed int64, count int) int {

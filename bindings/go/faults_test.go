@@ -49,7 +49,7 @@ func TestTheInputIsCut(t *testing.T) {
 	}
 }
 
-// The client receives this many bytes, and the requests after the reply that is cut have no effect.
+// The client receives this many bytes. All requests take effect: they were received before the cut.
 func TestTheOutputIsCut(t *testing.T) {
 	whole := faulty(t, NewT(t), Faults{}, makesTwo)
 	must(t, whole.Close())
@@ -59,17 +59,34 @@ func TestTheOutputIsCut(t *testing.T) {
 		engine := NewT(t)
 		conn := faulty(t, engine, Faults{CutAfter: int64(cut)}, makesTwo)
 		same(t, received(t, conn), replies[:cut])
-		complete := 0
-		for _, begin := range []int{version, version + status} {
-			if cut > begin {
-				complete++
-			}
-		}
-		same(t, len(engine.Snapshot()), 1+complete)
+		same(t, len(engine.Snapshot()), 3)
 		same(t, conn.IsCut(), true)
+		_, err := conn.Write(mkdir(9, "/c"))
+		same(t, err, io.ErrClosedPipe)
 	}
 	conn := faulty(t, NewT(t), Faults{CutAfter: int64(len(replies)) + 1}, makesTwo)
 	same(t, conn.IsCut(), false)
+}
+
+// Requests that wait for another session take effect after a cut, and after a Close, if somebody
+// reads.
+func TestBlockedRequestsOfAConnectionThatEnds(t *testing.T) {
+	for _, faults := range []Faults{{}, {CutAfter: version + 1}} {
+		engine := NewT(t)
+		stopped := open(t, engine.Engine, makes)
+		for turn := Idle; turn != Moved; {
+			var err error
+			turn, err = stopped.Turn(at(100))
+			must(t, err)
+		}
+		conn := faulty(t, engine, faults, looks[:9]+string(mkdir(7, "/b"))+string(mkdir(8, "/c")))
+		must(t, conn.Close())
+		same(t, len(engine.Snapshot()), 1)
+		_, err := engine.RunAll()
+		must(t, err)
+		received(t, conn)
+		same(t, len(engine.Snapshot()), 4)
+	}
 }
 
 // It is a latency: replies to requests sent ahead arrive together.

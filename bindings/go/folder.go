@@ -16,8 +16,29 @@ import (
 // times, hard links, holes of sparse files, and the nine lowest permission bits. It does not set
 // owners. It replaces nothing: an existing file is fs.ErrExist.
 func (tree Snapshot) Save(folder string) error {
+	var first error
+	tree.saveEach(folder, func(err error) bool {
+		first = err
+		return false
+	})
+	return first
+}
+
+// SaveAll is like Save, but continues after an error. It returns all errors, which name the files.
+func (tree Snapshot) SaveAll(folder string) []error {
+	var failed []error
+	tree.saveEach(folder, func(err error) bool {
+		failed = append(failed, err)
+		return true
+	})
+	return failed
+}
+
+// saveEach writes all entries. It ends at an error for which goOn returns false.
+func (tree Snapshot) saveEach(folder string, goOn func(error) bool) {
 	if err := os.MkdirAll(folder, 0o777); err != nil {
-		return err
+		goOn(err)
+		return
 	}
 	paths := make([]string, 0, len(tree))
 	for at := range tree {
@@ -25,22 +46,28 @@ func (tree Snapshot) Save(folder string) error {
 	}
 	sort.Strings(paths)
 	names := map[int]string{}
+	missing := map[string]bool{}
 	for _, at := range paths {
 		if at == "/" {
 			continue
 		}
 		if err := save(tree[at], filepath.Join(folder, at), names); err != nil {
-			return err
+			missing[at] = true
+			if !goOn(err) {
+				return
+			}
 		}
 	}
-	// Everything exists now. The contents of a directory come before it in this order.
+	// The contents of a directory come before it in this order.
 	for last := len(paths) - 1; last >= 0; last-- {
 		at := paths[last]
-		if err := saveAttributes(tree[at], filepath.Join(folder, at)); err != nil {
-			return err
+		if missing[at] {
+			continue
+		}
+		if err := saveAttributes(tree[at], filepath.Join(folder, at)); err != nil && !goOn(err) {
+			return
 		}
 	}
-	return nil
 }
 
 // save makes a directory, a file, or a hard link, not yet readable by others.
@@ -79,15 +106,36 @@ func firstOf(err, other error) error {
 // FromFS makes an engine with a copy of this tree, as WriteFS does. FromFS(os.DirFS(folder),
 // moment) copies a folder of the system.
 func FromFS(tree fs.FS, moment time.Time) (*Engine, error) {
+	return engineWith(func(engine *Engine) error { return engine.WriteFS(tree, moment) })
+}
+
+// FromFolder makes an engine with a copy of a folder of the system, as WriteFolder does.
+func FromFolder(folder string, options FolderOptions) (*Engine, error) {
+	return engineWith(func(engine *Engine) error { return engine.WriteFolder(folder, options) })
+}
+
+// engineWith makes an engine with files that a function writes.
+func engineWith(write func(*Engine) error) (*Engine, error) {
 	engine, err := New()
 	if err != nil {
 		return nil, err
 	}
-	if err := engine.WriteFS(tree, moment); err != nil {
+	if err := write(engine); err != nil {
 		engine.Close()
 		return nil, err
 	}
 	return engine, nil
+}
+
+// FolderOptions are those of FromFolder and WriteFolder.
+type FolderOptions struct {
+	// Moment is the timestamp of the new files.
+	Moment time.Time
+	// Attributes copies permissions, owners and times, as the option --tree of the programs does.
+	Attributes bool
+	// Skip is called with the path of anything else than a file or a directory, and what it is, as
+	// "a symbolic link". It is skipped; without the function it is an error.
+	Skip func(path, kind string)
 }
 
 // WriteFS makes or replaces all files and directories of a tree, as WriteFiles and Link do. It
@@ -95,7 +143,19 @@ func FromFS(tree fs.FS, moment time.Time) (*Engine, error) {
 // them, as a folder of the system and a Snapshot do. Anything else than files and directories is an
 // error.
 func (engine *Engine) WriteFS(tree fs.FS, moment time.Time) error {
-	found := gathered{files: map[string][]byte{}, names: map[interface{}]string{}}
+	return engine.writeTree(tree, FolderOptions{Moment: moment})
+}
+
+// WriteFolder makes or replaces all files and directories of a folder of the system, as WriteFS
+// does, with these options.
+func (engine *Engine) WriteFolder(folder string, options FolderOptions) error {
+	return engine.writeTree(os.DirFS(folder), options)
+}
+
+func (engine *Engine) writeTree(tree fs.FS, options FolderOptions) error {
+	found := gathered{
+		files: map[string][]byte{}, names: map[interface{}]string{}, skip: options.Skip,
+	}
 	err := fs.WalkDir(tree, ".", func(name string, entry fs.DirEntry, err error) error {
 		if err != nil || name == "." {
 			return err
@@ -105,15 +165,18 @@ func (engine *Engine) WriteFS(tree fs.FS, moment time.Time) error {
 	if err != nil {
 		return err
 	}
-	if err := engine.WriteFiles(found.files, moment); err != nil {
+	if err := engine.WriteFiles(found.files, options.Moment); err != nil {
 		return err
 	}
 	for _, link := range found.links {
-		if err := engine.Link(link[0], link[1], moment); err != nil {
+		if err := engine.Link(link[0], link[1], options.Moment); err != nil {
 			return err
 		}
 	}
-	return nil
+	if !options.Attributes {
+		return nil
+	}
+	return engine.setAttributes(found.infos)
 }
 
 // A gathered has the contents of a tree.
@@ -121,19 +184,32 @@ type gathered struct {
 	files map[string][]byte // nil for directories
 	names map[interface{}]string
 	links [][2]string // of a file's first name and a further one
+	infos []pathInfo
+	skip  func(path, kind string)
+}
+
+// A pathInfo is a file or a directory with its path.
+type pathInfo struct {
+	path string
+	fs.FileInfo
 }
 
 func (found *gathered) add(tree fs.FS, name string, entry fs.DirEntry) error {
-	if entry.IsDir() {
-		found.files[name] = nil
+	if !entry.IsDir() && !entry.Type().IsRegular() {
+		if found.skip == nil {
+			return fmt.Errorf("lucernetick: %s is neither a file nor a directory", name)
+		}
+		found.skip(name, kindOf(entry.Type()))
 		return nil
-	}
-	if !entry.Type().IsRegular() {
-		return fmt.Errorf("lucernetick: %s is neither a file nor a directory", name)
 	}
 	info, err := entry.Info()
 	if err != nil {
 		return err
+	}
+	found.infos = append(found.infos, pathInfo{name, info})
+	if entry.IsDir() {
+		found.files[name] = nil
+		return nil
 	}
 	if file := identityOf(info); file != nil {
 		if first, there := found.names[file]; there {
@@ -159,4 +235,17 @@ func identityOf(info fs.FileInfo) interface{} {
 		return told.File
 	}
 	return nil
+}
+
+// kindOf says what a tree cannot have.
+func kindOf(mode fs.FileMode) string {
+	switch {
+	case mode&fs.ModeSymlink != 0:
+		return "a symbolic link"
+	case mode&fs.ModeNamedPipe != 0:
+		return "a FIFO"
+	case mode&fs.ModeSocket != 0:
+		return "a socket"
+	}
+	return "a device"
 }

@@ -33,7 +33,7 @@ var _ net.Conn = (*racer)(nil)
 func (one *racer) waits() bool { return !one.ended && one.packets.count > 0 }
 
 // turn runs one turn. A client that has closed its connection leaves after its last reply.
-func (one *racer) turn(moment time.Time) {
+func (one *racer) turn(moment time.Time) Turn {
 	turn, err := one.session.Turn(moment)
 	one.fault = err
 	one.ended = err != nil || turn.HasEnded()
@@ -41,6 +41,7 @@ func (one *racer) turn(moment time.Time) {
 		one.packets.count--
 	}
 	one.leave()
+	return turn
 }
 
 // leave ends the session of a client that has closed its connection and waits for no reply.

@@ -36,7 +36,9 @@ type Races struct {
 	Patience time.Duration
 
 	engine *Engine
-	fault  error // why there is no engine, or why the race stopped
+	isLent bool   // the engine is the caller's
+	name   string // the seed or the schedule, as a text
+	fault  error  // why there is no engine, or why the race stopped
 
 	lock     monitor
 	moved    *sync.Cond // signalled after turns, and when the races or a connection close
@@ -46,7 +48,7 @@ type Races struct {
 	clients  int // how many will connect
 	awaited  int // how many must connect before the first turn
 	racers   []*racer
-	schedule []int
+	turns    []raceTurn
 	stray    string
 	timer    *time.Timer
 	since    time.Time // when a client last acted
@@ -59,13 +61,8 @@ const mostSessions = 256
 // NewRaces makes a race of this number of clients on an empty file system. It panics if the number
 // is not from 1 to 256. If memory runs out, Connect returns the error.
 func NewRaces(seed uint64, clients int) *Races {
-	if err := checkRange("clients", int64(clients), 1, mostSessions); err != nil {
-		panic(err)
-	}
-	races := &Races{Patience: 30 * time.Second, clients: clients, awaited: clients}
-	races.draws.state = seed
-	races.Time.Set(time.Unix(1_000_000_000, 0))
-	races.moved = sync.NewCond(&races.lock)
+	races := RacesOver(nil, seed, clients)
+	races.isLent = false
 	races.engine, races.fault = New()
 	if races.fault != nil {
 		// Like a closed engine, it rejects all calls.
@@ -75,17 +72,44 @@ func NewRaces(seed uint64, clients int) *Races {
 	return races
 }
 
+// RacesOver is like NewRaces, on an engine that Close does not close.
+func RacesOver(engine *Engine, seed uint64, clients int) *Races {
+	if err := checkRange("clients", int64(clients), 1, mostSessions); err != nil {
+		panic(err)
+	}
+	races := &Races{
+		Patience: 30 * time.Second, clients: clients, awaited: clients, engine: engine,
+		isLent: true, name: fmt.Sprintf("seed %d", seed),
+	}
+	races.draws.state = seed
+	races.Time.Set(time.Unix(1_000_000_000, 0))
+	races.moved = sync.NewCond(&races.lock)
+	return races
+}
+
 // ReplayRaces replays a schedule that Schedule returned. It panics if the schedule is not one. If
 // the schedule names no waiting client, the first waiting one has the turn, and Stray says so.
 func ReplayRaces(schedule string, clients int) *Races {
+	races := NewRaces(0, clients)
+	races.replay(schedule)
+	return races
+}
+
+// ReplayRacesOver is like ReplayRaces, on an engine that Close does not close.
+func ReplayRacesOver(engine *Engine, schedule string, clients int) *Races {
+	races := RacesOver(engine, 0, clients)
+	races.replay(schedule)
+	return races
+}
+
+func (races *Races) replay(schedule string) {
 	replayed, err := readSchedule(schedule)
 	if err != nil {
 		panic(err)
 	}
-	races := NewRaces(0, clients)
+	races.name = "a schedule"
 	races.replays = true
 	races.replayed = replayed
-	return races
 }
 
 // Engine returns the engine, to write and inspect files before the clients run and after they have
@@ -129,7 +153,24 @@ func (races *Races) Connect() (net.Conn, error) {
 func (races *Races) Schedule() string {
 	races.lock.Lock()
 	defer races.lock.Unlock()
-	return writeSchedule(races.schedule)
+	return writeSchedule(races.clientsOfTurns())
+}
+
+// A RaceTurn is a turn of a race.
+type RaceTurn struct {
+	Client int // 1, 2, 3 and so on
+	Turn   Turn
+}
+
+// Turns returns the turns so far.
+func (races *Races) Turns() []RaceTurn {
+	races.lock.Lock()
+	defer races.lock.Unlock()
+	var turns []RaceTurn
+	for _, one := range races.turns {
+		turns = append(turns, one.RaceTurn)
+	}
+	return turns
 }
 
 // Stray returns why the race is not reproducible: a client was skipped, or the schedule has no turn
@@ -160,10 +201,35 @@ func (races *Races) Close() error {
 		races.timer.Stop()
 	}
 	races.moved.Broadcast()
-	return firstOf(races.engine.Close(), races.stopped())
+	if races.isLent {
+		races.leave()
+	} else {
+		races.engine.Close()
+	}
+	return races.stopped()
 }
 
 // The methods below are called with the lock held.
+
+// leave ends all sessions, and completes their calls.
+func (races *Races) leave() {
+	for _, one := range races.racers {
+		if !one.ended {
+			one.ended = true
+			one.session.Close()
+		}
+	}
+	races.engine.RunAll()
+}
+
+// clientsOfTurns returns the client of each turn.
+func (races *Races) clientsOfTurns() []int {
+	var clients []int
+	for _, turn := range races.turns {
+		clients = append(clients, turn.Client)
+	}
+	return clients
+}
 
 // advance runs turns as long as every client waits for a reply or has disconnected. It is called
 // after each action of a client. If a callback of a turn ends the goroutine, it stops the race.
@@ -187,8 +253,12 @@ func (races *Races) advance() {
 			break
 		}
 		one := races.choose(waiting)
-		races.schedule = append(races.schedule, one.number)
-		races.lock.call(func() { one.turn(races.Time.Now()) })
+		at := len(races.turns)
+		races.turns = append(races.turns, raceTurn{RaceTurn: RaceTurn{Client: one.number}})
+		races.lock.call(func() {
+			races.turns[at].Turn = one.turn(races.Time.Now())
+			races.turns[at].recorded = races.engine.recordedNow()
+		})
 	}
 	isDone = true
 }
@@ -214,7 +284,7 @@ func (races *Races) stopped() error {
 // strays sets why the race is not reproducible.
 func (races *Races) strays(why string) {
 	if races.stray == "" {
-		races.stray = fmt.Sprintf("before turn %d: %s", len(races.schedule)+1, why)
+		races.stray = fmt.Sprintf("before turn %d: %s", len(races.turns)+1, why)
 	}
 }
 

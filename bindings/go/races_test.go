@@ -84,7 +84,7 @@ func racing(t *testing.T, races *Races) []net.Conn {
 func turnsOf(races *Races) []int {
 	races.lock.Lock()
 	defer races.lock.Unlock()
-	return append([]int(nil), races.schedule...)
+	return races.clientsOfTurns()
 }
 
 func TestSchedulesAsText(t *testing.T) {

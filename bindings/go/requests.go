@@ -5,6 +5,7 @@ package lucernetick
 import (
 	"bytes"
 	"encoding/binary"
+	"strings"
 )
 
 // A Request is a request that the server is about to read. Fields that its kind does not have are 0
@@ -33,7 +34,8 @@ const (
 // An input has the bytes that a client sent and the library has not read.
 type input struct {
 	bytes.Buffer
-	begun bool // the library has read a packet
+	begun bool     // the library has read a packet
+	root  []string // the names of the directory that the client sees as "/"
 }
 
 // packet returns the next packet, which stays. It returns nil if the packet is incomplete. A length
@@ -149,7 +151,55 @@ func (engine *Engine) requestOf(session uint64, packet []byte) (Request, bool) {
 // refusedPacket returns a REALPATH with the id of a packet.
 func refusedPacket(packet []byte, path string) []byte {
 	body := append([]byte{byte(KindRealpath)}, packet[lengthBytes+1:headBytes]...)
-	body = binary.BigEndian.AppendUint32(body, uint32(len(path)))
-	body = append(body, path...)
-	return append(binary.BigEndian.AppendUint32(nil, uint32(len(body))), body...)
+	return appendText(nil, appendText(body, []byte(path)))
+}
+
+// belowRoot returns a packet with its paths below this directory. The client can neither remove nor
+// rename the directory itself.
+func belowRoot(packet []byte, root []string) []byte {
+	if len(packet) < headBytes {
+		return packet
+	}
+	rest := fields{rest: packet[headBytes:]}
+	kind := Kind(packet[lengthBytes])
+	body := append([]byte(nil), packet[lengthBytes:headBytes]...)
+	if kind == extended {
+		name := rest.text()
+		kind = extensions[string(name)]
+		body = appendText(body, name)
+	}
+	if !kind.isByPath() || kind == KindRealpath {
+		return packet
+	}
+	paths := [][]string{namesOf(string(rest.text()))}
+	if kind.isByTwoPaths() {
+		paths = append(paths, namesOf(string(rest.text())))
+	}
+	if rest.bad || kind.isOfEntries() && hasRoot(paths) {
+		return packet
+	}
+	for _, path := range paths {
+		names := append(append([]string(nil), root...), path...)
+		body = appendText(body, []byte("/"+strings.Join(names, "/")))
+	}
+	return appendText(nil, append(body, rest.rest...))
+}
+
+// isOfEntries reports whether requests of this kind remove or rename what they name.
+func (kind Kind) isOfEntries() bool {
+	return kind == KindRemove || kind == KindRmdir || kind.isByTwoPaths()
+}
+
+func hasRoot(paths [][]string) bool {
+	for _, path := range paths {
+		if len(path) == 0 {
+			return true
+		}
+	}
+	return false
+}
+
+// appendText appends a string with its length.
+func appendText(data, more []byte) []byte {
+	return append(binary.BigEndian.AppendUint32(data, uint32(len(more))), more...)
 }

@@ -17,14 +17,28 @@ type Snapshot map[string]Entry
 
 var _ fs.FS = Snapshot(nil)
 
+// modeBits are the permissions that Go represents by other bits.
+var modeBits = map[uint32]fs.FileMode{
+	0o4000: fs.ModeSetuid,
+	0o2000: fs.ModeSetgid,
+	0o1000: fs.ModeSticky,
+}
+
+// permissionsOf returns the lowest twelve bits of a mode, as in stat(2).
+func permissionsOf(mode fs.FileMode) uint32 {
+	permissions := uint32(mode.Perm())
+	for bit, flag := range modeBits {
+		if mode&flag != 0 {
+			permissions |= bit
+		}
+	}
+	return permissions
+}
+
 // FileMode returns the type and permissions as Go represents them.
 func (entry Entry) FileMode() fs.FileMode {
 	mode := fs.FileMode(entry.Mode & 0o777)
-	for bit, flag := range map[uint32]fs.FileMode{
-		0o4000: fs.ModeSetuid,
-		0o2000: fs.ModeSetgid,
-		0o1000: fs.ModeSticky,
-	} {
+	for bit, flag := range modeBits {
 		if entry.Mode&bit != 0 {
 			mode |= flag
 		}

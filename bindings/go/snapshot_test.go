@@ -147,3 +147,67 @@ func TestFoldersThatAreRefused(t *testing.T) {
 	_, err = FromFS(os.DirFS(filepath.Join(folder, "none")), at(0))
 	same(t, errors.Is(err, fs.ErrNotExist), true)
 }
+
+// As the option --tree of the programs: permissions, owners and times are copied, and what is
+// neither a file nor a directory is skipped.
+func TestAFolderWithItsAttributes(t *testing.T) {
+	folder := t.TempDir()
+	must(t, os.Mkdir(filepath.Join(folder, "d"), 0o700))
+	for _, name := range []string{"d/f", "g"} {
+		must(t, os.WriteFile(filepath.Join(folder, name), []byte("1"), 0o600))
+	}
+	must(t, os.Link(filepath.Join(folder, "g"), filepath.Join(folder, "h")))
+	must(t, os.Symlink("f", filepath.Join(folder, "d/s")))
+	must(t, os.Chmod(filepath.Join(folder, "d/f"), fs.ModeSetuid|0o640))
+	must(t, os.Chmod(filepath.Join(folder, "d"), fs.ModeSticky|0o750))
+	for name, moment := range map[string]int64{"d/f": 5, "d": 1_700_000_000, "g": -7} {
+		must(t, os.Chtimes(filepath.Join(folder, name), at(moment+1), at(moment)))
+	}
+	var skipped []string
+	skip := func(path, kind string) { skipped = append(skipped, path+" is "+kind) }
+	engine, err := FromFolder(folder, FolderOptions{at(9), true, skip})
+	must(t, err)
+	t.Cleanup(func() { engine.Close() })
+	tree := snapshot(t, engine)
+	same(t, skipped, []string{"d/s is a symbolic link"})
+	same(t, []uint32{tree["/d"].Mode, tree["/d/f"].Mode}, []uint32{0o41750, 0o104640})
+	same(t, []time.Time{tree["/d"].Mtime, tree["/d/f"].Mtime, tree["/d/f"].Atime},
+		[]time.Time{at(1_700_000_000), at(5), at(6)})
+	same(t, []int{int(tree["/d/f"].UID), int(tree["/g"].GID)}, []int{os.Getuid(), os.Getgid()})
+	// The time is before 1970.
+	same(t, []interface{}{tree["/g"].Mtime, tree["/g"].File}, []interface{}{at(0), tree["/h"].File})
+
+	copied, err := FromFS(tree, at(9))
+	must(t, err)
+	t.Cleanup(func() { copied.Close() })
+	same(t, snapshot(t, copied)["/d"].Mode, uint32(0o40755))
+	_, err = FromFolder(folder, FolderOptions{})
+	same(t, err.Error(), "lucernetick: d/s is neither a file nor a directory")
+}
+
+// No rule applies to a folder that is written.
+func TestAFolderThatIsWritten(t *testing.T) {
+	engine := NewT(t)
+	engine.Refuse(Rule{Times: Always})
+	folder := t.TempDir()
+	must(t, os.WriteFile(filepath.Join(folder, "f"), []byte("1"), 0o604))
+	must(t, engine.WriteFolder(folder, FolderOptions{Attributes: true}))
+	same(t, engine.Snapshot()["/f"].Permissions(), uint32(0o604))
+}
+
+func TestATreeThatIsSavedInPart(t *testing.T) {
+	tree := grown(t)
+	folder := t.TempDir()
+	same(t, tree.SaveAll(folder), []error(nil))
+	must(t, os.Remove(filepath.Join(folder, "s")))
+	must(t, os.RemoveAll(filepath.Join(folder, "a/b")))
+	failed := tree.SaveAll(folder)
+	for _, err := range failed {
+		same(t, errors.Is(err, fs.ErrExist), true)
+	}
+	// All but the root, and what was removed: /s, /a/b and /a/b/c, which is /x/c too.
+	same(t, len(failed), len(tree)-4)
+	contents, err := os.ReadFile(filepath.Join(folder, "a/b/c"))
+	must(t, err)
+	same(t, string(contents), "one")
+}

@@ -7,6 +7,9 @@ import (
 	"time"
 )
 
+// shownIfFailed is how many calls the log of a failed test has.
+const shownIfFailed = 100
+
 // An EngineT is an engine of a test. Its methods are those of the Engine without an error: if one
 // fails, the test fails and ends. Use them in the test's goroutine.
 type EngineT struct {
@@ -14,14 +17,23 @@ type EngineT struct {
 	t testing.TB
 }
 
-// NewT makes an engine for a test, which closes it at its end. It retains the records of all calls.
+// NewT makes an engine for a test, which closes it at its end. It retains the records of all calls,
+// and logs the last ones if the test fails.
 func NewT(t testing.TB) *EngineT {
 	t.Helper()
 	engine, err := New()
 	if err != nil {
 		t.Fatal(err)
 	}
-	t.Cleanup(func() { engine.Close() })
+	t.Cleanup(func() {
+		engine.lock.Lock()
+		calls := engine.shown(shownIfFailed)
+		engine.lock.Unlock()
+		if t.Failed() {
+			t.Log("lucernetick" + calls)
+		}
+		engine.Close()
+	})
 	return &EngineT{engine, t}
 }
 

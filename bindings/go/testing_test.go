@@ -4,6 +4,7 @@ import (
 	"errors"
 	"fmt"
 	"runtime"
+	"strings"
 	"testing"
 	"time"
 )
@@ -12,19 +13,22 @@ import (
 type recorder struct {
 	testing.TB
 	said     string
+	logged   string
 	cleanups []func()
 }
 
-func (test *recorder) Helper()               {}
-func (test *recorder) Cleanup(action func()) { test.cleanups = append(test.cleanups, action) }
+func (test *recorder) Helper()                  {}
+func (test *recorder) Cleanup(action func())    { test.cleanups = append(test.cleanups, action) }
+func (test *recorder) Failed() bool             { return test.said != "" }
+func (test *recorder) Log(words ...interface{}) { test.logged += fmt.Sprint(words...) }
 
 func (test *recorder) Fatal(words ...interface{}) {
 	test.said = fmt.Sprint(words...)
 	runtime.Goexit()
 }
 
-// failed returns what a test says that fails.
-func failed(t *testing.T, action func(engine *EngineT)) string {
+// failed returns what a test says that fails, and its log.
+func failed(t *testing.T, action func(engine *EngineT)) (string, string) {
 	t.Helper()
 	test := &recorder{TB: t}
 	done := make(chan bool)
@@ -41,7 +45,7 @@ func failed(t *testing.T, action func(engine *EngineT)) string {
 	same(t, engine.Close(), nil)
 	_, err := engine.Open()
 	same(t, err, ErrBadPointer)
-	return test.said
+	return test.said, test.logged
 }
 
 func TestATestThatFails(t *testing.T) {
@@ -61,6 +65,17 @@ func TestATestThatFails(t *testing.T) {
 			engine.Snapshot()
 		},
 	} {
-		same(t, failed(t, action), says)
+		said, logged := failed(t, action)
+		same(t, said, says)
+		same(t, logged != "", says != "")
 	}
+}
+
+func TestTheLogOfATestThatFails(t *testing.T) {
+	_, logged := failed(t, func(engine *EngineT) {
+		engine.WriteFiles(map[string][]byte{"/a": nil}, at(7))
+		engine.Refuse(Rule{Kind: 1})
+	})
+	begins := strings.HasPrefix(logged, "lucernetick; the last calls:\n  session 1 call 1 at 7: ")
+	same(t, begins && strings.HasSuffix(logged, ` at 7: mkdir "/a" -> Success`), true)
 }

@@ -51,15 +51,7 @@ func (status *StatusError) Error() string {
 
 // FromFiles makes an engine with these files, as WriteFiles does.
 func FromFiles(files map[string][]byte, moment time.Time) (*Engine, error) {
-	engine, err := New()
-	if err != nil {
-		return nil, err
-	}
-	if err := engine.WriteFiles(files, moment); err != nil {
-		engine.Close()
-		return nil, err
-	}
-	return engine, nil
+	return engineWith(func(engine *Engine) error { return engine.WriteFiles(files, moment) })
 }
 
 // WriteFiles makes or replaces these files, in the order of their paths, with the timestamp moment.
@@ -71,9 +63,12 @@ func (engine *Engine) WriteFiles(files map[string][]byte, moment time.Time) erro
 		return err
 	}
 	paths := make([]string, 0, len(files))
-	for path := range files {
+	for path, contents := range files {
 		if err := checkPath(path); err != nil {
 			return err
+		}
+		if contents != nil && len(namesOf(path)) == 0 {
+			return fmt.Errorf("%w: %q is the root, whose contents must be nil", ErrBadPath, path)
 		}
 		paths = append(paths, path)
 	}
@@ -144,6 +139,7 @@ func requestName(kind uint32) string {
 	names := map[uint32]string{
 		C.LT_KIND_INIT:     "INIT",
 		C.LT_KIND_OPEN:     "OPEN",
+		C.LT_KIND_SETSTAT:  "SETSTAT",
 		C.LT_KIND_CLOSE:    "CLOSE",
 		C.LT_KIND_WRITE:    "WRITE",
 		C.LT_KIND_MKDIR:    "MKDIR",

@@ -150,7 +150,7 @@ func (engine *Engine) wait(timeout time.Duration, why string, ready func() (bool
 		}
 		if !time.Now().Before(end) {
 			return fmt.Errorf("lucernetick: %s within %v: %w%s", why, timeout,
-				os.ErrDeadlineExceeded, engine.shown())
+				os.ErrDeadlineExceeded, engine.shown(5))
 		}
 		if engine.lock.isCalling() {
 			return errWaits
@@ -169,9 +169,8 @@ func earlier(one, other time.Time) time.Time {
 	return other
 }
 
-// shown returns the last calls as text.
-func (engine *Engine) shown() string {
-	const most = 5
+// shown returns the last calls as text, this many at most.
+func (engine *Engine) shown(most int) string {
 	calls, err := engine.lastCalls()
 	if err != nil || len(calls) == 0 {
 		return "; no client made a call"

@@ -14,6 +14,7 @@ import (
 	"errors"
 	"fmt"
 	"net"
+	"strings"
 	"sync"
 	"time"
 
@@ -39,24 +40,41 @@ type Server struct {
 	// User may log in, by a key or by a password. Both are random for each server.
 	User     string
 	Password string
-
-	// Config has the authentication callbacks and the host key. A test may change it before the
-	// server starts.
+	// Users are further users, and PublicKeys further keys, by which every user may log in. A test
+	// may change them, and the next fields, before the server starts.
+	Users      []User
+	PublicKeys []ssh.PublicKey
+	// Races are those whose clients connect by SSH: the users, in their order. Each user opens one
+	// session, without faults. Make the server with the engine of the races.
+	Races *lucernetick.Races
+	// HostSigner has the server's private key, a new one for each server. ssh.ParsePrivateKey reads
+	// one from a file.
+	HostSigner ssh.Signer
+	// Config has the authentication callbacks.
 	Config *ssh.ServerConfig
 	// Clock returns the timestamp of each call.
 	Clock lucernetick.Clock
 
-	engine       *lucernetick.Engine
-	host, client ed25519.PrivateKey
+	engine *lucernetick.Engine
+	client ed25519.PrivateKey
 
 	lock     sync.Mutex
-	lines    map[net.Conn]bool          // the open connections
-	conns    map[*lucernetick.Conn]bool // those of the sessions
+	lines    map[net.Conn]bool // the open connections
+	conns    map[conn]bool     // those of the sessions
+	racers   map[string]conn   // of the users who have no session yet
 	sessions uint64
 	faults   func(session uint64) lucernetick.Faults
 	fault    error // why the server stopped
 	closed   bool
 	serving  sync.WaitGroup
+}
+
+// A User may log in by a password, or by a key.
+type User struct {
+	Name, Password string
+	// Root is the directory of the tree that the user sees as "/"; "" is the whole tree. The server
+	// makes it if it is missing.
+	Root string
 }
 
 // NewServer starts a server for the engine, with the system's clock. Close ends it. Like
@@ -75,29 +93,38 @@ func NewUnstartedServer(engine *lucernetick.Engine) *Server {
 		panic(fmt.Sprintf("sshtest: no port can be had: %v", err))
 	}
 	server := &Server{
-		Listener: listener,
-		User:     "user",
-		Password: newPassword(),
-		Clock:    time.Now,
-		engine:   engine,
-		host:     newKey(),
-		client:   newKey(),
-		lines:    map[net.Conn]bool{},
-		conns:    map[*lucernetick.Conn]bool{},
-		faults:   func(uint64) lucernetick.Faults { return lucernetick.Faults{} },
+		Listener:   listener,
+		User:       "user",
+		Password:   newPassword(),
+		HostSigner: signerOf(newKey()),
+		Clock:      time.Now,
+		engine:     engine,
+		client:     newKey(),
+		lines:      map[net.Conn]bool{},
+		conns:      map[conn]bool{},
+		racers:     map[string]conn{},
+		faults:     func(uint64) lucernetick.Faults { return lucernetick.Faults{} },
 	}
 	server.Config = &ssh.ServerConfig{
 		PasswordCallback:  server.checkPassword,
 		PublicKeyCallback: server.checkKey,
 	}
-	server.Config.AddHostKey(signerOf(server.host))
 	return server
 }
 
-// Start starts the server.
+// Start starts the server. It panics if a root cannot be made, or Races have other clients.
 func (server *Server) Start() {
 	if server.Addr != "" {
 		panic("sshtest: the server was started before")
+	}
+	server.Config.AddHostKey(server.HostSigner)
+	for _, user := range server.Users {
+		if err := server.makeRoot(user.Root); err != nil {
+			panic(err)
+		}
+	}
+	if err := server.connectRaces(); err != nil {
+		panic(err)
 	}
 	server.Addr = server.Listener.Addr().String()
 	server.serving.Add(1)
@@ -135,7 +162,7 @@ func (server *Server) ClientConfig() *ssh.ClientConfig {
 }
 
 // HostKey returns the host key of the server.
-func (server *Server) HostKey() ssh.PublicKey { return signerOf(server.host).PublicKey() }
+func (server *Server) HostKey() ssh.PublicKey { return server.HostSigner.PublicKey() }
 
 // KnownHosts returns a line of a known_hosts file with the host key.
 func (server *Server) KnownHosts() string {
@@ -175,7 +202,7 @@ func (server *Server) stop(why error) {
 	for line := range server.lines {
 		line.Close()
 	}
-	var conns []*lucernetick.Conn
+	var conns []conn
 	for conn := range server.conns {
 		conns = append(conns, conn)
 	}
@@ -202,21 +229,59 @@ var errRefused = errors.New("sshtest: who this is may not log in")
 func (server *Server) checkPassword(
 	client ssh.ConnMetadata, shown []byte,
 ) (*ssh.Permissions, error) {
-	return nil, server.check(client, shown, []byte(server.Password))
+	user := server.find(client.User())
+	return nil, check(user != nil && isEqual(shown, []byte(user.Password)))
 }
 
 func (server *Server) checkKey(
 	client ssh.ConnMetadata, shown ssh.PublicKey,
 ) (*ssh.Permissions, error) {
-	wanted := signerOf(server.client).PublicKey()
-	return nil, server.check(client, shown.Marshal(), wanted.Marshal())
+	isKnown := false
+	keys := []ssh.PublicKey{signerOf(server.client).PublicKey()}
+	for _, key := range append(keys, server.PublicKeys...) {
+		isKnown = isKnown || isEqual(shown.Marshal(), key.Marshal())
+	}
+	return nil, check(isKnown && server.find(client.User()) != nil)
 }
 
-func (server *Server) check(client ssh.ConnMetadata, shown, wanted []byte) error {
-	if client.User() != server.User || subtle.ConstantTimeCompare(shown, wanted) != 1 {
+func isEqual(shown, wanted []byte) bool { return subtle.ConstantTimeCompare(shown, wanted) == 1 }
+
+func check(isGood bool) error {
+	if !isGood {
 		return errRefused
 	}
 	return nil
+}
+
+// users returns all users.
+func (server *Server) users() []User {
+	return append([]User{{server.User, server.Password, ""}}, server.Users...)
+}
+
+// find returns the user of this name, or nil.
+func (server *Server) find(name string) *User {
+	for _, user := range server.users() {
+		if user.Name == name {
+			user := user
+			return &user
+		}
+	}
+	return nil
+}
+
+// rootOf returns the directory that a user sees as "/".
+func (server *Server) rootOf(name string) string {
+	if user := server.find(name); user != nil && user.Root != "" {
+		return user.Root
+	}
+	return "/"
+}
+
+func (server *Server) makeRoot(root string) error {
+	if strings.Trim(root, "/") == "" {
+		return nil
+	}
+	return server.engine.WriteFiles(map[string][]byte{root: nil}, server.Clock())
 }
 
 // accept accepts connections until the server is closed.
@@ -262,7 +327,7 @@ func (server *Server) end(line net.Conn) {
 // serve serves a connection to its end.
 func (server *Server) serve(line net.Conn) {
 	line.SetDeadline(time.Now().Add(patience))
-	_, channels, requests, err := ssh.NewServerConn(line, server.Config)
+	client, channels, requests, err := ssh.NewServerConn(line, server.Config)
 	if err != nil {
 		return
 	}
@@ -282,7 +347,7 @@ func (server *Server) serve(line net.Conn) {
 		sessions.Add(1)
 		go func() {
 			defer sessions.Done()
-			server.run(func() { server.session(line, channel, requests) })
+			server.run(func() { server.session(line, channel, requests, client.User()) })
 		}()
 	}
 	sessions.Wait()

@@ -1,6 +1,8 @@
 package sshtest
 
 import (
+	"errors"
+	"fmt"
 	"io"
 	"net"
 	"time"
@@ -9,11 +11,49 @@ import (
 	"lucernetick"
 )
 
-// session serves a channel: it waits for a request for the subsystem, then forwards bytes in both
-// directions.
-func (server *Server) session(line net.Conn, channel ssh.Channel, requests <-chan *ssh.Request) {
+// A conn is a client's connection to a session.
+type conn interface {
+	io.ReadWriteCloser
+	Drop() error
+	IsCut() bool
+}
+
+// A racer is a connection of a race.
+type racer struct{ net.Conn }
+
+func (conn racer) Drop() error { return conn.Close() }
+
+func (conn racer) IsCut() bool { return false }
+
+// connectRaces connects the clients of the races: each user is one of them.
+func (server *Server) connectRaces() error {
+	if server.Races == nil {
+		return nil
+	}
+	for _, user := range server.users() {
+		if user.Root != "" {
+			return fmt.Errorf("sshtest: %s has a Root, and users of races have none", user.Name)
+		}
+		one, err := server.Races.Connect()
+		if err != nil {
+			return err
+		}
+		server.racers[user.Name] = racer{one}
+	}
+	if one, err := server.Races.Connect(); err == nil {
+		one.Close()
+		return errors.New("sshtest: the races have more clients than the server has users")
+	}
+	return nil
+}
+
+// session serves a channel of a user: it waits for a request for the subsystem, then forwards bytes
+// in both directions.
+func (server *Server) session(
+	line net.Conn, channel ssh.Channel, requests <-chan *ssh.Request, user string,
+) {
 	defer channel.Close()
-	conn := server.subsystem(requests)
+	conn := server.subsystem(requests, user)
 	if conn == nil {
 		return
 	}
@@ -34,7 +74,10 @@ func (server *Server) session(line net.Conn, channel ssh.Channel, requests <-cha
 
 // report stops the server if the engine reports an error. Tests may close an engine first.
 func (server *Server) report(err error) {
-	if err != nil && err != io.EOF && err != io.ErrClosedPipe && err != lucernetick.ErrBadPointer {
+	switch {
+	case err == nil, err == io.EOF, err == io.ErrClosedPipe, err == lucernetick.ErrBadPointer,
+		err == net.ErrClosed:
+	default:
 		server.stop(&lucernetick.StoppedError{Cause: err})
 	}
 }
@@ -43,7 +86,7 @@ func (server *Server) report(err error) {
 // since io.Copy does not say which side has failed.
 type writer struct {
 	server *Server
-	conn   *lucernetick.Conn
+	conn   conn
 }
 
 func (to writer) Write(data []byte) (int, error) {
@@ -54,7 +97,7 @@ func (to writer) Write(data []byte) (int, error) {
 
 type reader struct {
 	server *Server
-	conn   *lucernetick.Conn
+	conn   conn
 }
 
 func (from reader) Read(room []byte) (int, error) {
@@ -65,10 +108,10 @@ func (from reader) Read(room []byte) (int, error) {
 
 // subsystem opens a session of the engine when a request asks for the subsystem sftp. It rejects
 // all other requests. It returns nil if the channel ends without one.
-func (server *Server) subsystem(requests <-chan *ssh.Request) *lucernetick.Conn {
+func (server *Server) subsystem(requests <-chan *ssh.Request, user string) conn {
 	for request := range requests {
 		if isSubsystem(request) {
-			if conn := server.connect(); conn != nil {
+			if conn := server.connect(user); conn != nil {
 				request.Reply(true, nil)
 				return conn
 			}
@@ -78,9 +121,28 @@ func (server *Server) subsystem(requests <-chan *ssh.Request) *lucernetick.Conn 
 	return nil
 }
 
-// connect opens a session with its faults. It returns nil if there is none, or the server has
-// stopped.
-func (server *Server) connect() *lucernetick.Conn {
+// connect opens a session of a user. It returns nil if there is none, or the server has stopped.
+func (server *Server) connect(user string) conn {
+	opened := server.open(user)
+	if opened == nil {
+		return nil
+	}
+	if !server.enter(opened) {
+		opened.Drop()
+		return nil
+	}
+	return opened
+}
+
+// open opens a session with its faults, or takes the user's connection of a race.
+func (server *Server) open(user string) conn {
+	if server.Races != nil {
+		server.lock.Lock()
+		defer server.lock.Unlock()
+		one := server.racers[user]
+		delete(server.racers, user)
+		return one
+	}
 	server.lock.Lock()
 	faultsOf, number := server.faults, server.sessions+1
 	server.sessions = number
@@ -90,19 +152,15 @@ func (server *Server) connect() *lucernetick.Conn {
 		server.report(err)
 		return nil
 	}
-	conn, err := server.engine.ConnectWith(server.Clock, faults)
+	one, err := server.engine.ConnectAt(server.rootOf(user), server.Clock, faults)
 	if err != nil {
 		return nil
 	}
-	if !server.enter(conn) {
-		conn.Drop()
-		return nil
-	}
-	return conn
+	return one
 }
 
 // enter registers a connection, unless the server was closed.
-func (server *Server) enter(conn *lucernetick.Conn) bool {
+func (server *Server) enter(conn conn) bool {
 	server.lock.Lock()
 	defer server.lock.Unlock()
 	if !server.closed {
@@ -111,7 +169,7 @@ func (server *Server) enter(conn *lucernetick.Conn) bool {
 	return !server.closed
 }
 
-func (server *Server) leave(conn *lucernetick.Conn) {
+func (server *Server) leave(conn conn) {
 	server.lock.Lock()
 	defer server.lock.Unlock()
 	delete(server.conns, conn)
@@ -124,7 +182,7 @@ func isSubsystem(request *ssh.Request) bool {
 }
 
 // answer sends the replies to the client, until the session's last one.
-func (server *Server) answer(line net.Conn, channel ssh.Channel, conn *lucernetick.Conn) {
+func (server *Server) answer(line net.Conn, channel ssh.Channel, conn conn) {
 	replies := reader{server, conn}
 	if _, err := io.Copy(channel, replies); err != nil {
 		// The client has disconnected. Its earlier requests still take effect.

@@ -1,16 +1,23 @@
 package sshtest_test
 
 import (
+	"crypto/ed25519"
+	"crypto/rand"
 	"errors"
 	"fmt"
 	"io"
 	"os"
+	"os/exec"
+	"path"
+	"path/filepath"
 	"runtime"
 	"strings"
+	"sync"
 	"testing"
 	"time"
 
 	"github.com/pkg/sftp"
+	"golang.org/x/crypto/ssh"
 	"lucernetick"
 	"lucernetick/sshtest"
 )
@@ -126,27 +133,29 @@ func TestFaultsOutOfRange(t *testing.T) {
 	server.SetFaults(lucernetick.Faults{Chunk: -1})
 }
 
+// What stops a server, and a part of its error.
+var stops = map[string]func(*lucernetick.Engine, *sshtest.Server){
+	"the clock's result must be from 1970": func(_ *lucernetick.Engine, server *sshtest.Server) {
+		server.Clock = func() time.Time { return time.Unix(-1, 0) }
+	},
+	"a panic: no time": func(_ *lucernetick.Engine, server *sshtest.Server) {
+		server.Clock = func() time.Time { panic("no time") }
+	},
+	"a panic: EOF": func(engine *lucernetick.Engine, _ *sshtest.Server) {
+		engine.OnCall(nil, func(lucernetick.Call) { panic(io.EOF) })
+	},
+	"runtime.Goexit, as by t.FailNow": func(engine *lucernetick.Engine, _ *sshtest.Server) {
+		engine.OnCall(func(lucernetick.Request) { runtime.Goexit() }, nil)
+	},
+	"a panic: no faults": func(_ *lucernetick.Engine, server *sshtest.Server) {
+		server.SetFaultsOf(func(uint64) lucernetick.Faults { panic("no faults") })
+	},
+}
+
 // A clock or a callback that fails stops the server: the connections of all clients end, and the
 // test gets the error.
 func TestAServerStops(t *testing.T) {
-	early := func() time.Time { return time.Unix(-1, 0) }
-	for says, prepare := range map[string]func(*lucernetick.Engine, *sshtest.Server){
-		"the clock's result must be from 1970": func(_ *lucernetick.Engine, server *sshtest.Server) {
-			server.Clock = early
-		},
-		"a panic: no time": func(_ *lucernetick.Engine, server *sshtest.Server) {
-			server.Clock = func() time.Time { panic("no time") }
-		},
-		"a panic: EOF": func(engine *lucernetick.Engine, _ *sshtest.Server) {
-			engine.OnCall(nil, func(lucernetick.Call) { panic(io.EOF) })
-		},
-		"runtime.Goexit, as by t.FailNow": func(engine *lucernetick.Engine, _ *sshtest.Server) {
-			engine.OnCall(func(lucernetick.Request) { runtime.Goexit() }, nil)
-		},
-		"a panic: no faults": func(_ *lucernetick.Engine, server *sshtest.Server) {
-			server.SetFaultsOf(func(uint64) lucernetick.Faults { panic("no faults") })
-		},
-	} {
+	for says, prepare := range stops {
 		engine, err := lucernetick.New()
 		must(t, err)
 		defer engine.Close()
@@ -215,5 +224,140 @@ func TestAnUploadOverSSH(t *testing.T) {
 	server.Engine.ReadOnly("")
 	if err := client.Remove("/f"); !errors.Is(err, os.ErrPermission) {
 		t.Fatal(err)
+	}
+}
+
+// A login is of a user, who then makes a directory at this path; "" if it is rejected.
+type login struct {
+	user string
+	auth ssh.AuthMethod
+	made string
+}
+
+// Each user has a password and a root. All of them may log in by a further key.
+func TestUsersWithRoots(t *testing.T) {
+	_, private, err := ed25519.GenerateKey(rand.Reader)
+	must(t, err)
+	signer, err := ssh.NewSignerFromKey(private)
+	must(t, err)
+	server := sshtest.NewServerT(t, func(server *sshtest.Server) {
+		server.Users = []sshtest.User{
+			{Name: "ann", Password: "1", Root: "/homes/ann"}, {Name: "root", Password: "2"},
+		}
+		server.PublicKeys = []ssh.PublicKey{signer.PublicKey()}
+	})
+	for _, one := range []login{
+		{"ann", ssh.Password("1"), "/homes/ann/d1"},
+		{"ann", ssh.PublicKeys(signer), "/homes/ann/d2"},
+		{"root", ssh.Password("2"), "/d3"},
+		{"user", ssh.PublicKeys(signer), "/d4"},
+		{"ann", ssh.Password("2"), ""},
+		{"bob", ssh.PublicKeys(signer), ""},
+		{"bob", ssh.Password(""), ""},
+	} {
+		config := server.ClientConfig()
+		config.User, config.Auth = one.user, []ssh.AuthMethod{one.auth}
+		client, err := ssh.Dial("tcp", server.Addr, config)
+		if (err == nil) != (one.made != "") {
+			t.Fatalf("%s: %v", one.user, err)
+		}
+		if err != nil {
+			continue
+		}
+		must(t, open(t, client).Mkdir("/"+path.Base(one.made)))
+		if !server.Engine.Snapshot()[one.made].IsDir() {
+			t.Errorf("%s is missing", one.made)
+		}
+		client.Close()
+	}
+}
+
+// The same host key in each run.
+func TestAFixedHostKey(t *testing.T) {
+	_, private, err := ed25519.GenerateKey(rand.Reader)
+	must(t, err)
+	signer, err := ssh.NewSignerFromKey(private)
+	must(t, err)
+	for round := 0; round < 2; round++ {
+		server := sshtest.NewServerT(t, func(server *sshtest.Server) { server.HostSigner = signer })
+		config := server.ClientConfig()
+		config.HostKeyCallback = ssh.FixedHostKey(signer.PublicKey())
+		client, err := ssh.Dial("tcp", server.Addr, config)
+		must(t, err)
+		must(t, client.Close())
+	}
+}
+
+// OpenSSH's client connects by a configuration, also from a folder with a space.
+func TestOpenSSHByAConfiguration(t *testing.T) {
+	server := sshtest.NewServerT(t)
+	config, err := server.WriteSSHConfig(filepath.Join(t.TempDir(), "a folder"))
+	must(t, err)
+	client := exec.Command("sftp", "-q", "-b", "-", "-F", config, "lucernetick")
+	client.Stdin = strings.NewReader("mkdir /d\n")
+	printed, err := client.CombinedOutput()
+	if err != nil {
+		t.Fatalf("%v: %s", err, printed)
+	}
+	if !server.Engine.Snapshot()["/d"].IsDir() {
+		t.Fatal("no directory was made")
+	}
+}
+
+// left is what two clients leave that race over SSH, by a seed.
+func left(t *testing.T, seed uint64) string {
+	t.Helper()
+	races := lucernetick.NewRaces(seed, 2)
+	defer races.Close()
+	server := sshtest.NewUnstartedServer(races.Engine())
+	server.Races = races
+	server.Users = []sshtest.User{{Name: "bob", Password: "2"}}
+	server.Start()
+	defer server.Close()
+	var both sync.WaitGroup
+	for _, user := range []string{server.User, "bob"} {
+		config := server.ClientConfig()
+		config.User = user
+		both.Add(1)
+		go func() {
+			defer both.Done()
+			client, err := ssh.Dial("tcp", server.Addr, config)
+			if err != nil {
+				t.Error(err)
+				return
+			}
+			defer client.Close()
+			session, err := sftp.NewClient(client)
+			if err != nil {
+				t.Error(err)
+				return
+			}
+			defer session.Close()
+			session.Mkdir("/d")
+			session.Rename("/d", "/by-"+config.User)
+		}()
+	}
+	both.Wait()
+	tree, err := races.Engine().Snapshot()
+	must(t, err)
+	if races.Stray() != "" || server.Err() != nil {
+		t.Fatal(races.Stray(), server.Err())
+	}
+	return fmt.Sprintf("%s: %v", races.Schedule(), len(tree))
+}
+
+// Clients that make their own connections race as a seed says. The second session of a user is
+// rejected.
+func TestARaceOverSSH(t *testing.T) {
+	found := map[string]bool{}
+	for seed := uint64(0); seed < 10; seed++ {
+		first := left(t, seed)
+		if again := left(t, seed); again != first {
+			t.Errorf("seed %d: %s, then %s", seed, first, again)
+		}
+		found[first] = true
+	}
+	if len(found) < 5 {
+		t.Errorf("found only %v", found)
 	}
 }

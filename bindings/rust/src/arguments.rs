@@ -54,7 +54,8 @@ pub(crate) fn path(name: &str, path: &[u8]) -> Result<Vec<u8>, Error> {
     Err(Error::Argument(format!("{} {}", name, why)))
 }
 
-fn normal(path: &[u8]) -> Vec<u8> {
+/// A path without a check.
+pub(crate) fn normal(path: &[u8]) -> Vec<u8> {
     let mut names: Vec<&[u8]> = Vec::new();
     for name in path.split(|byte| *byte == b'/') {
         match name {

@@ -1,7 +1,8 @@
 //! The records of an engine's calls.
 
 use crate::arguments::unix_time;
-use crate::{message, sys};
+use crate::message;
+use lucernetick_sys as sys;
 use std::fmt;
 use std::slice;
 use std::time::{SystemTime, UNIX_EPOCH};
@@ -68,12 +69,19 @@ impl Kind {
         matches!(self, Close | Read | Write | Fstat | Fsetstat | Readdir)
     }
 
+    pub(crate) fn is_by_two_paths(self) -> bool {
+        matches!(self, Kind::Rename | Kind::PosixRename | Kind::Hardlink)
+    }
+
+    /// Whether requests of this kind remove or rename what they name.
+    pub(crate) fn is_of_entries(self) -> bool {
+        self.is_by_two_paths() || matches!(self, Kind::Remove | Kind::Rmdir)
+    }
+
     /// Whether requests of this kind change the tree. An OPEN does so by some of its flags.
     pub(crate) fn changes(self) -> bool {
         use Kind::*;
-        let changes_names =
-            matches!(self, Remove | Rename | PosixRename | Hardlink | Mkdir | Rmdir);
-        changes_names || matches!(self, Write | Setstat | Fsetstat)
+        self.is_of_entries() || matches!(self, Mkdir | Write | Setstat | Fsetstat)
     }
 }
 

@@ -2,6 +2,7 @@
 
 use crate::arguments::unix_time;
 use crate::calls::status_text;
+use crate::wire::{string, Fields};
 use crate::{Error, OpenFlag};
 use std::io::{self, ErrorKind, Read, Write};
 use std::time::SystemTime;
@@ -96,7 +97,7 @@ impl<S: Read + Write> Client<S> {
                 self.change(4, "close", &handle, &[])?;
                 return Ok(contents);
             }
-            contents.extend(strings(&reply.expect(DATA, "read", &handle)?)?.0);
+            contents.extend(first(&reply.expect(DATA, "read", &handle)?)?);
         }
     }
 
@@ -104,7 +105,7 @@ impl<S: Read + Write> Client<S> {
     pub fn list(&mut self, path: impl AsRef<[u8]>) -> io::Result<Vec<Vec<u8>>> {
         let path = path.as_ref();
         let opened = self.ask(11, path, &[])?.expect(HANDLE, "opendir", path)?;
-        let handle = strings(&opened)?.0.to_vec();
+        let handle = first(&opened)?.to_vec();
         let mut names = Vec::new();
         loop {
             let reply = self.ask(12, &handle, &[])?;
@@ -112,17 +113,17 @@ impl<S: Read + Write> Client<S> {
                 self.change(4, "close", &handle, &[])?;
                 return Ok(names);
             }
-            add_names(&reply.expect(NAME, "readdir", path)?, &mut names)?;
+            let listed = reply.expect(NAME, "readdir", path)?;
+            add_names(&listed, &mut names).ok_or_else(malformed)?;
         }
     }
 
     /// The time of the last modification.
     pub fn modified(&mut self, path: impl AsRef<[u8]>) -> io::Result<SystemTime> {
         let found = self.ask(17, path.as_ref(), &[])?.expect(ATTRS, "stat", path.as_ref())?;
-        match found.get(28..32) {
-            Some(&[a, b, c, d]) => Ok(unix_time(u32::from_be_bytes([a, b, c, d]))),
-            _ => Err(malformed()),
-        }
+        // After the flags, the size, the owner, the permissions and the other time.
+        let moment = found.get(28..).and_then(|rest| Fields::of(rest).number(4));
+        moment.map(|moment| unix_time(moment as u32)).ok_or_else(malformed)
     }
 
     /// The stream.
@@ -138,7 +139,7 @@ impl<S: Read + Write> Client<S> {
     fn open(&mut self, path: &[u8], flags: u32) -> io::Result<Vec<u8>> {
         let fields = [flags.to_be_bytes(), [0; 4]].concat();
         let opened = self.ask(3, path, &fields)?.expect(HANDLE, "open", path)?;
-        Ok(strings(&opened)?.0.to_vec())
+        Ok(first(&opened)?.to_vec())
     }
 
     /// A request to which the server replies OK. Its first field is a string.
@@ -175,10 +176,8 @@ impl<S: Read + Write> Client<S> {
 
 impl Reply {
     fn status(&self) -> Option<u32> {
-        match self.bytes.get(..4) {
-            Some(&[a, b, c, d]) if self.kind == STATUS => Some(u32::from_be_bytes([a, b, c, d])),
-            _ => None,
-        }
+        let code = Fields::of(&self.bytes).number(4)?;
+        (self.kind == STATUS).then_some(code as u32)
     }
 
     /// The fields of a reply of this kind.
@@ -198,30 +197,21 @@ fn malformed() -> io::Error {
     io::Error::new(ErrorKind::InvalidData, "the reply has an unexpected form")
 }
 
-fn string(bytes: &[u8]) -> Vec<u8> {
-    [&(bytes.len() as u32).to_be_bytes()[..], bytes].concat()
-}
-
-/// The string at the beginning, and the bytes after it.
-fn strings(bytes: &[u8]) -> io::Result<(&[u8], &[u8])> {
-    let length = match bytes.get(..4) {
-        Some(&[a, b, c, d]) => u32::from_be_bytes([a, b, c, d]) as usize,
-        _ => return Err(malformed()),
-    };
-    let found = bytes.get(4..4 + length).ok_or_else(malformed)?;
-    Ok((found, &bytes[4 + length..]))
+/// The string at the beginning.
+fn first(bytes: &[u8]) -> io::Result<&[u8]> {
+    Fields::of(bytes).string().ok_or_else(malformed)
 }
 
 /// Adds the names of a listing, without `.` and `..`. Attributes have 32 bytes.
-fn add_names(listed: &[u8], names: &mut Vec<Vec<u8>>) -> io::Result<()> {
-    let mut rest = listed.get(4..).ok_or_else(malformed)?;
-    while !rest.is_empty() {
-        let (name, after) = strings(rest)?;
-        let (_, after) = strings(after)?;
-        rest = after.get(32..).ok_or_else(malformed)?;
+fn add_names(listed: &[u8], names: &mut Vec<Vec<u8>>) -> Option<()> {
+    let mut fields = Fields::of(listed);
+    for _ in 0..fields.number(4)? {
+        let name = fields.string()?;
+        fields.string()?;
+        fields.take(32)?;
         if name != b"." && name != b".." {
             names.push(name.to_vec());
         }
     }
-    Ok(())
+    Some(())
 }

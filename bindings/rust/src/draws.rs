@@ -1,5 +1,7 @@
 //! The random generator of races, and counting packets.
 
+use crate::wire::{Packets, LENGTH};
+
 /// SplitMix64: the same numbers for a seed in every language.
 #[derive(Debug)]
 pub(crate) struct SplitMix64 {
@@ -20,19 +22,11 @@ impl SplitMix64 {
     }
 }
 
-/// The number of bytes of a packet's length field.
-const LENGTH: usize = 4;
-/// A longer packet ends the session.
-const MOST: usize = 262144;
-
 /// The packets that a client has sent and its session has not answered.
 #[derive(Debug, Default)]
 pub(crate) struct Unanswered {
     count: u64,
-    /// The first bytes of the next packet's length, fewer than four.
-    length: Vec<u8>,
-    /// How many bytes of the current packet are missing.
-    left: usize,
+    packets: Packets,
     /// A bad length ended the session, which reads no further.
     has_ended: bool,
 }
@@ -50,32 +44,12 @@ impl Unanswered {
     /// Counts the packets that these bytes complete. A bad length, which ends the session, counts
     /// as one.
     pub(crate) fn feed(&mut self, bytes: &[u8]) {
-        let mut rest = bytes;
-        while !rest.is_empty() && !self.has_ended {
-            let taken = if self.left == 0 { self.begin(rest[0]) } else { self.go_on(rest.len()) };
-            rest = &rest[taken..];
+        self.packets.add(bytes);
+        while let Some(length) = self.packets.first().map(<[u8]>::len).filter(|_| !self.has_ended) {
+            self.packets.remove(length);
+            self.has_ended = length == LENGTH;
+            self.count += 1;
         }
-    }
-
-    /// Adds a byte of a length. Returns how many bytes were used.
-    fn begin(&mut self, byte: u8) -> usize {
-        self.length.push(byte);
-        if self.length.len() == LENGTH {
-            let length =
-                self.length.drain(..).fold(0, |length, part| length << 8 | usize::from(part));
-            self.left = length;
-            self.has_ended = length == 0 || length > MOST;
-            self.count += u64::from(self.has_ended);
-        }
-        1
-    }
-
-    /// Adds bytes of a packet. Returns how many were used.
-    fn go_on(&mut self, count: usize) -> usize {
-        let taken = count.min(self.left);
-        self.left -= taken;
-        self.count += u64::from(self.left == 0);
-        taken
     }
 }
 

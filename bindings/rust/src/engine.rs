@@ -3,9 +3,11 @@
 use crate::arguments::seconds;
 use crate::hooks::Hooks;
 use crate::records::Records;
-use crate::requests::{read_request, realpath, Packets};
+use crate::requests::{below_root, read_request, realpath};
 use crate::rules::{ActiveRule, Status};
-use crate::{checked, sys, Error, Refusal, Turn};
+use crate::wire::Packets;
+use crate::{arguments, checked, Error, Refusal, Turn};
+use lucernetick_sys as sys;
 use std::collections::hash_map::RandomState;
 use std::collections::BTreeMap;
 use std::fmt;
@@ -20,6 +22,8 @@ pub struct Engine {
     pub(crate) hooks: Hooks,
     /// Of each session that has not ended: what its client sent, and the library has not read.
     packets: BTreeMap<Session, Packets>,
+    /// The directory that a session's client sees as `/`, if it is another one.
+    roots: BTreeMap<Session, Vec<u8>>,
     rules: Vec<ActiveRule>,
     /// A path that no client knows. The library replies to REALPATH of it, with the code of a
     /// status at its end, with that status: so a rejected request gets its reply.
@@ -61,6 +65,7 @@ impl Engine {
             records,
             hooks: Hooks::default(),
             packets: BTreeMap::new(),
+            roots: BTreeMap::new(),
             rules: Vec::new(),
             lost: format!("/{:016x}{:016x}", random(), random()).into(),
             statuses: Vec::new(),
@@ -72,6 +77,14 @@ impl Engine {
         // SAFETY: the pointer is an engine's, which only `drop` frees.
         let session = checked(unsafe { sys::lt_open(self.pointer.as_ptr()) }).map(Session)?;
         self.packets.insert(session, Packets::default());
+        Ok(session)
+    }
+
+    /// As `open`, for a client that sees the directory `root` of the tree as `/`.
+    pub fn open_at(&mut self, root: impl AsRef<[u8]>) -> Result<Session, Error> {
+        let root = arguments::path("root", root.as_ref())?;
+        let session = self.open()?;
+        self.roots.insert(session, root);
         Ok(session)
     }
 
@@ -150,7 +163,7 @@ impl Engine {
     /// After progress of a session. If the records cannot be read now, the next one reads them.
     fn has_moved(&mut self, session: Session, turn: Turn) {
         if matches!(turn, Turn::Ended(_)) {
-            self.packets.remove(&session);
+            self.forget(session);
         }
         let _ = self.read_news();
     }
@@ -183,9 +196,15 @@ impl Engine {
     pub fn close(&mut self, session: Session) -> Result<(), Refusal> {
         // SAFETY: the pointer is an engine's, which only `drop` frees.
         checked(unsafe { sys::lt_close(self.pointer.as_ptr(), session.0) })?;
-        self.packets.remove(&session);
+        self.forget(session);
         let _ = self.read_news();
         Ok(())
+    }
+
+    /// After the end of a session's input.
+    fn forget(&mut self, session: Session) {
+        self.packets.remove(&session);
+        self.roots.remove(&session);
     }
 
     /// The pending output. If a rule rejected requests, these are the bytes up to the last injected
@@ -231,8 +250,8 @@ impl Engine {
         self.rules.push(rule);
     }
 
-    /// Feeds the library's session.
-    fn give(&mut self, session: Session, bytes: &[u8]) -> Result<(), Refusal> {
+    /// Feeds the library's session, without rules.
+    pub(crate) fn give(&mut self, session: Session, bytes: &[u8]) -> Result<(), Refusal> {
         // SAFETY: the pointer is an engine's, which only `drop` frees, and a slice has as many
         // bytes as its length says.
         let answer =
@@ -246,11 +265,15 @@ impl Engine {
             Some(packets) if self.library_wants_bytes(session) => packets,
             _ => return Ok(()),
         };
-        let packet = match packets.first() {
-            Some(packet) => packet.to_vec(),
+        let (mut packet, length) = match packets.first() {
+            Some(packet) => (packet.to_vec(), packet.len()),
             None => return Ok(()),
         };
-        let is_ruled = packets.has_begun && !(self.rules.is_empty() && self.hooks.is_empty());
+        let has_begun = packets.has_begun;
+        if let Some(root) = self.roots.get(&session).filter(|_| has_begun) {
+            packet = below_root(&packet, root).unwrap_or(packet);
+        }
+        let is_ruled = has_begun && !(self.rules.is_empty() && self.hooks.is_empty());
         match if is_ruled { self.judge(session, &packet) } else { None } {
             Some(status) => {
                 let path = self.lost_by(status)?;
@@ -259,7 +282,7 @@ impl Engine {
             None => self.give(session, &packet)?,
         }
         if let Some(packets) = self.packets.get_mut(&session) {
-            packets.remove(packet.len());
+            packets.remove(length);
         }
         Ok(())
     }

@@ -1,12 +1,14 @@
 //! Copies from folders of the system, and to them.
 
-use crate::{sys, Engine, Entry, Snapshot};
-use std::collections::BTreeMap;
+use crate::{linux, Engine, Entry, Snapshot};
+use std::collections::{BTreeMap, BTreeSet};
 use std::ffi::{CString, OsStr};
-use std::fs::{self, DirEntry, OpenOptions, Permissions};
+use std::fmt;
+use std::fs::{self, DirEntry, Metadata, OpenOptions, Permissions};
 use std::io::{self, ErrorKind};
 use std::os::unix::ffi::OsStrExt;
-use std::os::unix::fs::{DirBuilderExt, FileExt, MetadataExt, OpenOptionsExt, PermissionsExt};
+use std::os::unix::fs::{DirBuilderExt, FileExt, FileTypeExt, MetadataExt};
+use std::os::unix::fs::{OpenOptionsExt, PermissionsExt};
 use std::path::{Path, PathBuf};
 use std::time::{SystemTime, UNIX_EPOCH};
 
@@ -15,15 +17,39 @@ impl Snapshot {
     /// times, hard links, holes of sparse files, and the nine lowest permission bits. It does not
     /// set owners. It replaces nothing: an existing file is `AlreadyExists`.
     pub fn save(&self, folder: impl AsRef<Path>) -> io::Result<()> {
-        let folder = folder.as_ref();
+        self.save_each(folder.as_ref(), |_, fault| Err(fault))
+    }
+
+    /// As `save`, but continues after an error. Returns the paths that could not be written, with
+    /// their errors. Fails only if it cannot make the folder.
+    pub fn save_all(&self, folder: impl AsRef<Path>) -> io::Result<Vec<(Vec<u8>, io::Error)>> {
+        let mut failed = Vec::new();
+        self.save_each(folder.as_ref(), |path, fault| {
+            failed.push((path.to_vec(), fault));
+            Ok(())
+        })?;
+        Ok(failed)
+    }
+
+    fn save_each(
+        &self,
+        folder: &Path,
+        mut failed: impl FnMut(&[u8], io::Error) -> io::Result<()>,
+    ) -> io::Result<()> {
         fs::create_dir_all(folder)?;
         let mut names = BTreeMap::new();
+        let mut missing = BTreeSet::new();
         for (path, entry) in self.iter().filter(|(path, _)| *path != b"/") {
-            make(entry, below(folder, path), &mut names)?;
+            if let Err(fault) = make(entry, below(folder, path), &mut names) {
+                missing.insert(path);
+                failed(path, fault)?;
+            }
         }
-        // Everything exists now. The contents of a directory come before it in this order.
-        for (path, entry) in self.iter().rev() {
-            set_attributes(entry, &below(folder, path))?;
+        // The contents of a directory come before it in this order.
+        for (path, entry) in self.iter().rev().filter(|(path, _)| !missing.contains(path)) {
+            if let Err(fault) = set_attributes(entry, &below(folder, path)) {
+                failed(path, fault)?;
+            }
         }
         Ok(())
     }
@@ -57,14 +83,74 @@ fn set_attributes(entry: &Entry, to: &Path) -> io::Result<()> {
     let times = [entry.atime, entry.mtime];
     let times = times.map(|moment| {
         let since = moment.duration_since(UNIX_EPOCH).unwrap_or_default();
-        sys::Timespec { seconds: since.as_secs() as i64, nanoseconds: 0 }
+        linux::Timespec { seconds: since.as_secs() as i64, nanoseconds: 0 }
     });
     // SAFETY: the path is NUL-terminated, and both times are valid.
-    let answer = unsafe { sys::utimensat(sys::AT_FDCWD, path.as_ptr(), times.as_ptr(), 0) };
+    let answer = unsafe { linux::utimensat(linux::AT_FDCWD, path.as_ptr(), times.as_ptr(), 0) };
     if answer == 0 {
         return Ok(());
     }
     Err(io::Error::last_os_error())
+}
+
+type Skip<'a> = Box<dyn FnMut(&Path, &str) + 'a>;
+
+/// The options of `Engine::write_folder`.
+///
+/// ```
+/// use lucernetick::{Engine, FolderOptions};
+///
+/// let mut engine = Engine::new()?;
+/// let skip = |path: &std::path::Path, kind: &str| println!("{} is {}", path.display(), kind);
+/// engine.write_folder("src", FolderOptions::default().attributes().skip(skip))?;
+/// # Ok::<(), std::io::Error>(())
+/// ```
+#[must_use]
+pub struct FolderOptions<'a> {
+    moment: SystemTime,
+    attributes: bool,
+    skip: Option<Skip<'a>>,
+}
+
+impl Default for FolderOptions<'_> {
+    fn default() -> Self {
+        Self { moment: UNIX_EPOCH, attributes: false, skip: None }
+    }
+}
+
+impl fmt::Debug for FolderOptions<'_> {
+    fn fmt(&self, f: &mut fmt::Formatter<'_>) -> fmt::Result {
+        f.debug_struct("FolderOptions")
+            .field("attributes", &self.attributes)
+            .finish_non_exhaustive()
+    }
+}
+
+impl<'a> FolderOptions<'a> {
+    /// The timestamp of the new files, by default 1970.
+    pub fn moment(self, moment: SystemTime) -> Self {
+        Self { moment, ..self }
+    }
+
+    /// Copies permissions, owners and times, as the option `--tree` of the programs does.
+    pub fn attributes(self) -> Self {
+        Self { attributes: true, ..self }
+    }
+
+    /// Is called with the path of anything else than a file or a directory, and what it is, as
+    /// `a symbolic link`. It is skipped; without the function it is an error.
+    pub fn skip(self, skip: impl FnMut(&Path, &str) + 'a) -> Self {
+        Self { skip: Some(Box::new(skip)), ..self }
+    }
+}
+
+/// A folder that is copied into an engine.
+struct Copying<'a> {
+    engine: &'a mut Engine,
+    options: FolderOptions<'a>,
+    /// The first names of files.
+    names: BTreeMap<(u64, u64), Vec<u8>>,
+    found: Vec<(Vec<u8>, Metadata)>,
 }
 
 impl Engine {
@@ -73,43 +159,80 @@ impl Engine {
     /// error.
     pub fn from_folder(folder: impl AsRef<Path>, moment: SystemTime) -> io::Result<Self> {
         let mut engine = Engine::new()?;
-        let mut names = BTreeMap::new();
+        engine.write_folder(folder, FolderOptions::default().moment(moment))?;
+        Ok(engine)
+    }
+
+    /// Makes or replaces all files and directories of a folder of the system, as `from_folder`,
+    /// with these options.
+    pub fn write_folder(
+        &mut self,
+        folder: impl AsRef<Path>,
+        options: FolderOptions<'_>,
+    ) -> io::Result<()> {
+        let (names, found) = (BTreeMap::new(), Vec::new());
+        let mut copying = Copying { engine: self, options, names, found };
         let mut folders = vec![(folder.as_ref().to_path_buf(), Vec::new())];
         while let Some((folder, path)) = folders.pop() {
             for entry in sorted(&folder)? {
                 let path = [&path, &b"/"[..], entry.file_name().as_bytes()].concat();
                 if entry.file_type()?.is_dir() {
-                    engine.make_directories(&path, moment)?;
+                    copying.take_directory(&entry, &path)?;
                     folders.push((entry.path(), path));
                 } else {
-                    engine.take_file(&entry, path, moment, &mut names)?;
+                    copying.take_file(&entry, path)?;
                 }
             }
         }
-        Ok(engine)
+        if copying.options.attributes {
+            copying.engine.set_attributes(&copying.found)?;
+        }
+        Ok(())
+    }
+}
+
+impl Copying<'_> {
+    fn take_directory(&mut self, entry: &DirEntry, path: &[u8]) -> io::Result<()> {
+        self.found.push((path.to_vec(), entry.metadata()?));
+        Ok(self.engine.make_directories(path, self.options.moment)?)
     }
 
-    fn take_file(
-        &mut self,
-        entry: &DirEntry,
-        path: Vec<u8>,
-        moment: SystemTime,
-        names: &mut BTreeMap<(u64, u64), Vec<u8>>,
-    ) -> io::Result<()> {
+    fn take_file(&mut self, entry: &DirEntry, path: Vec<u8>) -> io::Result<()> {
         let found = entry.metadata()?;
         if !found.is_file() {
-            let text = format!("{} is neither a file nor a directory", entry.path().display());
-            return Err(io::Error::new(ErrorKind::InvalidInput, text));
+            return match &mut self.options.skip {
+                Some(skip) => {
+                    skip(&entry.path(), kind_name(&found));
+                    Ok(())
+                }
+                None => {
+                    let text =
+                        format!("{} is neither a file nor a directory", entry.path().display());
+                    Err(io::Error::new(ErrorKind::InvalidInput, text))
+                }
+            };
         }
         let file = (found.dev(), found.ino());
-        match names.get(&file) {
-            Some(first) => self.hard_link(first, path, moment)?,
+        self.found.push((path.clone(), found));
+        match self.names.get(&file) {
+            Some(first) => self.engine.hard_link(first, path, self.options.moment)?,
             None => {
-                self.write_files([(&path, fs::read(entry.path())?)], moment)?;
-                names.insert(file, path);
+                self.engine.write_files([(&path, fs::read(entry.path())?)], self.options.moment)?;
+                self.names.insert(file, path);
             }
         }
         Ok(())
+    }
+}
+
+/// What a tree cannot have.
+fn kind_name(found: &Metadata) -> &'static str {
+    let kind = found.file_type();
+    match (kind.is_symlink(), kind.is_fifo(), kind.is_socket()) {
+        (true, _, _) => "a symbolic link",
+        (_, true, _) => "a FIFO",
+        (_, _, true) => "a socket",
+        _ => "a device",
     }
 }
 

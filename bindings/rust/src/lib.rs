@@ -19,9 +19,11 @@
 //! seeded scheduler.
 
 mod arguments;
+mod asking;
 mod calls;
 mod client;
 mod clock;
+mod connection;
 mod draws;
 mod engine;
 mod fault;
@@ -29,39 +31,46 @@ mod faults;
 mod folders;
 mod hooks;
 mod line;
+mod linux;
 mod lock;
 mod patterns;
 mod races;
+mod racing;
 mod records;
 mod requests;
 mod rules;
 mod schedules;
+mod served;
 mod server;
 #[cfg(feature = "ssh")]
 mod ssh;
-mod sys;
 mod taken;
+mod timeline;
 mod tree;
 mod turn;
+mod wire;
 
 pub use arguments::unix_time;
 pub use calls::{Answer, Attributes, Call, Kind, OpenFlag};
 pub use client::Client;
 pub use clock::{wall_clock, VirtualTime};
+pub use connection::Connection;
 pub use engine::{Engine, Session};
 pub use fault::{Error, Refusal};
 pub use faults::Faults;
+pub use folders::FolderOptions;
 pub use hooks::{Hook, OnCall};
 pub use patterns::escape;
 pub use races::{RaceStream, Races};
 pub use requests::Request;
 pub use rules::{GivenRule, Rule, Status};
-pub use server::{Connection, Server};
+pub use server::Server;
 #[cfg(feature = "ssh")]
-pub use ssh::SshServer;
+pub use ssh::{SshOptions, SshServer};
 pub use tree::{Entry, Piece, Snapshot};
 pub use turn::{Ending, Turn};
 
+use lucernetick_sys as sys;
 use std::ffi::CStr;
 use std::os::raw::c_char;
 

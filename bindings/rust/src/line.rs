@@ -1,6 +1,6 @@
 //! The server's end of a connection.
 
-use crate::{sys, Faults};
+use crate::{linux, Faults};
 use std::collections::VecDeque;
 use std::io::{self, ErrorKind, Read};
 use std::net::Shutdown;
@@ -25,6 +25,8 @@ pub(crate) struct Line {
     stream: UnixStream,
     ahead: VecDeque<u8>,
     has_ended: bool,
+    /// The client has closed its connection: replies are discarded.
+    is_deaf: bool,
     faults: Faults,
     /// How many bytes are received, and sent, before it is cut.
     to_come: u64,
@@ -45,6 +47,7 @@ impl Line {
             stream,
             ahead: VecDeque::new(),
             has_ended: false,
+            is_deaf: false,
             faults,
             to_come: left,
             to_go: left,
@@ -55,11 +58,11 @@ impl Line {
         }
     }
 
-    /// The next bytes; none at the end of the input, or if it is cut. Meanwhile late replies are
-    /// sent.
+    /// The next bytes; none at the end of the input, or if it is cut. After a cut by bytes that
+    /// were sent, only those received before it. Meanwhile late replies are sent.
     pub(crate) fn read(&mut self, room: &mut [u8]) -> io::Result<usize> {
         let most = self.to_come.min(room.len() as u64) as usize;
-        if self.to_come == 0 || self.to_go == 0 {
+        if self.to_come == 0 || self.to_go == 0 && self.ahead.is_empty() {
             self.is_cut.store(true, Ordering::SeqCst);
             return Ok(0);
         }
@@ -68,19 +71,37 @@ impl Line {
         self.to_come -= count as u64;
         if self.faults.bandwidth.is_some() {
             let until = Instant::now() + self.faults.time_of(count);
-            self.send_late_or_drop(until);
+            let sent = self.send_late(until);
+            self.or_deaf(sent);
         }
         Ok(count)
     }
 
-    /// Sends the bytes, or buffers them if they are late. Those after a cut are dropped.
-    pub(crate) fn write_all(&mut self, bytes: &[u8]) -> io::Result<()> {
+    /// Sends the bytes, or buffers them if they are late. Those after a cut are discarded, and
+    /// those for a client that has closed its connection.
+    pub(crate) fn write_all(&mut self, bytes: &[u8]) {
         let most = self.to_go.min(bytes.len() as u64) as usize;
         self.to_go -= most as u64;
-        if self.faults.delay > Duration::ZERO || self.faults.bandwidth.is_some() {
-            return self.add_late(&bytes[..most]);
+        let sent = match &bytes[..most] {
+            _ if self.is_deaf => Ok(()),
+            bytes if self.is_late() => self.add_late(bytes),
+            bytes => self.send_all(bytes),
+        };
+        self.or_deaf(sent);
+    }
+
+    /// Whether replies are late.
+    fn is_late(&self) -> bool {
+        self.faults.delay > Duration::ZERO || self.faults.bandwidth.is_some()
+    }
+
+    /// If the client has closed its end, replies are discarded. What it sent is still read.
+    fn or_deaf(&mut self, sent: io::Result<()>) {
+        if sent.is_err() {
+            self.is_deaf = true;
+            self.late.clear();
+            self.late_bytes = 0;
         }
-        self.send_all(&bytes[..most])
     }
 
     /// Sends the late replies, and ends the connection. What the client has sent is read, so that
@@ -131,7 +152,7 @@ impl Line {
             match self.send(rest) {
                 Ok(count) => rest = &rest[count..],
                 Err(fault) if fault.kind() == ErrorKind::WouldBlock => {
-                    self.wait(sys::POLLOUT, -1)?;
+                    self.wait(linux::POLLOUT, -1)?;
                 }
                 Err(fault) if fault.kind() == ErrorKind::Interrupted => {}
                 Err(fault) => return Err(fault),
@@ -142,10 +163,10 @@ impl Line {
 
     /// Sends some of the bytes, without waiting.
     fn send(&self, bytes: &[u8]) -> io::Result<usize> {
-        let flags = sys::MSG_DONTWAIT | sys::MSG_NOSIGNAL;
+        let flags = linux::MSG_DONTWAIT | linux::MSG_NOSIGNAL;
         // SAFETY: the bytes are valid, and the socket is open.
         let sent =
-            unsafe { sys::send(self.stream.as_raw_fd(), bytes.as_ptr(), bytes.len(), flags) };
+            unsafe { linux::send(self.stream.as_raw_fd(), bytes.as_ptr(), bytes.len(), flags) };
         usize::try_from(sent).map_err(|_| io::Error::last_os_error())
     }
 
@@ -153,19 +174,19 @@ impl Line {
     /// reads. Returns whether the connection is closed.
     fn wait(&mut self, events: c_short, most: c_int) -> io::Result<bool> {
         let reads = !self.has_ended && self.ahead.len() < MOST_AHEAD;
-        let found = self.poll(if reads { events | sys::POLLIN } else { events }, most)?;
-        let is_input = found & sys::POLLIN != 0 && found & sys::POLLOUT == 0;
+        let found = self.poll(if reads { events | linux::POLLIN } else { events }, most)?;
+        let is_input = found & linux::POLLIN != 0 && found & linux::POLLOUT == 0;
         if reads && is_input {
             self.read_ahead()?;
         }
-        Ok(found & (sys::POLLHUP | sys::POLLERR) != 0)
+        Ok(found & (linux::POLLHUP | linux::POLLERR) != 0)
     }
 
     /// The events that occurred.
     fn poll(&self, events: c_short, most: c_int) -> io::Result<c_short> {
-        let mut line = sys::PollFd { fd: self.stream.as_raw_fd(), events, revents: 0 };
+        let mut line = linux::PollFd { fd: self.stream.as_raw_fd(), events, revents: 0 };
         // SAFETY: it is one element, which nothing else uses.
-        if unsafe { sys::poll(&mut line, 1, most) } < 0 {
+        if unsafe { linux::poll(&mut line, 1, most) } < 0 {
             let fault = io::Error::last_os_error();
             return if fault.kind() == ErrorKind::Interrupted { Ok(0) } else { Err(fault) };
         }
@@ -197,7 +218,7 @@ impl Line {
     fn unreceived(&self) -> io::Result<c_int> {
         let mut count: c_int = 0;
         // SAFETY: it writes a number, which is of a local variable.
-        if unsafe { sys::ioctl(self.stream.as_raw_fd(), sys::SIOCOUTQ, &mut count) } < 0 {
+        if unsafe { linux::ioctl(self.stream.as_raw_fd(), linux::SIOCOUTQ, &mut count) } < 0 {
             return Err(io::Error::last_os_error());
         }
         Ok(count)
@@ -221,18 +242,11 @@ impl Line {
         while let Some((due, _)) = self.late.front() {
             let due = *due;
             let has_input = !self.ahead.is_empty() || self.has_ended;
-            if has_input || matches!(self.poll(sys::POLLIN, until(due)), Ok(1..)) {
+            if has_input || matches!(self.poll(linux::POLLIN, until(due)), Ok(1..)) {
                 return;
             }
-            self.send_late_or_drop(due);
-        }
-    }
-
-    /// If the client has closed its end, late replies are dropped. What it sent is still read.
-    fn send_late_or_drop(&mut self, until: Instant) {
-        if self.send_late(until).is_err() {
-            self.late.clear();
-            self.late_bytes = 0;
+            let sent = self.send_late(due);
+            self.or_deaf(sent);
         }
     }
 

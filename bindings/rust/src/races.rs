@@ -1,23 +1,22 @@
 //! Concurrent clients under a seeded scheduler.
 
-use crate::arguments::{in_range, unix_time};
-use crate::draws::{SplitMix64, Unanswered};
+use crate::arguments::in_range;
+use crate::draws::SplitMix64;
 use crate::lock::{Guard, Lock};
+use crate::racing::{Choice, Racer, State, GRACE};
 use crate::schedules::{read_schedule, write_schedule};
-use crate::server::stopped;
-use crate::{Call, Engine, Error, GivenRule, Refusal, Rule, Session, Snapshot, Turn, VirtualTime};
-use std::collections::VecDeque;
+use crate::served::stopped;
+use crate::timeline::page;
+use crate::{Call, Engine, Error, GivenRule, Rule, Snapshot, Turn, VirtualTime};
 use std::fmt;
+use std::fs;
 use std::io::{self, ErrorKind, Read, Write};
 use std::panic::{catch_unwind, AssertUnwindSafe};
+use std::path::Path;
 use std::sync::Arc;
-use std::thread::{self, ThreadId};
+use std::thread;
 use std::time::{Duration, Instant};
 
-const MOMENT: u32 = 1_000_000_000;
-const PATIENCE: Duration = Duration::from_secs(30);
-/// How long a thread may wait for a client that only it has used.
-const GRACE: Duration = Duration::from_secs(2);
 /// How many sessions an engine has at most.
 const SESSIONS: u64 = 256;
 
@@ -48,6 +47,8 @@ const SESSIONS: u64 = 256;
 /// ```
 pub struct Races {
     shared: Arc<Shared>,
+    /// The seed or the schedule, as a text.
+    name: String,
 }
 
 impl Races {
@@ -58,31 +59,21 @@ impl Races {
 
     /// A race of this number of clients on this engine.
     pub fn over(engine: Engine, seed: u64, clients: usize) -> Result<Self, Error> {
-        Self::by(engine, Choice::Drawn(SplitMix64::new(seed)), clients)
+        let name = format!("seed {}", seed);
+        Self::by(engine, Choice::Drawn(SplitMix64::new(seed)), clients, name)
     }
 
     /// Replays a schedule that `schedule` returned, also one of another language. If the schedule
     /// names no waiting client, the first waiting one has the turn, and `stray` says so.
     pub fn replay(engine: Engine, schedule: &str, clients: usize) -> Result<Self, Error> {
-        Self::by(engine, Choice::Given(read_schedule(schedule)?), clients)
+        let choice = Choice::Given(read_schedule(schedule)?);
+        Self::by(engine, choice, clients, "a schedule".to_string())
     }
 
-    fn by(engine: Engine, choice: Choice, clients: usize) -> Result<Self, Error> {
+    fn by(engine: Engine, choice: Choice, clients: usize, name: String) -> Result<Self, Error> {
         in_range("clients", clients as u64, 1, SESSIONS)?;
-        let state = State {
-            engine,
-            choice,
-            clients,
-            racers: Vec::new(),
-            turns: Vec::new(),
-            stray: None,
-            patience: PATIENCE,
-            since: Instant::now(),
-            time: VirtualTime::new(unix_time(MOMENT))?,
-            has_gone: false,
-            fault: None,
-        };
-        Ok(Self { shared: Arc::new(Shared { state: Lock::new(state) }) })
+        let state = State::new(engine, choice, clients)?;
+        Ok(Self { shared: Arc::new(Shared { state: Lock::new(state) }), name })
     }
 
     /// Opens the session of the next client: 1, 2, 3 and so on. Connect all clients before one of
@@ -102,7 +93,8 @@ impl Races {
 
     /// The turns so far: the client, and what the turn did.
     pub fn turns(&self) -> Vec<(usize, Turn)> {
-        self.shared.state.lock().turns.clone()
+        let state = self.shared.state.lock();
+        state.turns.iter().map(|one| (one.client, one.turn)).collect()
     }
 
     /// The clients of the turns so far, as `1x4 2 1x2`: four turns of client 1, one of client 2,
@@ -146,6 +138,16 @@ impl Races {
     pub fn calls(&self) -> Result<Vec<Call>, Error> {
         self.check()?;
         self.with_engine(Engine::calls)
+    }
+
+    /// Writes the history of the race as a page of HTML, which needs no other file: a row for each
+    /// client, its calls as bars from request to reply, their linearization points, and arrows from
+    /// a call to those that it completed for other clients.
+    pub fn timeline(&self, path: impl AsRef<Path>) -> io::Result<()> {
+        let mut state = self.shared.state.lock();
+        state.check()?;
+        let calls = state.engine.calls()?;
+        fs::write(path, page(&state, &calls, &self.name))
     }
 
     /// Injects errors, as `Engine::refuse`.
@@ -303,203 +305,5 @@ impl Shared {
             self.advance(&mut state);
         }
         state
-    }
-}
-
-struct State {
-    engine: Engine,
-    choice: Choice,
-    /// How many will connect.
-    clients: usize,
-    racers: Vec<Racer>,
-    turns: Vec<(usize, Turn)>,
-    stray: Option<String>,
-    patience: Duration,
-    /// When a client last acted.
-    since: Instant,
-    time: VirtualTime,
-    /// The race was dropped.
-    has_gone: bool,
-    fault: Option<Error>,
-}
-
-/// How the client of the next turn is chosen.
-enum Choice {
-    Drawn(SplitMix64),
-    Given(VecDeque<usize>),
-}
-
-impl State {
-    fn check(&self) -> Result<(), Error> {
-        self.fault.clone().map_or(Ok(()), Err)
-    }
-
-    /// An error if a thread that reads waits for a client that only it has used, so for itself.
-    fn check_threads(&self, number: usize, begin: Instant) -> io::Result<()> {
-        let here = Some(thread::current().id());
-        let is_own = |other: &usize| {
-            let racer = &self.racers[*other];
-            *other != number && racer.is_awaited() && racer.thread == here
-        };
-        match (0..self.racers.len()).find(is_own) {
-            Some(other) if begin.elapsed() >= GRACE.min(self.patience) => {
-                let why = format!(
-                    "client {} waits for client {}, which the same thread uses: use each stream in \
-                     its own thread",
-                    number + 1,
-                    other + 1
-                );
-                Err(io::Error::new(ErrorKind::Other, why))
-            }
-            _ => Ok(()),
-        }
-    }
-
-    /// Runs turns as long as every client waits for a reply or has left.
-    fn advance(&mut self) {
-        while let Some(number) = self.next() {
-            let turn = self.turn(number);
-            self.turns.push((number + 1, turn));
-        }
-        self.since = Instant::now();
-    }
-
-    /// The client of the next turn, if any.
-    fn next(&mut self) -> Option<usize> {
-        let is_awaited = |racer: &Racer| racer.is_awaited() && !racer.is_late;
-        let is_early = self.racers.len() < self.clients;
-        if self.fault.is_some() || is_early || self.racers.iter().any(is_awaited) {
-            return None;
-        }
-        let waiting = self.waiting();
-        if waiting.is_empty() {
-            return None;
-        }
-        Some(self.choose(&waiting))
-    }
-
-    /// The clients that wait for a reply.
-    fn waiting(&self) -> Vec<usize> {
-        (0..self.racers.len()).filter(|number| self.racers[*number].waits()).collect()
-    }
-
-    fn choose(&mut self, waiting: &[usize]) -> usize {
-        let given = match &mut self.choice {
-            Choice::Drawn(drawn) => {
-                let count = waiting.len() as u64;
-                return waiting[(drawn.draw() % count) as usize];
-            }
-            Choice::Given(schedule) => schedule.pop_front(),
-        };
-        match waiting.iter().find(|number| Some(**number + 1) == given) {
-            Some(number) => *number,
-            None => {
-                self.strays("the schedule has no turn of a client that waits".to_string());
-                waiting[0]
-            }
-        }
-    }
-
-    /// Runs a turn of this client's session. A client that has dropped its stream leaves after its
-    /// last reply.
-    fn turn(&mut self, number: usize) -> Turn {
-        let session = self.racers[number].session;
-        let turn = self.engine.turn(session, self.time.now());
-        let racer = &mut self.racers[number];
-        match &turn {
-            Ok(Turn::Wrote) => racer.packets.answered(),
-            Ok(Turn::Ended(_)) => racer.has_ended = true,
-            Ok(_) => {}
-            Err(fault) => racer.end(Some(fault.clone())),
-        }
-        self.leave(number);
-        turn.unwrap_or(Turn::Idle)
-    }
-
-    /// Ends the session of a client that has dropped its stream and waits for no reply.
-    fn leave(&mut self, number: usize) {
-        let racer = &mut self.racers[number];
-        if racer.is_dropped && !racer.has_ended && !racer.waits() {
-            racer.end(self.engine.close(racer.session).err().map(Error::from));
-        }
-    }
-
-    fn feed(&mut self, number: usize, bytes: &[u8]) -> Result<(), Refusal> {
-        let racer = &mut self.racers[number];
-        self.engine.feed(racer.session, bytes)?;
-        racer.packets.feed(bytes);
-        racer.is_late = false;
-        Ok(())
-    }
-
-    /// Takes the first bytes of the pending output, as many as fit. If there are none, returns the
-    /// error of an earlier turn.
-    fn take(&mut self, number: usize, room: &mut [u8]) -> Result<usize, Error> {
-        let racer = &mut self.racers[number];
-        let count = self.engine.look(racer.session, room)?.min(room.len());
-        self.engine.sent(racer.session, count)?;
-        match &racer.fault {
-            Some(fault) if count == 0 => Err(fault.clone()),
-            _ => Ok(count),
-        }
-    }
-
-    /// Skips the clients that the race waits for, if others wait.
-    fn pass_over(&mut self) {
-        let late: Vec<usize> =
-            (0..self.racers.len()).filter(|number| self.racers[*number].is_awaited()).collect();
-        if self.waiting().is_empty() || late.is_empty() {
-            return;
-        }
-        let names: Vec<_> = late.iter().map(|number| (number + 1).to_string()).collect();
-        let (names, patience) = (names.join(" and "), self.patience);
-        self.strays(format!("client {} neither sent nor left for {:?}", names, patience));
-        for number in late {
-            self.racers[number].is_late = true;
-        }
-    }
-
-    fn strays(&mut self, why: String) {
-        let turn = self.turns.len() + 1;
-        self.stray.get_or_insert_with(|| format!("before turn {}: {}", turn, why));
-    }
-}
-
-/// A client.
-struct Racer {
-    session: Session,
-    packets: Unanswered,
-    /// Its stream was dropped.
-    is_dropped: bool,
-    /// Its session has no more turns.
-    has_ended: bool,
-    /// It was skipped.
-    is_late: bool,
-    /// The error that ended its session.
-    fault: Option<Error>,
-    /// The thread that last used its stream.
-    thread: Option<ThreadId>,
-}
-
-impl Racer {
-    fn new(session: Session) -> Self {
-        let packets = Unanswered::default();
-        let (is_dropped, has_ended, is_late) = (false, false, false);
-        Self { session, packets, is_dropped, has_ended, is_late, fault: None, thread: None }
-    }
-
-    /// Whether the client waits for a reply.
-    fn waits(&self) -> bool {
-        !self.has_ended && !self.packets.is_empty()
-    }
-
-    /// Whether the race waits for the client.
-    fn is_awaited(&self) -> bool {
-        !self.waits() && !self.has_ended
-    }
-
-    fn end(&mut self, fault: Option<Error>) {
-        self.has_ended = true;
-        self.fault = fault;
     }
 }

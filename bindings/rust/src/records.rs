@@ -1,7 +1,8 @@
 //! The records of calls.
 
 use crate::calls::Call;
-use crate::{checked, sys, Engine, Error, Kind, OpenFlag, Refusal};
+use crate::{checked, Engine, Error, Kind, OpenFlag, Refusal};
+use lucernetick_sys as sys;
 use std::collections::{BTreeMap, VecDeque};
 
 /// More records than one turn adds, which may complete the calls of all sessions.
@@ -53,7 +54,7 @@ pub(crate) struct Records {
     /// The last calls, if their number is limited.
     kept: VecDeque<Call>,
     /// How many calls were recorded.
-    recorded: u64,
+    pub(crate) recorded: u64,
     /// How many of the library's records were read, if it keeps all.
     read: u64,
     /// The last one that was read.

@@ -1,11 +1,12 @@
-//! Requests of clients: bytes are cut into packets, and a packet is read for rules and callbacks.
+//! Requests of clients: a packet is read for rules and callbacks, or written anew.
 
+use crate::wire::{string, Fields};
 use crate::{arguments, Kind};
 
-/// The greatest length of a packet.
-const LONGEST: usize = 262144;
 const EXTENDED: u8 = 200;
 const REALPATH: u8 = 16;
+/// The length, the type and the id of a packet.
+const HEAD: usize = 9;
 
 /// A request that the server is about to read. Fields that its kind does not have are 0 or empty.
 #[derive(Clone, Debug, PartialEq, Eq)]
@@ -28,73 +29,14 @@ pub struct Request {
     pub data: Vec<u8>,
 }
 
-/// The bytes that a client sent, and the library has not read yet, cut into packets.
-#[derive(Debug, Default)]
-pub(crate) struct Packets {
-    bytes: Vec<u8>,
-    /// Where the next packet begins.
-    start: usize,
-    /// Its first packet, which is INIT, was read.
-    pub(crate) has_begun: bool,
+/// A path in normal form. The server rejects some texts itself.
+fn path(fields: &mut Fields<'_>) -> Option<Vec<u8>> {
+    arguments::path("path", fields.string()?).ok()
 }
 
-impl Packets {
-    pub(crate) fn add(&mut self, bytes: &[u8]) {
-        if self.start * 2 > self.bytes.len() {
-            self.bytes.drain(..self.start);
-            self.start = 0;
-        }
-        self.bytes.extend_from_slice(bytes);
-    }
-
-    /// The next packet with its length field, if all of it arrived. A length that ends the session
-    /// counts as a packet of four bytes.
-    pub(crate) fn first(&self) -> Option<&[u8]> {
-        let rest = &self.bytes[self.start..];
-        let length = rest.get(..4)?.iter().fold(0, |length, part| length << 8 | usize::from(*part));
-        if length == 0 || length > LONGEST {
-            return Some(&rest[..4]);
-        }
-        rest.get(..4 + length)
-    }
-
-    /// Removes this number of bytes.
-    pub(crate) fn remove(&mut self, count: usize) {
-        self.start += count;
-        self.has_begun = true;
-    }
-}
-
-/// Reads the fields of a packet, one after the other.
-struct Fields<'a> {
-    rest: &'a [u8],
-}
-
-impl<'a> Fields<'a> {
-    fn take(&mut self, count: usize) -> Option<&'a [u8]> {
-        let found = self.rest.get(..count)?;
-        self.rest = &self.rest[count..];
-        Some(found)
-    }
-
-    fn number(&mut self, size: usize) -> Option<u64> {
-        Some(self.take(size)?.iter().fold(0, |number, byte| number << 8 | u64::from(*byte)))
-    }
-
-    fn string(&mut self) -> Option<&'a [u8]> {
-        let length = self.number(4)? as usize;
-        self.take(length)
-    }
-
-    /// A path in normal form. The server rejects some texts itself.
-    fn path(&mut self) -> Option<Vec<u8>> {
-        arguments::path("path", self.string()?).ok()
-    }
-
-    fn handle(&mut self) -> Option<u64> {
-        let mut handle = Fields { rest: self.string()? };
-        handle.number(8).filter(|_| handle.rest.is_empty())
-    }
+fn handle(fields: &mut Fields<'_>) -> Option<u64> {
+    let mut handle = Fields::of(fields.string()?);
+    handle.number(8).filter(|_| handle.rest().is_empty())
 }
 
 /// The kind of a packet. An extended request has its name before its fields.
@@ -116,17 +58,17 @@ pub(crate) fn read_request<'o>(
     packet: &[u8],
     opened: impl Fn(u64) -> Option<&'o [u8]>,
 ) -> Option<Request> {
-    let mut fields = Fields { rest: packet.get(9..)? };
+    let mut fields = Fields::of(packet.get(HEAD..)?);
     let kind = kind_of(packet[4], &mut fields)?;
     let mut request = Request::empty(session, kind);
     if kind.is_by_handle() {
-        request.handle = fields.handle()?;
+        request.handle = handle(&mut fields)?;
         request.path = opened(request.handle).unwrap_or_default().to_vec();
     } else {
-        request.path = fields.path()?;
+        request.path = path(&mut fields)?;
     }
     match kind {
-        Kind::Rename | Kind::PosixRename | Kind::Hardlink => request.new_path = fields.path()?,
+        kind if kind.is_by_two_paths() => request.new_path = path(&mut fields)?,
         Kind::Open => request.flags = fields.number(4)? as u32,
         Kind::Read | Kind::Write => {
             request.offset = fields.number(8)?;
@@ -150,41 +92,38 @@ impl Request {
 
 /// A REALPATH of this path, with the packet's id.
 pub(crate) fn realpath(packet: &[u8], path: &[u8]) -> Vec<u8> {
-    let string = |bytes: &[u8]| [&(bytes.len() as u32).to_be_bytes(), bytes].concat();
-    string(&[&[REALPATH], &packet[5..9], &string(path)].concat())
+    string(&[&[REALPATH], &packet[5..HEAD], &string(path)].concat())
+}
+
+/// A packet with its paths below this directory. None if it stays as it is. A client can neither
+/// remove nor rename the directory itself.
+pub(crate) fn below_root(packet: &[u8], root: &[u8]) -> Option<Vec<u8>> {
+    let mut fields = Fields::of(packet.get(HEAD..)?);
+    let kind = kind_of(packet[4], &mut fields)?;
+    if root == b"/" || kind.is_by_handle() || kind == Kind::Realpath {
+        return None;
+    }
+    let begin = packet.len() - fields.rest().len();
+    let mut paths = vec![arguments::normal(fields.string()?)];
+    if kind.is_by_two_paths() {
+        paths.push(arguments::normal(fields.string()?));
+    }
+    let is_root = |path: &Vec<u8>| path == b"/";
+    if kind.is_of_entries() && paths.iter().any(is_root) {
+        return None;
+    }
+    let mut body = packet[4..begin].to_vec();
+    for path in &paths {
+        let below = if is_root(path) { &[][..] } else { path };
+        body.extend(string(&[root, below].concat()));
+    }
+    body.extend(fields.rest());
+    Some(string(&body))
 }
 
 #[cfg(test)]
 mod tests {
     use super::*;
-
-    /// INIT, and MKDIR of `/a`.
-    const SENT: &[u8] = b"\0\0\0\x05\x01\0\0\0\x03\0\0\0\x0f\x0e\0\0\0\x07\0\0\0\x02/a\0\0\0\0";
-
-    #[test]
-    fn packets_are_cut() {
-        for cut in 0..=SENT.len() {
-            let mut packets = Packets::default();
-            let mut found = Vec::new();
-            for part in [&SENT[..cut], &SENT[cut..]] {
-                packets.add(part);
-                while let Some(packet) = packets.first().map(<[u8]>::to_vec) {
-                    packets.remove(packet.len());
-                    found.push(packet);
-                }
-            }
-            assert_eq!(found, [&SENT[..9], &SENT[9..]]);
-        }
-    }
-
-    #[test]
-    fn lengths_that_end_a_session() {
-        for length in [&[0; 4], &[0, 4, 0, 1], &[255; 4]] {
-            let mut packets = Packets::default();
-            packets.add(&[&length[..], SENT].concat());
-            assert_eq!(packets.first(), Some(&length[..]));
-        }
-    }
 
     /// WRITE of `123` at 258 by the handle 5, and what is shorter.
     #[test]
@@ -209,5 +148,8 @@ mod tests {
         assert_eq!(found.kind, Kind::PosixRename);
         assert_eq!((&found.path[..], &found.new_path[..]), (&b"/a"[..], &b"/b"[..]));
         assert_eq!(realpath(packet, b"/x"), b"\0\0\0\x0b\x10\0\0\x01\x02\0\0\0\x02/x");
+        let below = read_request(1, &below_root(packet, b"/d").unwrap(), |_| None).unwrap();
+        assert_eq!((&below.path[..], &below.new_path[..]), (&b"/d/a"[..], &b"/d/b"[..]));
+        assert_eq!(below_root(packet, b"/"), None);
     }
 }

@@ -1,17 +1,17 @@
 //! A server behind SSH.
 
-use crate::server::{Listener, SharedFaults};
-use crate::{sys, Faults, Server};
+use crate::served::{Listener, Terms};
+use crate::{linux, Faults, Server};
 use std::env;
 use std::fmt;
-use std::fs::{self, DirBuilder};
-use std::io::{self, BufRead, BufReader, ErrorKind, Read};
+use std::fs::{self, DirBuilder, OpenOptions};
+use std::io::{self, BufRead, BufReader, ErrorKind, Read, Write};
 use std::os::raw::c_int;
-use std::os::unix::fs::DirBuilderExt;
+use std::os::unix::fs::{DirBuilderExt, OpenOptionsExt};
 use std::path::{Path, PathBuf};
 use std::process::{self, Child, Command, Stdio};
 use std::sync::atomic::{AtomicU64, Ordering};
-use std::sync::{Arc, Mutex, PoisonError};
+use std::sync::Arc;
 
 const SCRIPT: &str = "sftpd-over-ssh";
 /// Where the script is in the archive and in the repository, beside the crate.
@@ -25,6 +25,9 @@ const HOST: &str = "127.0.0.1";
 /// It is OpenSSH's `sshd`, which the script `sftpd-over-ssh` starts without root. It needs Debian's
 /// openssh-server and openssh-client. The script is the file `SFTPD_OVER_SSH`, or that of the
 /// release archive or the repository, or in PATH.
+///
+/// It has one user, this process's, and one key. For several users with a root directory each,
+/// start several of them in front of one `Server`. `sshd` without root knows no passwords.
 ///
 /// Dropping it ends its connections.
 ///
@@ -43,7 +46,49 @@ pub struct SshServer {
     folder: Folder,
     port: u16,
     user: String,
-    faults: SharedFaults,
+    terms: Arc<Terms>,
+}
+
+/// The options of an `SshServer`.
+///
+/// ```no_run
+/// use lucernetick::{wall_clock, Engine, Faults, Server, SshOptions, SshServer};
+///
+/// let server = Server::new(Engine::new()?, wall_clock);
+/// let ann = SshServer::with_options(&server, SshOptions::default().root("/ann"))?;
+/// let bad = SshOptions::default().root("/bob").faults(Faults::default().cut_after(1000));
+/// let bob = SshServer::with_options(&server, bad)?;
+/// # Ok::<(), std::io::Error>(())
+/// ```
+#[derive(Clone, Debug)]
+#[must_use]
+pub struct SshOptions {
+    root: Vec<u8>,
+    host_key: Option<PathBuf>,
+    faults: Faults,
+}
+
+impl Default for SshOptions {
+    fn default() -> Self {
+        Self { root: b"/".to_vec(), host_key: None, faults: Faults::default() }
+    }
+}
+
+impl SshOptions {
+    /// The directory of the tree that clients see as `/`. It is made if it is missing.
+    pub fn root(self, root: impl AsRef<[u8]>) -> Self {
+        Self { root: root.as_ref().to_vec(), ..self }
+    }
+
+    /// A file with the server's private key, without a passphrase; by default a new one.
+    pub fn host_key(self, path: impl Into<PathBuf>) -> Self {
+        Self { host_key: Some(path.into()), ..self }
+    }
+
+    /// The faults of each session.
+    pub fn faults(self, faults: Faults) -> Self {
+        Self { faults, ..self }
+    }
 }
 
 impl SshServer {
@@ -54,18 +99,29 @@ impl SshServer {
 
     /// As `new`. Each session has these faults.
     pub fn with_faults(server: &Server, faults: Faults) -> io::Result<Self> {
-        faults.check()?;
+        Self::with_options(server, SshOptions::default().faults(faults))
+    }
+
+    /// As `new`, with these options.
+    pub fn with_options(server: &Server, options: SshOptions) -> io::Result<Self> {
+        options.faults.check()?;
         let program = find_script()?;
         let folder = Folder::new()?;
-        let socket = folder.0.join("socket");
-        let faults = Arc::new(Mutex::new(faults));
-        let listener = server.listener(&socket, Arc::clone(&faults))?;
         let keys = folder.0.join("keys");
+        if let Some(host_key) = &options.host_key {
+            copy_key(host_key, &keys)?;
+        }
+        if options.root.iter().any(|byte| *byte != b'/') {
+            server.make_directories(&options.root)?;
+        }
+        let socket = folder.0.join("socket");
+        let terms = Terms::new(&options.root, options.faults);
+        let listener = server.listener(&socket, Arc::clone(&terms))?;
         let script = Script::start(&program, &socket, &keys)?;
         let config = fs::read_to_string(keys.join("ssh_config"))?;
         let port = option(&config, "Port")?.parse().map_err(|_| malformed(&config))?;
         let user = option(&config, "User")?.to_string();
-        Ok(Self { _script: script, _listener: listener, folder, port, user, faults })
+        Ok(Self { _script: script, _listener: listener, folder, port, user, terms })
     }
 
     pub fn host(&self) -> &str {
@@ -106,7 +162,7 @@ impl SshServer {
     /// Sets the faults of the sessions that open from now on.
     pub fn set_faults(&self, faults: Faults) -> io::Result<()> {
         faults.check()?;
-        *self.faults.lock().unwrap_or_else(PoisonError::into_inner) = faults;
+        *self.terms.faults() = faults;
         Ok(())
     }
 }
@@ -140,6 +196,24 @@ impl Drop for Folder {
     fn drop(&mut self) {
         let _ = fs::remove_dir_all(&self.0);
     }
+}
+
+/// Copies the host's key to where the script looks for it, with the public key beside it.
+fn copy_key(from: &Path, keys: &Path) -> io::Result<()> {
+    DirBuilder::new().mode(0o700).create(keys)?;
+    let to = keys.join("host_key");
+    let create =
+        |path: &Path| OpenOptions::new().write(true).create_new(true).mode(0o600).open(path);
+    let key = fs::read(from).map_err(|fault| {
+        io::Error::new(fault.kind(), format!("host_key: {}: {}", from.display(), fault))
+    })?;
+    create(&to)?.write_all(&key)?;
+    let public = Command::new("ssh-keygen").args(["-y", "-P", "", "-f"]).arg(&to).output()?;
+    if !public.status.success() {
+        let why = String::from_utf8_lossy(&public.stderr).trim_end().to_string();
+        return Err(io::Error::new(ErrorKind::InvalidInput, format!("host_key: {}", why)));
+    }
+    create(&keys.join("host_key.pub"))?.write_all(&public.stdout)
 }
 
 /// The running script. When this is dropped, the script ends its connections.
@@ -178,7 +252,7 @@ impl Script {
 impl Drop for Script {
     fn drop(&mut self) {
         // SAFETY: it has numbers as arguments, and the process was not waited for.
-        unsafe { sys::kill(self.0.id() as c_int, sys::SIGTERM) };
+        unsafe { linux::kill(self.0.id() as c_int, linux::SIGTERM) };
         let _ = self.0.wait();
     }
 }

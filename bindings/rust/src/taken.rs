@@ -3,7 +3,8 @@
 use crate::arguments::unix_time;
 use crate::calls::bytes_of;
 use crate::tree::{Entry, Piece};
-use crate::{checked, sys, Engine, Refusal};
+use crate::{checked, Engine, Refusal};
+use lucernetick_sys as sys;
 use std::collections::{BTreeMap, HashMap};
 use std::ptr;
 

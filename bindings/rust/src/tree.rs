@@ -3,7 +3,8 @@
 use crate::arguments::{self, seconds};
 use crate::calls::status_text;
 use crate::taken::Taken;
-use crate::{sys, Engine, Error, Kind, Refusal};
+use crate::{Engine, Error, Kind, Refusal};
+use lucernetick_sys as sys;
 use std::borrow::Cow;
 use std::collections::{btree_map, BTreeMap};
 use std::iter;
@@ -170,6 +171,9 @@ impl Engine {
         I: IntoIterator<Item = (P, C)>,
     {
         for (path, contents) in files {
+            if arguments::path("path", path.as_ref())? == b"/" {
+                return Err(Error::Argument("path must not be the root, a directory".to_string()));
+            }
             let contents = as_bytes(contents.as_ref());
             self.place(path.as_ref(), None, moment, |engine, path, moment, place| {
                 // SAFETY: the pointer is an engine's, which only `drop` frees, the bytes are of

@@ -12,6 +12,7 @@ const STAT: &[u8] = b"\0\0\0\x0a\x11\0\0\0\x08\0\0\0\x01/";
 const ATTRS: usize = 41;
 /// The length of VERSION's packet.
 const VERSION: usize = 71;
+const STATUS: usize = 28;
 
 fn server() -> Server {
     Server::new(Engine::from_files([("/f", "1")], at(100)).unwrap(), || at(7))
@@ -50,19 +51,40 @@ fn requests_are_cut() {
     }
 }
 
-/// The replies are cut at each byte, while the requests are shorter.
+/// MKDIR of `/a`, `/b` and so on.
+fn mkdirs(count: u8) -> Vec<u8> {
+    let mkdir = |at| [b"\0\0\0\x0f\x0e\0\0\0\x07\0\0\0\x02/", &[b'a' + at][..], &[0; 4]].concat();
+    (0..count).flat_map(mkdir).collect()
+}
+
+/// The replies are cut at each byte. The requests, which are shorter and received before that, take
+/// effect.
 #[test]
 fn replies_are_cut() {
-    let server = server();
-    for count in INIT.len() + STAT.len()..=VERSION + ATTRS {
+    let sent = [INIT, &mkdirs(3)].concat();
+    for count in sent.len() + 1..VERSION + 3 * STATUS {
+        let server = server();
         let mut connection = connect(&server, Faults::default().cut_after(count as u64));
-        connection.write_all(INIT).unwrap();
-        let mut received = vec![0; VERSION.min(count)];
-        connection.read_exact(&mut received).unwrap();
-        // It fails if the connection is cut already.
-        let _ = connection.write_all(STAT);
+        connection.write_all(&sent).unwrap();
+        let mut received = Vec::new();
         connection.read_to_end(&mut received).unwrap();
         assert_eq!(received.len(), count);
+        assert!(server.snapshot().unwrap().paths().eq(["/", "/a", "/b", "/c", "/f"]));
+        assert!(connection.is_cut());
+    }
+}
+
+/// The requests of a client that closes its connection without reading take effect.
+#[test]
+fn a_client_that_reads_nothing() {
+    for faults in [Faults::default(), Faults::default().delay(Duration::from_secs(3600))] {
+        let server = server();
+        let mut connection = connect(&server, faults);
+        connection
+            .write_all(&[INIT, &mkdirs(5), &STAT.repeat(1000), &mkdirs(26)].concat())
+            .unwrap();
+        drop(connection);
+        server.wait_for("/z", Duration::from_secs(120)).unwrap();
     }
 }
 

@@ -1,12 +1,12 @@
 //! Copies from folders of the system, and to them.
 
 use lucernetick::unix_time as at;
-use lucernetick::{Engine, Session};
+use lucernetick::{Engine, FolderOptions, Rule, Session};
 use std::fs;
 use std::io::ErrorKind;
 use std::os::unix::fs::{symlink, MetadataExt, PermissionsExt};
-use std::path::PathBuf;
-use std::process;
+use std::path::{Path, PathBuf};
+use std::process::{self, Command};
 
 /// A folder that is removed when this is dropped.
 struct Folder(PathBuf);
@@ -79,4 +79,49 @@ fn folders_that_are_refused() {
     assert!(refused.to_string().ends_with("/g is neither a file nor a directory"), "{}", refused);
     let refused = Engine::from_folder(folder.0.join("none"), at(0)).unwrap_err();
     assert_eq!(refused.kind(), ErrorKind::NotFound);
+}
+
+/// As the option `--tree` of the programs: permissions, owners and times are copied, and what is
+/// neither a file nor a directory is skipped. No rule applies.
+#[test]
+fn a_folder_with_its_attributes() {
+    let folder = Folder::new("attributes");
+    let at_path = |name: &str| folder.0.join(name);
+    fs::create_dir(at_path("d")).unwrap();
+    fs::write(at_path("d/f"), "1").unwrap();
+    fs::hard_link(at_path("d/f"), at_path("g")).unwrap();
+    symlink("f", at_path("d/s")).unwrap();
+    fs::set_permissions(at_path("d/f"), fs::Permissions::from_mode(0o4640)).unwrap();
+    fs::set_permissions(at_path("d"), fs::Permissions::from_mode(0o1750)).unwrap();
+    for (name, moment) in [("d/f", "@-7"), ("d", "@1700000000")] {
+        let touched = Command::new("touch").args(["-d", moment]).arg(at_path(name)).status();
+        assert!(touched.unwrap().success());
+    }
+    let mut engine = Engine::new().unwrap();
+    engine.refuse(Rule::default().always()).unwrap();
+    let mut skipped = Vec::new();
+    let skip = |path: &Path, kind: &str| skipped.push((path.to_path_buf(), kind.to_string()));
+    engine.write_folder(&folder.0, FolderOptions::default().attributes().skip(skip)).unwrap();
+    assert_eq!(skipped, [(at_path("d/s"), "a symbolic link".to_string())]);
+    let tree = engine.snapshot().unwrap();
+    assert_eq!((tree["/d"].mode, tree["/d/f"].mode), (0o41750, 0o104640));
+    // A time before 1970 is 1970.
+    assert_eq!((tree["/d"].mtime, tree["/d/f"].mtime), (at(1_700_000_000), at(0)));
+    let found = fs::metadata(at_path("g")).unwrap();
+    assert_eq!((tree["/g"].uid, tree["/g"].gid), (found.uid(), found.gid()));
+    assert_eq!(tree["/g"].file, tree["/d/f"].file);
+}
+
+#[test]
+fn a_tree_that_is_saved_in_part() {
+    let files = [("/a/b", "1"), ("/a/c", "2"), ("/d", "3")];
+    let tree = Engine::from_files(files, at(77)).unwrap().snapshot().unwrap();
+    let folder = Folder::new("in_part");
+    assert!(tree.save_all(&folder.0).unwrap().is_empty());
+    fs::remove_file(folder.0.join("a/c")).unwrap();
+    let failed = tree.save_all(&folder.0).unwrap();
+    let paths: Vec<&[u8]> = failed.iter().map(|(path, _)| path.as_slice()).collect();
+    assert_eq!(paths, [&b"/a"[..], b"/a/b", b"/d"]);
+    assert!(failed.iter().all(|(_, fault)| fault.kind() == ErrorKind::AlreadyExists));
+    assert_eq!(fs::read(folder.0.join("a/c")).unwrap(), b"2");
 }

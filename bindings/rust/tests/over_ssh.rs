@@ -1,7 +1,7 @@
 //! OpenSSH's `sftp` over SSH.
 
 use lucernetick::unix_time as at;
-use lucernetick::{Engine, Faults, Kind, Server, SshServer};
+use lucernetick::{Engine, Faults, Kind, Server, SshOptions, SshServer};
 use std::env;
 use std::fs::{self, File};
 use std::io::{BufRead, BufReader, ErrorKind, Read, Write};
@@ -235,6 +235,34 @@ fn a_fault_over_ssh() {
     let mut client = over.client();
     client.asks("put sent /f\n");
     assert!(client.ends());
+}
+
+/// Several of them, with a root and a host key each, in front of one server.
+#[test]
+fn roots_and_host_keys() {
+    let over = OverSsh::new("roots");
+    let host_key = over.folder.join("host_key");
+    let words = ["-q", "-t", "ed25519", "-N", "", "-f"];
+    assert!(Command::new("ssh-keygen").args(words).arg(&host_key).status().unwrap().success());
+    let options = || SshOptions::default().host_key(&host_key);
+    let ann = SshServer::with_options(&over.server, options().root("/homes/ann")).unwrap();
+    let bob = SshServer::with_options(&over.server, options().root("/homes/bob")).unwrap();
+    for (ssh, name) in [(&ann, "a"), (&bob, "b")] {
+        let mut client = Client::new(&over.folder, &ssh.ssh_config());
+        client.asks(&format!("mkdir /{}\n", name));
+        assert!(client.ends());
+    }
+    let paths = ["/", "/homes", "/homes/ann", "/homes/ann/a", "/homes/bob", "/homes/bob/b"];
+    assert!(over.server.snapshot().unwrap().paths().eq(paths));
+    let public = fs::read_to_string(over.folder.join("host_key.pub")).unwrap();
+    let public: Vec<&str> = public.split(' ').take(2).collect();
+    for ssh in [&ann, &bob] {
+        assert!(fs::read_to_string(ssh.known_hosts()).unwrap().contains(&public.join(" ")));
+    }
+    let missing = over.folder.join("none");
+    let refused = SshServer::with_options(&over.server, SshOptions::default().host_key(&missing));
+    let why = refused.unwrap_err().to_string();
+    assert!(why.contains("host_key: ") && why.contains("none"), "{}", why);
 }
 
 /// Nothing of it is left when it is dropped: no process, no folder, no connection.

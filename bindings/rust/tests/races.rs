@@ -305,3 +305,59 @@ fn a_stream_is_shared() {
         assert_eq!(reads.join().unwrap().unwrap(), 101);
     });
 }
+
+/// The data of a race's timeline.
+fn timeline(races: &Races, test: &str) -> String {
+    let name = format!("lucernetick-{}-{}.html", std::process::id(), test);
+    let path = std::env::temp_dir().join(name);
+    races.timeline(&path).unwrap();
+    let page = std::fs::read_to_string(&path).unwrap();
+    std::fs::remove_file(&path).unwrap();
+    let begin = page.find("application/json\">").unwrap();
+    let end = page[begin..].find("</script>").unwrap();
+    page[begin..begin + end].to_string()
+}
+
+/// A call has the turns in which its request was read, it took effect and its reply was written.
+#[test]
+fn the_turns_of_a_timeline() {
+    let schedule = "1 2x2 1x2 2 1 2x3 1";
+    let races = Races::replay(Engine::new().unwrap(), schedule, 2).unwrap();
+    let mut streams = streams(&races, 2);
+    streams[0].write_all(MAKES).unwrap();
+    streams[1].write_all(LOOKS).unwrap();
+    drop(streams);
+    let found = timeline(&races, "turns");
+    let call = |kind: &str, turns: &str| {
+        let head = format!("\"kind\":\"{}\",\"paths\":[\"/a\"],\"failed\":false,", kind);
+        format!("{}{},\"helper\":0}}", head, turns)
+    };
+    let [head, blocked] = [
+        "\"title\":\"Race by a schedule\",\"clients\":2,\"schedule\":\"1 2x2 1x2 2 1 2x3 1\"",
+        "{\"client\":2,\"did\":\"BLOCKED\"}",
+    ]
+    .map(String::from);
+    let made = call("mkdir", "\"request\":4,\"point\":7,\"reply\":11");
+    let looked = call("stat", "\"request\":3,\"point\":9,\"reply\":10");
+    for part in [head, blocked, made, looked] {
+        assert_eq!(found.matches(&part).count(), 1, "{}", part);
+    }
+}
+
+/// A STAT is on its way below `/a` when `/a` is renamed. The rename completes it.
+#[test]
+fn a_helped_call_of_a_timeline() {
+    let engine = Engine::from_files([("/a/f", "1")], at(0)).unwrap();
+    let races = Races::replay(engine, "1x4 2x9", 2).unwrap();
+    let mut streams = streams(&races, 2);
+    streams[0].write_all(&[INIT, b"\0\0\0\x0d\x11\0\0\0\x08\0\0\0\x04/a/f"].concat()).unwrap();
+    let rename = b"\0\0\0\x11\x12\0\0\0\x07\0\0\0\x02/a\0\0\0\x02/b";
+    streams[1].write_all(&[INIT, &rename[..]].concat()).unwrap();
+    drop(streams);
+    let calls = races.calls().unwrap();
+    let renamed = calls.iter().find(|call| call.kind == Kind::Rename).unwrap().number;
+    let found = timeline(&races, "helped");
+    let (_, stat) = found.split_once("\"kind\":\"stat\"").unwrap();
+    let (stat, _) = stat.split_once('}').unwrap();
+    assert!(stat.ends_with(&format!("\"helper\":{}", renamed)), "{}", stat);
+}

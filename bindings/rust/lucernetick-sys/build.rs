@@ -1,5 +1,6 @@
-//! Finds the static library: in the folder LUCERNETICK_ARCHIVE, next to this file, or in the
-//! repository, where `make library` builds it. Without it the build ends with a sentence.
+//! Finds the static library: in the folder LUCERNETICK_ARCHIVE, or beside this crate or the crate
+//! `lucernetick`, or in the repository, where `make library` builds it. Without it the build ends with
+//! a sentence.
 
 use std::env;
 use std::path::{Path, PathBuf};
@@ -26,13 +27,18 @@ fn check_target() -> Result<(), String> {
     Err(format!("the library is only for Linux on x86_64, and the target is {}", target))
 }
 
+/// The folder this many levels above.
+fn above(folder: &Path, levels: usize) -> PathBuf {
+    folder.ancestors().nth(levels).unwrap_or(folder).to_path_buf()
+}
+
 /// The folder with the library.
 fn find() -> Result<PathBuf, String> {
     let beside = Path::new(env!("CARGO_MANIFEST_DIR"));
     let (places, advice) = match env::var_os("LUCERNETICK_ARCHIVE") {
         Some(folder) => (vec![PathBuf::from(folder)], "LUCERNETICK_ARCHIVE must be its folder"),
         None => (
-            vec![beside.to_path_buf(), beside.join("../../out")],
+            vec![beside.to_path_buf(), above(beside, 1), above(beside, 3).join("out")],
             "In the repository `make library` builds it; or set LUCERNETICK_ARCHIVE to its folder",
         ),
     };

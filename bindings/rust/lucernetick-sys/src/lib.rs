@@ -1,6 +1,7 @@
-//! The functions of include/lucernetick.h, and some of Linux.
+//! The functions of `lucernetick.h`, as they are. The header says what callers must ensure. The crate
+//! `lucernetick` is the safe interface.
 
-use std::os::raw::{c_char, c_int, c_short, c_ulong};
+use std::os::raw::c_char;
 
 /// An opaque engine.
 #[repr(C)]
@@ -98,6 +99,7 @@ pub const LT_REFUSAL_STATUS_BASE: i64 = -100;
 extern "C" {
     pub fn lt_version() -> *const c_char;
     pub fn lt_message(answer: i64) -> *const c_char;
+    pub fn lt_new() -> *mut Engine;
     pub fn lt_new_keeping(keep: u64) -> *mut Engine;
     pub fn lt_free(engine: *mut Engine);
     pub fn lt_open(engine: *mut Engine) -> i64;
@@ -116,6 +118,7 @@ extern "C" {
     pub fn lt_output(engine: *const Engine, session: u64, room: *mut u8, length: usize) -> i64;
     pub fn lt_sent(engine: *mut Engine, session: u64, count: usize) -> i64;
     pub fn lt_refuse(engine: *mut Engine, rule: *const Rule) -> i64;
+    pub fn lt_refused(engine: *const Engine, number: u64) -> i64;
     pub fn lt_calls(engine: *mut Engine, at: u64, call: *mut Call) -> i64;
     pub fn lt_make_directory(
         engine: *mut Engine,
@@ -139,6 +142,14 @@ extern "C" {
     ) -> i64;
     pub fn lt_tree_of(engine: *const Engine, tree: *mut *mut Tree) -> i64;
     pub fn lt_tree_leaf(tree: *mut Tree, at: u64, leaf: *mut Leaf) -> i64;
+    pub fn lt_tree_leaves(
+        tree: *const Tree,
+        at: u64,
+        leaves: *mut Leaf,
+        most: usize,
+        room: *mut u8,
+        length: usize,
+    ) -> i64;
     pub fn lt_tree_read(
         tree: *const Tree,
         at: u64,
@@ -148,47 +159,4 @@ extern "C" {
     ) -> i64;
     pub fn lt_tree_gap(tree: *const Tree, at: u64, offset: u64) -> i64;
     pub fn lt_tree_free(tree: *mut Tree);
-}
-
-/// The events to poll for, and those that occurred.
-#[repr(C)]
-pub struct PollFd {
-    pub fd: c_int,
-    pub events: c_short,
-    pub revents: c_short,
-}
-
-pub const POLLIN: c_short = 0x01;
-pub const POLLOUT: c_short = 0x04;
-pub const POLLERR: c_short = 0x08;
-pub const POLLHUP: c_short = 0x10;
-pub const MSG_DONTWAIT: c_int = 0x40;
-pub const MSG_NOSIGNAL: c_int = 0x4000;
-/// How many bytes were sent that the peer has not received.
-pub const SIOCOUTQ: c_ulong = 0x5411;
-
-#[cfg(feature = "ssh")]
-pub const SIGTERM: c_int = 15;
-
-/// A time, in seconds since 1970.
-#[repr(C)]
-pub struct Timespec {
-    pub seconds: i64,
-    pub nanoseconds: i64,
-}
-
-pub const AT_FDCWD: c_int = -100;
-
-extern "C" {
-    pub fn utimensat(
-        folder: c_int,
-        path: *const c_char,
-        times: *const Timespec,
-        flags: c_int,
-    ) -> c_int;
-    pub fn poll(fds: *mut PollFd, count: c_ulong, timeout: c_int) -> c_int;
-    pub fn send(socket: c_int, bytes: *const u8, length: usize, flags: c_int) -> isize;
-    #[cfg(feature = "ssh")]
-    pub fn kill(process: c_int, signal: c_int) -> c_int;
-    pub fn ioctl(socket: c_int, request: c_ulong, ...) -> c_int;
 }
