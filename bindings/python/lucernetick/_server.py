@@ -25,7 +25,7 @@ from ._closing import Closes
 from ._engine import Engine, Session, Turn
 from ._faults import Refusal, RefusedError
 from ._folders import Snapshot
-from ._lines import PIECE, REPLIES, Faults, FaultyLine, Line, LineEnded
+from ._lines import PIECE, REPLIES, Faults, FaultyLine, Line
 from ._log import Log
 from ._requests import Request
 from ._rules import Refuses, Rule, Status
@@ -124,11 +124,17 @@ def as_engine(engine: Optional[Engine]) -> Engine:
 
 
 async def _pass_on(reader: StreamReader, writer: StreamWriter) -> None:
-    """Copies a stream to its end."""
+    """Copies a stream to its end. What the writer can't send is dropped."""
+    is_lost = False
     with contextlib.suppress(ConnectionError):
         while data := await reader.read(PIECE):
-            writer.write(data)
-            await writer.drain()
+            try:
+                if not is_lost:
+                    writer.write(data)
+                    await writer.drain()
+            except ConnectionError:
+                is_lost = True
+    with contextlib.suppress(ConnectionError):
         writer.write_eof()
 
 
@@ -291,7 +297,7 @@ class Server(Closes, Refuses, Watches):
     def _serve(self, session: Session, line: Line) -> None:
         """Serves a session until its client, it or the engine ends."""
         # The fault is known before the client sees the end of its connection.
-        with contextlib.closing(line), self._reporting(), contextlib.suppress(LineEnded):
+        with contextlib.closing(line), self._reporting():
             self._pump(session, line)
         with self._reporting():
             self._leave(session)
