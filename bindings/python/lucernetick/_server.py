@@ -9,27 +9,26 @@ import socket
 import threading
 from typing import (
     TYPE_CHECKING,
-    Callable,
     Iterator,
     NamedTuple,
     Optional,
     Protocol,
+    Sequence,
     TextIO,
     Union,
 )
 
 from . import _arguments as arguments
-from ._calls import Call
 from ._clock import Clock, checked_clock, wall_clock
 from ._closing import Closes
 from ._engine import Engine, Session, Turn
 from ._faults import Refusal, RefusedError
-from ._folders import Snapshot
 from ._lines import PIECE, REPLIES, Faults, FaultyLine, Line
 from ._log import Log
-from ._requests import Request
-from ._rules import Refuses, Rule, Status
+from ._reaching import Shows
+from ._rules import Refuses
 from ._tree import Files
+from ._users import User
 from ._watching import Watches
 
 if TYPE_CHECKING:
@@ -138,7 +137,7 @@ async def _pass_on(reader: StreamReader, writer: StreamWriter) -> None:
         writer.write_eof()
 
 
-class Server(Closes, Refuses, Watches):
+class Server(Closes, Shows, Refuses, Watches):
     """Serves sessions on one tree over connected sockets, each in a thread.
 
         with lucernetick.Server() as server:
@@ -184,12 +183,26 @@ class Server(Closes, Refuses, Watches):
         connection is dropped, each reply has a latency of `delay` seconds, each direction has at
         most `bandwidth` bytes per second, and the client receives at most `chunk` bytes at a time.
         """
-        return self._connect(Faults(cut_after, delay, bandwidth, chunk))
+        return self._open(Faults(cut_after, delay, bandwidth, chunk))
 
-    def _connect(self, faults: Faults, root: str = "/") -> Connection:
+    def _log_in(self, users: Sequence[User]) -> None:
+        """From now on these users open sessions."""
+        self._check()
+        for user in users:
+            if user.root.strip("/"):
+                self.write_files({user.root: None})
+
+    def _connect(self, user: User, faults: Faults) -> Connection:
+        return self._open(faults, user.root)
+
+    def _open(self, faults: Faults, root: str = "/") -> Connection:
         self._check()
         session = self.engine.open(root=root)
-        ours, theirs = socket.socketpair()
+        try:
+            ours, theirs = socket.socketpair()
+        except OSError:
+            session.close()
+            raise
         line = Line(theirs) if faults == Faults(chunk=faults.chunk) else FaultyLine(theirs, faults)
         connection = Connection(fileno=ours.detach())
         connection.session = session
@@ -223,26 +236,6 @@ class Server(Closes, Refuses, Watches):
         moment = self._now() if moment is None else moment
         self.engine.write_files(files, moment=moment)
 
-    def snapshot(self) -> Snapshot:
-        """The whole tree, see `Engine.snapshot`."""
-        self._check()
-        return self.engine.snapshot()
-
-    def calls(self) -> list[Call]:
-        """The records of all calls, see `Engine.calls`."""
-        self._check()
-        return self.engine.calls()
-
-    def last_calls(self) -> list[Call]:
-        """The records that are kept, see `Engine.last_calls`."""
-        self._check()
-        return self.engine.last_calls()
-
-    @property
-    def dropped(self) -> int:
-        """The number of records that were dropped, see `Engine.dropped`."""
-        return self.engine.dropped
-
     def close(self) -> None:
         """Closes all connections at both ends, and waits for their threads."""
         if self._is_forked:
@@ -274,22 +267,10 @@ class Server(Closes, Refuses, Watches):
                 self._fault = fault
         self._stop()
 
-    def _give(
-        self,
-        matches: Callable[[Request], bool],
-        after: int,
-        after_bytes: Optional[int],
-        times: Optional[int],
-        status: Status,
-    ) -> Rule:
+    @contextlib.contextmanager
+    def _reach(self) -> Iterator[Engine]:
         self._check()
-        return self.engine._give(matches, after, after_bytes, times, status)
-
-    def _taken(self) -> Snapshot:
-        return self.snapshot()
-
-    def _watched(self) -> Engine:
-        return self.engine
+        yield self.engine
 
     def _now(self) -> int:
         return arguments.timestamp("the clock's result", self.clock())
