@@ -20,6 +20,8 @@ from ._users import User
 
 LOG = logging.getLogger("lucernetick")
 KIND = "ssh-ed25519"
+HOST_KINDS = (KIND, "ecdsa-sha2-nistp256")
+"""The second one is for clients without Ed25519, as JSch."""
 ATTEMPTS = 6
 """How many wrong passwords a connection may send."""
 DELAY = 2.0
@@ -42,10 +44,10 @@ class Listener:
         self.users = {user.name: user for user in users}
         self.faults = faults
         self.sessions = 0
-        self.host_key = (
-            asyncssh.generate_private_key(KIND)
+        self.host_keys = (
+            [asyncssh.generate_private_key(kind) for kind in HOST_KINDS]
             if host_key is None
-            else asyncssh.read_private_key(os.fspath(host_key))
+            else [asyncssh.read_private_key(os.fspath(host_key))]
         )
         self.client_key = asyncssh.generate_private_key(KIND)
         self.known = {asyncssh.read_public_key(os.fspath(name)).public_data for name in key_files}
@@ -62,7 +64,7 @@ class Listener:
         self.acceptor = await asyncssh.listen(
             host,
             port,
-            server_host_keys=[self.host_key],
+            server_host_keys=self.host_keys,
             server_factory=lambda: Login(self),
             encoding=None,
             line_editor=False,

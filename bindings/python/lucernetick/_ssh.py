@@ -72,7 +72,7 @@ class SshServer(Closes):
     """The path of a private key that may log in. OpenSSH, paramiko and asyncssh can read it. It is
     made for this server, and removed with it."""
     known_hosts: str
-    """The path of a file with the host's public key, in the format of OpenSSH's `known_hosts`."""
+    """The path of a file with the host's public keys, in the format of OpenSSH's `known_hosts`."""
     faults: Union[Faults, FaultsOf]
     """The faults of the sessions that open from now on."""
 
@@ -98,7 +98,7 @@ class SshServer(Closes):
         - `user`, `password`: the name of a user and a password, by default a random one; or a
           `User`, who has both.
         - `public_keys`: files with further keys that may log in, in OpenSSH's format.
-        - `host_key`: a file with the server's private key, by default a new one.
+        - `host_key`: a file with the server's private key, by default two new ones.
         - `users`: further users.
         - `cut_after`, `delay`, `bandwidth`, `chunk`: faults of every session, see `Faults`.
         - `faults`: returns the `Faults` of a session by its number: 1, 2, 3 and so on.
@@ -138,9 +138,9 @@ class SshServer(Closes):
             self.port = self._do(self._listener.listen(host, port))
             key = self._listener.client_key.export_private_key()
             self.client_key = self._write("client_key", key)
-            self.known_hosts = self._write(
-                "known_hosts", self._names() + self._listener.host_key.export_public_key()
-            )
+            names, keys = self._names(), self._listener.host_keys
+            lines = [names + one.export_public_key() for one in keys]
+            self.known_hosts = self._write("known_hosts", b"".join(lines))
         except BaseException:
             self.close()
             raise
