@@ -138,9 +138,9 @@ class SshServer(Closes):
             self.port = self._do(self._listener.listen(host, port))
             key = self._listener.client_key.export_private_key()
             self.client_key = self._write("client_key", key)
-            names, keys = self._names(), self._listener.host_keys
-            lines = [names + one.export_public_key() for one in keys]
-            self.known_hosts = self._write("known_hosts", b"".join(lines))
+            here, keys = self._names(), self._listener.host_keys
+            hosts = b"".join(here + one.export_public_key() for one in keys)
+            self.known_hosts = self._write("known_hosts", hosts)
         except BaseException:
             self.close()
             raise
