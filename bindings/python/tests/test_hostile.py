@@ -205,9 +205,11 @@ def test_files_of_keys_that_are_links(sftp_ssh: SshServer, tmp_path: Path) -> No
     assert not any(path.is_symlink() for path in (tmp_path / "keys").iterdir())
 
 
-@pytest.mark.skipif(os.geteuid() != 0, reason="another user can be had by root alone")
-def test_a_folder_for_keys_of_another_user(sftp_ssh: SshServer, tmp_path: Path) -> None:
+def test_a_folder_for_keys_of_another_user(
+    sftp_ssh: SshServer, tmp_path: Path, monkeypatch: pytest.MonkeyPatch
+) -> None:
     (tmp_path / "keys").mkdir(0o700)
-    os.chown(tmp_path / "keys", 65534, 65534)
+    user = os.geteuid()
+    monkeypatch.setattr(os, "geteuid", lambda: user + 1)
     with pytest.raises(PermissionError):
         sftp_ssh.write_ssh_config(tmp_path / "keys")
