@@ -146,7 +146,7 @@ def test_garbage_in_sessions(quiet: None, sftp_ssh: SshServer, sftp_tree: Server
 
 
 def test_no_descriptors_are_left() -> None:
-    """It says so once. Connections that wait are served later."""
+    """It says so once, until it accepts again. Connections that wait are served later."""
     code = (
         "import lucernetick, sys\n"
         "with lucernetick.Server() as server, lucernetick.SshServer(server) as ssh:\n"
@@ -171,7 +171,8 @@ def test_no_descriptors_are_left() -> None:
             assert client.open_sftp().listdir("/") == []
         _, wrong = process.communicate("\n", timeout=LIMIT)
     assert process.returncode == 0
-    assert wrong == "connections wait: Too many open files\n"
+    assert set(wrong.splitlines()) == {"connections wait: Too many open files"}
+    assert len(wrong.splitlines()) < 10
 
 
 @pytest.mark.parametrize("mode", [0o770, 0o702])
