@@ -18,6 +18,8 @@ from ._races import Races
 from ._server import Connection, Server
 from ._users import User
 
+SHORT = (errno.EMFILE, errno.ENFILE)
+"""The errors if descriptors run out."""
 LOG = logging.getLogger("lucernetick")
 KIND = "ssh-ed25519"
 HOST_KINDS = (KIND, "ecdsa-sha2-nistp256")
@@ -100,6 +102,8 @@ class Listener:
             try:
                 return self.server._connect(user, faults)
             except (Error, OSError) as fault:
+                if not isinstance(fault, Error) and fault.errno not in SHORT:
+                    raise
                 LOG.warning("a session was rejected: %s", fault)
         except Exception as fault:
             self.server._fail(fault)
@@ -109,7 +113,7 @@ class Listener:
         """An error of the event loop. If there are no descriptors for connections, asyncio tries
         again each second, and reports each attempt."""
         fault = context.get("exception")
-        if not isinstance(fault, OSError) or fault.errno not in (errno.EMFILE, errno.ENFILE):
+        if not isinstance(fault, OSError) or fault.errno not in SHORT:
             loop.default_exception_handler(context)
         elif not self.is_short:
             self.is_short = True
