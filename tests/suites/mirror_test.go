@@ -3,8 +3,8 @@ package mirror
 
 import (
 	"errors"
+	"io"
 	"io/fs"
-	"net"
 	"sync"
 	"testing"
 	"testing/fstest"
@@ -24,7 +24,7 @@ var site = fstest.MapFS{
 	"pages/zero": {},
 }
 
-func over(conn net.Conn) (*sftp.Client, error) {
+func over(conn io.ReadWriteCloser) (*sftp.Client, error) {
 	return sftp.NewClientPipe(conn, conn)
 }
 
