@@ -41,7 +41,7 @@
 #include <stdint.h>
 
 /* The version of this file; lt_version() is that of the library. */
-#define LT_VERSION "0.2.0"
+#define LT_VERSION "0.3.0"
 
 #ifdef __cplusplus
 extern "C" {

@@ -279,7 +279,7 @@ func TestWhoWantsBytes(t *testing.T) {
 }
 
 func TestVersionAndTexts(t *testing.T) {
-	same(t, Version(), "0.2.0")
+	same(t, Version(), "0.3.0")
 	same(t, ErrTooManySessions.Error(), "lucernetick: 256 sessions are open")
 	same(t, Closed.String(), "ended: the session was closed")
 }

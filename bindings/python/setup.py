@@ -8,6 +8,8 @@ import shutil
 
 from setuptools import Distribution, setup
 from setuptools.command.build_py import build_py
+from setuptools.command.sdist import sdist
+from setuptools.errors import SetupError
 
 try:
     from setuptools.command.bdist_wheel import bdist_wheel
@@ -16,6 +18,10 @@ except ImportError:
     from wheel.bdist_wheel import bdist_wheel
 
 BUILT = pathlib.Path(__file__).resolve().parents[2] / "out" / "liblucernetick.so"
+NO_SOURCES = (
+    "there is no source distribution, since the library is built by Rattle's kit: build a wheel by "
+    "`make library` and `pip wheel --no-deps bindings/python`"
+)
 
 
 def newest_glibc(library: pathlib.Path) -> tuple[int, int]:
@@ -41,6 +47,13 @@ class WithLibrary(build_py):
             shutil.copy(BUILT, pathlib.Path(self.build_lib) / "lucernetick" / BUILT.name)
 
 
+class NoSources(sdist):
+    """Says why there are none."""
+
+    def run(self) -> None:
+        raise SetupError(NO_SOURCES)
+
+
 class OfThisMachine(Distribution):
     """A package with a library for one kind of machine."""
 
@@ -58,4 +71,7 @@ class ForEachPython(bdist_wheel):
         return "py3", "none", platform
 
 
-setup(cmdclass={"build_py": WithLibrary, "bdist_wheel": ForEachPython}, distclass=OfThisMachine)
+setup(
+    cmdclass={"build_py": WithLibrary, "bdist_wheel": ForEachPython, "sdist": NoSources},
+    distclass=OfThisMachine,
+)

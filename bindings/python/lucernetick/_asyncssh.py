@@ -4,18 +4,26 @@ from __future__ import annotations
 
 import asyncio
 import contextlib
+import errno
+import logging
 import os
 import secrets
-from typing import Callable, Iterable, Optional, Sequence, Union, cast
+from typing import Any, Callable, Iterable, Optional, Sequence, Union, cast
 
 import asyncssh
 
 from ._faults import Error
 from ._lines import Faults
+from ._races import Races
 from ._server import Connection, Server
 from ._users import User
 
+SHORT = (errno.EMFILE, errno.ENFILE)
+"""The errors if descriptors run out."""
+LOG = logging.getLogger("lucernetick")
 KIND = "ssh-ed25519"
+HOST_KINDS = (KIND, "ecdsa-sha2-nistp256")
+"""The second one is for clients without Ed25519, as JSch."""
 ATTEMPTS = 6
 """How many wrong passwords a connection may send."""
 DELAY = 2.0
@@ -28,7 +36,7 @@ class Listener:
 
     def __init__(
         self,
-        server: Server,
+        server: Union[Server, Races],
         users: Sequence[User],
         key_files: Iterable[Union[str, os.PathLike[str]]],
         host_key: Union[None, str, os.PathLike[str]],
@@ -38,10 +46,10 @@ class Listener:
         self.users = {user.name: user for user in users}
         self.faults = faults
         self.sessions = 0
-        self.host_key = (
-            asyncssh.generate_private_key(KIND)
+        self.host_keys = (
+            [asyncssh.generate_private_key(kind) for kind in HOST_KINDS]
             if host_key is None
-            else asyncssh.read_private_key(os.fspath(host_key))
+            else [asyncssh.read_private_key(os.fspath(host_key))]
         )
         self.client_key = asyncssh.generate_private_key(KIND)
         self.known = {asyncssh.read_public_key(os.fspath(name)).public_data for name in key_files}
@@ -49,13 +57,16 @@ class Listener:
         self.acceptor: Optional[asyncssh.SSHAcceptor] = None
         self.connections: set[asyncssh.SSHServerConnection] = set()
         self.lines: set[asyncio.Transport] = set()
+        self.is_short = False
+        """Whether descriptors ran out, and no connection was accepted since."""
 
     async def listen(self, host: str, port: int) -> int:
         """Returns the port."""
+        asyncio.get_running_loop().set_exception_handler(self.on_error)
         self.acceptor = await asyncssh.listen(
             host,
             port,
-            server_host_keys=[self.host_key],
+            server_host_keys=self.host_keys,
             server_factory=lambda: Login(self),
             encoding=None,
             line_editor=False,
@@ -85,14 +96,28 @@ class Listener:
 
     def connect(self, user: User) -> Optional[Connection]:
         """A session; None if there is no room, or the server has stopped."""
+        self.sessions += 1
         try:
-            self.sessions += 1
-            return self.server._connect(self.faults(self.sessions), user.root)
-        except Error:
-            return None
+            faults = self.faults(self.sessions)
+            try:
+                return self.server._connect(user, faults)
+            except (Error, OSError) as fault:
+                if not isinstance(fault, Error) and fault.errno not in SHORT:
+                    raise
+                LOG.warning("a session was rejected: %s", fault)
         except Exception as fault:
             self.server._fail(fault)
-            return None
+        return None
+
+    def on_error(self, loop: asyncio.AbstractEventLoop, context: dict[str, Any]) -> None:
+        """An error of the event loop. If there are no descriptors for connections, asyncio tries
+        again each second, and reports each attempt."""
+        fault = context.get("exception")
+        if not isinstance(fault, OSError) or fault.errno not in SHORT:
+            loop.default_exception_handler(context)
+        elif not self.is_short:
+            self.is_short = True
+            LOG.warning("connections wait: %s", fault.strerror)
 
 
 class Login(asyncssh.SSHServer):
@@ -106,6 +131,7 @@ class Login(asyncssh.SSHServer):
     def connection_made(self, conn: asyncssh.SSHServerConnection) -> None:
         self.connection = conn
         self.listener.connections.add(conn)
+        self.listener.is_short = False
 
     def connection_lost(self, exc: Optional[Exception]) -> None:
         self.listener.connections.discard(self.connection)

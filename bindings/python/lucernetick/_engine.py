@@ -2,13 +2,14 @@
 
 from __future__ import annotations
 
+import contextlib
 import ctypes
 import enum
 import os
 import threading
 import weakref
 from collections import deque
-from typing import Any, Callable, NoReturn, Optional, Union
+from typing import Any, Iterator, NoReturn, Optional, Union
 
 from . import _arguments as arguments
 from ._calls import Call, Kind, LtBytes, Records, read_calls
@@ -17,7 +18,7 @@ from ._flags import OpenFlag
 from ._folders import Skip, Snapshot, read_folder
 from ._library import library
 from ._log import Log
-from ._requests import Packets, Request, below_root, read_request, refused_packet
+from ._requests import Packets, below_root, read_request, refused_packet
 from ._rules import ALWAYS, LtRule, Refuses, Rule, Status
 from ._tree import Files, read_tree, write_tree
 from ._watching import Hook, Watches
@@ -263,6 +264,11 @@ class Engine(Refuses, Watches):
             self._catch_up()
             self._log = log
 
+    @contextlib.contextmanager
+    def _reach(self) -> Iterator[Engine]:
+        self._check()
+        yield self
+
     def _check(self) -> None:
         """Raises an error if the engine was closed, or is the parent process's."""
         if self._is_forked:
@@ -343,12 +349,6 @@ class Engine(Refuses, Watches):
         with self._lock:
             if hook in self._hooks:
                 self._hooks.remove(hook)
-
-    def _taken(self) -> Snapshot:
-        return self.snapshot()
-
-    def _watched(self) -> Engine:
-        return self
 
     def _feed(self, session: int, data: bytes) -> None:
         """The library gets one packet at a time, when it reads it: until then rules apply."""
@@ -432,17 +432,9 @@ class Engine(Refuses, Watches):
             wants = bool(self._checked(library.lt_wants_bytes(self._engine, session)))
             return wants and packets is not None and not packets.length()
 
-    def _give(
-        self,
-        matches: Callable[[Request], bool],
-        after: int,
-        after_bytes: Optional[int],
-        times: Optional[int],
-        status: Status,
-    ) -> Rule:
+    def _give(self, rule: Rule) -> Rule:
         with self._lock:
             self._check()
-            rule = Rule(self, matches, after, after_bytes, times, status)
             self._rules.append(rule)
             return rule
 

@@ -46,12 +46,12 @@ class Faults:
 
 
 class LineEnded(Exception):
-    """The client has closed its connection, or a fault has."""
+    """The client or the server has closed the connection before its late replies."""
 
 
 class Line:
     """While it can't send, it reads on and buffers: so a client that sends before it reads doesn't
-    block."""
+    block. What its client sent before it closed the connection is still received."""
 
     replies = REPLIES
     is_cut = False
@@ -61,6 +61,8 @@ class Line:
         self._ahead: deque[bytearray] = deque()
         self._count = 0
         self._has_ended = False
+        self._is_deaf = False
+        """Whether the client receives no more. Its replies are dropped."""
         self._is_shut = False
 
     def recv(self) -> bytes:
@@ -76,13 +78,13 @@ class Line:
     def sendall(self, data: bytes) -> None:
         rest = memoryview(data)
         try:
-            while rest:
+            while rest and not self._is_deaf:
                 try:
                     rest = rest[self._line.send(rest, socket.MSG_DONTWAIT) :]
                 except BlockingIOError:
                     self._wait()
-        except OSError as fault:
-            raise LineEnded from fault
+        except OSError:
+            self._is_deaf = True
 
     def shutdown(self) -> None:
         """Ends both directions."""
@@ -126,6 +128,7 @@ class FaultyLine(Line):
         super().__init__(line)
         self._faults = faults
         self._to_come = self._to_go = math.inf if faults.cut_after is None else faults.cut_after
+        self.is_cut = faults.cut_after == 0
         self._late: deque[tuple[float, bytes]] = deque()
         """Bytes to be sent, and when."""
         self._late_bytes = 0
@@ -135,7 +138,7 @@ class FaultyLine(Line):
     def recv(self) -> bytes:
         self._wait_for_input()
         data = b""
-        if self._to_come:
+        if self._to_come and (self._to_go or self._ahead):
             data = super().recv()
             if len(data) >= self._to_come:
                 data = data[: int(self._to_come)]
@@ -155,8 +158,6 @@ class FaultyLine(Line):
             self._add_late(data)
         else:
             super().sendall(data)
-        if not self._to_go:
-            raise LineEnded("cut")
 
     def close(self) -> None:
         """Sends the late replies. The client sees an end of the stream, and no reset: what it has
@@ -179,14 +180,15 @@ class FaultyLine(Line):
                 self._free += len(part) / self._faults.bandwidth
             self._late.append((self._free, part))
             self._late_bytes += len(part)
-        while self._late_bytes > MOST_AHEAD:
-            self._send_late(self._late[0][0])
+        with self._without_client():
+            while self._late_bytes > MOST_AHEAD:
+                self._send_late(self._late[0][0])
 
     def _wait_for_input(self) -> None:
         """Sends late replies until there is something to read."""
         with self._without_client():
             while self._late and not self._ahead and not self._has_ended and self._to_come:
-                if self._has_input(self._late[0][0]):
+                if self._to_go and self._has_input(self._late[0][0]):
                     return
                 self._send_late(self._late[0][0])
 

@@ -19,12 +19,14 @@ from ._clock import Clock, VirtualTime, checked_clock
 from ._closing import Closes
 from ._engine import Engine, Session, Turn
 from ._faults import Error, Refusal, RefusedError
-from ._folders import Snapshot
-from ._lines import PIECE
-from ._requests import Packets, Request
-from ._rules import Refuses, Rule, Status
+from ._lines import PIECE, Faults
+from ._reaching import Shows
+from ._requests import Packets
+from ._rules import Refuses
 from ._server import Connection, as_engine
 from ._timeline import Race, Span, page
+from ._tree import Files
+from ._users import User
 from ._watching import Hook
 
 if TYPE_CHECKING:
@@ -139,6 +141,8 @@ class Client:
         self.has_left = False
         """Whether it sends no more, or its session has ended."""
         self.is_closed = False
+        self.is_by_ssh = False
+        """Whether an `SshServer` has its connection, and closes it."""
         self.thread: Optional[int] = None
         """The thread that connected it."""
         self.is_used = False
@@ -191,7 +195,7 @@ class Client:
             self.line.close()
 
 
-class Races(Closes, Refuses):
+class Races(Closes, Shows, Refuses):
     """One race of clients on one tree, each with its own connection, usually in its own thread. It
     is reproducible: the same seed gives the same interleaving, whatever the speed of the clients.
 
@@ -207,6 +211,9 @@ class Races(Closes, Refuses):
     Clients must be deterministic: with the same replies they send the same requests. They must
     close their connections when they are done. If a client waits for something other than the
     server, the scheduler continues without it after `patience` seconds, see `stray`.
+
+    Clients that make their own SSH connection race too: `SshServer(races, users=..)` has one user
+    for each client, and each of them opens one session.
 
     How a turn is chosen, so that other tools can repeat it. A client is ready if one of its packets
     has no reply. Before each turn, every client that isn't ready has sent a complete packet or has
@@ -246,6 +253,8 @@ class Races(Closes, Refuses):
         self._owned = engine is None
         self._clients: list[Client] = []
         self._free = iter(self._clients)
+        self._users: dict[str, Client] = {}
+        """The clients that log in at an `SshServer`, and haven't yet."""
         self._turns: list[tuple[int, Turn]] = []
         self._spans: list[Span] = []
         self._news: list[Call] = []
@@ -283,10 +292,39 @@ class Races(Closes, Refuses):
         client.thread = here
         return client.connection
 
+    def write_files(self, files: Files, *, moment: int = BEGIN) -> None:
+        """Creates or replaces files, see `Engine.write_files`."""
+        with self._reach() as engine:
+            engine.write_files(files, moment=moment)
+
+    def _log_in(self, users: Sequence[User]) -> None:
+        """From now on each of these users is a client, in this order."""
+        self._check()
+        clients = list(self._free)
+        if len(clients) != len(self._clients):
+            raise Error("clients of the race are connected: all clients of an SshServer use it")
+        if len(users) != len(clients):
+            why = f"the race has {len(clients)} clients, and there are {len(users)} users"
+            raise ValueError(f"{why}: each user is one client")
+        if any(user.root.strip("/") for user in users):
+            raise ValueError("the users of a race can't have roots")
+        self._users = {user.name: client for user, client in zip(users, clients)}
+
+    def _connect(self, user: User, faults: Faults) -> Connection:
+        """The connection of the client that this user is. Who comes first doesn't matter."""
+        self._check()
+        client = self._users.pop(user.name, None)
+        if client is None:
+            raise Error(f"{user.name} has opened a session: each user of a race opens one")
+        if faults != Faults():
+            raise ValueError("the connections of a race have no faults")
+        client.is_by_ssh = True
+        return client.connection
+
     @property
     def turns(self) -> list[tuple[int, Turn]]:
         """The turns that were taken: the client, and what the turn did."""
-        with self._quiet():
+        with self._reach():
             return list(self._turns)
 
     @property
@@ -298,26 +336,15 @@ class Races(Closes, Refuses):
     @property
     def stray(self) -> Optional[str]:
         """Why the race is not reproducible; None if it is."""
-        with self._quiet():
+        with self._reach():
             return self._stray
-
-    def snapshot(self) -> Snapshot:
-        """The whole tree (see `Engine.snapshot`) after all replies to what the clients sent."""
-        with self._quiet():
-            return self.engine.snapshot()
-
-    def calls(self) -> list[Call]:
-        """The records of all calls (see `Engine.calls`) after all replies to what the clients
-        sent."""
-        with self._quiet():
-            return self.engine.calls()
 
     def timeline(self, path: Union[str, os.PathLike[str]]) -> None:
         """Writes the history of the race as a page of HTML, which needs no other file: a row for
         each client, its calls as bars from request to reply, their linearization points, and links
         from a call to those that it completed for other clients."""
         schedule = self.schedule
-        with self._quiet():
+        with self._reach():
             title = f"Race by seed {self._seed}"
             if isinstance(self._seed, str):
                 title = "Race by a schedule"
@@ -337,7 +364,8 @@ class Races(Closes, Refuses):
         self._thread.join()
         self._hook.end()
         for client in self._clients:
-            client.connection.close()
+            if not client.is_by_ssh:
+                client.connection.close()
         if self._owned:
             self.engine.close()
         if self._stray:
@@ -349,18 +377,6 @@ class Races(Closes, Refuses):
         for client in self._clients:
             client.connection.close()
             client.line.close()
-
-    def _give(
-        self,
-        matches: Callable[[Request], bool],
-        after: int,
-        after_bytes: Optional[int],
-        times: Optional[int],
-        status: Status,
-    ) -> Rule:
-        """After all replies to what the clients sent."""
-        with self._quiet():
-            return self.engine._give(matches, after, after_bytes, times, status)
 
     def _before_send(self, client: Client) -> None:
         """Raises an error if the thread that sends would wait for itself."""
@@ -380,13 +396,13 @@ class Races(Closes, Refuses):
         )
 
     @contextlib.contextmanager
-    def _quiet(self) -> Iterator[None]:
-        """Waits for all replies to what the clients sent. No turn is taken meanwhile."""
+    def _reach(self) -> Iterator[Engine]:
+        """After all replies to what the clients sent. No turn is taken meanwhile."""
         self._check()
         with self._moved:
             self._moved.wait_for(self._is_quiet)
             self._check()
-            yield
+            yield self.engine
 
     def _is_quiet(self) -> bool:
         return not any(client.due for client in self._clients) and not polled(self._clients, 0)

@@ -11,6 +11,7 @@ from . import _arguments as arguments
 from ._calls import Kind, LtBytes, text
 from ._flags import OpenFlag
 from ._library import library
+from ._reaching import Reaches
 from ._requests import Request
 
 if TYPE_CHECKING:
@@ -118,7 +119,7 @@ library.lt_refuse.restype = ctypes.c_int64
 library.lt_refuse.argtypes = [ctypes.c_void_p, ctypes.POINTER(LtRule)]
 
 
-class Refuses:
+class Refuses(Reaches):
     """Gives rules to an engine."""
 
     def refuse(
@@ -166,13 +167,14 @@ class Refuses:
                 and (when is None or bool(when(request)))
             )
 
-        return self._give(
-            matches,
+        words = (
             arguments.integer("after", after),
             None if after_bytes is None else arguments.integer("after_bytes", after_bytes),
             None if times is None else arguments.integer("times", times),
             as_status(status),
         )
+        with self._reach() as engine:
+            return engine._give(Rule(engine, matches, *words))
 
     def disk_full(self, after: int = 0) -> Rule:
         """Simulates a disk with room for `after` more bytes: a WRITE that doesn't fit fails until the
@@ -185,16 +187,6 @@ class Refuses:
         return self.refuse(
             path=path, when=would_change, times=None, status=Status.PERMISSION_DENIED
         )
-
-    def _give(
-        self,
-        matches: Callable[[Request], bool],
-        after: int,
-        after_bytes: Optional[int],
-        times: Optional[int],
-        status: Status,
-    ) -> Rule:
-        raise NotImplementedError
 
 
 def would_change(request: Request) -> bool:

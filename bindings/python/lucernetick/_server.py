@@ -9,27 +9,26 @@ import socket
 import threading
 from typing import (
     TYPE_CHECKING,
-    Callable,
     Iterator,
     NamedTuple,
     Optional,
     Protocol,
+    Sequence,
     TextIO,
     Union,
 )
 
 from . import _arguments as arguments
-from ._calls import Call
 from ._clock import Clock, checked_clock, wall_clock
 from ._closing import Closes
 from ._engine import Engine, Session, Turn
 from ._faults import Refusal, RefusedError
-from ._folders import Snapshot
-from ._lines import PIECE, REPLIES, Faults, FaultyLine, Line, LineEnded
+from ._lines import PIECE, REPLIES, Faults, FaultyLine, Line
 from ._log import Log
-from ._requests import Request
-from ._rules import Refuses, Rule, Status
+from ._reaching import Shows
+from ._rules import Refuses
 from ._tree import Files
+from ._users import User
 from ._watching import Watches
 
 if TYPE_CHECKING:
@@ -124,15 +123,21 @@ def as_engine(engine: Optional[Engine]) -> Engine:
 
 
 async def _pass_on(reader: StreamReader, writer: StreamWriter) -> None:
-    """Copies a stream to its end."""
+    """Copies a stream to its end. What the writer can't send is dropped."""
+    is_lost = False
     with contextlib.suppress(ConnectionError):
         while data := await reader.read(PIECE):
-            writer.write(data)
-            await writer.drain()
+            try:
+                if not is_lost:
+                    writer.write(data)
+                    await writer.drain()
+            except ConnectionError:
+                is_lost = True
+    with contextlib.suppress(ConnectionError):
         writer.write_eof()
 
 
-class Server(Closes, Refuses, Watches):
+class Server(Closes, Shows, Refuses, Watches):
     """Serves sessions on one tree over connected sockets, each in a thread.
 
         with lucernetick.Server() as server:
@@ -178,12 +183,26 @@ class Server(Closes, Refuses, Watches):
         connection is dropped, each reply has a latency of `delay` seconds, each direction has at
         most `bandwidth` bytes per second, and the client receives at most `chunk` bytes at a time.
         """
-        return self._connect(Faults(cut_after, delay, bandwidth, chunk))
+        return self._open(Faults(cut_after, delay, bandwidth, chunk))
 
-    def _connect(self, faults: Faults, root: str = "/") -> Connection:
+    def _log_in(self, users: Sequence[User]) -> None:
+        """From now on these users open sessions."""
+        self._check()
+        for user in users:
+            if user.root.strip("/"):
+                self.write_files({user.root: None})
+
+    def _connect(self, user: User, faults: Faults) -> Connection:
+        return self._open(faults, user.root)
+
+    def _open(self, faults: Faults, root: str = "/") -> Connection:
         self._check()
         session = self.engine.open(root=root)
-        ours, theirs = socket.socketpair()
+        try:
+            ours, theirs = socket.socketpair()
+        except OSError:
+            session.close()
+            raise
         line = Line(theirs) if faults == Faults(chunk=faults.chunk) else FaultyLine(theirs, faults)
         connection = Connection(fileno=ours.detach())
         connection.session = session
@@ -217,26 +236,6 @@ class Server(Closes, Refuses, Watches):
         moment = self._now() if moment is None else moment
         self.engine.write_files(files, moment=moment)
 
-    def snapshot(self) -> Snapshot:
-        """The whole tree, see `Engine.snapshot`."""
-        self._check()
-        return self.engine.snapshot()
-
-    def calls(self) -> list[Call]:
-        """The records of all calls, see `Engine.calls`."""
-        self._check()
-        return self.engine.calls()
-
-    def last_calls(self) -> list[Call]:
-        """The records that are kept, see `Engine.last_calls`."""
-        self._check()
-        return self.engine.last_calls()
-
-    @property
-    def dropped(self) -> int:
-        """The number of records that were dropped, see `Engine.dropped`."""
-        return self.engine.dropped
-
     def close(self) -> None:
         """Closes all connections at both ends, and waits for their threads."""
         if self._is_forked:
@@ -268,22 +267,10 @@ class Server(Closes, Refuses, Watches):
                 self._fault = fault
         self._stop()
 
-    def _give(
-        self,
-        matches: Callable[[Request], bool],
-        after: int,
-        after_bytes: Optional[int],
-        times: Optional[int],
-        status: Status,
-    ) -> Rule:
+    @contextlib.contextmanager
+    def _reach(self) -> Iterator[Engine]:
         self._check()
-        return self.engine._give(matches, after, after_bytes, times, status)
-
-    def _taken(self) -> Snapshot:
-        return self.snapshot()
-
-    def _watched(self) -> Engine:
-        return self.engine
+        yield self.engine
 
     def _now(self) -> int:
         return arguments.timestamp("the clock's result", self.clock())
@@ -291,7 +278,7 @@ class Server(Closes, Refuses, Watches):
     def _serve(self, session: Session, line: Line) -> None:
         """Serves a session until its client, it or the engine ends."""
         # The fault is known before the client sees the end of its connection.
-        with contextlib.closing(line), self._reporting(), contextlib.suppress(LineEnded):
+        with contextlib.closing(line), self._reporting():
             self._pump(session, line)
         with self._reporting():
             self._leave(session)

@@ -3,9 +3,11 @@
 from __future__ import annotations
 
 import asyncio
+import errno
 import os
 import secrets
 import shutil
+import stat
 import tempfile
 import threading
 import warnings
@@ -15,12 +17,14 @@ from typing import TYPE_CHECKING, Any, Callable, Coroutine, Iterable, Optional, 
 from . import _arguments as arguments
 from ._closing import Closes
 from ._lines import Faults
+from ._races import Races
 from ._server import Server
 from ._users import User
 
 if TYPE_CHECKING:
     from ._asyncssh import Listener
 
+OTHERS = stat.S_IWGRP | stat.S_IWOTH
 Answer = TypeVar("Answer")
 FaultsOf = Callable[[int], Faults]
 """Returns the faults of a session: the first one of a server is 1."""
@@ -46,7 +50,8 @@ def remove_folder(folder: str, process: int) -> None:
 
 class SshServer(Closes):
     """An SSH server at a port, for clients that make their own connection. Its subsystem `sftp` is
-    a session on the tree of a `Server`. There is nothing else: no shell, no command, no forwarding.
+    a session on the tree of a `Server`, or a client of `Races`. There is nothing else: no shell, no
+    command, no forwarding.
 
         with lucernetick.Server() as server, lucernetick.SshServer(server) as ssh:
             client = paramiko.SSHClient()
@@ -67,13 +72,13 @@ class SshServer(Closes):
     """The path of a private key that may log in. OpenSSH, paramiko and asyncssh can read it. It is
     made for this server, and removed with it."""
     known_hosts: str
-    """The path of a file with the host's public key, in the format of OpenSSH's `known_hosts`."""
+    """The path of a file with the host's public keys, in the format of OpenSSH's `known_hosts`."""
     faults: Union[Faults, FaultsOf]
     """The faults of the sessions that open from now on."""
 
     def __init__(
         self,
-        server: Server,
+        server: Union[Server, Races],
         *,
         host: str = "127.0.0.1",
         port: int = 0,
@@ -93,14 +98,15 @@ class SshServer(Closes):
         - `user`, `password`: the name of a user and a password, by default a random one; or a
           `User`, who has both.
         - `public_keys`: files with further keys that may log in, in OpenSSH's format.
-        - `host_key`: a file with the server's private key, by default a new one.
+        - `host_key`: a file with the server's private key, by default two new ones.
         - `users`: further users.
         - `cut_after`, `delay`, `bandwidth`, `chunk`: faults of every session, see `Faults`.
         - `faults`: returns the `Faults` of a session by its number: 1, 2, 3 and so on.
         """
         self._begin()
-        if not isinstance(server, Server):
-            raise TypeError(f"server must be a Server, not {type(server).__name__}")
+        if not isinstance(server, (Server, Races)):
+            why = f"server must be a Server or a Races, not {type(server).__name__}"
+            raise TypeError(why)
         if not isinstance(host, str):
             raise TypeError(f"host must be a str, not {type(host).__name__}")
         arguments.integer("port", port, 0, 65535)
@@ -115,11 +121,12 @@ class SshServer(Closes):
             raise TypeError("a User has a password already")
         self.user, self.password = user.name, user.password
         everybody = [user, *users]
+        names = [one.name for one in everybody]
+        if len(set(names)) < len(names):
+            raise ValueError(f"users must have different names, not {', '.join(names)}")
         find = find_listener()
         self._listener = find(server, everybody, public_keys, host_key, self._faults_of)
-        for one in everybody:
-            if one.root.strip("/"):
-                server.write_files({one.root: None})
+        server._log_in(everybody)
         self._folder = tempfile.mkdtemp(prefix="lucernetick-")
         self._removed = weakref.finalize(self, remove_folder, self._folder, os.getpid())
         self._loop = asyncio.new_event_loop()
@@ -131,9 +138,9 @@ class SshServer(Closes):
             self.port = self._do(self._listener.listen(host, port))
             key = self._listener.client_key.export_private_key()
             self.client_key = self._write("client_key", key)
-            self.known_hosts = self._write(
-                "known_hosts", self._names() + self._listener.host_key.export_public_key()
-            )
+            here, keys = self._names(), self._listener.host_keys
+            hosts = b"".join(here + one.export_public_key() for one in keys)
+            self.known_hosts = self._write("known_hosts", hosts)
         except BaseException:
             self.close()
             raise
@@ -153,9 +160,9 @@ class SshServer(Closes):
 
     def write_ssh_config(self, folder: Union[str, os.PathLike[str]]) -> str:
         """Writes `ssh_config`, `client_key` and `known_hosts` into a folder, so that
-        `sftp -F FOLDER/ssh_config lucernetick` connects. Returns the path of `ssh_config`."""
-        place = os.path.abspath(os.fspath(folder))
-        os.makedirs(place, mode=0o700, exist_ok=True)
+        `sftp -F FOLDER/ssh_config lucernetick` connects. Returns the path of `ssh_config`. The
+        folder is created, or must be this user's alone: others can't write it."""
+        place = own_folder(os.path.abspath(os.fspath(folder)))
         paths = {}
         for name in ("client_key", "known_hosts"):
             with open(os.path.join(self._folder, name), "rb") as file:
@@ -209,6 +216,17 @@ class SshServer(Closes):
 
     def _write(self, name: str, data: bytes) -> str:
         return write_private(os.path.join(self._folder, name), data)
+
+
+def own_folder(path: str) -> str:
+    """Creates a folder, or accepts one that no other user can change. Returns its path."""
+    os.makedirs(path, mode=0o700, exist_ok=True)
+    status = os.lstat(path)
+    if not stat.S_ISDIR(status.st_mode):
+        raise NotADirectoryError(errno.ENOTDIR, os.strerror(errno.ENOTDIR), path)
+    if status.st_uid != os.geteuid() or status.st_mode & OTHERS:
+        raise PermissionError(errno.EPERM, "others can write this folder", path)
+    return path
 
 
 def write_private(path: str, data: bytes) -> str:

@@ -188,7 +188,19 @@ def checked_files(files: Files) -> list[tuple[bytes, Contents]]:
             if arguments.normal(path) == b"/":
                 raise ValueError("/ is a directory: its contents must be None")
         parts.append((path, contents))
+    check_parents(parts)
     return sorted(parts, key=lambda part: isinstance(part[1], Link))
+
+
+def check_parents(parts: list[tuple[bytes, Contents]]) -> None:
+    """No path may be below a file."""
+    made = {arguments.normal(path): contents for path, contents in parts}
+    for path in made:
+        names = path.split(b"/")
+        for count in range(2, len(names)):
+            above = b"/".join(names[:count])
+            if made.get(above) is not None:
+                raise ValueError(f"{text(path)} can't be made: {text(above)} is a file")
 
 
 def write_tree(engine: Engine, files: Files, moment: int) -> None:

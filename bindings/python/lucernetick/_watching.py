@@ -7,7 +7,7 @@ from typing import TYPE_CHECKING, Callable, Iterable, Optional, TypeVar, Union
 
 from . import _arguments as arguments
 from ._calls import Call, Kind, text
-from ._folders import Snapshot
+from ._reaching import Reaches
 from ._requests import Request
 from ._rules import as_kinds, as_pattern, fits, as_names, session_number
 from ._tree import Entry
@@ -45,7 +45,7 @@ class Hook:
         self.end()
 
 
-class Watches:
+class Watches(Reaches):
     """Watches the clients of an engine."""
 
     def on_call(
@@ -64,22 +64,22 @@ class Watches:
         for name, value in (("before", before), ("after", after)):
             if value is not None and not callable(value):
                 raise TypeError(f"{name} must be a function, not {type(value).__name__}")
-        return self._watched()._hook(Hook(self._watched(), before, after))
+        with self._reach() as engine:
+            return engine._hook(Hook(engine, before, after))
 
     def wait_for(self, path: arguments.Path, timeout: float = 10.0) -> Entry:
         """Waits until there is a file or a directory at this path, and no handle for writing that
         was opened with this path. Returns its entry. Raises `TimeoutError` after `timeout`
         seconds."""
         name = text(arguments.normal(arguments.path("path", path)))
-        engine = self._watched()
         seen: list[int] = []
 
-        def ready() -> Optional[Entry]:
+        def ready(engine: Engine) -> Optional[Entry]:
             changes = engine._changes_now()
             if seen == [changes]:
                 return None
             seen[:] = [changes]
-            found = self._taken().get(name)
+            found = engine.snapshot().get(name)
             return None if found is None or engine._is_written(name) else found
 
         return self._wait(ready, timeout, f"no complete file at {name}")
@@ -98,7 +98,6 @@ class Watches:
         `TimeoutError` after `timeout` seconds."""
         kinds, number = as_kinds(kind, None, None), session_number(session)
         pattern = None if path is None else as_pattern(path)
-        engine = self._watched()
         found: list[Call] = []
 
         def is_meant(call: Call) -> bool:
@@ -117,20 +116,20 @@ class Watches:
             if is_meant(call):
                 found.append(call)
 
-        with engine._lock:
+        with self._reach() as engine, engine._lock:
             for call in engine.last_calls():
                 note(call)
             with engine._hook(Hook(engine, None, note)):
-                return self._wait(lambda: found[0] if found else None, timeout, "no such call")
+                return self._wait(lambda _: found[0] if found else None, timeout, "no such call")
 
-    def _wait(self, ready: Callable[[], Optional[Found]], timeout: float, why: str) -> Found:
+    def _wait(
+        self, ready: Callable[[Engine], Optional[Found]], timeout: float, why: str
+    ) -> Found:
         """Waits until `ready` has a result, which it returns."""
         end = time.monotonic() + arguments.seconds("timeout", timeout)
-        engine = self._watched()
-        with engine._moved:
-            while True:
-                self._check()
-                found = ready()
+        while True:
+            with self._reach() as engine, engine._moved:
+                found = ready(engine)
                 if found is not None:
                     return found
                 left = end - time.monotonic()
@@ -139,13 +138,3 @@ class Watches:
                     seen = f"; the last calls:{last}" if last else "; no client made a call"
                     raise TimeoutError(f"{why} within {timeout:g} seconds{seen}")
                 engine._moved.wait(left)
-
-    def _taken(self) -> Snapshot:
-        raise NotImplementedError
-
-    def _watched(self) -> Engine:
-        raise NotImplementedError
-
-    def _check(self) -> None:
-        """Raises why the clients can't be served."""
-        raise NotImplementedError

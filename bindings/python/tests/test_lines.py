@@ -45,22 +45,45 @@ def test_cut_after_so_many_bytes_from_the_client(
         line.sendall(LOOKS)
 
 
-@pytest.mark.parametrize(
-    ("cut_after", "calls"), [(100, 1), (112, 1), (113, 2), (153, 2), (154, 3), (194, 3), (195, 4)]
-)
+@pytest.mark.parametrize("delay", [0.0, 0.1])
+@pytest.mark.parametrize("cut_after", [100, 112, 113, 154, 195])
 def test_cut_after_so_many_bytes_to_the_client(
-    sftp_tree: Server, cut_after: int, calls: int
+    sftp_tree: Server, cut_after: int, delay: float
 ) -> None:
-    """VERSION has 71 bytes, a STAT 14 and its reply 41. The call with the reply that is cut is the
-    last one to take effect."""
-    line = sftp_tree.connect(cut_after=cut_after)
+    """VERSION has 71 bytes, a STAT 14 and its reply 41. All requests were received, so all take
+    effect."""
+    line = sftp_tree.connect(cut_after=cut_after, delay=delay)
     line.sendall(packet(INIT, u32(3)) + packet(STAT, u32(8), string(b"/")) * 5)
     assert len(all_of(line)) == cut_after
-    assert len(sftp_tree.calls()) == calls
+    assert line.is_cut and len(sftp_tree.calls()) == 5
+
+
+def test_a_request_after_a_cut_of_the_replies(sftp_tree: Server) -> None:
+    line = sftp_tree.connect(cut_after=72)
+    line.sendall(MAKES)
+    assert len(all_of(line)) == 72
+    with pytest.raises(BrokenPipeError):
+        line.sendall(packet(MKDIR, u32(7), string(b"/b"), u32(0)))
+    assert list(sftp_tree.snapshot()) == ["/", "/a"]
+
+
+@pytest.mark.parametrize("faults", [{}, {"delay": 0.01}, {"bandwidth": 10_000_000}])
+def test_a_client_that_closes_without_reading(
+    sftp_tree: Server, faults: dict[str, float]
+) -> None:
+    """All that it sent before takes effect."""
+    names = [f"/{number:03}" for number in range(100)]
+    makes = (packet(MKDIR, u32(7), string(name.encode()), u32(0)) for name in names)
+    line = sftp_tree.connect(**faults)
+    line.sendall(packet(INIT, u32(3)) + b"".join(makes))
+    line.close()
+    sftp_tree.wait_for(names[-1], timeout=LIMIT)
+    assert list(sftp_tree.snapshot()) == ["/", *names]
 
 
 def test_cut_at_once(sftp_tree: Server) -> None:
-    assert sftp_tree.connect(cut_after=0).recv(1) == b""
+    line = sftp_tree.connect(cut_after=0)
+    assert line.recv(1) == b"" and line.is_cut
 
 
 def test_an_upload_that_is_cut(sftp_tree: Server) -> None:
@@ -175,14 +198,6 @@ def test_bandwidth_of_a_download(sftp_tree: Server) -> None:
         with client.open("/f") as file:
             assert file.read() == CONTENTS[:300_000]
     assert time.monotonic() - begin >= 0.3
-
-
-def test_a_late_line_that_is_cut(sftp_tree: Server) -> None:
-    """The same bytes come, only later."""
-    line = sftp_tree.connect(cut_after=100, delay=0.1)
-    line.sendall(packet(INIT, u32(3)) + packet(STAT, u32(8), string(b"/")) * 5)
-    assert len(all_of(line)) == 100
-    assert line.is_cut and len(sftp_tree.calls()) == 1
 
 
 def test_a_cut_line_leaves_no_session(sftp_tree: Server) -> None:

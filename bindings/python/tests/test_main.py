@@ -166,9 +166,11 @@ def test_a_folder_keeps_its_attributes(tmp_path: Path) -> None:
         words, stdout=subprocess.PIPE, stderr=subprocess.PIPE, text=True
     ) as process:
         assert process.stdout is not None
-        process.stdout.readline()
+        key = ssh_words(shlex.split(process.stdout.readline()))["client_key"]
+        assert os.path.exists(key)
         process.send_signal(signal.SIGHUP)
         _, wrong = process.communicate(timeout=LIMIT)
+    assert not os.path.exists(os.path.dirname(key))
     assert wrong == f"python -m lucernetick: skipped: '{shelf}/link' is a symbolic link\n"
     status = (tmp_path / "left" / "f").stat()
     assert (status.st_mode & 0o777, status.st_atime, status.st_mtime) == (0o600, 5, 6)

@@ -54,7 +54,22 @@ def test_what_it_says_of_itself() -> None:
     assert found["Description-Content-Type"] == "text/markdown"
     # By the extra `ssh` alone.
     wants, by = re.sub("[ ()'\"]", "", found["Requires-Dist"]).split(";")
-    assert (wants, by) == ("asyncssh>=2.10", "extra==ssh")
+    assert by == "extra==ssh" and wants.startswith("asyncssh")
+
+
+@pytest.mark.parametrize(
+    ("version", "is_admitted"),
+    [
+        ("2.10.0", False), ("2.10.1", True), ("2.11.0", False), ("2.13.2", False),
+        ("2.14.0", False), ("2.14.1", False), ("2.14.2", True), ("2.21.0", True),
+    ],
+)
+def test_versions_of_asyncssh(version: str, is_admitted: bool) -> None:
+    """Those with strict key exchange: since 2.14.2, and Debian 12's 2.10.1."""
+    packaging = pytest.importorskip("packaging.requirements")
+    found = importlib.metadata.requires("lucernetick")
+    assert found is not None
+    assert (version in packaging.Requirement(found[0]).specifier) == is_admitted
 
 
 def test_an_engine_shows_no_lock() -> None:

@@ -71,7 +71,7 @@ impl From<AllocError> for RefusedWords {
 }
 
 /// The content of the file VERSION.
-const VERSION: &str = "0.2.0";
+const VERSION: &str = "0.3.0";
 
 /// The default number of retained call records. The next constant is the maximum.
 const KEEP: usize = 256;
