@@ -170,7 +170,7 @@ int64_t lt_output(const lt_engine *engine, uint64_t session, uint8_t *room, size
 int64_t lt_sent(lt_engine *engine, uint64_t session, size_t count);
 
 /* The request of a call: an lt_call's `kind`. Those below 200 are packet types. LSTAT is recorded
- * as STAT. */
+ * as STAT, fsync@openssh.com as FSETSTAT, and lsetstat@openssh.com as SETSTAT. */
 enum {
     LT_KIND_LEFT = 0, /* no call: the session ended here */
     LT_KIND_OPEN = 3,

@@ -11,14 +11,29 @@ import (
 	"time"
 )
 
-const (
-	givenOwner       = 2
-	givenPermissions = 4
-)
+// SetAttributes sets attributes of a file or a directory: those whose bits Given has. The owner
+// always has both ids, and both times are set. A new size sets the file's mtime to moment. It is a
+// request in a session of its own, to which no rule applies. If there is no such path, and for the
+// root, the error is a StatusError.
+func (engine *Engine) SetAttributes(path string, attributes Attributes, moment time.Time) error {
+	begins, err := timestampOf("moment", moment)
+	if err = firstOf(err, checkPath(path)); err != nil {
+		return err
+	}
+	encoded, err := encodedAttributes(attributes)
+	if err != nil {
+		return err
+	}
+	return engine.setAttributes([]pathAttributes{{normal(path), encoded}}, begins)
+}
 
-// setAttributes sets owners, permissions and times, by requests in a session of its own. No rule
-// applies to it.
-func (engine *Engine) setAttributes(infos []pathInfo) error {
+// A pathAttributes has attributes of a path, as SETSTAT has them.
+type pathAttributes struct {
+	path    string
+	encoded []byte
+}
+
+func (engine *Engine) setAttributes(given []pathAttributes, moment timestamp) error {
 	engine.lock.Lock()
 	defer engine.lock.Unlock()
 	session, err := checked(C.lt_open(engine.pointer))
@@ -27,14 +42,17 @@ func (engine *Engine) setAttributes(infos []pathInfo) error {
 	}
 	defer engine.hasMoved()
 	defer C.lt_close(engine.pointer, C.uint64_t(session))
-	if _, err := engine.ask(session, []byte{0, 0, 0, 5, 1, 0, 0, 0, 3}, "INIT"); err != nil {
+	ask := func(packet []byte, request string) ([]byte, error) {
+		return engine.ask(session, packet, request, moment)
+	}
+	if _, err := ask([]byte{0, 0, 0, 5, 1, 0, 0, 0, 3}, "INIT"); err != nil {
 		return err
 	}
-	for _, info := range infos {
-		body := append([]byte{byte(KindSetstat), 0, 0, 0, 1}, appendText(nil, []byte(info.path))...)
-		packet := appendText(nil, append(body, encodedInfo(info)...))
-		request := requestName(C.LT_KIND_SETSTAT) + " " + info.path
-		reply, err := engine.ask(session, packet, request)
+	for _, one := range given {
+		body := append([]byte{byte(KindSetstat), 0, 0, 0, 1}, appendText(nil, []byte(one.path))...)
+		packet := appendText(nil, append(body, one.encoded...))
+		request := requestName(C.LT_KIND_SETSTAT) + " " + one.path
+		reply, err := ask(packet, request)
 		if err != nil {
 			return err
 		}
@@ -47,14 +65,16 @@ func (engine *Engine) setAttributes(infos []pathInfo) error {
 }
 
 // ask returns the reply to a packet. The lock is held.
-func (engine *Engine) ask(number int64, packet []byte, request string) ([]byte, error) {
+func (engine *Engine) ask(
+	number int64, packet []byte, request string, moment timestamp,
+) ([]byte, error) {
 	session := &Session{engine, C.uint64_t(number)}
 	fed := C.lt_feed(engine.pointer, session.number, start(packet), C.size_t(len(packet)))
 	if _, err := checked(fed); err != nil {
 		return nil, err
 	}
 	var moved C.bool
-	turn, err := checked(C.lt_settle(engine.pointer, session.number, 0, 1, &moved))
+	turn, err := checked(C.lt_settle(engine.pointer, session.number, C.uint32_t(moment), 1, &moved))
 	if err != nil {
 		return nil, err
 	}
@@ -68,6 +88,37 @@ func (engine *Engine) ask(number int64, packet []byte, request string) ([]byte, 
 		return nil, fmt.Errorf("%s: %w", request, ErrNoReply)
 	}
 	return reply, session.sent(len(reply))
+}
+
+// encodedAttributes returns the attributes that are given, as SETSTAT has them.
+func encodedAttributes(given Attributes) ([]byte, error) {
+	const all = givenSize | givenOwner | givenPermissions | givenTimes
+	if given.Given&^all != 0 {
+		return nil, fmt.Errorf("lucernetick: Given must have no bits but %#x, not %#x", all, given.Given)
+	}
+	encoded := binary.BigEndian.AppendUint32(nil, given.Given)
+	if given.Given&givenSize != 0 {
+		encoded = binary.BigEndian.AppendUint64(encoded, given.Size)
+	}
+	var fields []uint32
+	if given.Given&givenOwner != 0 {
+		fields = append(fields, given.UID, given.GID)
+	}
+	if given.Given&givenPermissions != 0 {
+		fields = append(fields, given.Permissions)
+	}
+	if given.Given&givenTimes != 0 {
+		accessed, err := timestampOf("Atime", given.Atime)
+		modified, other := timestampOf("Mtime", given.Mtime)
+		if err = firstOf(err, other); err != nil {
+			return nil, err
+		}
+		fields = append(fields, uint32(accessed), uint32(modified))
+	}
+	for _, field := range fields {
+		encoded = binary.BigEndian.AppendUint32(encoded, field)
+	}
+	return encoded, nil
 }
 
 // encodedInfo returns owner, permissions and times, as SETSTAT has them.

@@ -14,7 +14,7 @@ import (
 )
 
 // A Kind is the request of a call, or the requests that a Rule matches. Records have KindStat for
-// LSTAT.
+// LSTAT. KindFsetstat is also fsync@openssh.com, and KindSetstat lsetstat@openssh.com.
 type Kind uint32
 
 // The kinds of calls.
@@ -269,6 +269,7 @@ func (engine *Engine) note() {
 		if missing && call.Kind != C.LT_KIND_LEFT {
 			missing = false
 			if call.Number > engine.highest+1 {
+				engine.dropModes()
 				engine.recorded += call.Number - engine.highest - 1
 				engine.kept = nil
 			}
@@ -283,6 +284,17 @@ func (engine *Engine) note() {
 	for _, call := range added {
 		engine.add(call)
 	}
+}
+
+// dropRules drops the permissions of a session that has ended.
+func (engine *Engine) dropRules(session uint64) {
+	var left []*GivenRule
+	for _, rule := range engine.rules {
+		if rule.owner == nil || rule.rule.Session != session {
+			left = append(left, rule)
+		}
+	}
+	engine.rules = left
 }
 
 // firstNew returns the index of the first record after the last one that was read. All may be new.
@@ -307,6 +319,7 @@ func (engine *Engine) add(call Call) {
 				engine.changes++
 			}
 		}
+		engine.dropRules(call.Session)
 		return
 	case KindOpen, KindOpendir:
 		if call.Reply.Kind == AnswerHandle {
@@ -318,6 +331,9 @@ func (engine *Engine) add(call Call) {
 		engine.changes++
 	case KindMkdir, KindRename, KindPosixRename, KindHardlink:
 		engine.changes++
+	}
+	if call.shapes() {
+		engine.dropModes()
 	}
 	engine.recorded++
 	if engine.keep > 0 {
@@ -384,7 +400,14 @@ func attributesOf(found C.lt_attributes) Attributes {
 	return attributes
 }
 
-const givenTimes = 8
+// The flags of attributes.
+const (
+	givenSize        = 1
+	givenOwner       = 2
+	givenPermissions = 4
+	givenTimes       = 8
+	givenPairs       = 1 << 31
+)
 
 func bytesOf(bytes C.lt_bytes) []byte {
 	return C.GoBytes(unsafe.Pointer(bytes.at), C.int(bytes.length))

@@ -265,7 +265,9 @@ func TestFilesAtTheStart(t *testing.T) {
 }
 
 func TestAFileBelowAFile(t *testing.T) {
-	err := newEngine(t).WriteFiles(map[string][]byte{"/a": {}, "/a/b": {}}, at(0))
+	engine := newEngine(t)
+	must(t, engine.WriteFiles(map[string][]byte{"/a": {}}, at(0)))
+	err := engine.WriteFiles(map[string][]byte{"/a/b": {}}, at(0))
 	var status *StatusError
 	same(t, errors.As(err, &status), true)
 	same(t, []interface{}{status.Code, status.Message}, []interface{}{uint32(4), "Failure"})

@@ -4,11 +4,16 @@ package lucernetick
 
 import (
 	"io"
+	"math"
 	"time"
 )
 
-// most is how many replies are written before another session may use the engine.
-const most = 64
+// most is how many replies are written before another session may use the engine, and mostLimited
+// how many if their bytes are limited.
+const (
+	most        = 64
+	mostLimited = 8
+)
 
 // A Conn is a client's connection to a session: write requests to it, and read replies from it. One
 // goroutine may read while another one writes.
@@ -18,6 +23,7 @@ type Conn struct {
 	session *Session
 	clock   Clock
 	line    stream // protected by the engine's lock, as the next fields
+	limit   int    // of replies that are not read; 0 for none
 	closed  bool
 	ended   bool
 }
@@ -60,6 +66,18 @@ func (conn *Conn) IsCut() bool {
 	return conn.line.isCut
 }
 
+// LimitUnread limits the bytes of replies that wait to be read: while there are more, no further
+// request is read, and Write waits. So another goroutine must read. One reply may exceed the limit.
+func (conn *Conn) LimitUnread(bytes int) error {
+	if err := checkRange("bytes", int64(bytes), 1, math.MaxInt64); err != nil {
+		return err
+	}
+	conn.session.engine.lock.Lock()
+	defer conn.session.engine.lock.Unlock()
+	conn.limit = bytes
+	return nil
+}
+
 // Write feeds the session, and runs all turns that it can.
 func (conn *Conn) Write(data []byte) (int, error) {
 	engine := conn.session.engine
@@ -79,6 +97,12 @@ func (conn *Conn) Write(data []byte) (int, error) {
 		return 0, err
 	}
 	engine.moved.Broadcast()
+	for !conn.closed && !conn.ended && conn.isFull() {
+		if engine.lock.isCalling() {
+			return len(data), errWaits
+		}
+		engine.moved.Wait()
+	}
 	for !conn.closed && !conn.ended && time.Now().Before(conn.line.heard) {
 		if engine.lock.isCalling() {
 			return len(data), errWaits
@@ -101,6 +125,9 @@ func (conn *Conn) Read(room []byte) (int, error) {
 			return 0, err
 		}
 		count, err := conn.take(room)
+		if conn.limit > 0 {
+			engine.moved.Broadcast()
+		}
 		isOver := conn.closed || conn.ended
 		switch late := conn.line.late; {
 		case count > 0 || err != nil:
@@ -166,14 +193,26 @@ func (conn *Conn) take(room []byte) (int, error) {
 	return conn.session.take(room)
 }
 
+// isFull reports whether too many bytes wait to be read.
+func (conn *Conn) isFull() bool {
+	if conn.limit == 0 || conn.line.isCut {
+		return false
+	}
+	waiting, err := conn.session.look(nil)
+	return err == nil && waiting+conn.line.waiting > conn.limit
+}
+
 // turns runs the session until it waits for bytes or for another session, or has ended.
 func (conn *Conn) turns() error {
-	for !conn.ended {
+	for !conn.ended && !conn.isFull() {
 		begins, err := conn.clock.read()
 		if err != nil {
 			return err
 		}
 		replies := uint64(most)
+		if conn.limit > 0 {
+			replies = mostLimited
+		}
 		if conn.line.isFaulty() {
 			replies = 1
 		}

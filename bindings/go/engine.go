@@ -108,6 +108,7 @@ type Engine struct {
 	hooks    []*Hook
 	lost     string          // a path that no client knows, followed by the code of a status
 	statuses map[uint32]bool // the library has a rule for these statuses of lost
+	modes    *taken          // has the names and attributes of now, for permissions; may be nil
 }
 
 // New makes an engine with an empty root. It retains the records of all calls. Records take memory,
@@ -149,6 +150,7 @@ var _ io.Closer = (*Engine)(nil)
 func (engine *Engine) Close() error {
 	engine.lock.Lock()
 	defer engine.lock.Unlock()
+	engine.dropModes()
 	C.lt_free(engine.pointer)
 	engine.pointer = nil
 	engine.moved.Broadcast()

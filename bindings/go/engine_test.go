@@ -18,7 +18,7 @@ const looks = "\x00\x00\x00\x05\x01\x00\x00\x00\x03\x00\x00\x00\x0b\x11\x00\x00\
 	"\x00\x00\x00\x02/a"
 
 // version is the length of VERSION's packet.
-const version = 71
+const version = 153
 
 // The output of the schedule's second session after VERSION: the attributes of /a, with size 0, uid
 // and gid 0, mode 0o755, and the timestamp 100.

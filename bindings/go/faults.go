@@ -57,6 +57,7 @@ type stream struct {
 	sent     int64 // to the client, or late
 	isCut    bool
 	late     []late
+	waiting  int       // how many bytes are late
 	free     time.Time // when the bandwidth allows to send further bytes
 	heard    time.Time // when the bandwidth allows to receive further bytes
 }
@@ -95,6 +96,7 @@ func (line *stream) send(data []byte) {
 		}
 		line.free = line.free.Add(line.faults.span(len(part)))
 		line.late = append(line.late, late{line.free, part})
+		line.waiting += len(part)
 	}
 }
 
@@ -123,6 +125,7 @@ func (line *stream) take(room []byte) int {
 	first := &line.late[0]
 	count := copy(room, first.data)
 	first.data = first.data[count:]
+	line.waiting -= count
 	if len(first.data) == 0 {
 		line.late = line.late[1:]
 	}
@@ -131,6 +134,6 @@ func (line *stream) take(room []byte) int {
 
 // drop drops the bytes that are late. There are no faults from now on.
 func (line *stream) drop() {
-	line.late = nil
+	line.late, line.waiting = nil, 0
 	line.faults = Faults{}
 }

@@ -143,28 +143,36 @@ type FolderOptions struct {
 // them, as a folder of the system and a Snapshot do. Anything else than files and directories is an
 // error.
 func (engine *Engine) WriteFS(tree fs.FS, moment time.Time) error {
-	return engine.writeTree(tree, FolderOptions{Moment: moment})
-}
-
-// WriteFolder makes or replaces all files and directories of a folder of the system, as WriteFS
-// does, with these options.
-func (engine *Engine) WriteFolder(folder string, options FolderOptions) error {
-	return engine.writeTree(os.DirFS(folder), options)
-}
-
-func (engine *Engine) writeTree(tree fs.FS, options FolderOptions) error {
-	found := gathered{
-		files: map[string][]byte{}, names: map[interface{}]string{}, skip: options.Skip,
-	}
+	found := newGathered(nil)
 	err := fs.WalkDir(tree, ".", func(name string, entry fs.DirEntry, err error) error {
 		if err != nil || name == "." {
 			return err
 		}
-		return found.add(tree, name, entry)
+		info, err := entry.Info()
+		if err != nil {
+			return err
+		}
+		return found.add(name, info, func() ([]byte, error) { return fs.ReadFile(tree, name) })
 	})
 	if err != nil {
 		return err
 	}
+	return engine.writeFound(found, FolderOptions{Moment: moment})
+}
+
+// WriteFolder makes or replaces all files and directories of a folder of the system, as WriteFS
+// does, with these options. It follows no symbolic link but the folder itself. If a file changes so
+// that it cannot be read as it was, that is an error.
+func (engine *Engine) WriteFolder(folder string, options FolderOptions) error {
+	found := newGathered(options.Skip)
+	reader := folderReader{top: folder, found: found}
+	if err := reader.read(); err != nil {
+		return err
+	}
+	return engine.writeFound(found, options)
+}
+
+func (engine *Engine) writeFound(found *gathered, options FolderOptions) error {
 	if err := engine.WriteFiles(found.files, options.Moment); err != nil {
 		return err
 	}
@@ -176,7 +184,11 @@ func (engine *Engine) writeTree(tree fs.FS, options FolderOptions) error {
 	if !options.Attributes {
 		return nil
 	}
-	return engine.setAttributes(found.infos)
+	var given []pathAttributes
+	for _, info := range found.infos {
+		given = append(given, pathAttributes{info.path, encodedInfo(info)})
+	}
+	return engine.setAttributes(given, 0)
 }
 
 // A gathered has the contents of a tree.
@@ -194,20 +206,20 @@ type pathInfo struct {
 	fs.FileInfo
 }
 
-func (found *gathered) add(tree fs.FS, name string, entry fs.DirEntry) error {
-	if !entry.IsDir() && !entry.Type().IsRegular() {
+func newGathered(skip func(path, kind string)) *gathered {
+	return &gathered{files: map[string][]byte{}, names: map[interface{}]string{}, skip: skip}
+}
+
+func (found *gathered) add(name string, info fs.FileInfo, read func() ([]byte, error)) error {
+	if !info.IsDir() && !info.Mode().IsRegular() {
 		if found.skip == nil {
 			return fmt.Errorf("lucernetick: %s is neither a file nor a directory", name)
 		}
-		found.skip(name, kindOf(entry.Type()))
+		found.skip(name, kindOf(info.Mode()))
 		return nil
 	}
-	info, err := entry.Info()
-	if err != nil {
-		return err
-	}
 	found.infos = append(found.infos, pathInfo{name, info})
-	if entry.IsDir() {
+	if info.IsDir() {
 		found.files[name] = nil
 		return nil
 	}
@@ -218,7 +230,7 @@ func (found *gathered) add(tree fs.FS, name string, entry fs.DirEntry) error {
 		}
 		found.names[file] = name
 	}
-	contents, err := fs.ReadFile(tree, name)
+	contents, err := read()
 	if contents == nil {
 		contents = []byte{}
 	}

@@ -160,7 +160,8 @@ func TestLinksThatAreRefused(t *testing.T) {
 func TestTheRequestThatIsRefused(t *testing.T) {
 	engine := alike(t)
 	var status *StatusError
-	below := map[string][]byte{"/e/f": nil, "/x": {}, "/x/y": nil}
+	must(t, engine.WriteFiles(map[string][]byte{"/x": {}}, at(0)))
+	below := map[string][]byte{"/e/f": nil, "/x/y": nil}
 	same(t, errors.As(engine.WriteFiles(below, at(0)), &status), true)
 	same(t, status.Error(), "lucernetick: MKDIR /x: Failure")
 	same(t, errors.As(engine.WriteFiles(map[string][]byte{"/a/b/c": {}}, at(0)), &status), true)

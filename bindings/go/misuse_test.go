@@ -48,7 +48,7 @@ var misuses = []struct {
 	{"a file below a file", func(*Engine) error {
 		_, err := FromFiles(map[string][]byte{"/f": {}, "/f/g": {}}, at(0))
 		return err
-	}, "MKDIR /f: Failure"},
+	}, `"/f/g" is below "/f", which is a file`},
 	{"a time before 1970", func(*Engine) error {
 		_, err := FromFiles(nil, at(-1))
 		return err

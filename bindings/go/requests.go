@@ -21,6 +21,8 @@ type Request struct {
 	Length  uint64 // the number of bytes requested or written
 	Flags   OpenFlag
 	Data    []byte // the bytes of WRITE
+
+	Attributes Attributes
 }
 
 const (
@@ -58,6 +60,8 @@ func (in *input) packet() []byte {
 var extensions = map[string]Kind{
 	"posix-rename@openssh.com": KindPosixRename,
 	"hardlink@openssh.com":     KindHardlink,
+	"fsync@openssh.com":        KindFsetstat,
+	"lsetstat@openssh.com":     KindSetstat,
 }
 
 // isByPath reports whether requests of this kind name a path.
@@ -114,6 +118,32 @@ func (packet *fields) handle() uint64 {
 	return binary.BigEndian.Uint64(handle)
 }
 
+// attributes reads attributes. Extended ones are skipped.
+func (packet *fields) attributes() Attributes {
+	flags := packet.uint32()
+	found := Attributes{Given: flags & (givenSize | givenOwner | givenPermissions | givenTimes)}
+	if flags&givenSize != 0 {
+		found.Size = packet.uint64()
+	}
+	if flags&givenOwner != 0 {
+		found.UID, found.GID = packet.uint32(), packet.uint32()
+	}
+	if flags&givenPermissions != 0 {
+		found.Permissions = packet.uint32()
+	}
+	if flags&givenTimes != 0 {
+		found.Atime = timestamp(packet.uint32()).time()
+		found.Mtime = timestamp(packet.uint32()).time()
+	}
+	if flags&givenPairs != 0 {
+		for count := packet.uint32(); count > 0 && !packet.bad; count-- {
+			packet.text()
+			packet.text()
+		}
+	}
+	return found
+}
+
 // requestOf reads a packet. It returns false if the server rejects the packet without reading the
 // tree.
 func (engine *Engine) requestOf(session uint64, packet []byte) (Request, bool) {
@@ -122,7 +152,8 @@ func (engine *Engine) requestOf(session uint64, packet []byte) (Request, bool) {
 	}
 	request := Request{Session: session, Kind: Kind(packet[lengthBytes])}
 	rest := fields{rest: packet[headBytes:]}
-	if request.Kind == extended {
+	isExtended := request.Kind == extended
+	if isExtended {
 		request.Kind = extensions[string(rest.text())]
 	}
 	if !request.Kind.isRequest() {
@@ -142,8 +173,15 @@ func (engine *Engine) requestOf(session uint64, packet []byte) (Request, bool) {
 	case request.Kind == KindRead || request.Kind == KindWrite:
 		request.Offset, request.Length = rest.uint64(), uint64(rest.uint32())
 	}
-	if request.Kind == KindWrite {
+	switch request.Kind {
+	case KindWrite:
 		request.Data = rest.take(request.Length)
+	case KindOpen, KindMkdir, KindSetstat:
+		request.Attributes = rest.attributes()
+	case KindFsetstat:
+		if !isExtended { // fsync@openssh.com has none.
+			request.Attributes = rest.attributes()
+		}
 	}
 	return request, !rest.bad
 }

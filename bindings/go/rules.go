@@ -65,6 +65,7 @@ type GivenRule struct {
 	rule     Rule
 	names    []string // of the path; nil for any
 	hasBytes bool     // AfterBytes was given
+	owner    *owner   // of EnforcePermissions
 	refused  uint64
 }
 
@@ -87,6 +88,11 @@ func (engine *Engine) Refuse(rule Rule) (*GivenRule, error) {
 	} else if rule.AfterBytes != 0 {
 		given.rule.Kind = KindWrite
 	}
+	return engine.give(given)
+}
+
+// give adds a rule.
+func (engine *Engine) give(given *GivenRule) (*GivenRule, error) {
 	engine.lock.Lock()
 	defer engine.lock.Unlock()
 	if engine.pointer == nil {
@@ -178,29 +184,39 @@ func checkPattern(pattern string) error {
 }
 
 // judge reports whether the rule rejects a request.
-func (rule *GivenRule) judge(request Request) bool {
+func (rule *GivenRule) judge(request Request) (bool, error) {
 	given := &rule.rule
 	if given.Times == 0 || !rule.selects(request) {
-		return false
+		return false, nil
+	}
+	if rule.owner != nil {
+		if denied, err := rule.denies(request); !denied || err != nil {
+			return false, err
+		}
 	}
 	if given.After > 0 {
 		given.After--
-		return false
+		return false, nil
 	}
 	if size := uint64(len(request.Data)); rule.hasBytes && given.AfterBytes >= size {
 		given.AfterBytes -= size
-		return false
+		return false, nil
 	}
 	if given.Times != Always {
 		given.Times--
 	}
 	rule.refused++
-	return true
+	return true, nil
+}
+
+// isOf reports whether the rule is for the session of a request.
+func (rule *GivenRule) isOf(request Request) bool {
+	return rule.rule.Session == 0 || rule.rule.Session == request.Session
 }
 
 func (rule *GivenRule) selects(request Request) bool {
 	given := rule.rule
-	if given.Session != 0 && given.Session != request.Session ||
+	if !rule.isOf(request) ||
 		given.Kind != 0 && given.Kind != request.Kind ||
 		request.Flags&given.Flags != given.Flags ||
 		rule.names != nil && !matchesAny(rule.names, request.Path, request.NewPath) {
@@ -253,8 +269,9 @@ func matches(pattern, names []string) bool {
 	return err == nil && fits && matches(pattern[1:], names[1:])
 }
 
-// ruled returns the packet that the library gets: this one, or if a rule rejects it, a REALPATH
-// with its id to which the library replies with the rule's status. The engine's lock is held.
+// ruled returns the packet that the library gets: this one, maybe with other ids, or if a rule
+// rejects it, a REALPATH with its id to which the library replies with the rule's status. The
+// engine's lock is held.
 func (engine *Engine) ruled(session uint64, packet []byte) ([]byte, error) {
 	request, isRead := engine.requestOf(session, packet)
 	if !isRead {
@@ -266,10 +283,21 @@ func (engine *Engine) ruled(session uint64, packet []byte) ([]byte, error) {
 		}
 	}
 	for _, rule := range append([]*GivenRule(nil), engine.rules...) {
-		if rule.judge(request) {
+		isRefused, err := rule.judge(request)
+		if err != nil {
+			return packet, err
+		}
+		if isRefused {
 			path, err := engine.lostBy(rule.rule.Status.Code())
 			return refusedPacket(packet, path), err
 		}
+	}
+	for _, rule := range engine.rules {
+		rewritten, err := rule.rewrite(request, packet)
+		if err != nil {
+			return packet, err
+		}
+		packet = rewritten
 	}
 	return packet, nil
 }

@@ -4,8 +4,11 @@ import (
 	"bytes"
 	"errors"
 	"io/fs"
+	"net"
 	"os"
 	"path/filepath"
+	"strings"
+	"syscall"
 	"testing"
 	"testing/fstest"
 	"time"
@@ -183,6 +186,123 @@ func TestAFolderWithItsAttributes(t *testing.T) {
 	same(t, snapshot(t, copied)["/d"].Mode, uint32(0o40755))
 	_, err = FromFolder(folder, FolderOptions{})
 	same(t, err.Error(), "lucernetick: d/s is neither a file nor a directory")
+}
+
+// What is swapped while a folder is read is a file, a link to a secret, or a FIFO.
+func TestANameThatBecomesALink(t *testing.T) {
+	top := t.TempDir()
+	folder, secret := filepath.Join(top, "folder"), filepath.Join(top, "secret")
+	must(t, os.Mkdir(folder, 0o700))
+	must(t, os.WriteFile(secret, []byte("secret"), 0o600))
+	makes := []func(string) error{
+		func(name string) error { return os.Symlink(secret, name) },
+		func(name string) error { return syscall.Mkfifo(name, 0o600) },
+		func(name string) error { return os.WriteFile(name, []byte("fine"), 0o600) },
+	}
+	ends, ended := make(chan bool), make(chan error)
+	go func() {
+		for number := 0; ; number++ {
+			select {
+			case <-ends:
+				ended <- nil
+				return
+			default:
+			}
+			name := filepath.Join(top, "new")
+			err := makes[number%len(makes)](name)
+			if err = firstOf(err, os.Rename(name, filepath.Join(folder, "f"))); err != nil {
+				ended <- err
+				return
+			}
+		}
+	}()
+	found := map[string]bool{}
+	for end := time.Now().Add(3 * time.Second); time.Now().Before(end); {
+		engine, err := FromFolder(folder, FolderOptions{Skip: func(string, string) {}})
+		if err != nil {
+			continue
+		}
+		found[string(snapshot(t, engine)["/f"].Contents())] = true
+		must(t, engine.Close())
+	}
+	close(ends)
+	must(t, <-ended)
+	same(t, []bool{found["secret"], found["fine"]}, []bool{false, true})
+}
+
+// A file is read while it shrinks or grows, until that is noticed.
+func TestAFileThatChangesItsSize(t *testing.T) {
+	const size = 20_000_000
+	folder := t.TempDir()
+	name := filepath.Join(folder, "f")
+	for _, one := range []struct {
+		size int64
+		says string
+	}{{10, "f shrank while it was read"}, {2 * size, "f grew while it was read"}} {
+		says := ""
+		for end := time.Now().Add(time.Minute); says == "" && time.Now().Before(end); {
+			must(t, os.WriteFile(name, nil, 0o600))
+			must(t, os.Truncate(name, size))
+			changed := make(chan error)
+			go func() {
+				time.Sleep(time.Millisecond)
+				changed <- os.Truncate(name, one.size)
+			}()
+			engine, err := FromFolder(folder, FolderOptions{})
+			must(t, <-changed)
+			if err != nil {
+				says = err.Error()
+				continue
+			}
+			must(t, engine.Close())
+		}
+		if !strings.HasSuffix(says, one.says) {
+			t.Errorf("%q", says)
+		}
+	}
+}
+
+// It is deeper than there may be descriptors.
+func TestADeepFolder(t *testing.T) {
+	const depth, most = 200, 100
+	var limit syscall.Rlimit
+	must(t, syscall.Getrlimit(syscall.RLIMIT_NOFILE, &limit))
+	few := syscall.Rlimit{Cur: most, Max: limit.Max}
+	must(t, syscall.Setrlimit(syscall.RLIMIT_NOFILE, &few))
+	defer syscall.Setrlimit(syscall.RLIMIT_NOFILE, &limit)
+	top := t.TempDir()
+	before, err := os.Getwd()
+	must(t, err)
+	must(t, os.Chdir(top))
+	defer os.Chdir(before)
+	for count := 0; count < depth; count++ {
+		must(t, os.Mkdir("d", 0o700))
+		must(t, os.Chdir("d"))
+	}
+	must(t, os.WriteFile("f", []byte("1"), 0o600))
+	engine, err := FromFolder(top, FolderOptions{})
+	must(t, err)
+	defer engine.Close()
+	same(t, string(snapshot(t, engine)[strings.Repeat("/d", depth)+"/f"].Contents()), "1")
+}
+
+// What is skipped is neither opened nor waited for.
+func TestAFolderWithAFIFOAndASocket(t *testing.T) {
+	folder := t.TempDir()
+	must(t, syscall.Mkfifo(filepath.Join(folder, "pipe"), 0o600))
+	listening, err := net.Listen("unix", filepath.Join(folder, "socket"))
+	must(t, err)
+	defer listening.Close()
+	skipped := map[string]string{}
+	skip := func(path, kind string) { skipped[path] = kind }
+	engine, err := FromFolder(folder, FolderOptions{Skip: skip})
+	must(t, err)
+	must(t, engine.Close())
+	same(t, skipped, map[string]string{"pipe": "a FIFO", "socket": "a socket"})
+	_, err = FromFolder(filepath.Join(folder, "none"), FolderOptions{})
+	same(t, errors.Is(err, fs.ErrNotExist), true)
+	_, err = FromFolder(filepath.Join(folder, "pipe"), FolderOptions{})
+	same(t, errors.Is(err, syscall.ENOTDIR), true)
 }
 
 // No rule applies to a folder that is written.

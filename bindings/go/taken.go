@@ -10,8 +10,9 @@ import (
 )
 
 const (
-	kindMask      = 0o170000
-	kindDirectory = 0o040000
+	kindMask       = 0o170000
+	kindDirectory  = 0o040000
+	permissionBits = 0o7777
 )
 
 // unit is the granularity of holes: they begin and end at multiples of it, or at the file's end.
@@ -45,7 +46,7 @@ type Piece struct {
 func (entry Entry) IsDir() bool { return entry.Mode&kindMask == kindDirectory }
 
 // Permissions returns the lowest twelve bits of the mode.
-func (entry Entry) Permissions() uint32 { return entry.Mode & 0o7777 }
+func (entry Entry) Permissions() uint32 { return entry.Mode & permissionBits }
 
 // Contents returns all bytes of a file, with zeros for its holes; nil for a directory. Do not
 // modify them: they may be the snapshot's own.
@@ -99,7 +100,7 @@ func (engine *Engine) Snapshot() (Snapshot, error) {
 	if err != nil {
 		return nil, err
 	}
-	defer C.lt_tree_free(tree.pointer)
+	defer tree.free()
 	entries := Snapshot{}
 	for at := C.uint64_t(0); ; at++ {
 		path, entry, err := tree.entry(at)
@@ -134,7 +135,7 @@ func (engine *Engine) find(path string) (Entry, bool, error) {
 	if err != nil {
 		return Entry{}, false, err
 	}
-	defer C.lt_tree_free(tree.pointer)
+	defer tree.free()
 	for at := C.uint64_t(0); ; at++ {
 		name, entry, err := tree.leaf(at)
 		if err != nil || name == "" {
@@ -145,6 +146,32 @@ func (engine *Engine) find(path string) (Entry, bool, error) {
 			return entry, true, err
 		}
 	}
+}
+
+func (tree taken) free() { C.lt_tree_free(tree.pointer) }
+
+// object returns the object at a path, or nil. It searches by halves: a directory comes before its
+// contents, and names are in byte order.
+func (tree taken) object(names []string) (*object, error) {
+	var told C.lt_leaf
+	high, err := checked(C.lt_tree_leaf(tree.pointer, beyond, &told))
+	for low := int64(0); low < high && err == nil; {
+		at := (low + high) / 2
+		_, err = checked(C.lt_tree_leaf(tree.pointer, C.uint64_t(at), &told))
+		switch order := compareNames(namesOf(string(bytesOf(told.path))), names); {
+		case order == 0:
+			found := attributesOf(told.attributes)
+			mode := found.Permissions
+			return &object{
+				mode & permissionBits, found.UID, found.GID, mode&kindMask == kindDirectory,
+			}, err
+		case order < 0:
+			low = at + 1
+		default:
+			high = at
+		}
+	}
+	return nil, err
 }
 
 // entry returns the entry at an index, with its path; no path if there is none.

@@ -128,6 +128,20 @@ func (engine *EngineT) ReadOnly(path string) *GivenRule {
 	return given
 }
 
+// EnforcePermissions is Engine.EnforcePermissions.
+func (engine *EngineT) EnforcePermissions(session uint64, uid, gid uint32) *GivenRule {
+	engine.t.Helper()
+	given, err := engine.Engine.EnforcePermissions(session, uid, gid)
+	engine.must(err)
+	return given
+}
+
+// SetAttributes is Engine.SetAttributes.
+func (engine *EngineT) SetAttributes(path string, attributes Attributes, moment time.Time) {
+	engine.t.Helper()
+	engine.must(engine.Engine.SetAttributes(path, attributes, moment))
+}
+
 // OnCall is Engine.OnCall.
 func (engine *EngineT) OnCall(before func(Request), after func(Call)) *Hook {
 	engine.t.Helper()

@@ -55,7 +55,8 @@ func TestATestThatFails(t *testing.T) {
 			engine.Refuse(Rule{Kind: 1})
 		},
 		"lucernetick: MKDIR /a: Failure": func(engine *EngineT) {
-			engine.WriteFiles(map[string][]byte{"/a": {}, "/a/b": {}}, at(0))
+			engine.WriteFiles(map[string][]byte{"/a": {}}, at(0))
+			engine.WriteFiles(map[string][]byte{"/a/b": {}}, at(0))
 		},
 		"lucernetick: no such call within 0s: i/o timeout; no client made a call": func(engine *EngineT) {
 			engine.WaitForCall(Filter{}, 0)

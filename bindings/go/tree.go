@@ -30,6 +30,7 @@ import "C"
 import (
 	"errors"
 	"fmt"
+	parents "path"
 	"sort"
 	"time"
 )
@@ -73,12 +74,31 @@ func (engine *Engine) WriteFiles(files map[string][]byte, moment time.Time) erro
 		paths = append(paths, path)
 	}
 	sort.Strings(paths)
+	if err := checkParents(files, paths); err != nil {
+		return err
+	}
 	engine.lock.Lock()
 	defer engine.lock.Unlock()
 	defer engine.hasMoved()
 	for _, path := range paths {
 		if err := engine.place(path, files[path], C.uint32_t(made)); err != nil {
 			return err
+		}
+	}
+	return nil
+}
+
+// checkParents checks that no path is below a file.
+func checkParents(files map[string][]byte, paths []string) error {
+	isFile := map[string]bool{}
+	for _, path := range paths {
+		isFile[normal(path)] = files[path] != nil
+	}
+	for _, path := range paths {
+		for above := parents.Dir(normal(path)); above != "/"; above = parents.Dir(above) {
+			if isFile[above] {
+				return fmt.Errorf("%w: %q is below %q, which is a file", ErrBadPath, path, above)
+			}
 		}
 	}
 	return nil

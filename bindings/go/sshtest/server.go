@@ -14,7 +14,7 @@ import (
 	"errors"
 	"fmt"
 	"net"
-	"strings"
+	"path"
 	"sync"
 	"time"
 
@@ -26,6 +26,8 @@ import (
 const (
 	// patience is how long a client may take to log in.
 	patience = 30 * time.Second
+	// attempts is how many failed logins a connection may make.
+	attempts = 6
 	// pause is how long to wait after a failed accept.
 	pause = 10 * time.Millisecond
 )
@@ -40,6 +42,8 @@ type Server struct {
 	// User may log in, by a key or by a password. Both are random for each server.
 	User     string
 	Password string
+	// UID and GID are those of User, see User.
+	UID, GID uint32
 	// Users are further users, and PublicKeys further keys, by which every user may log in. A test
 	// may change them, and the next fields, before the server starts.
 	Users      []User
@@ -73,8 +77,11 @@ type Server struct {
 type User struct {
 	Name, Password string
 	// Root is the directory of the tree that the user sees as "/"; "" is the whole tree. The server
-	// makes it if it is missing.
+	// makes it if it is missing, and gives it to the user.
 	Root string
+	// UID and GID are the user and its group. Unless UID is 0, permissions are enforced for them,
+	// see Engine.EnforcePermissions.
+	UID, GID uint32
 }
 
 // NewServer starts a server for the engine, with the system's clock. Close ends it. Like
@@ -106,8 +113,10 @@ func NewUnstartedServer(engine *lucernetick.Engine) *Server {
 		faults:     func(uint64) lucernetick.Faults { return lucernetick.Faults{} },
 	}
 	server.Config = &ssh.ServerConfig{
-		PasswordCallback:  server.checkPassword,
-		PublicKeyCallback: server.checkKey,
+		PasswordCallback:            server.checkPassword,
+		PublicKeyCallback:           server.checkKey,
+		KeyboardInteractiveCallback: server.checkAnswers,
+		MaxAuthTries:                attempts,
 	}
 	return server
 }
@@ -119,7 +128,7 @@ func (server *Server) Start() {
 	}
 	server.Config.AddHostKey(server.HostSigner)
 	for _, user := range server.Users {
-		if err := server.makeRoot(user.Root); err != nil {
+		if err := server.makeRoot(user); err != nil {
 			panic(err)
 		}
 	}
@@ -233,6 +242,17 @@ func (server *Server) checkPassword(
 	return nil, check(user != nil && isEqual(shown, []byte(user.Password)))
 }
 
+// checkAnswers asks for the password.
+func (server *Server) checkAnswers(
+	client ssh.ConnMetadata, ask ssh.KeyboardInteractiveChallenge,
+) (*ssh.Permissions, error) {
+	answers, err := ask("", "", []string{"Password:"}, []bool{false})
+	if err != nil || len(answers) != 1 {
+		return nil, errRefused
+	}
+	return server.checkPassword(client, []byte(answers[0]))
+}
+
 func (server *Server) checkKey(
 	client ssh.ConnMetadata, shown ssh.PublicKey,
 ) (*ssh.Permissions, error) {
@@ -255,7 +275,8 @@ func check(isGood bool) error {
 
 // users returns all users.
 func (server *Server) users() []User {
-	return append([]User{{server.User, server.Password, ""}}, server.Users...)
+	first := User{Name: server.User, Password: server.Password, UID: server.UID, GID: server.GID}
+	return append([]User{first}, server.Users...)
 }
 
 // find returns the user of this name, or nil.
@@ -269,19 +290,22 @@ func (server *Server) find(name string) *User {
 	return nil
 }
 
-// rootOf returns the directory that a user sees as "/".
-func (server *Server) rootOf(name string) string {
-	if user := server.find(name); user != nil && user.Root != "" {
-		return user.Root
-	}
-	return "/"
-}
-
-func (server *Server) makeRoot(root string) error {
-	if strings.Trim(root, "/") == "" {
+// makeRoot makes the directory that a user sees as "/", if it is missing.
+func (server *Server) makeRoot(user User) error {
+	root := path.Join("/", user.Root)
+	if root == "/" {
 		return nil
 	}
-	return server.engine.WriteFiles(map[string][]byte{root: nil}, server.Clock())
+	tree, err := server.engine.Snapshot()
+	if _, there := tree[root]; there || err != nil {
+		return err
+	}
+	if err := server.engine.WriteFiles(map[string][]byte{root: nil}, server.Clock()); err != nil {
+		return err
+	}
+	const owner = 2
+	given := lucernetick.Attributes{Given: owner, UID: user.UID, GID: user.GID}
+	return server.engine.SetAttributes(root, given, server.Clock())
 }
 
 // accept accepts connections until the server is closed.

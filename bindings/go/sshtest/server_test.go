@@ -228,6 +228,106 @@ func TestAPassword(t *testing.T) {
 	must(t, putAndGet(open(t, client), "/f", drawn(10)))
 }
 
+// asked is a client that is asked for the password.
+func asked(server *sshtest.Server, answer func() string) *ssh.ClientConfig {
+	config := server.ClientConfig()
+	config.Auth = []ssh.AuthMethod{ssh.KeyboardInteractive(
+		func(_, _ string, questions []string, echos []bool) ([]string, error) {
+			if len(questions) == 0 {
+				return nil, nil
+			}
+			if len(questions) != 1 || questions[0] != "Password:" || echos[0] {
+				return nil, fmt.Errorf("asked %q", questions)
+			}
+			return []string{answer()}, nil
+		},
+	)}
+	return config
+}
+
+func TestAPasswordThatIsAskedFor(t *testing.T) {
+	server, _ := start(t)
+	config := asked(server, func() string { return server.Password })
+	client, err := ssh.Dial("tcp", server.Addr, config)
+	must(t, err)
+	defer client.Close()
+	must(t, putAndGet(open(t, client), "/f", drawn(10)))
+	config = asked(server, func() string { return "x" })
+	if told := refused(t, server, config); !strings.Contains(told, "unable to authenticate") {
+		t.Error(told)
+	}
+}
+
+// After six wrong passwords the connection is closed. Others can log in.
+func TestWrongPasswordsCloseTheConnection(t *testing.T) {
+	server, _ := start(t)
+	count := 0
+	config := server.ClientConfig()
+	config.Auth = []ssh.AuthMethod{ssh.RetryableAuthMethod(
+		ssh.PasswordCallback(func() (string, error) {
+			count++
+			return fmt.Sprint("wrong", count), nil
+		}), 100,
+	)}
+	told := refused(t, server, config)
+	if count != 6 || strings.Contains(told, "unable to authenticate") {
+		t.Errorf("%d passwords, and then %s", count, told)
+	}
+	must(t, putAndGet(open(t, dial(t, server)), "/f", drawn(10)))
+}
+
+// resident returns the memory of this process, in bytes.
+func resident(t *testing.T) int {
+	t.Helper()
+	var size, pages int
+	stat, err := os.ReadFile("/proc/self/statm")
+	must(t, err)
+	_, err = fmt.Sscan(string(stat), &size, &pages)
+	must(t, err)
+	return pages * os.Getpagesize()
+}
+
+// Each of 10 clients asks for 60 MB, and reads nothing. Their requests wait.
+func TestClientsThatReadNothingTakeLittleMemory(t *testing.T) {
+	server, engine := start(t)
+	must(t, engine.WriteFiles(map[string][]byte{"/f": drawn(60_000_000)}, time.Time{}))
+	before := resident(t)
+	for count := 0; count < 10; count++ {
+		session, err := dial(t, server).NewSession()
+		must(t, err)
+		to, err := session.StdinPipe()
+		must(t, err)
+		from, err := session.StdoutPipe()
+		must(t, err)
+		must(t, session.RequestSubsystem("sftp"))
+		// INIT and OPEN; its reply ends with the handle.
+		_, err = to.Write([]byte("\x00\x00\x00\x05\x01\x00\x00\x00\x03" +
+			"\x00\x00\x00\x13\x03\x00\x00\x00\x01\x00\x00\x00\x02/f" +
+			"\x00\x00\x00\x01\x00\x00\x00\x00"))
+		must(t, err)
+		var opened []byte
+		for count := 0; count < 2; count++ {
+			length := make([]byte, 4)
+			_, err = io.ReadFull(from, length)
+			must(t, err)
+			opened = make([]byte, length[3])
+			_, err = io.ReadFull(from, opened)
+			must(t, err)
+		}
+		for number := 0; number < 234; number++ {
+			read := append([]byte("\x00\x00\x00\x1d\x05\x00\x00\x00\x01"), opened[len(opened)-12:]...)
+			read = append(read, 0, 0, 0, 0, byte(number*4/256), byte(number*4), 0, 0, 0, 3, 255, 0)
+			if _, err := to.Write(read); err != nil {
+				t.Fatal(err)
+			}
+		}
+	}
+	time.Sleep(2 * time.Second)
+	if grown := resident(t) - before; grown > 10*12_000_000 {
+		t.Errorf("%d bytes for each", grown/10)
+	}
+}
+
 // A test may set who may log in.
 func TestAUserOfTheTests(t *testing.T) {
 	_, engine := start(t)

@@ -5,11 +5,15 @@ import (
 	"fmt"
 	"io"
 	"net"
+	"path"
 	"time"
 
 	"golang.org/x/crypto/ssh"
 	"lucernetick"
 )
+
+// mostUnread is how many bytes of replies a client may leave unread.
+const mostUnread = 1 << 20
 
 // A conn is a client's connection to a session.
 type conn interface {
@@ -31,8 +35,8 @@ func (server *Server) connectRaces() error {
 		return nil
 	}
 	for _, user := range server.users() {
-		if user.Root != "" {
-			return fmt.Errorf("sshtest: %s has a Root, and users of races have none", user.Name)
+		if user.Root != "" || user.UID != 0 {
+			return fmt.Errorf("sshtest: %s has a Root or UID, and users of races have none", user.Name)
 		}
 		one, err := server.Races.Connect()
 		if err != nil {
@@ -122,8 +126,12 @@ func (server *Server) subsystem(requests <-chan *ssh.Request, user string) conn 
 }
 
 // connect opens a session of a user. It returns nil if there is none, or the server has stopped.
-func (server *Server) connect(user string) conn {
-	opened := server.open(user)
+func (server *Server) connect(name string) conn {
+	user := server.find(name)
+	if user == nil {
+		user = &User{Name: name} // Config accepts it.
+	}
+	opened := server.open(*user)
 	if opened == nil {
 		return nil
 	}
@@ -135,12 +143,12 @@ func (server *Server) connect(user string) conn {
 }
 
 // open opens a session with its faults, or takes the user's connection of a race.
-func (server *Server) open(user string) conn {
+func (server *Server) open(user User) conn {
 	if server.Races != nil {
 		server.lock.Lock()
 		defer server.lock.Unlock()
-		one := server.racers[user]
-		delete(server.racers, user)
+		one := server.racers[user.Name]
+		delete(server.racers, user.Name)
 		return one
 	}
 	server.lock.Lock()
@@ -152,9 +160,14 @@ func (server *Server) open(user string) conn {
 		server.report(err)
 		return nil
 	}
-	one, err := server.engine.ConnectAt(server.rootOf(user), server.Clock, faults)
+	one, err := server.engine.ConnectAt(path.Join("/", user.Root), server.Clock, faults)
 	if err != nil {
 		return nil
+	}
+	server.report(one.LimitUnread(mostUnread))
+	if user.UID != 0 {
+		_, err := server.engine.EnforcePermissions(one.Session().Number(), user.UID, user.GID)
+		server.report(err)
 	}
 	return one
 }

@@ -273,6 +273,40 @@ func TestUsersWithRoots(t *testing.T) {
 }
 
 // The same host key in each run.
+// Ann owns the root that is made for her. Others see her files by their modes.
+func TestUsersWithPermissions(t *testing.T) {
+	server := sshtest.NewServerT(t, func(server *sshtest.Server) {
+		server.UID, server.GID = 2000, 100
+		server.Users = []sshtest.User{
+			{Name: "ann", Password: "1", Root: "/home/ann", UID: 1000, GID: 100},
+		}
+	})
+	config := server.ClientConfig()
+	config.User, config.Auth = "ann", []ssh.AuthMethod{ssh.Password("1")}
+	line, err := ssh.Dial("tcp", server.Addr, config)
+	must(t, err)
+	defer line.Close()
+	ann, other := open(t, line), open(t, server.Dial())
+	must(t, put(ann, "/f", []byte("1")))
+	must(t, ann.Chmod("/f", 0o600))
+	if _, err := get(other, "/home/ann/f"); !errors.Is(err, os.ErrPermission) {
+		t.Errorf("read with mode 0600: %v", err)
+	}
+	if err := other.Mkdir("/new"); !errors.Is(err, os.ErrPermission) {
+		t.Errorf("made in /: %v", err)
+	}
+	must(t, ann.Chmod("/f", 0o640))
+	if found, err := get(other, "/home/ann/f"); string(found) != "1" || err != nil {
+		t.Errorf("read %q, %v", found, err)
+	}
+	tree := server.Engine.Snapshot()
+	for path, uid := range map[string]uint32{"/home": 0, "/home/ann": 1000, "/home/ann/f": 1000} {
+		if found := tree[path].UID; found != uid {
+			t.Errorf("%s is of %d", path, found)
+		}
+	}
+}
+
 func TestAFixedHostKey(t *testing.T) {
 	_, private, err := ed25519.GenerateKey(rand.Reader)
 	must(t, err)

@@ -6,6 +6,7 @@ import argparse
 import contextlib
 import json
 import os
+import re
 import shlex
 import signal
 import sys
@@ -22,6 +23,7 @@ from ._ssh import SshServer, write_private
 from ._users import User
 
 ENDS = {signal.SIGINT, signal.SIGTERM, signal.SIGHUP}
+LOGIN = "NAME:PASSWORD[:ROOT[:UID:GID]]"
 LOOK = 1.0
 """How often it looks whether a thread has failed, in seconds."""
 KEEP = 1024
@@ -31,14 +33,17 @@ KEEP_CONTROLLED = 100_000
 
 
 def login(words: str) -> User:
-    """NAME:PASSWORD or NAME:PASSWORD:ROOT. A password may have colons; a root begins with /."""
-    name, colon, password = words.partition(":")
-    if not name or not colon:
-        raise argparse.ArgumentTypeError("it must be NAME:PASSWORD or NAME:PASSWORD:ROOT")
-    before, colon, root = password.rpartition(":")
-    if colon and root.startswith("/"):
-        return User(name, before, root)
-    return User(name, password)
+    """NAME:PASSWORD[:ROOT[:UID:GID]]. A password may have colons; a root begins with /."""
+    found = re.fullmatch("([^:]+):(.*)", words, re.DOTALL)
+    if found is None:
+        raise argparse.ArgumentTypeError(f"it must be {LOGIN}")
+    parts = re.fullmatch("(.*):(/[^:]*)(?::([0-9]+):([0-9]+))?", found[2], re.DOTALL)
+    if parts is None:
+        return User(found[1], found[2])
+    try:
+        return User(found[1], parts[1], parts[2], int(parts[3] or 0), int(parts[4] or 0))
+    except ValueError as fault:
+        raise argparse.ArgumentTypeError(str(fault)) from None
 
 
 def password_file(name: str) -> list[User]:
@@ -80,13 +85,13 @@ def read_words(words: Optional[Sequence[str]]) -> argparse.Namespace:
     )
     add(
         "--user",
-        metavar="NAME:PASSWORD[:ROOT]",
+        metavar=LOGIN,
         type=login,
         action="append",
         default=[],
-        help="a user, who sees the directory ROOT of the tree as /; may be repeated; by default "
-        "`user` with the key in the printed command. Other users of this machine can see it: see "
-        "--password-file",
+        help="a user, who sees the directory ROOT of the tree as /, with enforced permissions if "
+        "there is a UID; may be repeated; by default `user` with the key in the printed command. "
+        "Other users of this machine can see it: see --password-file",
     )
     add(
         "--password-file",

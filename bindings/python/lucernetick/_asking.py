@@ -2,19 +2,20 @@
 
 from __future__ import annotations
 
-from typing import TYPE_CHECKING
+from typing import TYPE_CHECKING, Optional
 
-from ._calls import Kind
+from . import _arguments as arguments
+from ._calls import Attributes, Kind
 from ._faults import BlockedError, EndedError, Refusal, StatusError
 from ._flags import OpenFlag
 from ._library import STATUS_BASE, library, message
+from ._requests import MODE, OWNER, SIZE, TIMES
+from ._tree import Entry
 
 if TYPE_CHECKING:
     from ._engine import Engine
 
 STATUS, EXTENDED = 101, 200
-SIZE = 1
-"""The flag of a size in attributes."""
 BLOCKED = 4
 """As `Turn.BLOCKED`."""
 INIT = b"\0\0\0\5\1\0\0\0\3"
@@ -103,3 +104,24 @@ class Asker:
 
 def encoded(path: str) -> bytes:
     return path.encode("utf-8", "surrogateescape")
+
+
+def encoded_attributes(given: Attributes, entry: Optional[Entry]) -> bytes:
+    """As SETSTAT has them. Ids and times are sent in pairs: one that isn't given is the entry's."""
+    flags, fields = 0, b""
+
+    def add(flag: int, names: tuple[str, ...], size: int = 4, most: int = arguments.LATEST) -> None:
+        nonlocal flags, fields
+        if all(getattr(given, name) is None for name in names):
+            return
+        flags |= flag
+        for name in names:
+            value = getattr(given, name)
+            value = getattr(entry, name, 0) if value is None else value
+            fields += number(arguments.integer(name, value, 0, most), size)
+
+    add(SIZE, ("size",), 8, arguments.MOST)
+    add(OWNER, ("uid", "gid"))
+    add(MODE, ("permissions",))
+    add(TIMES, ("atime", "mtime"))
+    return number(flags) + fields

@@ -22,7 +22,9 @@ class Kind(enum.IntEnum):
     """Only of requests: the record of an LSTAT call has the kind STAT."""
     FSTAT = 8
     SETSTAT = 9
+    """Also lsetstat@openssh.com."""
     FSETSTAT = 10
+    """Also fsync@openssh.com."""
     OPENDIR = 11
     READDIR = 12
     REMOVE = 13

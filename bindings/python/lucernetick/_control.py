@@ -3,11 +3,20 @@
     GET /tree               the entries by paths; ?contents=1 with their contents as base64
     PUT /tree               {"/a": "text", "/b": {"base64": ".."}, "/c": {"link": "/a"}}
     GET, PUT /files/PATH    the contents of a file
-    GET /calls              {"calls": [..], "dropped": n}: the calls since the start or a reset
-    POST /rules             the parameters of `refuse`, as {"kind": "WRITE"}: {"rule": n}
+    PUT /attributes         {"/a": {"mode": 384, "uid": 1000, "gid": 100}}, also atime, mtime, size
+    GET /calls              {"calls": [..], "dropped": n}: the calls since the start or a reset;
+                            ?contents=1 with the bytes of READs and WRITEs as base64
+    POST /wait              {"path": "/in/f", "timeout": 10}: waits until there is a file that no
+                            client writes, and returns its entry; or for a call, as by
+                            {"call": {"kind": "RENAME", "path": "/in/*", "session": 1}}, that was
+                            made since the start or a reset. After the timeout the status is 504
+    POST /rules             the parameters of `refuse`, as {"kind": "WRITE"}: {"rule": n};
+                            or a rule with its parameters: {"rule": "disk_full", "after": 1000},
+                            {"rule": "read_only", "path": "/in/**"},
+                            {"rule": "enforce_permissions", "uid": 1000, "gid": 100}
     GET, DELETE /rules/N    {"refused": n}; DELETE ends the rule
     PUT /faults             the parameters of `Faults`, for sessions that open from now on
-    PUT /clock              {"set": n}, {"advance": n} or {"wall": true}: {"now": n}
+    GET, PUT /clock         {"set": n}, {"advance": n} or {"wall": true}: {"now": n}
     POST /reset             removes all files, and ends all rules and faults
 
 An error has a status from 400 on, and {"error": "why"}.
@@ -29,7 +38,7 @@ from urllib.parse import parse_qs, unquote, urlsplit
 
 from . import _arguments as arguments
 from ._asking import Asker, encoded, string
-from ._calls import Call, Kind
+from ._calls import Attributes, Call, Kind
 from ._clock import VirtualTime, wall_clock
 from ._closing import Closes
 from ._faults import Error
@@ -42,7 +51,14 @@ from ._tree import Contents, Entry, Link
 
 MOST = 1 << 30
 """The longest body of a request."""
-RULE = {"session", "kind", "path", "flags", "after", "after_bytes", "times", "status"}
+RULES = {
+    "refuse": {"session", "kind", "path", "flags", "after", "after_bytes", "times", "status"},
+    "disk_full": {"after"},
+    "read_only": {"path"},
+    "enforce_permissions": {"session", "uid", "gid"},
+}
+"""The rules by their names, with their parameters."""
+ATTRIBUTES = {"size", "uid", "gid", "mode", "atime", "mtime"}
 
 
 class SetClock:
@@ -113,6 +129,8 @@ class Control(Closes):
         """The result of a request; None if there is no such thing."""
         parts = urlsplit(target)
         path, query = unquote(parts.path, errors="surrogateescape"), parse_qs(parts.query)
+        if (method, path) == ("POST", "/wait"):
+            return self._wait(words_of(body))
         with self._lock:
             if path.startswith("/files/"):
                 return self._file(method, path[len("/files") :], body)
@@ -121,9 +139,11 @@ class Control(Closes):
             does = {
                 ("GET", "/tree"): lambda: self._tree("contents" in query),
                 ("PUT", "/tree"): lambda: self._put_tree(words_of(body)),
-                ("GET", "/calls"): self._calls,
+                ("PUT", "/attributes"): lambda: self._set_attributes(words_of(body)),
+                ("GET", "/calls"): lambda: self._calls("contents" in query),
                 ("POST", "/rules"): lambda: self._refuse(words_of(body)),
                 ("PUT", "/faults"): lambda: self._set_faults(words_of(body)),
+                ("GET", "/clock"): lambda: {"now": self.clock()},
                 ("PUT", "/clock"): lambda: self._set_clock(words_of(body)),
                 ("POST", "/reset"): self._reset,
             }.get((method, path))
@@ -144,19 +164,43 @@ class Control(Closes):
         entry = self.server.snapshot().get(path)
         return entry.contents if method == "GET" and entry is not None else None
 
-    def _calls(self) -> dict[str, Any]:
+    def _set_attributes(self, words: dict[str, Any]) -> dict[str, Any]:
+        given = {path: as_attributes(path, one) for path, one in words.items()}
+        for path, attributes in given.items():
+            self.server.engine.set_attributes(path, attributes, moment=self.clock())
+        return {}
+
+    def _calls(self, has_contents: bool) -> dict[str, Any]:
         calls = [call for call in self.server.last_calls() if call.number > self._after]
-        return {"calls": [call_words(call) for call in calls], "dropped": self.server.dropped}
+        words = [call_words(call, has_contents) for call in calls]
+        return {"calls": words, "dropped": self.server.dropped}
+
+    def _wait(self, words: dict[str, Any]) -> dict[str, Any]:
+        """Other requests are served meanwhile."""
+        timeout = words.pop("timeout", 10.0)
+        if set(words) == {"path"}:
+            return entry_words(self.server.wait_for(words["path"], timeout), False)
+        if set(words) != {"call"} or not isinstance(words["call"], dict):
+            raise ValueError('wait takes {"path": "/a"} or {"call": {"kind": "RENAME"}}')
+        given = words["call"]
+        check_names("a call", given, {"kind", "path", "session"})
+        if isinstance(given.get("kind"), str):
+            given["kind"] = by_name("kind", Kind, given["kind"])
+        found = self.server.wait_for_call(
+            **given, when=lambda call: call.number > self._after, timeout=timeout
+        )
+        return call_words(found, False)
 
     def _refuse(self, words: dict[str, Any]) -> dict[str, Any]:
-        unknown = ", ".join(sorted(set(words) - RULE))
-        if unknown:
-            raise ValueError(f"a rule has no {unknown}")
+        rule = words.pop("rule", "refuse")
+        if rule not in RULES:
+            raise ValueError(f"rule must be one of {', '.join(RULES)}, not {rule}")
+        check_names("a rule" if rule == "refuse" else rule, words, RULES[rule])
         for name, names in (("kind", Kind), ("status", Status), ("flags", OpenFlag)):
             if isinstance(words.get(name), str):
                 words[name] = by_name(name, names, words[name])
         number = len(self._rules) + 1
-        self._rules[number] = self.server.refuse(**words)
+        self._rules[number] = getattr(self.server, rule)(**words)
         return {"rule": number}
 
     def _rule(self, method: str, number: str) -> Optional[dict[str, Any]]:
@@ -196,6 +240,19 @@ def words_of(body: bytes) -> dict[str, Any]:
     if not isinstance(words, dict):
         raise ValueError("the body must be a JSON object")
     return words
+
+
+def check_names(what: str, words: dict[str, Any], names: set[str]) -> None:
+    unknown = ", ".join(sorted(set(words) - names))
+    if unknown:
+        raise ValueError(f"{what} has no {unknown}")
+
+
+def as_attributes(path: str, words: Any) -> Attributes:
+    if not isinstance(words, dict):
+        raise ValueError(f"{path} must have a JSON object")
+    check_names(path, words, ATTRIBUTES)
+    return Attributes(permissions=words.pop("mode", None), **words)
 
 
 def by_name(name: str, names: Any, value: str) -> Any:
@@ -239,8 +296,16 @@ def entry_words(entry: Entry, has_contents: bool) -> dict[str, Any]:
     return words
 
 
-def call_words(call: Call) -> dict[str, Any]:
-    return {
+def attribute_words(given: Attributes) -> dict[str, Any]:
+    """Those that are given."""
+    words = dataclasses.asdict(given)
+    words["mode"] = words.pop("permissions")
+    return {name: value for name, value in words.items() if value is not None}
+
+
+def call_words(call: Call, has_contents: bool) -> dict[str, Any]:
+    reply = call.reply
+    words = {
         "number": call.number,
         "session": call.session,
         "moment": call.moment,
@@ -251,9 +316,20 @@ def call_words(call: Call) -> dict[str, Any]:
         "offset": call.offset,
         "length": call.length,
         "flags": call.flags,
-        "is_ok": call.reply.is_ok,
+        "attributes": attribute_words(call.attributes),
+        "is_ok": reply.is_ok,
+        "reply": {
+            "kind": reply.kind.name,
+            "status": reply.status,
+            "handle": reply.handle,
+            "names": list(reply.names),
+            "attributes": attribute_words(reply.attributes),
+        },
         "text": str(call),
     }
+    if has_contents:
+        words["base64"] = base64.b64encode(call.data or reply.data).decode()
+    return words
 
 
 class Handler(http.server.BaseHTTPRequestHandler):
@@ -275,6 +351,8 @@ class Handler(http.server.BaseHTTPRequestHandler):
             given = int(self.headers["Content-Length"] or 0)
             body = self.rfile.read(arguments.integer("Content-Length", given, 0, MOST))
             found = self.control.do(self.command, self.path, body)
+        except TimeoutError as fault:
+            self._reply(504, {"error": str(fault)})
         except (Error, TypeError, ValueError) as fault:
             self._reply(400, {"error": str(fault)})
         else:

@@ -12,7 +12,8 @@ from collections import deque
 from typing import Any, Iterator, NoReturn, Optional, Union
 
 from . import _arguments as arguments
-from ._calls import Call, Kind, LtBytes, Records, read_calls
+from ._asking import Asker, encoded_attributes
+from ._calls import Attributes, Call, Kind, LtBytes, Records, read_calls, text
 from ._faults import DroppedError, Error, Refusal, RefusedError
 from ._flags import OpenFlag
 from ._folders import Skip, Snapshot, read_folder
@@ -20,7 +21,7 @@ from ._library import library
 from ._log import Log
 from ._requests import Packets, below_root, read_request, refused_packet
 from ._rules import ALWAYS, LtRule, Refuses, Rule, Status
-from ._tree import Files, read_tree, write_tree
+from ._tree import Files, Tree, read_tree, write_tree
 from ._watching import Hook, Watches
 from ._writing import write_folder
 
@@ -29,6 +30,17 @@ LEAST_KEPT = 512
 """More records than one turn adds, which may complete the calls of all sessions."""
 NAMING = {Kind.OPEN, Kind.CLOSE, Kind.MKDIR, Kind.RENAME, Kind.POSIX_RENAME, Kind.HARDLINK}
 """The kinds after which there may be a new file at a path."""
+SHAPING = {
+    Kind.SETSTAT,
+    Kind.FSETSTAT,
+    Kind.MKDIR,
+    Kind.RMDIR,
+    Kind.REMOVE,
+    Kind.RENAME,
+    Kind.POSIX_RENAME,
+    Kind.HARDLINK,
+}
+"""The kinds after which names and attributes may be others. An OPEN may create a file."""
 
 
 class Turn(enum.IntEnum):
@@ -113,6 +125,8 @@ class Engine(Refuses, Watches):
         self._statuses: set[Status] = set()
         """For each of these the library has a rule for `_lost`."""
         self._hooks: list[Hook] = []
+        self._modes: Optional[Tree] = None
+        """A snapshot with the names and attributes of now, for permissions; None if there is none."""
         self._is_forked = False
         ENGINES.add(self)
 
@@ -168,6 +182,23 @@ class Engine(Refuses, Watches):
         error stays.
         """
         write_tree(self, files, arguments.timestamp("moment", moment))
+
+    def set_attributes(
+        self, path: arguments.Path, attributes: Attributes, *, moment: int = 0
+    ) -> None:
+        """Sets those of a file or a directory that aren't None, by a request of a session of its
+        own. A new size sets the file's mtime to `moment`. Raises `StatusError` if there is no such
+        path, and for the root."""
+        name = text(arguments.normal(arguments.path("path", path)))
+        begins = arguments.timestamp("moment", moment)
+        if not isinstance(attributes, Attributes):
+            why = f"attributes must be Attributes, not {type(attributes).__name__}"
+            raise TypeError(why)
+        with self._moved:
+            self._check()
+            encoded = encoded_attributes(attributes, self.snapshot().get(name))
+            with Asker(self, begins) as asker:
+                asker.set_attributes(name, encoded)
 
     def snapshot(self) -> Snapshot:
         """The whole tree by paths. A directory precedes its entries, `/` is first, and names are
@@ -235,6 +266,7 @@ class Engine(Refuses, Watches):
         """Frees the engine. Later calls on it and its sessions are rejected."""
         with self._moved:
             engine, self._engine = self._engine, None
+            self._drop_modes()
             if not self._is_forked:
                 library.lt_free(engine)
             self._moved.notify_all()
@@ -287,6 +319,7 @@ class Engine(Refuses, Watches):
         self._lock = threading.RLock()
         self._moved = threading.Condition(self._lock)
         self._engine = None
+        self._modes = None
         self._is_forked = True
 
     def _has_moved(self) -> None:
@@ -299,6 +332,7 @@ class Engine(Refuses, Watches):
         """Reads the new records. Until they are needed, an engine that keeps all need not."""
         records = self._records.news(self._engine)
         if self._records.missed:
+            self._drop_modes()
             self._recorded += self._records.missed
             self._kept.clear()
         for record in records:
@@ -310,6 +344,8 @@ class Engine(Refuses, Watches):
             self._recorded += 1
             self._kept.append(record)
             self._changes += record.kind in NAMING
+            if record.kind in SHAPING or (record.flags or 0) & OpenFlag.CREATE:
+                self._drop_modes()
             if record.kind in (Kind.OPEN, Kind.OPENDIR) and record.reply.handle is not None:
                 self._opened[record.reply.handle] = record
             elif record.kind == Kind.CLOSE and record.handle is not None:
@@ -318,6 +354,7 @@ class Engine(Refuses, Watches):
             left = [number for number, call in self._opened.items() if call.session == record]
             for number in left:
                 del self._opened[number]
+            self._rules = [rule for rule in self._rules if not rule._ends_with(record)]
             self._changes += bool(left)
         if self._log:
             self._log.note(record)
@@ -325,6 +362,17 @@ class Engine(Refuses, Watches):
             for hook in list(self._hooks):
                 if hook._after:
                     hook._after(record)
+
+    def _tree_now(self) -> Tree:
+        """A snapshot with the names and attributes of now. All records were read."""
+        if self._modes is None:
+            self._modes = Tree(self)
+        return self._modes
+
+    def _drop_modes(self) -> None:
+        if self._modes is not None:
+            self._modes.free()
+            self._modes = None
 
     def _changes_now(self) -> int:
         """Counts the calls after which there may be a new file at a path."""
@@ -389,6 +437,8 @@ class Engine(Refuses, Watches):
             status = rule._judge(request)
             if status is not None:
                 return refused_packet(packet, self._lost_by(status))
+        for rule in list(self._rules):
+            packet = rule._rewrite(request, packet)
         return packet
 
     def _lost_by(self, status: Status) -> bytes:

@@ -169,11 +169,13 @@ class Folder:
         descriptor = os.open(names[-1], TO_READ, dir_fd=directory)
         with open(descriptor, "rb", buffering=0) as file:
             opened = os.fstat(descriptor)
-            if not os.path.samestat(status, opened):
+            if not stat.S_ISREG(opened.st_mode) or not os.path.samestat(status, opened):
                 raise ValueError(f"{self._place(names)}: it was replaced while it was read")
             pieces = tuple(read_pieces(descriptor, opened.st_size))
-            if os.fstat(descriptor).st_size < opened.st_size:
-                raise ValueError(f"{self._place(names)}: it shrank while it was read")
+            now = os.fstat(descriptor).st_size
+            if now != opened.st_size:
+                how = "shrank" if now < opened.st_size else "grew"
+                raise ValueError(f"{self._place(names)}: it {how} while it was read")
             return Found(Sparse(opened.st_size, pieces), opened)
 
 

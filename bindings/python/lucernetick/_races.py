@@ -306,8 +306,8 @@ class Races(Closes, Shows, Refuses):
         if len(users) != len(clients):
             why = f"the race has {len(clients)} clients, and there are {len(users)} users"
             raise ValueError(f"{why}: each user is one client")
-        if any(user.root.strip("/") for user in users):
-            raise ValueError("the users of a race can't have roots")
+        if any(user.root.strip("/") or user.uid for user in users):
+            raise ValueError("the users of a race can't have roots or uids")
         self._users = {user.name: client for user, client in zip(users, clients)}
 
     def _connect(self, user: User, faults: Faults) -> Connection:

@@ -6,7 +6,7 @@ from dataclasses import dataclass
 from typing import Mapping, Optional
 
 from ._arguments import LONGEST_NAME, LONGEST_PATH, normal
-from ._calls import Call, Kind, text
+from ._calls import Attributes, Call, Kind, text
 
 LONGEST = 262144
 """The greatest length of a packet."""
@@ -25,12 +25,17 @@ BY_PATH = {
     Kind.POSIX_RENAME,
     Kind.HARDLINK,
 }
+WITH_ATTRIBUTES = {Kind.OPEN, Kind.MKDIR, Kind.SETSTAT, Kind.FSETSTAT}
+SIZE, OWNER, MODE, TIMES, PAIRS = 1, 2, 4, 8, 2**31
+"""The flags of attributes."""
 OF_ENTRIES = {Kind.REMOVE, Kind.RMDIR, Kind.RENAME, Kind.POSIX_RENAME, Kind.HARDLINK}
 BY_TWO_PATHS = {Kind.RENAME, Kind.POSIX_RENAME, Kind.HARDLINK}
 PLAIN = {int(kind): kind for kind in Kind if kind < EXTENDED}
 EXTENSIONS = {
     b"posix-rename@openssh.com": Kind.POSIX_RENAME,
     b"hardlink@openssh.com": Kind.HARDLINK,
+    b"fsync@openssh.com": Kind.FSETSTAT,
+    b"lsetstat@openssh.com": Kind.SETSTAT,
 }
 
 
@@ -53,6 +58,7 @@ class Request:
     """The pflags of OPEN, see `OpenFlag`."""
     data: bytes
     """The bytes of WRITE."""
+    attributes: Attributes = Attributes()
 
 
 class Packets:
@@ -119,6 +125,19 @@ class Fields:
             raise ValueError("no handle")
         return int.from_bytes(handle, "big")
 
+    def attributes(self) -> Attributes:
+        flags = self.number(4)
+        size = self.number(8) if flags & SIZE else None
+        uid, gid = self._pair(flags & OWNER)
+        permissions = self.number(4) if flags & MODE else None
+        atime, mtime = self._pair(flags & TIMES)
+        for _ in range(2 * self.number(4) if flags & PAIRS else 0):
+            self.string()
+        return Attributes(size, uid, gid, permissions, atime, mtime)
+
+    def _pair(self, is_given: int) -> tuple[Optional[int], Optional[int]]:
+        return (self.number(4), self.number(4)) if is_given else (None, None)
+
     def take(self, size: int) -> bytes:
         found = self._packet[self._at : self._at + size]
         if len(found) != size:
@@ -144,16 +163,38 @@ def read_request(session: int, packet: bytes, opened: Mapping[int, Call]) -> Opt
             offset, length = fields.number(8), fields.number(4)
         if kind == Kind.WRITE and length is not None:
             data = fields.take(length)
+        # fsync@openssh.com has none.
+        has_attributes = kind in WITH_ATTRIBUTES - ({Kind.FSETSTAT} if is_extended else set())
+        attributes = fields.attributes() if has_attributes else Attributes()
     except (IndexError, KeyError, ValueError):
         return None
     if handle is not None and handle in opened:
         path = opened[handle].path
-    return Request(session, kind, path, new_path, handle, offset, length, flags, data)
+    return Request(
+        session, kind, path, new_path, handle, offset, length, flags, data, attributes
+    )
 
 
 def refused_packet(packet: bytes, path: bytes) -> bytes:
     """A REALPATH of this path, with the packet's id."""
     body = bytes([Kind.REALPATH]) + packet[5:9] + len(path).to_bytes(4, "big") + path
+    return len(body).to_bytes(4, "big") + body
+
+
+def with_ids(packet: bytes, uid: int, gid: int) -> bytes:
+    """A packet with these ids in its attributes. It has valid fields."""
+    fields = Fields(packet)
+    if packet[4] == EXTENDED:
+        fields.string()
+    fields.string()
+    if packet[4] == Kind.OPEN:
+        fields.number(4)
+    begin = fields._at
+    flags = fields.number(4)
+    size = fields.take(8 if flags & SIZE else 0)
+    fields.take(8 if flags & OWNER else 0)
+    numbers = [number.to_bytes(4, "big") for number in (flags | OWNER, uid, gid)]
+    body = packet[4:begin] + numbers[0] + size + numbers[1] + numbers[2] + packet[fields._at :]
     return len(body).to_bytes(4, "big") + body
 
 

@@ -11,8 +11,9 @@ from . import _arguments as arguments
 from ._calls import Kind, LtBytes, text
 from ._flags import OpenFlag
 from ._library import library
+from ._permissions import GUARDED, KEPT, Owner, Permissions, names_of
 from ._reaching import Reaches
-from ._requests import Request
+from ._requests import WITH_ATTRIBUTES, Request, with_ids
 
 if TYPE_CHECKING:
     from ._engine import Engine, Session
@@ -101,6 +102,51 @@ class Rule:
         self._refused += 1
         return self._status
 
+    def _rewrite(self, request: Request, packet: bytes) -> bytes:
+        """The packet of a request that no rule rejects."""
+        return packet
+
+    def _ends_with(self, session: int) -> bool:
+        """Whether it is of a session that has ended."""
+        return False
+
+
+class PermissionRule(Rule):
+    """Rejects what permissions deny to a user, who owns what it creates."""
+
+    def __init__(self, engine: Engine, owner: Owner, session: int) -> None:
+        super().__init__(engine, self._denies, 0, None, None, Status.PERMISSION_DENIED)
+        self._owner = owner
+        self._session = session
+
+    def _applies(self, request: Request) -> bool:
+        return self._session in (0, request.session)
+
+    def _denies(self, request: Request) -> bool:
+        if self._owner.uid == 0 or request.kind not in GUARDED or not self._applies(request):
+            return False
+        find = self._engine._tree_now().find
+        top = names_of(text(self._engine._roots.get(request.session, b"/")))
+        return Permissions(self._owner, find, top).deny(request)
+
+    def _rewrite(self, request: Request, packet: bytes) -> bytes:
+        if not self._applies(request) or request.kind not in WITH_ATTRIBUTES:
+            return packet
+        if request.kind in (Kind.OPEN, Kind.MKDIR):
+            return with_ids(packet, self._owner.uid, self._owner.gid)
+        uid, gid = request.attributes.uid, request.attributes.gid
+        if uid is None or gid is None or KEPT not in (uid, gid) or request.path is None:
+            return packet
+        found = self._engine._tree_now().find(names_of(request.path))
+        if found is None:
+            return packet
+        return with_ids(
+            packet, found.uid if uid == KEPT else uid, found.gid if gid == KEPT else gid
+        )
+
+    def _ends_with(self, session: int) -> bool:
+        return session == self._session
+
 
 class LtRule(ctypes.Structure):
     """As lt_rule in include/lucernetick.h."""
@@ -187,6 +233,34 @@ class Refuses(Reaches):
         return self.refuse(
             path=path, when=would_change, times=None, status=Status.PERMISSION_DENIED
         )
+
+    def enforce_permissions(
+        self,
+        *,
+        uid: int,
+        gid: int,
+        session: Union[None, Session, Connection, int] = None,
+    ) -> Rule:
+        """Enforces permission bits as POSIX does, for a client that is this user, of this group:
+        all clients, or that of a session. What they deny fails with PERMISSION_DENIED until the
+        rule ends. The user 0 may do anything.
+
+        - Each directory of a path needs the permission to search it (x); OPEN and OPENDIR need
+          those to read or write. To create, remove, rename or link an entry, its directory needs
+          the permission to write, and with the sticky bit the user must own one of them.
+        - Only the owner sets permissions and times, and only the user 0 another owner. An id of
+          4294967295 stays as it is.
+        - What the client creates belongs to this user and group.
+
+        Permissions are those at the time when the request is read, and a handle keeps those that it
+        was opened with. `Engine.set_attributes` sets the owner and the mode of a path.
+        """
+        owner = Owner(
+            arguments.integer("uid", uid, 0, KEPT - 1), arguments.integer("gid", gid, 0, KEPT - 1)
+        )
+        number = session_number(session)
+        with self._reach() as engine:
+            return engine._give(PermissionRule(engine, owner, number))
 
 
 def would_change(request: Request) -> bool:

@@ -19,15 +19,17 @@ from typing import (
 )
 
 from . import _arguments as arguments
+from ._calls import Attributes, text
 from ._clock import Clock, checked_clock, wall_clock
 from ._closing import Closes
 from ._engine import Engine, Session, Turn
 from ._faults import Refusal, RefusedError
 from ._lines import PIECE, REPLIES, Faults, FaultyLine, Line
 from ._log import Log
+from ._permissions import names_of
 from ._reaching import Shows
 from ._rules import Refuses
-from ._tree import Files
+from ._tree import Files, Tree
 from ._users import User
 from ._watching import Watches
 
@@ -189,15 +191,21 @@ class Server(Closes, Shows, Refuses, Watches):
         """From now on these users open sessions."""
         self._check()
         for user in users:
-            if user.root.strip("/"):
-                self.write_files({user.root: None})
+            root = text(arguments.normal(arguments.path("root", user.root)))
+            with Tree(self.engine) as tree:
+                is_missing = tree.find(names_of(root)) is None
+            if is_missing:
+                self.write_files({root: None})
+                self.engine.set_attributes(root, Attributes(uid=user.uid, gid=user.gid))
 
     def _connect(self, user: User, faults: Faults) -> Connection:
-        return self._open(faults, user.root)
+        return self._open(faults, user)
 
-    def _open(self, faults: Faults, root: str = "/") -> Connection:
+    def _open(self, faults: Faults, user: Optional[User] = None) -> Connection:
         self._check()
-        session = self.engine.open(root=root)
+        session = self.engine.open(root="/" if user is None else user.root)
+        if user is not None and user.uid:
+            self.enforce_permissions(uid=user.uid, gid=user.gid, session=session)
         try:
             ours, theirs = socket.socketpair()
         except OSError:

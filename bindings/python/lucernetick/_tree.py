@@ -7,12 +7,13 @@ import stat
 import struct
 from dataclasses import dataclass
 from pathlib import PurePosixPath
-from typing import TYPE_CHECKING, Iterator, Mapping, Optional, Union
+from typing import TYPE_CHECKING, Iterator, Mapping, Optional, Sequence, Union
 
 from . import _arguments as arguments
 from ._calls import Kind, LtBytes, path_bytes, text
 from ._faults import BlockedError, EndedError, Refusal, RefusedError, StatusError
 from ._library import STATUS_BASE, library, message
+from ._permissions import Mode
 
 if TYPE_CHECKING:
     from ._engine import Engine
@@ -232,6 +233,9 @@ class Tree:
         return self
 
     def __exit__(self, *_fault: object) -> None:
+        self.free()
+
+    def free(self) -> None:
         library.lt_tree_free(self._tree)
 
     def entries(self) -> dict[str, Entry]:
@@ -252,6 +256,21 @@ class Tree:
             self._add(found, at, read)
             at += read
         return found
+
+    def find(self, names: Sequence[bytes]) -> Optional[Mode]:
+        """The object at a path, by a binary search: a directory precedes its entries, and names are
+        sorted."""
+        wanted = list(names)
+        low, high = 0, library.lt_tree_leaf(self._tree, 2**64 - 1, self._leaves)
+        while low < high:
+            at = (low + high) // 2
+            done(library.lt_tree_leaf(self._tree, at, self._leaves), "")
+            address, length, _, _, uid, gid, mode, *_ = LEAF.unpack_from(self._leaves)
+            found = [name for name in ctypes.string_at(address, length).split(b"/") if name]
+            if found == wanted:
+                return Mode(stat.S_IMODE(mode), uid, gid, stat.S_ISDIR(mode))
+            low, high = (at + 1, high) if found < wanted else (low, at)
+        return None
 
     def _add(self, found: dict[str, Entry], at: int, count: int) -> None:
         """Adds the leaves that were read, from place `at` on. For a large tree, most of the time is

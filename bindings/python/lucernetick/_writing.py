@@ -8,15 +8,13 @@ from typing import TYPE_CHECKING, Dict
 from ._arguments import LATEST
 from ._asking import Asker, number
 from ._folders import Found, Sparse
+from ._requests import MODE, OWNER, TIMES
 from ._tree import Link
 
 if TYPE_CHECKING:
     import os
 
     from ._engine import Engine
-
-OWNER, MODE, TIMES = 2, 4, 8
-"""The flags of attributes."""
 
 
 def write_folder(engine: Engine, found: Dict[str, Found], moment: int, attributes: bool) -> None:

@@ -227,16 +227,19 @@ def test_a_name_that_becomes_a_link(swapped: Path) -> None:
     assert b"secret" not in found and b"fine" in found
 
 
-def test_a_file_that_shrinks(tmp_path: Path, monkeypatch: pytest.MonkeyPatch) -> None:
+@pytest.mark.parametrize(("size", "how"), [(10, "shrank"), (2**23, "grew")])
+def test_a_file_that_changes_its_size(
+    tmp_path: Path, monkeypatch: pytest.MonkeyPatch, size: int, how: str
+) -> None:
     (tmp_path / "f").write_bytes(bytes(range(256)) * 16384)
     pread = os.pread
 
-    def shrinking(descriptor: int, count: int, offset: int) -> bytes:
-        os.truncate(tmp_path / "f", 10)
+    def changing(descriptor: int, count: int, offset: int) -> bytes:
+        os.truncate(tmp_path / "f", size)
         return pread(descriptor, count, offset)
 
-    monkeypatch.setattr("lucernetick._folders.os.pread", shrinking)
-    with pytest.raises(ValueError, match="f: it shrank while it was read"):
+    monkeypatch.setattr("lucernetick._folders.os.pread", changing)
+    with pytest.raises(ValueError, match=f"f: it {how} while it was read"):
         Engine.from_folder(tmp_path)
 
 

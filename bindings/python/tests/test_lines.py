@@ -26,14 +26,14 @@ def all_of(line: socket.socket) -> bytes:
 
 
 @pytest.mark.parametrize(
-    ("cut_after", "made"), [(126, 0), (127, 1), (244, 1), (245, 2), (362, 2), (363, 3)]
+    ("cut_after", "made"), [(226, 0), (227, 1), (444, 1), (445, 2), (662, 2), (663, 3)]
 )
 def test_cut_after_so_many_bytes_from_the_client(
     sftp_tree: Server, cut_after: int, made: int
 ) -> None:
-    """INIT has 9 bytes, each MKDIR here 118. What came whole is carried out and answered, and
+    """INIT has 9 bytes, each MKDIR here 218. What came whole is carried out and answered, and
     nothing else is, however fast it was sent."""
-    names = [f"/{letter * 100}" for letter in "abc"]
+    names = [f"/{letter * 200}" for letter in "abc"]
     line = sftp_tree.connect(cut_after=cut_after)
     line.sendall(
         packet(INIT, u32(3))
@@ -46,12 +46,12 @@ def test_cut_after_so_many_bytes_from_the_client(
 
 
 @pytest.mark.parametrize("delay", [0.0, 0.1])
-@pytest.mark.parametrize("cut_after", [100, 112, 113, 154, 195])
+@pytest.mark.parametrize("replies_bytes", [29, 41, 42, 83, 124])
 def test_cut_after_so_many_bytes_to_the_client(
-    sftp_tree: Server, cut_after: int, delay: float
+    sftp_tree: Server, replies_bytes: int, delay: float
 ) -> None:
-    """VERSION has 71 bytes, a STAT 14 and its reply 41. All requests were received, so all take
-    effect."""
+    """A STAT has 14 bytes and its reply 41. All requests were received, so all take effect."""
+    cut_after = VERSION + replies_bytes
     line = sftp_tree.connect(cut_after=cut_after, delay=delay)
     line.sendall(packet(INIT, u32(3)) + packet(STAT, u32(8), string(b"/")) * 5)
     assert len(all_of(line)) == cut_after
@@ -59,9 +59,9 @@ def test_cut_after_so_many_bytes_to_the_client(
 
 
 def test_a_request_after_a_cut_of_the_replies(sftp_tree: Server) -> None:
-    line = sftp_tree.connect(cut_after=72)
+    line = sftp_tree.connect(cut_after=VERSION + 1)
     line.sendall(MAKES)
-    assert len(all_of(line)) == 72
+    assert len(all_of(line)) == VERSION + 1
     with pytest.raises(BrokenPipeError):
         line.sendall(packet(MKDIR, u32(7), string(b"/b"), u32(0)))
     assert list(sftp_tree.snapshot()) == ["/", "/a"]

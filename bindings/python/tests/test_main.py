@@ -14,6 +14,7 @@ import socket
 import subprocess
 import sys
 import time
+from concurrent.futures import ThreadPoolExecutor
 from pathlib import Path
 from typing import Any, Iterator, Optional
 
@@ -122,7 +123,8 @@ def test_a_tree_at_the_start_and_at_the_end(tmp_path: Path) -> None:
 @pytest.mark.parametrize(
     ("words", "code", "says"),
     [
-        (["--user", "ann"], 2, "argument --user: it must be NAME:PASSWORD or NAME:PASSWORD:ROOT"),
+        (["--user", "ann"], 2, "argument --user: it must be NAME:PASSWORD[:ROOT[:UID:GID]]"),
+        (["--user", "ann:1:/:5000000000:1"], 2, "argument --user: a user's uid must be from 0 to"),
         (["--port", "x"], 2, "argument --port: it must be from 0 to 65535, not 'x'"),
         (["--port", "99999"], 2, "argument --port: it must be from 0 to 65535, not '99999'"),
         (["--control", "99999"], 2, "argument --control: it must be from 0 to 65535"),
@@ -237,13 +239,22 @@ def test_how_it_tells_that_it_is_ready(tmp_path: Path) -> None:
 
 
 def test_users_of_a_file(tmp_path: Path) -> None:
-    (tmp_path / "users").write_text("ann:a:b:/home/ann\n\nbob:c\n")
+    (tmp_path / "users").write_text("ann:a:b:/home/ann:1000:100\n\nbob:c\n")
     with running("--password-file", str(tmp_path / "users"), "--user", "eve:d") as (_, words):
         assert words[-1] == "eve@127.0.0.1"
         reached = ssh_words(words)
         for user, password, names in (("ann", "a:b", []), ("bob", "c", ["home"])):
             with log_in({**reached, "user": user}, password) as client:
                 assert client.open_sftp().listdir("/") == names
+        with log_in({**reached, "user": "bob"}, "c") as client:
+            files = client.open_sftp()
+            assert files.stat("/home/ann").st_uid == 1000
+            files.mkdir("/home/ann/d", 0o700)
+        with log_in({**reached, "user": "ann"}, "a:b") as client:
+            files = client.open_sftp()
+            with pytest.raises(PermissionError):
+                files.listdir("/d")
+            files.rmdir("/d")
 
 
 def test_read_only(tmp_path: Path) -> None:
@@ -329,6 +340,7 @@ def test_control_at_a_port() -> None:
         calls = control.ask("GET", "/calls")
         assert calls["dropped"] == 0 and calls["calls"][-1]["kind"] == "STAT"
         assert 'mkdir "/late"' in calls["calls"][-2]["text"]
+        assert control.ask("GET", "/clock")["now"] > 1_700_000_000
 
         control.ask("PUT", "/faults", {"delay": 0.4})
         begin = time.monotonic()
@@ -344,6 +356,75 @@ def test_control_at_a_port() -> None:
         assert kinds == {"OPENDIR", "READDIR", "CLOSE"}
 
 
+def test_control_waits() -> None:
+    """For a file that its client has closed, and for a call. Other requests are served."""
+    with controlled("0") as (control, reached), log_in(reached) as client:
+        files = client.open_sftp()
+        file = files.open("/f", "w")
+        file.write(b"123")
+        with ThreadPoolExecutor() as threads:
+            waits = threads.submit(control.ask, "POST", "/wait", {"path": "/f", "timeout": LIMIT})
+            moves = {"kind": "rename", "path": "/g*"}
+            renames = threads.submit(
+                control.ask, "POST", "/wait", {"call": moves, "timeout": LIMIT}
+            )
+            status, told = control.raw("POST", "/wait", b'{"path": "/f", "timeout": 0.2}')
+            assert status == 504
+            assert "no complete file at /f within 0.2 seconds" in json.loads(told)["error"]
+            assert not waits.done() and not renames.done()
+            file.close()
+            assert waits.result()["size"] == 3
+            files.rename("/f", "/g1")
+            found = renames.result()
+            assert (found["path"], found["new_path"]) == ("/f", "/g1")
+        # Earlier calls count, but none before a reset.
+        assert control.ask("POST", "/wait", {"call": moves})["number"] == found["number"]
+        control.ask("POST", "/reset")
+        words = json.dumps({"call": moves, "timeout": 0}).encode()
+        assert control.raw("POST", "/wait", words)[0] == 504
+
+
+def test_control_shows_calls() -> None:
+    with controlled("0") as (control, reached), log_in(reached) as client:
+        files = client.open_sftp()
+        files.mkdir("/d", 0o700)
+        with files.open("/f", "w") as file:
+            file.write(b"123")
+        assert files.listdir("/") == ["d", "f"] and files.stat("/f").st_size == 3
+        calls = {call["kind"]: call for call in control.ask("GET", "/calls?contents=1")["calls"]}
+        assert calls["MKDIR"]["attributes"] == {"mode": 0o700}
+        assert calls["MKDIR"]["reply"]["status"] == 0
+        assert calls["OPEN"]["reply"]["handle"] == calls["WRITE"]["handle"]
+        assert base64.b64decode(calls["WRITE"]["base64"]) == b"123"
+        assert calls["STAT"]["reply"]["attributes"]["size"] == 3
+        names = [one["reply"]["names"] for one in control.ask("GET", "/calls")["calls"]]
+        assert ["d", "f"] in names and "base64" not in control.ask("GET", "/calls")["calls"][0]
+
+
+def test_control_of_permissions_and_rules() -> None:
+    with controlled("0") as (control, reached), log_in(reached) as client:
+        files = client.open_sftp()
+        control.ask("PUT", "/tree", {"/home/ann": None, "/in/f": "1"})
+        given = {"mode": 0o700, "uid": 1000, "gid": 100, "mtime": 7}
+        control.ask("PUT", "/attributes", {"/home/ann": given})
+        assert control.ask("GET", "/tree")["/home/ann"]["mode"] == 0o700
+        words = {"rule": "enforce_permissions", "uid": 2000, "gid": 100}
+        rule = control.ask("POST", "/rules", words)["rule"]
+        with pytest.raises(PermissionError):
+            files.listdir("/home/ann")
+        assert control.ask("DELETE", f"/rules/{rule}") == {"refused": 1}
+        assert (files.stat("/home/ann").st_uid, files.stat("/home/ann").st_mtime) == (1000, 7)
+
+        control.ask("POST", "/rules", {"rule": "read_only", "path": "/in/**"})
+        with pytest.raises(PermissionError):
+            files.remove("/in/f")
+        control.ask("POST", "/rules", {"rule": "disk_full", "after": 10})
+        with files.open("/f", "w") as file:
+            file.write(bytes(10))
+            with pytest.raises(OSError, match="Failure"):
+                file.write(b"1")
+
+
 @pytest.mark.parametrize(
     ("method", "path", "body", "status", "says"),
     [
@@ -357,6 +438,18 @@ def test_control_at_a_port() -> None:
         ("PUT", "/tree", b'{"/a": {"link": "/none"}}', 400, "No such file"),
         ("POST", "/rules", b'{"kind": "x"}', 400, "kind must be one of OPEN, CLOSE"),
         ("POST", "/rules", b'{"when": 1}', 400, "a rule has no when"),
+        ("POST", "/rules", b'{"rule": "x"}', 400, "rule must be one of refuse, disk_full"),
+        ("POST", "/rules", b'{"rule": "disk_full", "uid": 1}', 400, "disk_full has no uid"),
+        ("POST", "/rules", b'{"rule": "enforce_permissions"}', 400, "'uid' and 'gid'"),
+        ("POST", "/wait", b"{}", 400, "wait takes"),
+        ("POST", "/wait", b'{"call": 1}', 400, "wait takes"),
+        ("POST", "/wait", b'{"call": {"when": 1}}', 400, "a call has no when"),
+        ("POST", "/wait", b'{"call": {"kind": "x"}}', 400, "kind must be one of OPEN, CLOSE"),
+        ("POST", "/wait", b'{"path": "/a", "timeout": -1}', 400, "timeout must be at least 0"),
+        ("POST", "/wait", b'{"path": "/a", "timeout": 0}', 504, "no complete file at /a"),
+        ("PUT", "/attributes", b'{"/": {"mode": 1}}', 400, "SETSTAT /: Failure"),
+        ("PUT", "/attributes", b'{"/f": 5}', 400, "/f must have a JSON object"),
+        ("PUT", "/attributes", b'{"/f": {"x": 5}}', 400, "/f has no x"),
         ("PUT", "/faults", b'{"delay": -1}', 400, "delay must be at least 0"),
         ("PUT", "/clock", b'{"set": -1}', 400, "moment must be from 0"),
         ("PUT", "/clock", b"{}", 400, "the clock takes"),

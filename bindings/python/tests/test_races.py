@@ -306,7 +306,7 @@ def test_a_session_that_ends() -> None:
                 line.settimeout(LIMIT)
             fails.sendall(MAKES[:9] + data)
             send_all(looks, LOOKS)
-            assert fails.recv(1000)[:5] == b"\0\0\0\x43\2"
+            assert fails.recv(1000)[:5] == b"\0\0\0\x95\2"
             assert fails.recv(1) == b""
             assert races.stray is None
 

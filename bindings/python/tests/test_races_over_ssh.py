@@ -97,7 +97,7 @@ def test_a_seed_50_times() -> None:
 def test_openssh_races(tmp_path: Path) -> None:
     """Two processes, each of which uploads a file of many requests to the same path."""
     for name in "ab":
-        (tmp_path / name).write_bytes(name.encode() * 200_000)
+        (tmp_path / name).write_bytes(name.encode() * 2_000_000)
 
     def race() -> tuple[str, bytes]:
         def put(user: User, name: str) -> None:

@@ -13,7 +13,7 @@ import sys
 import threading
 import time
 from pathlib import Path
-from typing import Callable, Iterator
+from typing import Callable, Iterator, Optional
 
 import asyncssh
 import paramiko
@@ -343,7 +343,7 @@ def test_a_session_that_ends_closes_its_channel(client: paramiko.SSHClient) -> N
     channel.sendall(MAKES)
     channel.shutdown_write()
     with channel.makefile("rb") as replies:
-        assert len(replies.read()) == 71 + 28
+        assert len(replies.read()) == VERSION + 28
     assert channel.recv_exit_status() == 0
     assert channel.closed and not channel.eof_received
 
@@ -544,18 +544,47 @@ def test_users_and_their_roots(sftp_tree: Server) -> None:
     ]
 
 
-def test_six_wrong_passwords_close_the_connection(sftp_ssh: SshServer) -> None:
+def test_a_password_that_is_asked_for(sftp_ssh: SshServer) -> None:
+    """By keyboard-interactive login."""
+
+    def answer(_title: str, _text: str, prompts: list[tuple[str, bool]]) -> list[str]:
+        asked.extend(prompts)
+        return passwords[: len(prompts)]
+
+    for password, is_right in ((sftp_ssh.password, True), ("x", False)):
+        asked: list[tuple[str, bool]] = []
+        passwords = [password]
+        with paramiko.Transport((sftp_ssh.host, sftp_ssh.port)) as transport:
+            transport.start_client(timeout=LIMIT)
+            if is_right:
+                transport.auth_interactive(sftp_ssh.user, answer)
+                files = paramiko.SFTPClient.from_transport(transport)
+                assert files is not None and files.listdir("/") == []
+            else:
+                with pytest.raises(paramiko.AuthenticationException):
+                    transport.auth_interactive(sftp_ssh.user, answer)
+        assert asked == [("Password:", False)]
+
+
+@pytest.mark.parametrize("is_asked", [False, True])
+def test_six_wrong_passwords_close_the_connection(sftp_ssh: SshServer, is_asked: bool) -> None:
     """After a delay. Other connections can log in."""
 
     class Guesses(asyncssh.SSHClient):
         count = 0
 
-        def password_auth_requested(self) -> str:
+        def guess(self) -> str:
             self.count += 1
             return f"wrong{self.count}"
 
-        def kbdint_auth_requested(self) -> None:
-            return None
+        def password_auth_requested(self) -> Optional[str]:
+            return None if is_asked else self.guess()
+
+        def kbdint_auth_requested(self) -> Optional[str]:
+            return "" if is_asked else None
+
+        def kbdint_challenge_received(self, *_words: object) -> list[str]:
+            return [self.guess()]
 
     client = Guesses()
 

@@ -18,7 +18,9 @@ pub enum Kind {
     /// Only of requests.
     Lstat,
     Fstat,
+    /// Also lsetstat@openssh.com.
     Setstat,
+    /// Also fsync@openssh.com.
     Fsetstat,
     Opendir,
     Readdir,
@@ -76,6 +78,15 @@ impl Kind {
     /// Whether requests of this kind remove or rename what they name.
     pub(crate) fn is_of_entries(self) -> bool {
         self.is_by_two_paths() || matches!(self, Kind::Remove | Kind::Rmdir)
+    }
+
+    /// Whether names or attributes may be others after calls of this kind.
+    pub(crate) fn shapes(self) -> bool {
+        self.is_of_entries() || matches!(self, Kind::Mkdir | Kind::Setstat | Kind::Fsetstat)
+    }
+
+    pub(crate) fn has_attributes(self) -> bool {
+        matches!(self, Kind::Open | Kind::Mkdir | Kind::Setstat | Kind::Fsetstat)
     }
 
     /// Whether requests of this kind change the tree. An OPEN does so by some of its flags.

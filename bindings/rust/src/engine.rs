@@ -2,11 +2,13 @@
 
 use crate::arguments::seconds;
 use crate::hooks::Hooks;
+use crate::permissions::{Owner, Permissions, KEPT};
 use crate::records::Records;
-use crate::requests::{below_root, read_request, realpath};
+use crate::requests::{below_root, read_request, realpath, with_ids, Request};
 use crate::rules::{ActiveRule, Status};
+use crate::taken::Taken;
 use crate::wire::Packets;
-use crate::{arguments, checked, Error, Refusal, Turn};
+use crate::{arguments, checked, Error, Kind, Refusal, Turn};
 use lucernetick_sys as sys;
 use std::collections::hash_map::RandomState;
 use std::collections::BTreeMap;
@@ -30,6 +32,8 @@ pub struct Engine {
     lost: Vec<u8>,
     /// The statuses for which the library has such a rule.
     statuses: Vec<Status>,
+    /// A snapshot with the names and attributes of now, for permissions.
+    modes: Option<Taken>,
 }
 
 // SAFETY: any thread may call the library on an engine, one call at a time, which `&mut self`
@@ -69,6 +73,7 @@ impl Engine {
             rules: Vec::new(),
             lost: format!("/{:016x}{:016x}", random(), random()).into(),
             statuses: Vec::new(),
+            modes: None,
         })
     }
 
@@ -205,6 +210,7 @@ impl Engine {
     fn forget(&mut self, session: Session) {
         self.packets.remove(&session);
         self.roots.remove(&session);
+        self.rules.retain(|rule| !rule.ends_with(session));
     }
 
     /// The pending output. If a rule rejected requests, these are the bytes up to the last injected
@@ -273,27 +279,82 @@ impl Engine {
         if let Some(root) = self.roots.get(&session).filter(|_| has_begun) {
             packet = below_root(&packet, root).unwrap_or(packet);
         }
-        let is_ruled = has_begun && !(self.rules.is_empty() && self.hooks.is_empty());
-        match if is_ruled { self.judge(session, &packet) } else { None } {
-            Some(status) => {
-                let path = self.lost_by(status)?;
-                self.give(session, &realpath(&packet, &path))?;
-            }
-            None => self.give(session, &packet)?,
+        if has_begun && !(self.rules.is_empty() && self.hooks.is_empty()) {
+            packet = self.ruled(session, packet)?;
         }
+        self.give(session, &packet)?;
         if let Some(packets) = self.packets.get_mut(&session) {
             packets.remove(length);
         }
         Ok(())
     }
 
-    /// The status of a packet that a rule rejects. Calls the callbacks before a call.
-    fn judge(&mut self, session: Session, packet: &[u8]) -> Option<Status> {
+    /// The packet that the library gets: this one, maybe with other ids, or if a rule rejects it, a
+    /// REALPATH to which the library replies with the rule's status. Calls the callbacks before a
+    /// call.
+    fn ruled(&mut self, session: Session, packet: Vec<u8>) -> Result<Vec<u8>, Refusal> {
         let records = &self.records;
         let opened = |handle| records.opened(session.0, handle);
-        let request = read_request(session.0, packet, opened)?;
+        let request = match read_request(session.0, &packet, opened) {
+            Some(request) => request,
+            None => return Ok(packet),
+        };
         self.call_before(&request);
-        self.rules.iter().find_map(|rule| rule.judge(&request))
+        if self.rules.iter().any(|rule| rule.owner_of(&request).is_some()) {
+            self.look_at_modes()?;
+        }
+        for rule in &self.rules {
+            if let Some(status) = rule.judge(&request, |owner| self.denies(owner, &request))? {
+                let path = self.lost_by(status)?;
+                return Ok(realpath(&packet, &path));
+            }
+        }
+        let owner = self.rules.iter().find_map(|rule| rule.owner_of(&request));
+        Ok(match owner {
+            Some(owner) => self.owned(owner, &request, &packet)?.unwrap_or(packet),
+            None => packet,
+        })
+    }
+
+    /// Takes a snapshot, unless there is one with the names and attributes of now.
+    fn look_at_modes(&mut self) -> Result<(), Refusal> {
+        self.read_news()?;
+        if self.records.is_shaped() || self.modes.is_none() {
+            self.modes = Some(Taken::of(self)?);
+        }
+        Ok(())
+    }
+
+    /// Whether permissions deny a request to a user. Root may do anything.
+    fn denies(&self, owner: Owner, request: &Request) -> Result<bool, Refusal> {
+        let top = self.roots.get(&Session(request.session)).map_or(&b"/"[..], Vec::as_slice);
+        match &self.modes {
+            Some(tree) if owner.uid != 0 && request.kind.needs_permission() => {
+                Permissions { owner, tree, top }.deny(request)
+            }
+            _ => Ok(false),
+        }
+    }
+
+    /// A packet with other ids, if it needs them. A user owns what it creates.
+    fn owned(
+        &self,
+        owner: Owner,
+        request: &Request,
+        packet: &[u8],
+    ) -> Result<Option<Vec<u8>>, Refusal> {
+        if matches!(request.kind, Kind::Open | Kind::Mkdir) {
+            return Ok(with_ids(packet, owner));
+        }
+        let (uid, gid) = match (request.attributes.uid, request.attributes.gid) {
+            (Some(uid), Some(gid)) if uid == KEPT || gid == KEPT => (uid, gid),
+            _ => return Ok(None),
+        };
+        let of = |given, found| if given == KEPT { found } else { given };
+        let found = self.modes.as_ref().map(|tree| tree.object(&request.path)).transpose()?;
+        Ok(found.flatten().and_then(|found| {
+            with_ids(packet, Owner { uid: of(uid, found.uid), gid: of(gid, found.gid) })
+        }))
     }
 
     /// The path for which the library replies to REALPATH with this status.

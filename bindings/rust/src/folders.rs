@@ -1,10 +1,11 @@
 //! Copies from folders of the system, and to them.
 
+use crate::reading::{Entered, Folder};
 use crate::{linux, Engine, Entry, Snapshot};
 use std::collections::{BTreeMap, BTreeSet};
 use std::ffi::{CString, OsStr};
 use std::fmt;
-use std::fs::{self, DirEntry, Metadata, OpenOptions, Permissions};
+use std::fs::{self, Metadata, OpenOptions, Permissions};
 use std::io::{self, ErrorKind};
 use std::os::unix::ffi::OsStrExt;
 use std::os::unix::fs::{DirBuilderExt, FileExt, FileTypeExt, MetadataExt};
@@ -164,7 +165,8 @@ impl Engine {
     }
 
     /// Makes or replaces all files and directories of a folder of the system, as `from_folder`,
-    /// with these options.
+    /// with these options. It follows no symbolic link but the folder itself. If a file changes so
+    /// that it cannot be read as it was, that is an error.
     pub fn write_folder(
         &mut self,
         folder: impl AsRef<Path>,
@@ -172,53 +174,57 @@ impl Engine {
     ) -> io::Result<()> {
         let (names, found) = (BTreeMap::new(), Vec::new());
         let mut copying = Copying { engine: self, options, names, found };
-        let mut folders = vec![(folder.as_ref().to_path_buf(), Vec::new())];
-        while let Some((folder, path)) = folders.pop() {
-            for entry in sorted(&folder)? {
-                let path = [&path, &b"/"[..], entry.file_name().as_bytes()].concat();
-                if entry.file_type()?.is_dir() {
-                    copying.take_directory(&entry, &path)?;
-                    folders.push((entry.path(), path));
+        let mut folder = Folder::new(folder.as_ref())?;
+        let mut waiting = vec![Vec::new()];
+        while let Some(names) = waiting.pop() {
+            folder.enter(&names)?;
+            for name in folder.list()? {
+                let entry = folder.entry(&name)?;
+                let inside = [&names[..], &[name]].concat();
+                if entry.status.is_dir() {
+                    copying.take_directory(&entry)?;
+                    waiting.push(inside);
                 } else {
-                    copying.take_file(&entry, path)?;
+                    copying.take_file(&folder, &entry)?;
                 }
             }
         }
         if copying.options.attributes {
-            copying.engine.set_attributes(&copying.found)?;
+            copying.engine.set_found(&copying.found)?;
         }
         Ok(())
     }
 }
 
 impl Copying<'_> {
-    fn take_directory(&mut self, entry: &DirEntry, path: &[u8]) -> io::Result<()> {
-        self.found.push((path.to_vec(), entry.metadata()?));
-        Ok(self.engine.make_directories(path, self.options.moment)?)
+    fn take_directory(&mut self, entry: &Entered) -> io::Result<()> {
+        self.found.push((entry.path.clone(), entry.status.clone()));
+        Ok(self.engine.make_directories(&entry.path, self.options.moment)?)
     }
 
-    fn take_file(&mut self, entry: &DirEntry, path: Vec<u8>) -> io::Result<()> {
-        let found = entry.metadata()?;
-        if !found.is_file() {
+    fn take_file(&mut self, folder: &Folder, entry: &Entered) -> io::Result<()> {
+        let (status, path) = (&entry.status, &entry.path);
+        if !status.is_file() {
             return match &mut self.options.skip {
                 Some(skip) => {
-                    skip(&entry.path(), kind_name(&found));
+                    skip(&entry.place, kind_name(status));
                     Ok(())
                 }
                 None => {
                     let text =
-                        format!("{} is neither a file nor a directory", entry.path().display());
+                        format!("{} is neither a file nor a directory", entry.place.display());
                     Err(io::Error::new(ErrorKind::InvalidInput, text))
                 }
             };
         }
-        let file = (found.dev(), found.ino());
-        self.found.push((path.clone(), found));
+        let file = (status.dev(), status.ino());
+        self.found.push((path.clone(), status.clone()));
         match self.names.get(&file) {
             Some(first) => self.engine.hard_link(first, path, self.options.moment)?,
             None => {
-                self.engine.write_files([(&path, fs::read(entry.path())?)], self.options.moment)?;
-                self.names.insert(file, path);
+                let contents = folder.contents(entry)?;
+                self.engine.write_files([(path, contents)], self.options.moment)?;
+                self.names.insert(file, path.clone());
             }
         }
         Ok(())
@@ -234,11 +240,4 @@ fn kind_name(found: &Metadata) -> &'static str {
         (_, _, true) => "a socket",
         _ => "a device",
     }
-}
-
-/// The entries of a folder, sorted by name.
-fn sorted(folder: &Path) -> io::Result<Vec<DirEntry>> {
-    let mut entries = fs::read_dir(folder)?.collect::<io::Result<Vec<_>>>()?;
-    entries.sort_by_key(DirEntry::file_name);
-    Ok(entries)
 }

@@ -31,6 +31,11 @@ pub struct Timespec {
 
 pub const AT_FDCWD: c_int = -100;
 
+pub const O_NONBLOCK: c_int = 0o4000;
+pub const O_DIRECTORY: c_int = 0o200000;
+pub const O_NOFOLLOW: c_int = 0o400000;
+pub const O_PATH: c_int = 0o10000000;
+
 extern "C" {
     pub fn utimensat(
         folder: c_int,

@@ -4,6 +4,7 @@ use crate::calls::Call;
 use crate::{checked, Engine, Error, Kind, OpenFlag, Refusal};
 use lucernetick_sys as sys;
 use std::collections::{BTreeMap, VecDeque};
+use std::mem;
 
 /// More records than one turn adds, which may complete the calls of all sessions.
 const LEAST_KEPT: u64 = 512;
@@ -65,6 +66,8 @@ pub(crate) struct Records {
     opened: BTreeMap<u64, Opening>,
     /// Counts the records after which there may be a complete file at a path.
     pub(crate) changes: u64,
+    /// Names or attributes may be others than at the last `is_shaped`.
+    shaped: bool,
 }
 
 impl Records {
@@ -89,6 +92,11 @@ impl Records {
     /// Whether a handle for writing that was opened with this path is open.
     pub(crate) fn is_written(&self, path: &[u8]) -> bool {
         self.opened.values().any(|opening| opening.writes && opening.path == path)
+    }
+
+    /// Whether names or attributes may have changed since the last time.
+    pub(crate) fn is_shaped(&mut self) -> bool {
+        mem::take(&mut self.shaped)
     }
 
     fn note(&mut self, record: &Record) {
@@ -118,6 +126,7 @@ impl Records {
         } else if call.kind == Close && self.opened(call.session, call.handle).is_some() {
             self.opened.remove(&call.handle);
         }
+        self.shaped |= call.kind.shapes() || call.flags & OpenFlag::CREATE != 0;
         let names = matches!(call.kind, Open | Close | Mkdir | Rename | PosixRename | Hardlink);
         self.changes += u64::from(names);
     }
@@ -178,6 +187,7 @@ impl Engine {
         let news = self.news()?;
         let missed = self.records.missed(&news);
         if missed > 0 {
+            self.records.shaped = true;
             self.records.recorded += missed;
             self.records.kept.clear();
         }

@@ -1,10 +1,19 @@
 //! Requests of clients: a packet is read for rules and callbacks, or written anew.
 
+use crate::arguments::unix_time;
+use crate::permissions::Owner;
 use crate::wire::{string, Fields};
-use crate::{arguments, Kind};
+use crate::{arguments, Attributes, Kind};
 
+const OPEN: u8 = 3;
 const EXTENDED: u8 = 200;
 const REALPATH: u8 = 16;
+/// The flags of attributes.
+pub(crate) const SIZE: u32 = 1;
+pub(crate) const OWNER: u32 = 2;
+pub(crate) const MODE: u32 = 4;
+pub(crate) const TIMES: u32 = 8;
+const PAIRS: u32 = 1 << 31;
 /// The length, the type and the id of a packet.
 const HEAD: usize = 9;
 
@@ -27,6 +36,7 @@ pub struct Request {
     pub flags: u32,
     /// The bytes of WRITE.
     pub data: Vec<u8>,
+    pub attributes: Attributes,
 }
 
 /// A path in normal form. The server rejects some texts itself.
@@ -39,6 +49,27 @@ fn handle(fields: &mut Fields<'_>) -> Option<u64> {
     handle.number(8).filter(|_| handle.rest().is_empty())
 }
 
+/// Attributes. Extended ones are skipped.
+fn attributes(fields: &mut Fields<'_>) -> Option<Attributes> {
+    let flags = fields.number(4)? as u32;
+    let mut found = Attributes::default();
+    let mut number = |flag, size| match flags & flag {
+        0 => Some(None),
+        _ => fields.number(size).map(Some),
+    };
+    found.size = number(SIZE, 8)?;
+    found.uid = number(OWNER, 4)?.map(|uid| uid as u32);
+    found.gid = number(OWNER, 4)?.map(|gid| gid as u32);
+    found.permissions = number(MODE, 4)?.map(|mode| mode as u32);
+    found.atime = number(TIMES, 4)?.map(|moment| unix_time(moment as u32));
+    found.mtime = number(TIMES, 4)?.map(|moment| unix_time(moment as u32));
+    for _ in 0..number(PAIRS, 4)?.unwrap_or(0) {
+        fields.string()?;
+        fields.string()?;
+    }
+    Some(found)
+}
+
 /// The kind of a packet. An extended request has its name before its fields.
 fn kind_of(code: u8, fields: &mut Fields<'_>) -> Option<Kind> {
     if code != EXTENDED {
@@ -47,6 +78,8 @@ fn kind_of(code: u8, fields: &mut Fields<'_>) -> Option<Kind> {
     match fields.string()? {
         b"posix-rename@openssh.com" => Some(Kind::PosixRename),
         b"hardlink@openssh.com" => Some(Kind::Hardlink),
+        b"fsync@openssh.com" => Some(Kind::Fsetstat),
+        b"lsetstat@openssh.com" => Some(Kind::Setstat),
         _ => None,
     }
 }
@@ -79,6 +112,10 @@ pub(crate) fn read_request<'o>(
     if kind == Kind::Write {
         request.data = fields.take(request.length as usize)?.to_vec();
     }
+    // fsync@openssh.com has none.
+    if kind.has_attributes() && (packet[4] != EXTENDED || kind != Kind::Fsetstat) {
+        request.attributes = attributes(&mut fields)?;
+    }
     Some(request)
 }
 
@@ -86,13 +123,33 @@ impl Request {
     fn empty(session: u64, kind: Kind) -> Self {
         let (path, new_path, data) = (Vec::new(), Vec::new(), Vec::new());
         let (handle, offset, length, flags) = (0, 0, 0, 0);
-        Self { session, kind, path, new_path, handle, offset, length, flags, data }
+        let attributes = Attributes::default();
+        Self { session, kind, path, new_path, handle, offset, length, flags, data, attributes }
     }
 }
 
 /// A REALPATH of this path, with the packet's id.
 pub(crate) fn realpath(packet: &[u8], path: &[u8]) -> Vec<u8> {
     string(&[&[REALPATH], &packet[5..HEAD], &string(path)].concat())
+}
+
+/// A packet with these ids in its attributes. None if its fields are not valid.
+pub(crate) fn with_ids(packet: &[u8], owner: Owner) -> Option<Vec<u8>> {
+    let mut fields = Fields::of(packet.get(HEAD..)?);
+    if packet[4] == EXTENDED {
+        fields.string()?;
+    }
+    fields.string()?;
+    if packet[4] == OPEN {
+        fields.take(4)?;
+    }
+    let begin = packet.len() - fields.rest().len();
+    let flags = fields.number(4)? as u32;
+    let size = fields.take(if flags & SIZE == 0 { 0 } else { 8 })?;
+    fields.take(if flags & OWNER == 0 { 0 } else { 8 })?;
+    let flags = (flags | OWNER).to_be_bytes();
+    let ids = [owner.uid.to_be_bytes(), owner.gid.to_be_bytes()].concat();
+    Some(string(&[&packet[4..begin], &flags, size, &ids, fields.rest()].concat()))
 }
 
 /// A packet with its paths below this directory. None if it stays as it is. A client can neither

@@ -2,7 +2,8 @@
 
 use crate::arguments::in_range;
 use crate::patterns::Pattern;
-use crate::{Engine, Error, Kind, OpenFlag, Request, Session};
+use crate::permissions::{Owner, KEPT};
+use crate::{Engine, Error, Kind, OpenFlag, Refusal, Request, Session};
 use std::fmt;
 use std::sync::{Arc, Mutex, MutexGuard, PoisonError};
 
@@ -58,6 +59,7 @@ pub struct Rule {
     after_bytes: Option<u64>,
     times: Option<u64>,
     status: Status,
+    owner: Option<Owner>,
 }
 
 impl Default for Rule {
@@ -72,6 +74,7 @@ impl Default for Rule {
             after_bytes: None,
             times: Some(1),
             status: Status::default(),
+            owner: None,
         }
     }
 }
@@ -87,6 +90,23 @@ impl Rule {
     /// change it fail with `Status::PermissionDenied`, until the rule ends.
     pub fn read_only() -> Self {
         Rule::default().when(would_change).always().status(Status::PermissionDenied)
+    }
+
+    /// Enforces permission bits as POSIX does, for a client that is this user, of this group: all
+    /// clients, or with `session` that of a session. What they deny fails with
+    /// `Status::PermissionDenied`, until the rule ends. The user 0 may do anything.
+    ///
+    /// Each directory of a path needs the permission to search it (x); OPEN and OPENDIR need those
+    /// to read or write. To create, remove, rename or link an entry, its directory needs the
+    /// permission to write, and with the sticky bit the user must own one of them. Only the owner
+    /// sets permissions and times, and only the user 0 another owner. An id of 4294967295 stays as
+    /// it is. What the client creates belongs to this user and group.
+    ///
+    /// Permissions are those at the time when the request is read, and a handle keeps those that it
+    /// was opened with. `Engine::set_attributes` sets the owner and the mode of a path.
+    pub fn enforce_permissions(uid: u32, gid: u32) -> Self {
+        let owner = Some(Owner { uid, gid });
+        Rule { owner, ..Rule::default().always().status(Status::PermissionDenied) }
     }
 
     /// Matches only requests of this session.
@@ -177,6 +197,7 @@ impl fmt::Debug for Rule {
             .field("after_bytes", &self.after_bytes)
             .field("times", &self.times)
             .field("status", &self.status)
+            .field("owner", &self.owner)
             .finish_non_exhaustive()
     }
 }
@@ -232,6 +253,10 @@ impl ActiveRule {
         if let Some(flags) = rule.flags {
             in_range("flags", u64::from(flags), 1, u64::from(u32::MAX))?;
         }
+        if let Some(owner) = rule.owner {
+            in_range("uid", owner.uid.into(), 0, u64::from(KEPT) - 1)?;
+            in_range("gid", owner.gid.into(), 0, u64::from(KEPT) - 1)?;
+        }
         let path = rule.path.as_ref().map(|path| Pattern::new(path)).transpose()?;
         let counts = Counts {
             after: rule.after,
@@ -248,11 +273,33 @@ impl ActiveRule {
         self.given.lock().has_ended
     }
 
-    /// The status of a request that it rejects.
-    pub(crate) fn judge(&self, request: &Request) -> Option<Status> {
+    /// Whether it is of a session that has ended.
+    pub(crate) fn ends_with(&self, session: Session) -> bool {
+        self.rule.owner.is_some() && self.rule.session == Some(session)
+    }
+
+    /// The user whose permissions it enforces for a request.
+    pub(crate) fn owner_of(&self, request: &Request) -> Option<Owner> {
+        self.rule.owner.filter(|_| !self.has_ended() && self.matches(request))
+    }
+
+    /// The status of a request that it rejects. `denies` returns whether permissions deny it.
+    pub(crate) fn judge(
+        &self,
+        request: &Request,
+        denies: impl Fn(Owner) -> Result<bool, Refusal>,
+    ) -> Result<Option<Status>, Refusal> {
         if self.has_ended() || !self.matches(request) {
-            return None;
+            return Ok(None);
         }
+        match self.rule.owner {
+            Some(owner) if !denies(owner)? => Ok(None),
+            _ => Ok(self.count(request)),
+        }
+    }
+
+    /// The status of a request that it matches, unless it lets that pass.
+    fn count(&self, request: &Request) -> Option<Status> {
         let mut counts = self.given.lock();
         if counts.times == Some(0) {
             return None;

@@ -2,8 +2,9 @@
 
 use crate::line::Line;
 use crate::lock::Guard;
+use crate::permissions::Owner;
 use crate::server::{Shared, State, LONG};
-use crate::{arguments, Error, Faults, Refusal, Session, Turn};
+use crate::{arguments, Error, Faults, Refusal, Rule, Session, Turn};
 use std::any::Any;
 use std::fs;
 use std::io::{self, ErrorKind};
@@ -21,17 +22,23 @@ const PIECE: usize = 65536;
 /// How long to wait after a failed accept.
 const PAUSE: Duration = Duration::from_millis(10);
 
-/// Opens a session, and serves it over this socket in its own thread. Its client sees the directory
-/// `root` as `/`.
+/// What a client sees: the directory `root` as `/`, with permissions if it has an owner.
+#[derive(Debug)]
+pub(crate) struct View {
+    pub(crate) root: Vec<u8>,
+    pub(crate) owner: Option<Owner>,
+}
+
+/// Opens a session, and serves it over this socket in its own thread.
 pub(crate) fn serve(
     shared: &Arc<Shared>,
     line: UnixStream,
-    root: &[u8],
+    view: &View,
     faults: Faults,
     is_cut: Arc<AtomicBool>,
 ) -> io::Result<Session> {
     faults.check()?;
-    let served = Served::new(shared, line.try_clone()?, root)?;
+    let served = Served::new(shared, line.try_clone()?, view)?;
     let session = served.session;
     let name = format!("lucernetick session {}", session.number());
     let work = move || {
@@ -63,13 +70,17 @@ struct Served {
 }
 
 impl Served {
-    fn new(shared: &Arc<Shared>, line: UnixStream, root: &[u8]) -> io::Result<Self> {
+    fn new(shared: &Arc<Shared>, line: UnixStream, view: &View) -> io::Result<Self> {
         let mut state = shared.state.lock();
         state.check()?;
         if state.left {
             return Err(ErrorKind::NotConnected.into());
         }
-        let session = state.engine.open_at(root)?;
+        let session = state.engine.open_at(&view.root)?;
+        if let Some(owner) = view.owner {
+            let rule = Rule::enforce_permissions(owner.uid, owner.gid).session(session);
+            state.engine.refuse(rule)?;
+        }
         state.lines.insert(session, line);
         Ok(Self { shared: Arc::clone(shared), session })
     }
@@ -144,15 +155,15 @@ impl Drop for Served {
     }
 }
 
-/// The root of the connections that a listener accepts, and the faults of those from now on.
+/// What the clients of a listener see, and the faults of those from now on.
 pub(crate) struct Terms {
-    pub(crate) root: Vec<u8>,
-    pub(crate) faults: Mutex<Faults>,
+    view: View,
+    faults: Mutex<Faults>,
 }
 
 impl Terms {
-    pub(crate) fn new(root: &[u8], faults: Faults) -> Arc<Self> {
-        Arc::new(Self { root: root.to_vec(), faults: Mutex::new(faults) })
+    pub(crate) fn new(view: View, faults: Faults) -> Arc<Self> {
+        Arc::new(Self { view, faults: Mutex::new(faults) })
     }
 
     pub(crate) fn faults(&self) -> MutexGuard<'_, Faults> {
@@ -199,7 +210,7 @@ fn accept(shared: &Arc<Shared>, listener: &UnixListener, terms: &Terms) {
             return;
         }
         let faults = *terms.faults();
-        match line.and_then(|line| serve(shared, line, &terms.root, faults, Arc::default())) {
+        match line.and_then(|line| serve(shared, line, &terms.view, faults, Arc::default())) {
             Err(fault) if fault.kind() == ErrorKind::InvalidInput => return,
             Err(_) => thread::sleep(PAUSE),
             Ok(_) => {}

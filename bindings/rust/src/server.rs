@@ -1,7 +1,11 @@
 //! An engine served over sockets.
 
 use crate::lock::Lock;
-use crate::served::{serve, Listener, Terms};
+#[cfg(feature = "ssh")]
+use crate::permissions::Owner;
+use crate::served::{serve, Listener, Terms, View};
+#[cfg(feature = "ssh")]
+use crate::taken::Taken;
 use crate::{arguments, Connection, Snapshot};
 use crate::{Call, Engine, Entry, Error, Faults, GivenRule, Hook, OnCall, Refusal, Rule, Session};
 use std::collections::BTreeMap;
@@ -58,7 +62,8 @@ impl Server {
         self.check()?;
         let (ours, theirs) = UnixStream::pair()?;
         let is_cut = Arc::default();
-        let session = serve(&self.shared, theirs, root.as_ref(), faults, Arc::clone(&is_cut))?;
+        let view = View { root: root.as_ref().to_vec(), owner: None };
+        let session = serve(&self.shared, theirs, &view, faults, Arc::clone(&is_cut))?;
         Ok(Connection { stream: ours, session, chunk: faults.most(), is_cut })
     }
 
@@ -72,7 +77,8 @@ impl Server {
     pub fn listen_with(&mut self, path: impl AsRef<Path>, faults: Faults) -> io::Result<()> {
         self.check()?;
         faults.check()?;
-        self.listeners.push(self.listener(path.as_ref(), Terms::new(b"/", faults))?);
+        let view = View { root: b"/".to_vec(), owner: None };
+        self.listeners.push(self.listener(path.as_ref(), Terms::new(view, faults))?);
         Ok(())
     }
 
@@ -80,10 +86,20 @@ impl Server {
         Listener::new(&self.shared, path, terms)
     }
 
-    /// Makes a directory, with the clock's timestamp.
-    pub(crate) fn make_directories(&self, path: &[u8]) -> Result<(), Error> {
+    /// Makes a directory for a user if it is missing, with the clock's timestamp.
+    #[cfg(feature = "ssh")]
+    pub(crate) fn make_root(&self, path: &[u8], owner: Option<Owner>) -> Result<(), Error> {
         let moment = (self.shared.clock)();
-        self.with_engine(|engine| engine.make_directories(path, moment))
+        let path = arguments::path("root", path)?;
+        self.with_engine(|engine| {
+            if Taken::of(engine)?.object(&path)?.is_some() {
+                return Ok(());
+            }
+            engine.make_directories(&path, moment)?;
+            let (uid, gid) = (owner.map(|owner| owner.uid), owner.map(|owner| owner.gid));
+            let given = crate::Attributes { uid, gid, ..Default::default() };
+            engine.set_attributes(&path, &given, moment)
+        })
     }
 
     /// Calls methods of the engine. Connections are paused meanwhile, so it must not wait for a

@@ -1,6 +1,7 @@
 //! A server behind SSH.
 
-use crate::served::{Listener, Terms};
+use crate::permissions::Owner;
+use crate::served::{Listener, Terms, View};
 use crate::{linux, Faults, Server};
 use std::env;
 use std::fmt;
@@ -64,13 +65,16 @@ pub struct SshServer {
 #[must_use]
 pub struct SshOptions {
     root: Vec<u8>,
+    uid: u32,
+    gid: u32,
     host_key: Option<PathBuf>,
     faults: Faults,
 }
 
 impl Default for SshOptions {
     fn default() -> Self {
-        Self { root: b"/".to_vec(), host_key: None, faults: Faults::default() }
+        let (root, faults) = (b"/".to_vec(), Faults::default());
+        Self { root, uid: 0, gid: 0, host_key: None, faults }
     }
 }
 
@@ -78,6 +82,17 @@ impl SshOptions {
     /// The directory of the tree that clients see as `/`. It is made if it is missing.
     pub fn root(self, root: impl AsRef<[u8]>) -> Self {
         Self { root: root.as_ref().to_vec(), ..self }
+    }
+
+    /// The user that clients are. Unless it is 0, permissions are enforced, as by
+    /// `Rule::enforce_permissions`. A root that is made belongs to the user.
+    pub fn uid(self, uid: u32) -> Self {
+        Self { uid, ..self }
+    }
+
+    /// The group of that user.
+    pub fn gid(self, gid: u32) -> Self {
+        Self { gid, ..self }
     }
 
     /// A file with the server's private key, without a passphrase; by default a new one.
@@ -111,11 +126,11 @@ impl SshServer {
         if let Some(host_key) = &options.host_key {
             copy_key(host_key, &keys)?;
         }
-        if options.root.iter().any(|byte| *byte != b'/') {
-            server.make_directories(&options.root)?;
-        }
+        let owner = Some(Owner { uid: options.uid, gid: options.gid });
+        let owner = owner.filter(|owner| owner.uid != 0);
+        server.make_root(&options.root, owner)?;
         let socket = folder.0.join("socket");
-        let terms = Terms::new(&options.root, options.faults);
+        let terms = Terms::new(View { root: options.root, owner }, options.faults);
         let listener = server.listener(&socket, Arc::clone(&terms))?;
         let script = Script::start(&program, &socket, &keys)?;
         let config = fs::read_to_string(keys.join("ssh_config"))?;

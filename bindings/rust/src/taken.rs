@@ -2,9 +2,11 @@
 
 use crate::arguments::unix_time;
 use crate::calls::bytes_of;
-use crate::tree::{Entry, Piece};
+use crate::permissions::Object;
+use crate::tree::{Entry, Piece, DIRECTORY, KIND, PERMISSIONS};
 use crate::{checked, Engine, Refusal};
 use lucernetick_sys as sys;
+use std::cmp::Ordering;
 use std::collections::{BTreeMap, HashMap};
 use std::ptr;
 
@@ -45,11 +47,36 @@ impl Taken {
         Ok(entries)
     }
 
+    /// The object at a path, if any, by a binary search: a directory comes before its contents, and
+    /// names are in byte order.
+    pub(crate) fn object(&self, path: &[u8]) -> Result<Option<Object>, Refusal> {
+        let mut leaf = sys::Leaf::default();
+        let (mut low, mut high) = (0, self.leaf(u64::MAX, &mut leaf)?);
+        while low < high {
+            let at = low + (high - low) / 2;
+            self.leaf(at, &mut leaf)?;
+            // SAFETY: no other leaf was read since.
+            let found = unsafe { bytes_of(&leaf.path) };
+            let order = names(&found).cmp(names(path));
+            match order {
+                Ordering::Less => low = at + 1,
+                Ordering::Greater => high = at,
+                Ordering::Equal => return Ok(Some(object_of(&leaf.attributes))),
+            }
+        }
+        Ok(None)
+    }
+
+    /// Reads the leaf at an index, if any. Returns the number of leaves.
+    fn leaf(&self, at: u64, leaf: &mut sys::Leaf) -> Result<u64, Refusal> {
+        // SAFETY: the pointer is a tree's, and the other one is of a variable.
+        checked(unsafe { sys::lt_tree_leaf(self.pointer, at, leaf) })
+    }
+
     /// The entry at an index, if any, with its path.
     fn entry(&mut self, at: u64) -> Result<Option<(Vec<u8>, Entry)>, Refusal> {
         let mut leaf = sys::Leaf::default();
-        // SAFETY: the pointer is a tree's, and the other one is of a local variable.
-        if at >= checked(unsafe { sys::lt_tree_leaf(self.pointer, at, &mut leaf) })? {
+        if at >= self.leaf(at, &mut leaf)? {
             return Ok(None);
         }
         // SAFETY: no other leaf was read since.
@@ -92,6 +119,20 @@ impl Taken {
             offset += UNIT as u64;
         }
         Ok(pieces)
+    }
+}
+
+/// The names of a path.
+fn names(path: &[u8]) -> impl Iterator<Item = &[u8]> {
+    path.split(|byte| *byte == b'/').filter(|name| !name.is_empty())
+}
+
+fn object_of(found: &sys::Attributes) -> Object {
+    Object {
+        mode: found.permissions & PERMISSIONS,
+        uid: found.uid,
+        gid: found.gid,
+        is_directory: found.permissions & KIND == DIRECTORY,
     }
 }
 

@@ -6,13 +6,14 @@ use crate::taken::Taken;
 use crate::{Engine, Error, Kind, Refusal};
 use lucernetick_sys as sys;
 use std::borrow::Cow;
-use std::collections::{btree_map, BTreeMap};
+use std::collections::{btree_map, BTreeMap, BTreeSet};
 use std::iter;
 use std::ops::Index;
 use std::time::SystemTime;
 
-const KIND: u32 = 0o170000;
-const DIRECTORY: u32 = 0o040000;
+pub(crate) const KIND: u32 = 0o170000;
+pub(crate) const DIRECTORY: u32 = 0o040000;
+pub(crate) const PERMISSIONS: u32 = 0o7777;
 
 /// A whole file system: entries by absolute path, including `/`. Paths are bytes; index them by
 /// text or bytes: `tree["/a"]`, `tree[b"/a"]`.
@@ -145,7 +146,7 @@ impl Entry {
     }
 
     pub fn permissions(&self) -> u32 {
-        self.mode & 0o7777
+        self.mode & PERMISSIONS
     }
 }
 
@@ -163,17 +164,16 @@ impl Engine {
     }
 
     /// Makes or replaces files, given by paths and contents, with the timestamp `moment`. It sends
-    /// requests in new sessions. It makes missing parents.
+    /// requests in new sessions. It makes missing parents. If a path is not valid, nothing is made.
     pub fn write_files<P, C, I>(&mut self, files: I, moment: SystemTime) -> Result<(), Error>
     where
         P: AsRef<[u8]>,
         C: AsRef<[u8]>,
         I: IntoIterator<Item = (P, C)>,
     {
+        let files: Vec<(P, C)> = files.into_iter().collect();
+        check_files(files.iter().map(|(path, _)| path.as_ref()))?;
         for (path, contents) in files {
-            if arguments::path("path", path.as_ref())? == b"/" {
-                return Err(Error::Argument("path must not be the root, a directory".to_string()));
-            }
             let contents = as_bytes(contents.as_ref());
             self.place(path.as_ref(), None, moment, |engine, path, moment, place| {
                 // SAFETY: the pointer is an engine's, which only `drop` frees, the bytes are of
@@ -240,6 +240,24 @@ impl Engine {
     pub fn snapshot(&self) -> Result<Snapshot, Refusal> {
         Ok(Snapshot { entries: Taken::of(self)?.entries()? })
     }
+}
+
+/// Checks the paths of files: none is the root, or below another one.
+fn check_files<'p>(paths: impl Iterator<Item = &'p [u8]>) -> Result<(), Error> {
+    let files: BTreeSet<_> =
+        paths.map(|path| arguments::path("path", path)).collect::<Result<_, _>>()?;
+    for path in &files {
+        if path == b"/" {
+            return Err(Error::Argument("path must not be the root, a directory".to_string()));
+        }
+        let ends = (1..path.len()).filter(|at| path[*at] == b'/');
+        if let Some(above) = ends.map(|end| &path[..end]).find(|above| files.contains(*above)) {
+            let (path, above) = (path.escape_ascii(), above.escape_ascii());
+            let why = format!("path \"{}\" must not be below the file \"{}\"", path, above);
+            return Err(Error::Argument(why));
+        }
+    }
+    Ok(())
 }
 
 /// A slice in the library's form.

@@ -5,13 +5,14 @@ use lucernetick::{Client, Connection, Engine, Error, Faults, Kind, Server};
 use std::io::{Read, Write};
 use std::net::Shutdown;
 use std::time::{Duration, Instant};
+use version::VERSION;
+
+mod version;
 
 const INIT: &[u8] = b"\0\0\0\x05\x01\0\0\0\x03";
 /// STAT of `/`, and the length of its reply.
 const STAT: &[u8] = b"\0\0\0\x0a\x11\0\0\0\x08\0\0\0\x01/";
 const ATTRS: usize = 41;
-/// The length of VERSION's packet.
-const VERSION: usize = 71;
 const STATUS: usize = 28;
 
 fn server() -> Server {

@@ -2,11 +2,16 @@
 
 use lucernetick::unix_time as at;
 use lucernetick::{Engine, FolderOptions, Rule, Session};
+use std::collections::BTreeSet;
 use std::fs;
 use std::io::ErrorKind;
 use std::os::unix::fs::{symlink, MetadataExt, PermissionsExt};
+use std::os::unix::net::UnixListener;
 use std::path::{Path, PathBuf};
 use std::process::{self, Command};
+use std::sync::atomic::{AtomicBool, Ordering};
+use std::thread;
+use std::time::{Duration, Instant};
 
 /// A folder that is removed when this is dropped.
 struct Folder(PathBuf);
@@ -110,6 +115,96 @@ fn a_folder_with_its_attributes() {
     let found = fs::metadata(at_path("g")).unwrap();
     assert_eq!((tree["/g"].uid, tree["/g"].gid), (found.uid(), found.gid()));
     assert_eq!(tree["/g"].file, tree["/d/f"].file);
+}
+
+/// What is swapped while a folder is read is a file, a link to a secret, or a FIFO.
+#[test]
+fn a_name_that_becomes_a_link() {
+    let top = Folder::new("swapped");
+    let (folder, secret, new) = (top.0.join("folder"), top.0.join("secret"), top.0.join("new"));
+    fs::create_dir(&folder).unwrap();
+    fs::write(&secret, "secret").unwrap();
+    let ends = AtomicBool::new(false);
+    let mut found = BTreeSet::new();
+    let swap = || {
+        for kind in (0..3).cycle().take_while(|_| !ends.load(Ordering::SeqCst)) {
+            match kind {
+                0 => symlink(&secret, &new).unwrap(),
+                1 => assert!(Command::new("mkfifo").arg(&new).status().unwrap().success()),
+                _ => fs::write(&new, "fine").unwrap(),
+            }
+            fs::rename(&new, folder.join("f")).unwrap();
+        }
+    };
+    thread::scope(|scope| {
+        scope.spawn(swap);
+        let begin = Instant::now();
+        while begin.elapsed() < Duration::from_secs(3) {
+            let mut engine = Engine::new().unwrap();
+            let options = FolderOptions::default().skip(|_, _| ());
+            if engine.write_folder(&folder, options).is_ok() {
+                let tree = engine.snapshot().unwrap();
+                found.insert(tree.get("/f").and_then(|entry| Some(entry.contents()?.into_owned())));
+            }
+        }
+        ends.store(true, Ordering::SeqCst);
+    });
+    assert!(found.contains(&Some(b"fine".to_vec())) && !found.contains(&Some(b"secret".to_vec())));
+}
+
+/// A file is read while it shrinks or grows, until that is noticed.
+#[test]
+fn a_file_that_changes_its_size() {
+    const SIZE: u64 = 20_000_000;
+    let folder = Folder::new("changing");
+    let path = folder.0.join("f");
+    let begin = Instant::now();
+    for (size, wanted) in [(10, "f shrank while it was read"), (2 * SIZE, "f grew while it was")] {
+        let fault = loop {
+            assert!(begin.elapsed() < Duration::from_secs(120));
+            let file = fs::File::create(&path).unwrap();
+            file.set_len(SIZE).unwrap();
+            let change = thread::spawn(move || {
+                thread::sleep(Duration::from_millis(1));
+                file.set_len(size).unwrap();
+            });
+            let read = Engine::from_folder(&folder.0, at(0));
+            change.join().unwrap();
+            if let Err(fault) = read {
+                break fault.to_string();
+            }
+        };
+        assert!(fault.contains(wanted), "{}", fault);
+    }
+}
+
+/// Its directories are opened one by one.
+#[test]
+fn a_deep_folder() {
+    let folder = Folder::new("deep");
+    let make = "for i in $(seq 200); do mkdir d && cd d || exit 1; done; printf 1 >f";
+    let made = Command::new("sh").args(["-c", make]).current_dir(&folder.0).status().unwrap();
+    assert!(made.success());
+    let tree = Engine::from_folder(&folder.0, at(0)).unwrap().snapshot().unwrap();
+    assert_eq!(tree[&format!("{}/f", "/d".repeat(200))].contents().as_deref(), Some(&b"1"[..]));
+}
+
+/// What is skipped is neither opened nor waited for.
+#[test]
+fn a_folder_with_a_fifo_and_a_socket() {
+    let folder = Folder::new("skipped");
+    let pipe = folder.0.join("pipe");
+    assert!(Command::new("mkfifo").arg(&pipe).status().unwrap().success());
+    let _listening = UnixListener::bind(folder.0.join("socket")).unwrap();
+    let mut skipped = Vec::new();
+    let skip = |path: &Path, kind: &str| {
+        skipped.push(format!("{} is {}", path.file_name().unwrap().to_string_lossy(), kind));
+    };
+    let mut engine = Engine::new().unwrap();
+    engine.write_folder(&folder.0, FolderOptions::default().skip(skip)).unwrap();
+    assert_eq!(skipped, ["pipe is a FIFO", "socket is a socket"]);
+    let refused = Engine::from_folder(&pipe, at(0)).unwrap_err().to_string();
+    assert!(refused.contains("pipe: Not a directory"), "{}", refused);
 }
 
 #[test]

@@ -57,7 +57,7 @@ fn misuse() {
         (|| file(""), "path must not be the root"),
         (
             || Engine::from_files([("/f", ""), ("/f/g", "")], at(0)).unwrap_err().to_string(),
-            "mkdir \"/f\": Failure",
+            "path \"/f/g\" must not be below the file \"/f\"",
         ),
         (
             || Engine::from_files([("/f", "")], late()).unwrap_err().to_string(),

@@ -224,13 +224,13 @@ fn the_parts_of_the_address() {
 fn a_fault_over_ssh() {
     let over = OverSsh::new("fault");
     over.write("sent", &[1; 1_000_000]);
-    over.ssh.set_faults(Faults::default().cut_after(100_000)).unwrap();
+    over.ssh.set_faults(Faults::default().cut_after(400_000)).unwrap();
     let mut client = over.client();
     client.asks("put sent /f\n");
     assert!(!client.ends());
     over.has_no_session();
     let size = over.server.snapshot().unwrap()["/f"].size;
-    assert!(0 < size && size < 100_000, "{}", size);
+    assert!(0 < size && size < 400_000, "{}", size);
     over.ssh.set_faults(Faults::default()).unwrap();
     let mut client = over.client();
     client.asks("put sent /f\n");
@@ -263,6 +263,30 @@ fn roots_and_host_keys() {
     let refused = SshServer::with_options(&over.server, SshOptions::default().host_key(&missing));
     let why = refused.unwrap_err().to_string();
     assert!(why.contains("host_key: ") && why.contains("none"), "{}", why);
+}
+
+/// Ann owns the root that is made for her. Others see her files by their modes.
+#[test]
+fn users_with_permissions() {
+    let over = OverSsh::new("permissions");
+    over.write("f", b"1");
+    let user = |uid| SshOptions::default().uid(uid).gid(100);
+    let ann = SshServer::with_options(&over.server, user(1000).root("/home/ann")).unwrap();
+    let bob = SshServer::with_options(&over.server, user(2000)).unwrap();
+    for (ssh, commands, is_well) in [
+        (&ann, "put f /f\nchmod 600 /f\n", true),
+        (&bob, "get /home/ann/f got\n", false),
+        (&bob, "mkdir /new\n", false),
+        (&ann, "chmod 640 /f\n", true),
+        (&bob, "get /home/ann/f got\n", true),
+    ] {
+        let mut client = Client::new(&over.folder, &ssh.ssh_config());
+        client.asks(commands);
+        assert_eq!(client.ends(), is_well, "{}", commands);
+    }
+    let tree = over.server.snapshot().unwrap();
+    let uids = ["/home", "/home/ann", "/home/ann/f"].map(|path| tree[path].uid);
+    assert_eq!(uids, [0, 1000, 1000]);
 }
 
 /// Nothing of it is left when it is dropped: no process, no folder, no connection.

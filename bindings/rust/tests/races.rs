@@ -8,14 +8,16 @@ use std::io::{self, ErrorKind, Read, Write};
 use std::sync::mpsc;
 use std::thread;
 use std::time::{Duration, Instant};
+use version::VERSION;
+
+mod version;
 
 const INIT: &[u8] = b"\0\0\0\x05\x01\0\0\0\x03";
 /// INIT, and MKDIR of `/a` under the id 7.
 const MAKES: &[u8] = b"\0\0\0\x05\x01\0\0\0\x03\0\0\0\x0f\x0e\0\0\0\x07\0\0\0\x02/a\0\0\0\0";
 /// INIT, and STAT of `/a` under the id 8.
 const LOOKS: &[u8] = b"\0\0\0\x05\x01\0\0\0\x03\0\0\0\x0b\x11\0\0\0\x08\0\0\0\x02/a";
-/// The lengths of VERSION's packet, of the reply OK, and of one with attributes.
-const VERSION: usize = 71;
+/// The lengths of the reply OK, and of one with attributes.
 const OK: usize = 28;
 const ATTRS: usize = 41;
 

@@ -4,10 +4,11 @@ use lucernetick::unix_time as at;
 use lucernetick::{escape, Connection, Session, Status, Turn};
 use lucernetick::{wall_clock, Client, Engine, Error, GivenRule, Kind, OpenFlag, Rule, Server};
 use std::io::{self, ErrorKind, Read, Write};
+use version::VERSION;
+
+mod version;
 
 const INIT: &[u8] = b"\0\0\0\x05\x01\0\0\0\x03";
-/// The length of VERSION's packet.
-const VERSION: usize = 71;
 
 /// MKDIR of a path of two bytes, with this id.
 fn mkdir(id: u8, path: &[u8; 2]) -> Vec<u8> {

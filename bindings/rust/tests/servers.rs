@@ -10,6 +10,9 @@ use std::process;
 use std::sync::Arc;
 use std::thread;
 use std::time::Duration;
+use version::VERSION;
+
+mod version;
 
 const INIT: &[u8] = b"\0\0\0\x05\x01\0\0\0\x03";
 /// INIT, and MKDIR of `/a` under the id 7.
@@ -18,8 +21,6 @@ const MAKES: &[u8] = b"\0\0\0\x05\x01\0\0\0\x03\0\0\0\x0f\x0e\0\0\0\x07\0\0\0\x0
 const LOOKS: &[u8] = b"\0\0\0\x05\x01\0\0\0\x03\0\0\0\x0b\x11\0\0\0\x08\0\0\0\x02/a";
 /// STAT of `/a/f` under the id 8.
 const LOOKS_BELOW: &[u8] = b"\0\0\0\x0d\x11\0\0\0\x08\0\0\0\x04/a/f";
-/// The length of VERSION's packet.
-const VERSION: usize = 71;
 /// A timeout for events that are immediate on an idle machine.
 const LIMIT: Duration = Duration::from_secs(120);
 

@@ -5,6 +5,9 @@ use lucernetick::{
     Ending, Engine, Entry, Error, Races, Refusal, Server, Session, Turn, VirtualTime,
 };
 use std::time::Duration;
+use version::VERSION;
+
+mod version;
 
 const STATUS: u8 = 101;
 const HANDLE: u8 = 102;
@@ -17,9 +20,6 @@ const INIT: &[u8] = b"\0\0\0\x05\x01\0\0\0\x03";
 const MAKES: &[u8] = b"\0\0\0\x05\x01\0\0\0\x03\0\0\0\x0f\x0e\0\0\0\x07\0\0\0\x02/a\0\0\0\0";
 /// INIT, and STAT of `/a` under the id 8.
 const LOOKS: &[u8] = b"\0\0\0\x05\x01\0\0\0\x03\0\0\0\x0b\x11\0\0\0\x08\0\0\0\x02/a";
-
-/// The length of VERSION's packet.
-const VERSION: usize = 71;
 
 /// A request: its type, its id, and its encoded fields.
 fn request(kind: u8, id: u32, fields: &[&[u8]]) -> Vec<u8> {

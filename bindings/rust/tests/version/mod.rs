@@ -1,0 +1,2 @@
+/// The length of VERSION's packet.
+pub const VERSION: usize = 153;
