@@ -30,7 +30,7 @@ static const uint8_t MKDIR[] = {0, 0, 0, 15, 14, 0, 0, 0, 7, 0, 0, 0, 2, '/', 'a
 static const uint8_t STAT[] = {0, 0, 0, 11, 17, 0, 0, 0, 8, 0, 0, 0, 2, '/', 'a'};
 
 /* The length of VERSION, and that of OK's STATUS. */
-enum { VERSION = 71, OK = 28 };
+enum { VERSION = 153, OK = 28 };
 
 static void texts(void)
 {
@@ -320,7 +320,7 @@ static const uint8_t LOOKED[] = {0, 0, 0, 37, 105, 0, 0, 0, 8, 0, 0, 0, 15, 0, 0
 
 /* A schedule of two sessions, of which the second one looks at /a before the first one has made it.
  * It compares what the turns did, and leaves what was sent. */
-static void schedule(uint8_t first[128], uint8_t second[128])
+static void schedule(uint8_t first[256], uint8_t second[256])
 {
     const uint64_t sessions[] = {1, 2, 2, 1, 1, 2, 1, 2, 2, 2, 1};
     const int64_t did[] = {LT_TURN_WROTE, LT_TURN_WROTE, LT_TURN_BEGUN, LT_TURN_BEGUN,
@@ -335,18 +335,18 @@ static void schedule(uint8_t first[128], uint8_t second[128])
     lt_feed(engine, 2, STAT, sizeof STAT);
     for (size_t i = 0; i < sizeof sessions / sizeof *sessions; i++)
         same("a turn of the schedule", lt_turn(engine, sessions[i], MOMENT), did[i]);
-    same("what the first one is sent", lt_output(engine, 1, first, 128), VERSION + OK);
-    same("what the second one is sent", lt_output(engine, 2, second, 128), VERSION + 41);
+    same("what the first one is sent", lt_output(engine, 1, first, 256), VERSION + OK);
+    same("what the second one is sent", lt_output(engine, 2, second, 256), VERSION + 41);
     lt_free(engine);
 }
 
 static void replayed(void)
 {
-    uint8_t first[2][128] = {{0}}, second[2][128] = {{0}};
+    uint8_t first[2][256] = {{0}}, second[2][256] = {{0}};
     schedule(first[0], second[0]);
     schedule(first[1], second[1]);
-    same("the first one's bytes again", memcmp(first[0], first[1], 128), 0);
-    same("the second one's bytes again", memcmp(second[0], second[1], 128), 0);
+    same("the first one's bytes again", memcmp(first[0], first[1], 256), 0);
+    same("the second one's bytes again", memcmp(second[0], second[1], 256), 0);
     same("the second one's reply", memcmp(second[0] + VERSION, LOOKED, sizeof LOOKED), 0);
 }
 

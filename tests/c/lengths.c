@@ -8,6 +8,8 @@
  * `streams`: requests are sent in pieces of 1 byte, of 2, and so on to LAST, and replies are read
  * by reads of 1 byte, of 2, and so on, each way as fast as it goes.
  * Each reply is compared. */
+#include "version.h"
+
 #include <errno.h>
 #include <pthread.h>
 #include <sched.h>
@@ -23,8 +25,8 @@
 enum { LINE = 0, PATTERN = 1 << 17, SHIFTS = 4093, SECONDS = 30 };
 
 /* How many bytes a READ has, what a WRITE has before its data and DATA before its own, and OK's
- * STATUS and VERSION have; and how many a WRITE has that comes in two pieces. */
-enum { READ = 33, HEAD = 33, DATA = 13, OK = 28, VERSION = 71, SHORT = 60 };
+ * STATUS has; and how many a WRITE has that comes in two pieces. */
+enum { READ = 33, HEAD = 33, DATA = 13, OK = 28, SHORT = 60 };
 
 static uint8_t pattern[PATTERN + SHIFTS];
 

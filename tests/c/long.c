@@ -1,10 +1,12 @@
 /* Long runs of the library, one by each word:
  *
- *     long keeps|engines|sessions|calls|handles|moments|files|packets|names|depth|idle|large
+ *     long keeps|engines|sessions|calls|handles|moments|files|packets|names|depth|idle|writes|
+ *          large
  *
  * What a run is answered is compared with what docs/PROTOCOL.md says. It stops at the first other
  * answer. */
 #include "lucernetick.h"
+#include "version.h"
 
 #include <malloc.h>
 #include <stdio.h>
@@ -16,7 +18,7 @@
 enum { MOMENT = 100, DAY = 86400, ROOM = 1 << 20, MOST = 262144 };
 
 /* The lengths of some replies. */
-enum { VERSION = 71, OK = 28, ATTRS = 41, HANDLE = 21 };
+enum { OK = 28, ATTRS = 41, HANDLE = 21 };
 
 static lt_engine *engine;
 static uint64_t session;
@@ -359,6 +361,39 @@ static void idle(void)
     lt_free(engine);
 }
 
+/* A WRITE of `length` bytes, under the id 6, by the handle 1. */
+static void write_at(uint64_t offset, uint32_t length)
+{
+    static uint8_t request[33 + MOST] = {[4] = 6, [8] = 6, [12] = 8, [20] = 1};
+    put_u32(request, 29 + length);
+    put_u32(request + 21, (uint32_t)(offset >> 32));
+    put_u32(request + 25, (uint32_t)offset);
+    put_u32(request + 29, length);
+    memcpy(request + 33, bytes, length);
+    is_ok(offset, ask(offset, MOMENT, request, 33 + length, OK), 6);
+}
+
+/* Long WRITEs hold little more memory than their bytes, wherever in a block they begin. */
+static void writes(void)
+{
+    enum { WRITES = 50, APART = 1 << 20 };
+    static const uint32_t lengths[] = {131072, 196608, 261120};
+    static const uint32_t starts[] = {0, 1, 2048, 4095, 4096, 28673, 32767};
+    fill();
+    for (size_t i = 0; i < 3 * 7; i++) {
+        const uint32_t length = lengths[i % 3], start = starts[i / 3];
+        begin(1);
+        open_file(1);
+        const int64_t before = held();
+        for (uint64_t at = 0; at < WRITES; at++)
+            write_at(at * APART + start, length);
+        make_and_remove(2);
+        const int64_t all = (int64_t)length * WRITES;
+        same("few bytes are held", start, held() - before <= all + all / 10, 1);
+        lt_free(engine);
+    }
+}
+
 /* Contents of more than 4 GiB are not cut: memory runs out for them. */
 static void large(void)
 {
@@ -383,7 +418,8 @@ int main(int count, char **words)
     } runs[] = {{"keeps", keeps}, {"engines", engines}, {"sessions", sessions},
                 {"calls", calls}, {"handles", handles}, {"moments", moments},
                 {"files", files}, {"packets", packets}, {"names", names},
-                {"depth", depth}, {"idle", idle}, {"large", large}};
+                {"depth", depth}, {"idle", idle}, {"writes", writes},
+                {"large", large}};
     for (size_t i = 0; count == 2 && i < sizeof runs / sizeof *runs; i++)
         if (strcmp(words[1], runs[i].name) == 0) {
             runs[i].run();

@@ -3,13 +3,14 @@
  * linker wraps, is counted. Prints how many later steps there were, and stops at one that took
  * memory. */
 #include "lucernetick.h"
+#include "version.h"
 
 #include <stdio.h>
 #include <stdlib.h>
 #include <string.h>
 
 enum { MOMENT = 100, MOST = 261120, SIZE = 1 << 20, HEAD = 33, WRITES = 2000 };
-enum { VERSION = 71, HANDLE = 21, OK = 28 };
+enum { HANDLE = 21, OK = 28 };
 
 void *__real_malloc(size_t size);
 void *__real_realloc(void *block, size_t size);

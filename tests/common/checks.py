@@ -1,6 +1,9 @@
-"""Named checks: each prints its result, and has a time limit."""
+"""Named checks: each prints its result, has a time limit, and leaves no process if it fails."""
 
+import contextlib
+import os
 import signal
+import subprocess
 import sys
 import traceback
 
@@ -21,24 +24,29 @@ class Checks:
         self.passed = 0
         self.failed = 0
         signal.signal(signal.SIGALRM, out_of_time)
+        # Whoever ends the script lets it clean up.
+        signal.signal(signal.SIGTERM, lambda *_: sys.exit(143))
 
     def run(self, name, check, *words, seconds=120):
-        """Runs a check, which raises where it fails. Where its time is over it is cut off, and so
-        is, again and again, whatever it waits for as it ends."""
+        """Runs a check, which raises an exception if it fails. After its time it is cut off, and
+        then every few seconds, whatever it waits for as it ends."""
+        before = children()
         signal.setitimer(signal.ITIMER_REAL, seconds, AGAIN)
         try:
             check(*words)
-        except Exception:
+        except Exception as fault:
             signal.setitimer(signal.ITIMER_REAL, 0)
-            self.fail(name, traceback.format_exc())
+            self.fail(name, traceback.format_exc(), ran_out(fault))
+            end_processes(children() - before)
         else:
             signal.setitimer(signal.ITIMER_REAL, 0)
             self.passed += 1
             self.tell(name + ": ok")
 
-    def fail(self, name, why):
+    def fail(self, name, why, is_late=False):
+        """Reports a failed check. `./test` repeats a script whose checks only ran out of time."""
         self.failed += 1
-        self.tell(name + ": FAILED")
+        self.tell(name + (": OUT OF TIME" if is_late else ": FAILED"))
         print(why, flush=True)
 
     def tell(self, line):
@@ -52,6 +60,28 @@ class Checks:
 
 def out_of_time(_signal, _frame):
     raise OutOfTime("the check took too long")
+
+
+def ran_out(fault):
+    """Is a timeout this exception, or what it was raised for?"""
+    while fault and not isinstance(fault, (OutOfTime, TimeoutError, subprocess.TimeoutExpired)):
+        fault = fault.__cause__ or fault.__context__
+    return fault is not None
+
+
+def children():
+    """The numbers of the processes that this one began and that have not ended."""
+    found = set()
+    for task in os.listdir("/proc/self/task"):
+        with contextlib.suppress(OSError), open(f"/proc/self/task/{task}/children") as file:
+            found.update(map(int, file.read().split()))
+    return found
+
+
+def end_processes(numbers):
+    for number in numbers:
+        with contextlib.suppress(OSError):
+            os.kill(number, signal.SIGKILL)
 
 
 def same(got, wanted):

@@ -5,10 +5,10 @@ import random
 from collections import deque
 
 from packets import (
-    CLOSE, FSETSTAT, FSTAT, OPEN, OPENDIR, REMOVE, RMDIR, SETSTAT, STAT, string, u32, u64,
+    CLOSE, EXTENDED, FSETSTAT, FSTAT, OPEN, OPENDIR, REMOVE, RMDIR, SETSTAT, STAT, string, u32, u64,
 )
 from schedules import (
-    handle, links, lists, mkdir, opens, posix_renames, reads, renames, set_size, writes,
+    fsyncs, handle, links, lists, mkdir, opens, posix_renames, reads, renames, set_size, writes,
 )
 
 READS_WRITES_AND_MAKES, TRUNCATES = 0x0B, 0x10
@@ -189,13 +189,16 @@ class Kinds(Requests):
     def size(self):
         return self.near_a_seam() if self.once_in(3) else self.chance.randrange(21)
 
+    def owner(self):
+        return self.chance.choice([0, 1, 2, 0xFFFFFFFF])
+
     def attributes(self):
         """Permissions have bits beyond their twelve."""
         flags, fields = 0, b""
         number = self.chance.randrange
         for flag, field in (
             (1, lambda: u64(self.size())),
-            (2, lambda: u32(number(3)) + u32(number(3))),
+            (2, lambda: u32(self.owner()) + u32(self.owner())),
             (4, lambda: u32(number(1 << 18))),
             (8, lambda: u32(number(1000)) + u32(number(1000))),
         ):
@@ -233,6 +236,7 @@ class Kinds(Requests):
         return self.chance.choice(
             [(STAT, string(path)), (RMDIR, string(path)), (REMOVE, string(path))]
             + [(SETSTAT, string(path), self.attributes()), (OPENDIR, string(path))] * 2
+            + [(EXTENDED, string(b"lsetstat@openssh.com"), string(path), self.attributes())]
             + [(*mkdir(path)[:-1], self.attributes())] * 3
             + [(*makes, self.attributes())] * 6
         )
@@ -240,7 +244,7 @@ class Kinds(Requests):
     def by_handle(self, number):
         length = self.chance.choice([*range(20), (1 << 32) - 1])
         return self.chance.choice(
-            [(CLOSE, handle(number)), (FSTAT, handle(number))]
+            [(CLOSE, handle(number)), (FSTAT, handle(number)), fsyncs(number)]
             + [(FSETSTAT, handle(number), self.attributes())]
             + [reads(number, self.offset(), length)] * 3
             + [writes(number, self.offset(), self.chance.choice(self.data))] * 4
@@ -248,7 +252,7 @@ class Kinds(Requests):
 
     def by_listing(self, number):
         return self.chance.choice(
-            [(CLOSE, handle(number)), (FSTAT, handle(number))]
+            [(CLOSE, handle(number)), (FSTAT, handle(number)), fsyncs(number)]
             + [(FSETSTAT, handle(number), self.attributes())]
             + [lists(number)] * 7
         )

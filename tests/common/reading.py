@@ -6,9 +6,9 @@ answered without a call, or is a call."""
 
 from engine import NO_ID, NOT_INIT, OLD_VERSION, SECOND_INIT
 from packets import (
-    BAD_MESSAGE, CLOSE, EXTENDED, FAILURE, FSETSTAT, FSTAT, INIT, LSTAT, MKDIR, NAME,
+    BAD_MESSAGE, CLOSE, EXTENDED, EXTENDED_REPLY, FAILURE, FSETSTAT, FSTAT, INIT, LSTAT, MKDIR, NAME,
     OP_UNSUPPORTED, OPEN, OPENDIR, READ, READDIR, REALPATH, REMOVE, RENAME, RMDIR, SETSTAT, STAT,
-    STATUS, VERSION, WRITE, packet, string, u32,
+    STATUS, VERSION, WRITE, packet, string, u32, u64,
 )
 
 MESSAGES = {
@@ -17,12 +17,17 @@ MESSAGES = {
     OP_UNSUPPORTED: b"Operation unsupported",
 }
 
-VERSION_REPLY = packet(
-    VERSION,
-    u32(3),
-    string(b"posix-rename@openssh.com") + string(b"1"),
-    string(b"hardlink@openssh.com") + string(b"1"),
-)
+# The fields of the extensions, by section 1, in VERSION's order.
+EXTENSIONS = {
+    b"posix-rename@openssh.com": ("path", "path"),
+    b"hardlink@openssh.com": ("path", "path"),
+    b"fsync@openssh.com": ("handle",),
+    b"lsetstat@openssh.com": ("path", "attrs"),
+    b"limits@openssh.com": (),
+}
+# The bytes of a packet, of a READ and of a WRITE, and the open handles of a session.
+LIMITS = (262144, 261120, 261120, 128)
+VERSION_REPLY = packet(VERSION, u32(3), *(string(name) + string(b"1") for name in EXTENSIONS))
 
 # The fields behind the id, by section 1.
 FIELDS = {
@@ -43,7 +48,6 @@ FIELDS = {
     REALPATH: ("path",),
     RENAME: ("path", "path"),
 }
-KNOWN_EXTENSIONS = (b"posix-rename@openssh.com", b"hardlink@openssh.com")
 
 # The parts of attrs and their lengths, by section 3; the pairs of strings stand behind them.
 PARTS = ((0x1, 8), (0x2, 8), (0x4, 4), (0x8, 8))
@@ -130,7 +134,7 @@ def reads_request(kind, request_id, fields):
             name = fields.string()
         except Short:
             return status(request_id, BAD_MESSAGE)
-        wanted = ("path", "path") if name in KNOWN_EXTENSIONS else None
+        wanted = EXTENSIONS.get(name)
     if wanted is None:
         return status(request_id, OP_UNSUPPORTED)
     try:
@@ -141,6 +145,8 @@ def reads_request(kind, request_id, fields):
     handles = [value for field, value in zip(wanted, found) if field == "handle"]
     if any(is_refused(path) for path in paths) or any(len(handle) != 8 for handle in handles):
         return status(request_id, FAILURE)
+    if kind == EXTENDED and not wanted:
+        return Answers(packet(EXTENDED_REPLY, request_id, *map(u64, LIMITS)))
     if kind == REALPATH:
         name = string(normal_text(paths[0]))
         return Answers(packet(NAME, request_id, u32(1), name, name, u32(0)))

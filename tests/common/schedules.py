@@ -56,6 +56,10 @@ def links(old, new):
     return EXTENDED, string(b"hardlink@openssh.com"), string(old), string(new)
 
 
+def fsyncs(number):
+    return EXTENDED, string(b"fsync@openssh.com"), handle(number)
+
+
 class Schedule:
     """The lines of a schedule, and what each session asks."""
 

@@ -4,10 +4,10 @@ Bytes: hexadecimal digits, names that the rows give, text in quotes as Python wr
 often as a number behind `*` says, as `78*255`. `00..fa` stands for bytes that rise by one, and
 `ENTRY_01..ENTRY_32` for what has these names.
 
-Requests: MKDIR, SETSTAT path attributes; OPEN path letters attributes; REMOVE, RMDIR, REALPATH,
-STAT, LSTAT, OPENDIR path; RENAME, POSIX_RENAME, LINK old new; CLOSE, FSTAT, READDIR handle;
-FSETSTAT handle attributes; READ handle offset count; WRITE handle offset bytes. The letters are
-`r` READ, `w` WRITE, `a` APPEND, `c` CREAT, `t` TRUNC and `x` EXCL, or `-` for none of them.
+Requests: MKDIR, SETSTAT, LSETSTAT path attributes; OPEN path letters attributes; REMOVE, RMDIR,
+REALPATH, STAT, LSTAT, OPENDIR path; RENAME, POSIX_RENAME, LINK old new; CLOSE, FSTAT, READDIR, FSYNC
+handle; FSETSTAT handle attributes; READ handle offset count; WRITE handle offset bytes. The letters
+are `r` READ, `w` WRITE, `a` APPEND, `c` CREAT, `t` TRUNC and `x` EXCL, or `-` for none of them.
 Attributes, each where it is there: size=7 owner=1000:50 permissions=0o40700 times=3:4. A path with
 other bytes than those of a word stands in quotes: "/a b", "", "/"+"x"*255.
 
@@ -26,9 +26,14 @@ from packets import packet, string, u32, u64
 WORD = re.compile(r'(?:"(?:[^"\\]|\\.)*"(?:\*\d+)?(?:\+(?="))?)+,?|[^\s"]+')
 PIECE = re.compile(r'("(?:[^"\\]|\\.)*")(?:\*(\d+))?')
 BY_PATH = {"REMOVE", "RMDIR", "REALPATH", "STAT", "LSTAT", "OPENDIR"}
-BY_HANDLE = {"CLOSE", "FSTAT", "READDIR"}
-WITH_ATTRIBUTES = {"MKDIR", "SETSTAT", "FSETSTAT"}
-EXTENSIONS = {"POSIX_RENAME": b"posix-rename@openssh.com", "LINK": b"hardlink@openssh.com"}
+BY_HANDLE = {"CLOSE", "FSTAT", "READDIR", "FSYNC"}
+WITH_ATTRIBUTES = {"MKDIR", "SETSTAT", "LSETSTAT", "FSETSTAT"}
+EXTENSIONS = {
+    "POSIX_RENAME": b"posix-rename@openssh.com",
+    "LINK": b"hardlink@openssh.com",
+    "FSYNC": b"fsync@openssh.com",
+    "LSETSTAT": b"lsetstat@openssh.com",
+}
 REQUESTS = BY_PATH | BY_HANDLE | WITH_ATTRIBUTES | {"OPEN", "READ", "WRITE", "RENAME", *EXTENSIONS}
 LETTERS = "rwactx"
 STATUSES = {
@@ -139,9 +144,8 @@ def request_of(words, number, named):
     name, *rest = words
     front = u32(number)
     if name in EXTENSIONS:
-        old, new = rest
-        paths = string(text_of(old)), string(text_of(new))
-        return packet(packets.EXTENDED, front, string(EXTENSIONS[name]), *paths)
+        fields = fields_of(name, rest, named)
+        return packet(packets.EXTENDED, front, string(EXTENSIONS[name]), *fields)
     return packet(getattr(packets, name), front, *fields_of(name, rest, named))
 
 
@@ -156,7 +160,7 @@ def fields_of(name, rest, named):
     if name == "WRITE":
         handle, offset, *data = rest
         return handle_of(handle), u64(number_of(offset)), string(bytes_of(data, named))
-    if name == "RENAME":
+    if name in ("RENAME", "POSIX_RENAME", "LINK"):
         old, new = rest
         return string(text_of(old)), string(text_of(new))
     first, *attributes = rest

@@ -15,9 +15,9 @@ import subprocess
 import threading
 import time
 import warnings
-from typing import NamedTuple
 
 from checks import same
+from fronts import LONG, run_with
 from serving import TOP, fresh, install_packages, make_tree, run, same_trees
 
 PACKAGES = "openssh-client python3-paramiko python3-asyncssh rclone golang-go".split()
@@ -26,8 +26,6 @@ COMMANDS = ["ssh", "sftp", "ssh-keygen", "rclone", "go"]
 SIZE = 100_000_000
 ENDLESS = 2**33
 """More bytes than any client puts before it is cut."""
-LONG = 900
-"""Seconds for what moves a large file, while others have the processors."""
 MANY = 50
 
 
@@ -49,16 +47,6 @@ def missing():
     """What can't be had."""
     found = [name for name in COMMANDS if not shutil.which(name)]
     return found + [name for name in ("paramiko", "asyncssh") if not globals()[name]]
-
-
-class Reach(NamedTuple):
-    """How a server on this machine is reached: its port, a user, and files with the user's private
-    key and with the host's key."""
-
-    port: int
-    user: str
-    key: str
-    known_hosts: str
 
 
 class Place:
@@ -110,16 +98,6 @@ def until(holds):
 
 def same_files(one, other):
     same(filecmp.cmp(one, other, shallow=False), True)
-
-
-def run_with(text, *words, **options):
-    """Runs a command that reads this text, which must end well, and gives what it prints."""
-    done = subprocess.run(
-        words, input=text, capture_output=True, text=True, timeout=LONG, **options
-    )
-    if done.returncode != 0:
-        raise AssertionError(f"{words} ended with {done.returncode}: {done.stdout}{done.stderr}")
-    return done.stdout
 
 
 def fails(*words):

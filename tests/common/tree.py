@@ -24,6 +24,7 @@ MESSAGES = {
     FAILURE: b"Failure",
 }
 POSIX_RENAME, HARDLINK = b"posix-rename@openssh.com", b"hardlink@openssh.com"
+FSYNC, LSETSTAT = b"fsync@openssh.com", b"lsetstat@openssh.com"
 
 
 def status(number, code, message=None):
@@ -154,8 +155,10 @@ class Node:
         return u32(15) + u64(self.data.size) + b"".join(map(u32, numbers))
 
     def set_parts(self, parts):
-        for name in ("owner", "permissions", "times"):
+        for name in ("permissions", "times"):
             setattr(self, name, parts.get(name, getattr(self, name)))
+        given = zip(parts.get("owner", self.owner), self.owner)
+        self.owner = tuple(old if new == 0xFFFFFFFF else new for new, old in given)
 
     def changed(self, moment):
         self.times = (self.times[0], moment)
@@ -438,6 +441,11 @@ def extended(tree, call, fields):
     name = fields.string()
     if name == HARDLINK:
         return link(tree, call, fields.path(), fields.path())
+    if name == FSYNC:
+        fails_if(tree.opened(call, fields).node is tree.root)
+        return (STATUS,)
+    if name == LSETSTAT:
+        return set_stat(tree, call, fields)
     assert name == POSIX_RENAME
     return move(tree, call, fields.path(), fields.path(), replaces=True)
 

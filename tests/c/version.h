@@ -1,0 +1,2 @@
+/* The length of VERSION's packet. */
+enum { VERSION = 153 };
