@@ -1,6 +1,7 @@
 /* COUNT STATs by the calls of lucernetick.h, of a directory four deep, each fed, settled, looked at
  * and sent. Prints the processor time of one in nanoseconds. */
 #include "lucernetick.h"
+#include "../tests/c/version.h"
 
 #include <stdio.h>
 #include <stdlib.h>
@@ -54,7 +55,7 @@ int main(int count, char **words)
     struct timespec begin, end;
     engine = lt_new();
     session = (uint64_t)lt_open(engine);
-    ask(init, sizeof init, 71);
+    ask(init, sizeof init, VERSION);
     for (int names = 1; names <= DEPTH; names++)
         ask(packet, packet_of(packet, 14, names, 1), 28);
     size_t length = packet_of(packet, 17, DEPTH, 0);

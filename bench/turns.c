@@ -3,6 +3,7 @@
  * Prints, of each length, the blocks, and the medians of the turn that reads the packet, of the
  * WRITE's first step, and of the longest of its later ones, in nanoseconds. */
 #include "lucernetick.h"
+#include "../tests/c/version.h"
 
 #include <stdio.h>
 #include <stdlib.h>
@@ -62,7 +63,7 @@ static void open_file(void)
     static const uint8_t init[] = {0, 0, 0, 5, 1, 0, 0, 0, 3};
     static const uint8_t open[] = {0, 0,   0,   19, 3, 0, 0,  0, 7, 0, 0, 0,
                                    2, '/', 'f', 0,  0, 0, 10, 0, 0, 0, 0};
-    ask(init, sizeof init, 71);
+    ask(init, sizeof init, VERSION);
     ask(open, sizeof open, 21);
 }
 

@@ -1,7 +1,10 @@
 /* The program of the archive runs with glibc 2.28 and later. What `sftpd` calls of newer versions is
- * here, or is the version that older ones have too. */
+ * here, or is the version that older ones have too. It has one malloc arena: with one for each
+ * thread, memory that a session frees would not be used by others. */
 #include <cpuid.h>
+#include <malloc.h>
 #include <pthread.h>
+#include <stdlib.h>
 #include <sys/syscall.h>
 #include <unistd.h>
 
@@ -13,6 +16,8 @@ extern part *__init_array_start[], *__init_array_end[];
 
 /* Before 2.34 glibc leaves constructors to the program. */
 static void construct(int count, char **words, char **environment) {
+    if (!getenv("MALLOC_ARENA_MAX"))
+        mallopt(M_ARENA_MAX, 1);
     for (part **each = __init_array_start; each < __init_array_end; each++)
         (*each)(count, words, environment);
 }

@@ -90,10 +90,21 @@ def contract_of(sources, crate, name):
     raise LookupError(f"no public function {crate}::{name}")
 
 
-def start(sources, crate, name):
-    """A trait, or the contract of a function."""
+def start(sources, crate, name, clauses=None):
+    """A trait, or the contract of a function, or some of its clauses."""
     item = sources.rust_item(crate, name)
-    return item if item and item.kind == "trait" else contract_of(sources, crate, name)
+    if item and item.kind == "trait":
+        return item
+    contract = contract_of(sources, crate, name)
+    return with_clauses(contract, clauses) if clauses else contract
+
+
+def with_clauses(contract, clauses):
+    """The contract with its signature and these of its clauses, each of which it must have."""
+    signature, *parts = re.split(r"\n\s+(?=(?:ensures|requires) )", contract.text)
+    found = {part.split()[1]: part for part in parts}
+    text = "\n".join([signature, *(found[name] for name in clauses)])
+    return Definition(contract.crate, contract.file, contract.name, "fn", text, contract.source)
 
 
 def exported(sources, crate):

@@ -8,33 +8,51 @@ from pages.reach import Reach, start
 PATH = "docs/generated/reading-list.md"
 
 ENGINE_CALLS = ["new", "with_keep", "apply", "run", "output"]
-ENGINE_LAWS = ["sessions_read", "records_begun", "sent_bytes", "one_output"]
 
-# Each list: its title, the crate of the contracts, and their names.
+# Each list: its title, and the names of the contracts, by crate. After a colon the clauses, if not
+# all belong to the list.
 LISTS = [
-    ("The engine: `Sftp` and `apply_all`", "sf_engine", ["Sftp", "apply_all"]),
-    ("One session by itself, as in `sftpd stdio`", "sf_alone", ["serve_alone"]),
+    ("The engine: `Sftp` and `apply_all`", {"sf_engine": ["Sftp", "apply_all"]}),
+    ("One session by itself, as in `sftpd stdio`", {"sf_alone": ["serve_alone"]}),
     (
         "Many sessions by threads, as in `sftpd serve`",
-        "sf_workers",
-        ["serve_lines", "serve_line", "one_promise"],
+        {
+            "sf_workers": ["serve_lines: order, kept", "serve_line: talk, seen, between"],
+            "sf_noted": ["in_real_time"],
+        },
+    ),
+    (
+        "How such a session and its server end",
+        {"sf_workers": ["serve_lines", "serve_line", "one_promise"]},
     ),
     (
         "The engine's steps and their work",
-        "sf_engine",
-        [*(f"Engine::{name}" for name in ENGINE_CALLS), *ENGINE_LAWS],
+        {"sf_engine": [*(f"Engine::{name}" for name in ENGINE_CALLS), "determinism"]},
     ),
-    ("A session over a stream, on an engine with other sessions", "sf_alone", ["serve_one"]),
+    ("A session over a stream, on an engine with other sessions", {"sf_alone": ["serve_one"]}),
 ]
+
+
+def parted(name):
+    """The name of a contract and its clauses, if only some belong to a list."""
+    name, _, clauses = name.partition(": ")
+    return name, clauses
+
+
+def named(names):
+    """Each contract of a list: crate, name and clauses."""
+    for crate, those in names.items():
+        for name, clauses in map(parted, those):
+            yield crate, name, clauses.split(", ") if clauses else None
 
 
 class List:
     """What the contracts of a list reach, and what of it no list before has."""
 
     def __init__(self, sources, item, before):
-        self.title, self.crate, self.names = item
+        self.title, self.names = item
         reach = Reach(sources)
-        reach.follow([start(sources, self.crate, name) for name in self.names])
+        reach.follow([start(sources, *names) for names in named(self.names)])
         self.all = list(reach.found.values())
         self.more = [definition for key, definition in reach.found.items() if key not in before]
 
@@ -97,11 +115,21 @@ def size(definitions):
     )
 
 
+def contracts(names):
+    return ", ".join(f"{contracts_of(those)} of `{crate}`" for crate, those in names.items())
+
+
+def contracts_of(names):
+    if not any(":" in name for name in names):
+        return listed(names)
+    return ", ".join(f"`{name}` (clauses {clauses})" for name, clauses in map(parted, names))
+
+
 def section(sources, made, is_first):
     """The lines of one list."""
     rust = len(made.all) - len(specs_in(made.all))
     reaches = (
-        f"Contracts: {listed(made.names)} of `{made.crate}`. In all {size(made.all)}, and "
+        f"Contracts: {contracts(made.names)}. In all {size(made.all)}, and "
         f"{number(rust, 'Rust declaration', 'Rust declarations')}."
     )
     if not is_first:

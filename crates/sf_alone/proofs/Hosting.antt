@@ -1,84 +1,100 @@
--- A session of an engine: open, feed, turns, sent and close.
-use Rattle.std.proofs.Common.{◌≡◌, ◌≢◌, ◌<◌, ◌≤◌, ℕ, ◌+◌, ◌-◌, List, [], ◌∷◌, ◌++◌, Bool, true, Some, Option, Result, Ok, Err, slice_get, length, take, drop, refl, ap, sym, ◌∙◌, subst, inl, inr, length-drop, arith}
+-- A session of an engine: open, feed, sent and close.
+use Rattle.std.proofs.Common.{◌≡◌, ◌<◌, ◌≤◌, ℕ, ◌+◌, ◌-◌, List, [], ◌∷◌, ◌++◌, Bool, true, false, Option, Result, Ok, Err, length, refl, ap, sym, ◌∙◌, subst, inl, inr, append-nil, length-append, arith}
+use Rattle.std.specs.Global.{Vec}
+use Rattle.std.specs.Prelude.{if◌then◌else◌}
 use Rattle.std.proofs.KnownBytes.{Appends-nil}
-use Rattle.std.proofs.lemmas.List.{take_all}
-use Rattle.sf_call.specs.declared.record.Record.{Record}
-use Rattle.sf_session.specs.declared.cause.Cause.{Cause}
-use Rattle.sf_session.specs.declared.cause.Cause.TheVariants.{Closed}
 use Rattle.sf_session.specs.declared.fault.ServeFault.{ServeFault}
 use Rattle.sf_session.specs.declared.fault.ServeFault.TheVariants as serve
+use Rattle.sf_session.specs.Responses.{Response, transcript, answered_in}
+use Rattle.sf_session.specs.SessionStates.{Phase, Resting, Gone, SessionState, new_state, fed, closed_now, pending}
 use Rattle.sf_engine.specs.declared.event.Event.{Event}
 use Rattle.sf_engine.specs.declared.event.Event.TheVariants as event
 use Rattle.sf_engine.specs.declared.event.Happened.{Happened}
 use Rattle.sf_engine.specs.declared.event.Happened.TheVariants as happened
 use Rattle.sf_engine.specs.declared.event.EngineFault.{EngineFault}
 use Rattle.sf_engine.specs.declared.event.EngineFault.TheVariants as fault
-use Rattle.sf_engine.specs.Worlds.{TraceEntry, World, with_state}
-use Rattle.sf_session.specs.Responses.{transcript}
-use Rattle.sf_session.specs.SessionStates.{SessionState, new_state, unsent, is_here_in, fed, sent_more, IsRead}
-use Rattle.sf_engine.specs.Traces.{IsSession, MayRefuse, Leads}
 use Rattle.sf_engine.specs.Views.{EngineView}
-use Rattle.sf_engine.specs.Fits.{Fits, GoesOnTrace, IsSentBy, IsUnknownSession, WantsBytes, WantsBytesBy, trace_entry}
-use Rattle.sf_engine.proofs.Laws.{told_of_none, told_sessions, answers_are_short}
-use Rattle.sf_serving.specs.Ends.{IsWhole}
-use Rattle.sf_serving.specs.Hosts.{IsOpen, HasSent, IsFurther, IsSessionStep, with_sent, ended}
-use Rattle.sf_serving.specs.declared.host.SessionStep.{SessionStep}
-use Rattle.sf_serving.specs.declared.host.SessionStep.TheVariants as session_step
+use Rattle.sf_engine.specs.Promise.{Entry, SessionOpened, BytesFed, SessionClosed, BytesSent, EventRefused, event_of, result_of, is_opening, opened_in, SessionLog, new_log, with_own, of_session, SessionPhase, WithoutCall, phase_at, phase, IsKnown, IsLawful, MayBeRefused}
+use Rattle.sf_engine.specs.HasLog.{HasLog, AppendsEntry}
+use Rattle.sf_engine.proofs.Laws.{own_push, count_push}
+use Rattle.sf_serving.specs.Hosts.{IsFront, with_sent, ended}
 use Rattle.sf_serving.specs.Serving.{LineView, Progress, ServedSoFar, Serves, IsStopped, IsStop}
-use Rattle.sf_alone.specs.OnEngine.{IsOf, moment_of, may_begin_after, AreTimed, engine_held, IsLow, IsLowAt, RunsLow, Since, since_at, IoState, IsTold, IsToldBy, Turns, Feeds, Applies, HasOutput, HasStoppedAt, open_refusal, MayNotOpen, IsOpenFault, IsServeFault}
-use Rattle.sf_alone.proofs.Following.{Leading, IsNext, tells_on, same_told, told_now}
-use Rattle.sf_serving.proofs.Laws.{whole_left}
-use Rattle.sf_alone.proofs.Turning.{few_sent, batch_of, Turned, HasTurn, HasTurned, turned_more, since_first, turns_on}
+use Rattle.sf_serving.proofs.Laws.{none_written, ended_same}
+use Rattle.sf_alone.specs.OnEngine.{HasCall, IsOf, moment_of, AreTimed, IsLowAt, AreLow, has_left, IsStateOf, Since, since_at, IoState, IsTold, IsToldBy, Feeds, Applies, HasOutput, HasStoppedAt, open_refusal, MayNotOpen, IsOpenFault, IsServeFault}
+use Rattle.sf_alone.proofs.Entries.{Added, extended}
+
+-- the event of an entry that is no turn
+quiet_added : (s : ℕ) (log : List Entry) (x : Entry) (ev : Event) (r : Result Happened EngineFault) → event_of x ≡ ev → result_of x ≡ r → IsOf s ev r → moment_of ev ≡ [] → ((l : SessionLog) → IsLowAt l ev) → Added s log (x ∷ []) []
+unfolding AreLow AreTimed
+quiet_added s log x ev r e is own quiet low = record {
+  own = (subst (λ (z : Event). IsOf s z (result_of x)) (sym e) (subst (λ (z : Result Happened EngineFault). IsOf s ev z) (sym is) own), tt);
+  low = (subst (λ (z : Event). IsLowAt (of_session s log) z) (sym e) (low (of_session s log)), tt);
+  timed = ([], [], refl, inl (sym (ap moment_of e ∙ quiet)), refl);
+}
+
+-- why an event was refused
+refused_by : (log : List Entry) (x : Entry) (ev : Event) (f : EngineFault) → event_of x ≡ ev → result_of x ≡ Err f → IsLawful log x → MayBeRefused log ev f
+refused_by log (EventRefused ev' f') ev f e is lawful =
+    let same : f' ≡ f = cc in
+    subst (λ (z : Event). MayBeRefused log z f) e (subst (λ (z : EngineFault). MayBeRefused log ev' z) same lawful)
+refused_by log x ev f e is lawful = absurd cc
 
 -- ---- open
 
-last_get : (xs : List SessionState) (v : SessionState) → slice_get (xs ++ v ∷ []) (length xs) ≡ Some v
-last_get [] v = refl
-last_get (x ∷ xs) v = last_get xs v
+opened_state : (log : List Entry) (s : ℕ) (x : Entry) → event_of x ≡ event.Open → result_of x ≡ Ok (happened.Opened s) → IsLawful log x → ((z : ℕ) → 0 < z → opened_in log < z → of_session z log ≡ new_log)
+    → IsKnown (log ++ x ∷ []) s × IsStateOf (of_session s (log ++ x ∷ [])) new_state
+opened_state log s (SessionOpened z) e is lawful nobody =
+    let own : z ≡ s = cc in
+    let number : s ≡ opened_in log + 1 = sym own ∙ lawful.0 in
+    let x = SessionOpened z in
+    let l : of_session s (log ++ x ∷ []) ≡ with_own new_log x = own_push s log x own ∙ ap (λ (l : SessionLog). with_own l x) (nobody s (omega (arith, number)) (omega (arith, number))) in
+    let state : IsStateOf (with_own new_log x) new_state = record { stream = refl; answers = refl; sent = refl; front = ([], none_written); closed = λ left. refl; left = refl; begun = refl; call = tt } in
+    ((omega (arith, number), omega (arith, number, count_push is_opening log x)), subst (λ (z : SessionLog). IsStateOf z new_state) (sym l) state)
+opened_state log s x e is lawful nobody = absurd cc
 
-opens_low : (session : ℕ) (w : World) (e : TraceEntry) (w' : World) → IsLowAt w session e.event → Leads w e w' → RunsLow session w (e ∷ []) w'
-unfolding RunsLow
-opens_low session w e w' low leads = (w', low, leads, refl)
-
-opens_timed : (e : TraceEntry) → moment_of e.event ≡ [] → AreTimed (e ∷ []) []
-unfolding AreTimed
-opens_timed e none = ([], [], refl, inl (sym none), refl)
-
-pub opened : (start : Since) (e' : EngineView) (s : ℕ) → GoesOnTrace start.engine event.Open (Ok (happened.Opened s)) e' → IsToldBy 0 start s e' start.told new_state
+pub opened : (start : Since) (e' : EngineView) (s : ℕ) → AppendsEntry start.engine event.Open (Ok (happened.Opened s)) e' → IsToldBy 0 start s e' start.told new_state
 opened start e' s goes =
-    let g = goes start.trace start.fits in
-    let n = length start.fits.world.sessions in
-    let eq : happened.Opened s ≡ happened.Opened (n + 1) = g.2.0 in
-    let num : s ≡ n + 1 = cc in
-    let num' : s - 1 ≡ n = omega (arith, num) in
-    let en = trace_entry event.Open (Ok (happened.Opened s)) g.0 in
-    let P : World → Type 0 = λ z. IsSession z s new_state in (
+    let g = goes start.log start.has in
+    let x = g.0 in
+    let added = quiet_added s start.log x event.Open (Ok (happened.Opened s)) g.1 g.2 refl refl (λ l. tt) in
+    let is = opened_state start.log s x g.1 g.2 (g.3.kept.lawful start.log [] x refl) (λ z pos past. (start.has.nobody z pos past).none) in (
       record {
-        entries = en ∷ [];
-        fit = g.1;
-        own = (refl, tt);
-        low = opens_low s start.fits.world en g.1.world tt g.2;
-        is_session = subst P (sym g.2.3) (omega (arith, num), ap (λ (k : ℕ). slice_get (start.fits.world.sessions ++ new_state ∷ []) k) num' ∙ last_get start.fits.world.sessions new_state);
-        moments = [];
-        timed = opens_timed en refl;
-        clock = Appends-nil start.told;
+        later = record {
+          log = start.log ++ x ∷ [];
+          has = g.3;
+          entries = x ∷ [];
+          since = refl;
+          known = is.0;
+          own = added.own;
+          low = added.low;
+          moments = [];
+          timed = added.timed;
+          clock = Appends-nil start.told;
+        };
+        state = is.1;
       },
       omega arith,
     )
 
 -- an event that opens a session has the result `Opened`
-pub opened_only : (e e' : EngineView) (k : Happened) → ((session : ℕ) → k ≡ happened.Opened session → ⊥) → GoesOnTrace e event.Open (Ok k) e' → (trace : List TraceEntry) → Fits e trace → ⊥
-opened_only e e' k other goes trace fits = let g = goes trace fits in other (length fits.world.sessions + 1) g.2.0
+opened_only : (x : Entry) (k : Happened) → event_of x ≡ event.Open → result_of x ≡ Ok k → ((session : ℕ) → k ≡ happened.Opened session → ⊥) → ⊥
+opened_only (SessionOpened s) k e is other = other s cc
+opened_only x k e is other = absurd cc
+
+pub none_opened : (e e' : EngineView) (k : Happened) → ((session : ℕ) → k ≡ happened.Opened session → ⊥) → AppendsEntry e event.Open (Ok k) e' → (log : List Entry) → HasLog e log → ⊥
+none_opened e e' k other goes log has = let g = goes log has in opened_only g.0 k g.1 g.2 other
 
 -- why none opened
-pub refused_open : (e e' : EngineView) (f : EngineFault) → GoesOnTrace e event.Open (Err f) e' → IsOpenFault e (open_refusal f)
-refused_open e e' fault.Sessions goes = λ trace fits. (goes trace fits).2.0
-refused_open e e' fault.NumbersSpent goes = λ trace fits. (goes trace fits).2.0.1
-refused_open e e' f goes = tt
+refused_open : (e e' : EngineView) (f : EngineFault) → AppendsEntry e event.Open (Err f) e' → (log : List Entry) → HasLog e log → MayBeRefused log event.Open f
+refused_open e e' f goes log has = let g = goes log has in refused_by log g.0 event.Open f g.1 g.2 (g.3.kept.lawful log [] g.0 refl)
 
-pub not_opened : (e : EngineView) (f : ServeFault) → IsOpenFault e f → (trace : List TraceEntry) → (fits : Fits e trace) → MayNotOpen fits.world f
+pub fault_open : (e e' : EngineView) (f : EngineFault) → AppendsEntry e event.Open (Err f) e' → IsOpenFault e (open_refusal f)
+fault_open e e' fault.Sessions goes = refused_open e e' fault.Sessions goes
+fault_open e e' fault.NumbersSpent goes = λ log has. (refused_open e e' fault.NumbersSpent goes log has).1
+fault_open e e' f goes = λ log has. tt
+
+pub not_opened : (e : EngineView) (f : ServeFault) → IsOpenFault e f → (log : List Entry) → HasLog e log → MayNotOpen log f
 not_opened e serve.Line h = absurd h
-not_opened e serve.OutOfMemory h = λ trace fits. tt
 not_opened e serve.Stranger h = absurd h
 not_opened e f h = h
 
@@ -87,160 +103,155 @@ open_fault e serve.Line old new h = absurd h
 open_fault e serve.Stranger old new h = absurd h
 open_fault e f old new h = tt
 
--- ---- feed
+-- ---- one event that is no turn
 
--- how an event changes a session
-session_now : (f : SessionState → SessionState) (w : World) {w' : World} (s : ℕ) {t u : SessionState} (added : List Record) → IsSession w s t → IsSession w s u → w' ≡ with_state w s (f u) added 0 → IsSession w' s (f t)
-session_now f w s {t = t} {u = u} added session other now =
-    let same : u ≡ t = same_told w s u t other session in
-    subst (λ (z : World). IsSession z s (f t)) (sym (now ∙ ap (λ (z : SessionState). with_state w s (f z) added 0) same)) (told_now w s t (f t) added 0 session)
+event_on : {turns : ℕ} {start : Since} {s : ℕ} {e e' : EngineView} {tl : Option (List ℕ)} {t t' : SessionState} (ev : Event) (r : Result Happened EngineFault) → IsToldBy turns start s e tl t → AppendsEntry e ev r e' → IsOf s ev r → moment_of ev ≡ [] → ((l : SessionLog) → IsLowAt l ev)
+    → ((log : List Entry) (x : Entry) → event_of x ≡ ev → result_of x ≡ r → IsKnown log s → IsLawful log x → HasLog e log → IsStateOf (of_session s log) t → IsStateOf (of_session s (log ++ x ∷ [])) t') → IsToldBy turns start s e' tl t'
+event_on {s = s} {e' = e'} {tl = tl} ev r T goes own quiet low next =
+    let h = T.0.later in
+    let g = goes h.log h.has in
+    let x = g.0 in (
+      record {
+        later = extended h (x ∷ []) [] g.3 (Appends-nil tl) (quiet_added s h.log x ev r g.1 g.2 own quiet low);
+        state = next h.log x g.1 g.2 h.known (g.3.kept.lawful h.log [] x refl) h.has T.0.state;
+      },
+      omega (arith, T.1, length-append h.entries (x ∷ [])),
+    )
 
--- one event that is not a turn
-event_on : {turns : ℕ} {start : Since} {s : ℕ} {e e' : EngineView} {tl : Option (List ℕ)} {t t' : SessionState} (ev : Event) (r : Result Happened EngineFault) → IsToldBy turns start s e tl t → GoesOnTrace e ev r e' → IsOf s ev r → moment_of ev ≡ []
-    → ((w : World) → IsLowAt w s ev) → Leading s t ev r (λ u. u ≡ t') → IsToldBy turns start s e' tl t'
-event_on {turns = turns} {start = start} {s = s} {e' = e'} {tl = tl} {t = t} {t' = t'} ev r T goes own none low leads =
-    let next : IsNext s t ev r [] (λ u. u ≡ t') = record { own = own; timed = λ w w' added is leads. inl (sym none); low = λ w is. low w; leads = leads } in
-    let g = tells_on {e' = e'} {tl' = tl} T.0 goes (Appends-nil tl) next in
-    let by : IsToldBy turns start s e' tl g.0 = (g.1, omega (arith, T.1, g.2)) in subst (λ (z : SessionState). IsToldBy turns start s e' tl z) g.3 by
+fed_state : (s : ℕ) (t : SessionState) (bytes : Vec ℕ) (r : Happened) (log : List Entry) (x : Entry) → event_of x ≡ event.Feed s bytes → result_of x ≡ Ok r → IsStateOf (of_session s log) t → IsStateOf (of_session s (log ++ x ∷ [])) (fed t bytes.items)
+fed_state s t bytes r log (BytesFed z b) e is h =
+    let own : z ≡ s = cc in
+    let same : b ≡ bytes = cc in
+    let l = of_session s log in
+    let stream : t.stream ++ bytes.items ≡ l.fed ++ b.items = ap (λ (f : List ℕ). f ++ bytes.items) h.stream ∙ ap (λ (v : Vec ℕ). l.fed ++ v.items) (sym same) in
+    let now : IsStateOf (with_own l (BytesFed z b)) (fed t bytes.items) = record { stream = stream; answers = h.answers; sent = h.sent; front = h.front; closed = h.closed; left = h.left; begun = h.begun; call = h.call } in
+    subst (λ (z : SessionLog). IsStateOf z (fed t bytes.items)) (sym (own_push s log (BytesFed z b) own)) now
+fed_state s t bytes r log x e is h = absurd cc
 
 pub fed_on : {turns : ℕ} {start : Since} {s : ℕ} {e e' : EngineView} {tl : Option (List ℕ)} {t : SessionState} {bytes : List ℕ} → IsToldBy turns start s e tl t → Feeds e s bytes e' → IsToldBy turns start s e' tl (fed t bytes)
-fed_on {s = s} {t = t} T feeds =
-    event_on (event.Feed s feeds.0) (Ok feeds.2) T feeds.3 refl refl (λ w. tt) (λ w w' added session leads.
-    (fed t feeds.0.items, session_now (λ z. fed z feeds.0.items) w s [] session leads.2.1 leads.2.3, ap (λ (b : List ℕ). fed t b) feeds.1))
+fed_on {turns} {start} {s} {e} {e'} {tl} {t} T feeds =
+    subst (λ (b : List ℕ). IsToldBy turns start s e' tl (fed t b)) feeds.1
+    (event_on (event.Feed s feeds.0) (Ok feeds.2) T feeds.3 refl refl (λ l. tt) (λ log x e is known lawful has h. fed_state s t feeds.0 feeds.2 log x e is h))
 
 -- ---- close
 
-close_not_refused : (w : World) (s : ℕ) (t : SessionState) (f : EngineFault) → IsSession w s t → MayRefuse w (event.Close s) f → ⊥
-close_not_refused w s t fault.NoSuchSession session h = told_of_none w s t h session
-close_not_refused w s t f session h = h
+not_closed_off : (log : List Entry) (s : ℕ) (f : EngineFault) → IsKnown log s → MayBeRefused log (event.Close s) f → ⊥
+not_closed_off log s fault.NoSuchSession known h = h known
+not_closed_off log s f known h = h
 
-close_leads : (s : ℕ) (t : SessionState) (r : Result Happened EngineFault) → Leading s t (event.Close s) r (λ t'. t' ≡ ended t)
-close_leads s t (Ok r) w w' added session leads = (ended t, session_now ended w s added session leads.1.1 leads.1.3, refl)
-close_leads s t (Err f) w w' added session leads = absurd (close_not_refused w s t f session leads.0)
+abbrev is_at_rest : SessionPhase → Bool
+is_at_rest WithoutCall = true
+is_at_rest _ = false
+
+not_at_rest : (p : SessionPhase) → (p ≡ WithoutCall → ⊥) → false ≡ is_at_rest p
+not_at_rest WithoutCall no_rest = absurd (no_rest refl)
+not_at_rest p no_rest = refl
+
+-- a session leaves as it is closed, if it has no call
+leaves_by : (log : List Entry) (s : ℕ) (leaves : Bool) → IsLawful log (SessionClosed s leaves) → leaves ≡ is_at_rest (phase (of_session s log))
+leaves_by log s true lawful = sym (ap is_at_rest lawful.1)
+leaves_by log s false lawful = not_at_rest (phase (of_session s log)) lawful.1
+
+module _ (l : SessionLog) (t : SessionState) (h : IsStateOf l t) (s : ℕ) (leaves : Bool) (is : leaves ≡ is_at_rest (phase l)) where
+  record IsEnded (t' : SessionState) : Type 0 where
+    closed : (if leaves then true else l.left) ≡ false → t'.closed ≡ true
+    left : (if leaves then true else l.left) ≡ has_left t'.phase
+    begun : l.begun ≡ length (answered_in l.wrote) + length (pending t'.phase)
+    call : HasCall t'.phase l.call
+
+  at_phase : (left : Bool) (n : ℕ) → l.left ≡ left → l.begun - length (answered_in l.wrote) ≡ n → leaves ≡ is_at_rest (phase_at left n l.call.decided)
+  at_phase left n a b = is ∙ ap (λ (c : Bool). is_at_rest (phase_at c (l.begun - length (answered_in l.wrote)) l.call.decided)) a ∙ ap (λ (k : ℕ). is_at_rest (phase_at left k l.call.decided)) b
+
+  busy : (d : Bool) → is_at_rest (phase_at false 1 d) ≡ false
+  busy true = refl
+  busy false = refl
+
+  ended_at : (f : Phase) → t.phase ≡ f → IsEnded (closed_now t f)
+  ended_at Resting at =
+      let begun : l.begun ≡ length (answered_in l.wrote) + 0 = h.begun ∙ ap (λ (p : Phase). length (answered_in l.wrote) + length (pending p)) at in
+      let gone : leaves ≡ true = at_phase false 0 (h.left ∙ ap has_left at) (omega (arith, begun)) in
+      let left : (if leaves then true else l.left) ≡ true = ap (λ (b : Bool). if b then true else l.left) gone in
+      record { closed = λ here. absurd (let no : true ≡ false = sym left ∙ here in cc); left = left; begun = begun; call = tt }
+  ended_at (Gone c) at =
+      let away : l.left ≡ true = h.left ∙ ap has_left at in
+      let left : (if leaves then true else l.left) ≡ true = either leaves away in
+      record { closed = λ here. absurd (let no : true ≡ false = sym left ∙ here in cc); left = left ∙ sym (ap has_left at); begun = h.begun; call = h.call }
+    where
+      either : (b : Bool) → l.left ≡ true → (if b then true else l.left) ≡ true
+      either true e = refl
+      either false e = e
+  ended_at f at =
+      let begun : l.begun ≡ length (answered_in l.wrote) + 1 = h.begun ∙ ap (λ (p : Phase). length (answered_in l.wrote) + length (pending p)) at in
+      let stays : leaves ≡ false = at_phase false 1 (h.left ∙ ap has_left at) (omega (arith, begun)) ∙ busy l.call.decided in
+      record { closed = λ here. refl; left = ap (λ (b : Bool). if b then true else l.left) stays ∙ h.left; begun = h.begun; call = h.call }
+
+  ended_state : IsStateOf (with_own l (SessionClosed s leaves)) (ended t)
+  ended_state =
+      let same = ended_same t in
+      let at = ended_at t.phase refl in
+      record {
+        stream = same.stream ∙ h.stream;
+        answers = same.answers ∙ h.answers;
+        sent = ap (λ (b : List ℕ). length b) same.sent ∙ h.sent;
+        front = subst (λ (w : List Response). IsFront (ended t).sent (transcript w)) (sym same.answers) (subst (λ (b : List ℕ). IsFront b (transcript t.answers)) (sym same.sent) h.front);
+        closed = at.closed;
+        left = at.left;
+        begun = at.begun;
+        call = at.call;
+      }
+
+closed_state : (s : ℕ) (t : SessionState) (r : Result Happened EngineFault) (log : List Entry) (x : Entry) → event_of x ≡ event.Close s → result_of x ≡ r → IsKnown log s → IsLawful log x → IsStateOf (of_session s log) t → IsStateOf (of_session s (log ++ x ∷ [])) (ended t)
+closed_state s t r log (SessionClosed z leaves) e is known lawful h =
+    let own : z ≡ s = cc in
+    let rests : leaves ≡ is_at_rest (phase (of_session s log)) = leaves_by log z leaves lawful ∙ ap (λ (n : ℕ). is_at_rest (phase (of_session n log))) own in
+    subst (λ (l : SessionLog). IsStateOf l (ended t)) (sym (own_push s log (SessionClosed z leaves) own)) (ended_state (of_session s log) t h z leaves rests)
+closed_state s t r log (EventRefused ev f) e is known lawful h = absurd (not_closed_off log s f known (subst (λ (z : Event). MayBeRefused log z f) e lawful))
+closed_state s t r log x e is known lawful h = absurd cc
 
 pub closed_on : {turns : ℕ} {start : Since} {s : ℕ} {e e' : EngineView} {tl : Option (List ℕ)} {t : SessionState} → IsToldBy turns start s e tl t → Applies e (event.Close s) e' → IsToldBy turns start s e' tl (ended t)
-closed_on {s = s} {t = t} T applies = event_on (event.Close s) applies.0 T applies.1 refl refl (λ w. tt) (close_leads s t applies.0)
+closed_on {s = s} {t = t} T applies = event_on (event.Close s) applies.0 T applies.1 refl refl (λ l. tt) (λ log x e is known lawful has h. closed_state s t applies.0 log x e is known lawful h)
 
 -- ---- sent
 
-pub output_sent : (e : EngineView) (s : ℕ) (output : List ℕ) → IsSentBy e s output → HasOutput e s output
-output_sent e s output is trace fits t session =
-    let h = is trace fits in
-    subst (λ (z : SessionState). transcript z.answers ≡ z.sent ++ output) (same_told fits.world s h.0 t h.1 session) h.2
-
-pub output_unknown : (e : EngineView) (s : ℕ) (output : List ℕ) → IsUnknownSession e s → HasOutput e s output
-output_unknown e s output unknown trace fits t session = absurd (told_of_none fits.world s t (unknown trace fits) session)
+-- what is unsent follows what was sent
+same_front : (a b c d : List ℕ) → length a ≡ length b → a ++ c ≡ b ++ d → c ≡ d
+same_front [] [] c d n e = e
+same_front [] (y ∷ b) c d n e = absurd cc
+same_front (x ∷ a) [] c d n e = absurd cc
+same_front (x ∷ a) (y ∷ b) c d n e = same_front a b c d (omega (arith, n)) cc
 
 -- the unsent output of a session that is served
 pub output_here : {turns : ℕ} {start : Since} {s : ℕ} {e : EngineView} {tl : Option (List ℕ)} {t : SessionState} (output : List ℕ) → IsToldBy turns start s e tl t → HasOutput e s output → transcript t.answers ≡ t.sent ++ output
-output_here {start = start} {t = t} output T waits = waits (start.trace ++ T.0.entries) T.0.fit t T.0.is_session
+output_here {t = t} output T waits =
+    let h = T.0.state in
+    let u = waits T.0.later.log T.0.later.has T.0.later.known in
+    let whole : t.sent ++ h.front.0 ≡ u.sent ++ output = sym h.front.1 ∙ ap transcript h.answers ∙ u.packets in
+    h.front.1 ∙ ap (λ (b : List ℕ). t.sent ++ b) (same_front t.sent u.sent h.front.0 output (h.sent ∙ sym u.count_is) whole)
 
-drop_front : (a b : List ℕ) → drop (length a) (a ++ b) ≡ b
-drop_front [] b = refl
-drop_front (x ∷ a) b = drop_front a b
+not_unsent : (log : List Entry) (s n : ℕ) (f : EngineFault) → IsKnown log s → (of_session s log).sent + n ≤ length (transcript (of_session s log).wrote) → MayBeRefused log (event.Sent s n) f → ⊥
+not_unsent log s n fault.NoSuchSession known few h = h known
+not_unsent log s n fault.NotSent known few h = omega (arith, few, h.1)
+not_unsent log s n f known few h = h
 
-output_is : (t : SessionState) (output : List ℕ) → transcript t.answers ≡ t.sent ++ output → unsent t ≡ output
-output_is t output waits = ap (λ (b : List ℕ). drop (length t.sent) b) waits ∙ drop_front t.sent output
-
-sent_not_refused : (w : World) (s n : ℕ) (t : SessionState) (f : EngineFault) → IsSession w s t → length (unsent t) ≡ n → MayRefuse w (event.Sent s n) f → ⊥
-sent_not_refused w s n t fault.NoSuchSession session all h = told_of_none w s t h session
-sent_not_refused w s n t fault.NotSent session all h =
-    let count : length (unsent h.0) ≡ length (unsent t) = ap (λ (z : SessionState). length (unsent z)) (same_told w s h.0 t h.1 session) in
-    omega (arith, count, all, h.2)
-sent_not_refused w s n t f session all h = h
-
-sent_leads : (s n : ℕ) (t : SessionState) (output : List ℕ) (r : Result Happened EngineFault) → transcript t.answers ≡ t.sent ++ output → n ≡ length output → Leading s t (event.Sent s n) r (λ t'. t' ≡ with_sent t)
-sent_leads s n t output (Ok r) waits count w w' added session leads =
-    let enough : length output ≤ n = omega (arith, count) in
-    let cut : take n (unsent t) ≡ output = ap (λ (b : List ℕ). take n b) (output_is t output waits) ∙ take_all n output enough in
-    let all : t.sent ++ take n (unsent t) ≡ transcript t.answers = ap (λ (b : List ℕ). t.sent ++ b) cut ∙ sym waits in
-    (sent_more t n, session_now (λ z. sent_more z n) w s [] session leads.2.1 leads.2.3, ap (λ (b : List ℕ). record t { sent = b }) all)
-sent_leads s n t output (Err f) waits count w w' added session leads =
-    absurd (sent_not_refused w s n t f session (ap (λ (b : List ℕ). length b) (output_is t output waits) ∙ sym count) leads.0)
+sent_state : (s n : ℕ) (t : SessionState) (r : Result Happened EngineFault) (log : List Entry) (x : Entry) → event_of x ≡ event.Sent s n → result_of x ≡ r → IsKnown log s → IsLawful log x → length (transcript (of_session s log).wrote) ≡ (of_session s log).sent + n → IsStateOf (of_session s log) t
+    → IsStateOf (of_session s (log ++ x ∷ [])) (with_sent t)
+sent_state s n t r log (BytesSent z k) e is known lawful all h =
+    let own : z ≡ s = cc in
+    let count : k ≡ n = cc in
+    let l = of_session s log in
+    let sent : length (transcript t.answers) ≡ l.sent + k = ap (λ (w : List Response). length (transcript w)) h.answers ∙ all ∙ ap (λ (i : ℕ). l.sent + i) (sym count) in
+    let now : IsStateOf (with_own l (BytesSent z k)) (with_sent t) = record { stream = h.stream; answers = h.answers; sent = sent; front = ([], sym (append-nil (transcript t.answers))); closed = h.closed; left = h.left; begun = h.begun; call = h.call } in
+    subst (λ (z : SessionLog). IsStateOf z (with_sent t)) (sym (own_push s log (BytesSent z k) own)) now
+sent_state s n t r log (EventRefused ev f) e is known lawful all h = absurd (not_unsent log s n f known (omega (arith, all)) (subst (λ (z : Event). MayBeRefused log z f) e lawful))
+sent_state s n t r log x e is known lawful all h = absurd cc
 
 pub sent_on : {turns : ℕ} {start : Since} {s n : ℕ} {e e' : EngineView} {tl : Option (List ℕ)} {t : SessionState} (output : List ℕ) → IsToldBy turns start s e tl t → HasOutput e s output → n ≡ length output → Applies e (event.Sent s n) e'
     → IsToldBy turns start s e' tl (with_sent t)
 sent_on {s = s} {n = n} {t = t} output T waits count applies =
-    event_on (event.Sent s n) applies.0 T applies.1 refl refl (λ w. tt) (sent_leads s n t output applies.0 (output_here output T waits) count)
-
--- ---- turns
-
-open_turn : (t : SessionState) → IsOpen t → IsLow t → HasTurn true t
-open_turn t is_open low = record { takes = (is_open.closed, ap is_here_in is_open.rests); low = low; may = tt }
-
--- if all was sent, nothing is unsent
-pub first_turn : (t : SessionState) → IsOpen t → HasSent t → HasTurn true t
-first_turn t is_open sent = open_turn t is_open (omega (arith, ap (λ (b : List ℕ). length b) sent, length-drop (length t.sent) (transcript t.answers)))
-
--- what the backend's contract requires of `go_on`
-abbrev pub Gone : (turns : ℕ) → Since → ℕ → EngineView → Option (List ℕ) → Result SessionStep ServeFault → SessionState → Type 0
-Gone turns start s e tl r t = (t' : SessionState) × IsToldBy turns start s e tl t' × IsFurther engine_held t t' × IsSessionStep r t t'
-
--- after a turn with this result it may stop with this result
-abbrev pub Leaves : EngineView → ℕ → Result Happened EngineFault → Result SessionStep ServeFault → Type 0
-Leaves e s r (Err f) = Unit {0}
-Leaves e s (Ok happened.Idle) (Ok session_step.Waits) = Unit {0}
-Leaves e s (Ok happened.Wrote) (Ok session_step.Waits) = WantsBytesBy e s true
-Leaves e s (Ok happened.Wrote) (Ok session_step.Answered) = Unit {0}
-Leaves e s (Ok (happened.Ended cause)) (Ok (session_step.Ended cause')) = cause ≡ cause'
-Leaves e s r w = ⊥
-
-read_of : {turns : ℕ} {start : Since} {s : ℕ} {e : EngineView} {tl : Option (List ℕ)} {t : SessionState} → IsToldBy turns start s e tl t → IsRead t
-read_of {start = start} {s = s} {t = t} T = (told_sessions (start.trace ++ T.0.entries) T.0.fit.world T.0.fit.tells s t T.0.is_session).0
-
-host_after_turn : {turns : ℕ} {start : Since} {s : ℕ} {e : EngineView} {tl : Option (List ℕ)} (r : Result Happened EngineFault) (w : Result SessionStep ServeFault) (t : SessionState) {t' : SessionState} → Leaves e s r w → IsToldBy turns start s e tl t' → HasTurned r t t' → IsSessionStep w t t'
-host_after_turn r (Err f) t leaves T h = tt
-host_after_turn (Ok happened.Idle) (Ok session_step.Waits) t leaves T h = (record { rests = h.1; closed = h.0.0 }, h.2)
-host_after_turn {start = start} {s = s} (Ok happened.Wrote) (Ok session_step.Waits) t {t' = t'} wants T h =
-    let seen = (wants (start.trace ++ T.0.entries) T.0.fit).0 refl in
-    let now : WantsBytes t' = subst WantsBytes (same_told T.0.fit.world s seen.0 t' seen.1 T.0.is_session) seen.2 in
-    (record { rests = now.0; closed = h.1 }, now.1)
-host_after_turn (Ok happened.Wrote) (Ok session_step.Answered) t leaves T h = (record { rests = h.0; closed = h.1 }, h.2)
-host_after_turn (Ok (happened.Ended cause)) (Ok (session_step.Ended cause')) t {t' = t'} same T h =
-    subst (λ (c : Cause). IsWhole t' c × (c ≢ Closed)) same (whole_left t' cause (read_of T) h.0 h.1, h.1)
-host_after_turn r w t leaves T h = absurd leaves
-
--- turns so far, after which another one may follow
-abbrev pub MayTurn : (turns : ℕ) → Since → ℕ → EngineView → Option (List ℕ) → Bool → SessionState → Type 0
-MayTurn turns start s e tl begin t = (t' : SessionState) × IsToldBy turns start s e tl t' × Turned t t' × HasTurn begin t'
-
--- one more turn
-pub goes_turn : {turns : ℕ} {start : Since} {s s0 : ℕ} {e e' : EngineView} {tl tl' : Option (List ℕ)} {t : SessionState} {begin : Bool} {r r0 : Result Happened EngineFault} → s ≡ s0 → MayTurn turns start s0 e tl begin t → Turns s begin tl tl' e r e' → r ≡ r0
-    → (t' : SessionState) × IsToldBy (turns + 1) start s0 e' tl' t' × Turned t t' × HasTurned r0 t t'
-goes_turn {s0 = s0} {e = e} {e' = e'} {tl = tl} {tl' = tl'} {t = t} {begin = begin} {r = r} same h by is =
-    let g = turns_on {s = s0} {e' = e'} {tl' = tl'} {r = r} h.1.0 h.3 (subst (λ (k : ℕ). Turns k begin tl tl' e r e') same by) in
-    (g.now, (g.tells, omega (arith, h.1.1, g.more)), turned_more t h.0 g.now h.2 g.turned, subst (λ (z : Result Happened EngineFault). HasTurned z t g.now) is (since_first r t h.0 g.now h.2 g.has_turned))
-
-gone_at : {turns : ℕ} {start : Since} {s s0 : ℕ} {e : EngineView} {tl : Option (List ℕ)} (r : Result Happened EngineFault) (w : Result SessionStep ServeFault) {t t' : SessionState} → s ≡ s0 → HasSent t → IsToldBy turns start s0 e tl t' → Turned t t' → HasTurned r t t' → Leaves e s r w → Gone turns start s e tl w t
-gone_at {turns = turns} {start = start} {s = s} {e = e} {tl = tl} r w {t = t} {t' = t'} same sent T turned to leaves =
-    let mine : IsToldBy turns start s e tl t' = subst (λ (k : ℕ). IsToldBy turns start k e tl t') (sym same) T in (
-      t',
-      mine,
-      record { stream = turned.stream; sent = turned.sent; bodies = turned.bodies; answers = turned.answers; batch = batch_of t t' turned.answers.0 turned.answers.1 turned.sent sent (turned.few (few_sent t sent)) (answers_are_short e (start.trace ++ mine.0.entries) mine.0.fit s t' mine.0.is_session); read = read_of mine },
-      host_after_turn r w t leaves mine to,
-    )
-
--- the last turn
-pub gone : {turns : ℕ} {start : Since} {s s0 : ℕ} {e e' : EngineView} {tl tl' : Option (List ℕ)} {t : SessionState} {begin : Bool} {r r0 : Result Happened EngineFault} (w : Result SessionStep ServeFault) → s ≡ s0 → HasSent t → MayTurn turns start s0 e tl begin t
-    → Turns s begin tl tl' e r e' → r ≡ r0 → Leaves e' s r0 w → Gone (turns + 1) start s e' tl' w t
-gone {r0 = r0} w same sent h by is leaves = let g = goes_turn same h by is in gone_at r0 w same sent g.1 g.2 g.3 leaves
-
--- the count of turns is exhausted
-pub gone_spent : {turns : ℕ} {start : Since} {s s0 : ℕ} {e : EngineView} {tl : Option (List ℕ)} {begin : Bool} (f : ServeFault) {t : SessionState} → s ≡ s0 → HasSent t → MayTurn turns start s0 e tl begin t → Gone turns start s e tl (Err f) t
-gone_spent f same sent h = gone_at (Err fault.OutOfMemory) (Err f) same sent h.1 h.2 tt tt
-
--- a session may take its next turn if it doesn't wait for input, has not ended, and wrote no reply
-pub still_turns : (r : Happened) (t t' : SessionState) → (r ≡ happened.Idle → ⊥) → ((cause : Cause) → r ≡ happened.Ended cause → ⊥) → (r ≡ happened.Wrote → ⊥) → HasTurned (Ok r) t t' → HasTurn (may_begin_after r) t'
-still_turns happened.Idle t t' idle ended wrote h = absurd (idle refl)
-still_turns (happened.Ended cause) t t' idle ended wrote h = absurd (ended cause refl)
-still_turns happened.Wrote t t' idle ended wrote h = absurd (wrote refl)
-still_turns r t t' idle ended wrote h = h
-
--- a reply was written, and less than 64 KiB are unsent
-pub low_turn : {turns : ℕ} {start : Since} {s s0 : ℕ} {e : EngineView} {tl : Option (List ℕ)} (t : SessionState) {t' : SessionState} (output : List ℕ) → s ≡ s0 → IsToldBy turns start s0 e tl t' → HasOutput e s output → length output < 65536 → HasTurned (Ok happened.Wrote) t t' → HasTurn true t'
-low_turn {s0 = s0} {e = e} t {t' = t'} output same T waits few h =
-    let mine : HasOutput e s0 output = subst (λ (k : ℕ). HasOutput e k output) same waits in
-    open_turn t' (record { rests = h.0; closed = h.1 }) (subst (λ (b : List ℕ). length b ≤ engine_held) (sym (output_is t' output (output_here output T mine))) (omega (arith, few)))
+    event_on (event.Sent s n) applies.0 T applies.1 refl refl (λ l. tt) (λ log x e is known lawful has h.
+    let u = waits log has known in
+    let all : length (transcript (of_session s log).wrote) ≡ (of_session s log).sent + n = omega (arith, ap (λ (b : List ℕ). length b) u.packets, length-append u.sent output, u.count_is, count) in
+    sent_state s n t applies.0 log x e is known lawful all h)
 
 -- ---- a transport
 
@@ -248,16 +259,16 @@ low_turn {s0 = s0} {e = e} t {t' = t'} output same T waits few h =
 pub told_alone : {held : ℕ} {turns : ℕ} {start : Since} {s : ℕ} {e : EngineView} {tl : Option (List ℕ)} {from now : LineView} {P : Progress → Type 0} → Serves held (IsToldBy turns start s e tl) from now P → Serves held (IsTold start s e tl) from now P
 told_alone serves = (serves.0, serves.1.0, serves.2, serves.3)
 
-stopped_at : (f : ServeFault) (failed failed' turns : ℕ) (p : Progress) (entries : List TraceEntry) → turns ≤ length entries → IsStop f failed failed' ⊥ → IsStopped f failed failed' turns p → HasStoppedAt f entries p
+stopped_at : (f : ServeFault) (failed failed' turns : ℕ) (p : Progress) (entries : List Entry) → turns ≤ length entries → IsStop f failed failed' ⊥ → IsStopped f failed failed' turns p → HasStoppedAt f entries p
 stopped_at serve.Line failed failed' turns p entries few why h = h.closed
 stopped_at serve.OutOfMemory failed failed' turns p entries few why h = (h.written, h.closed)
 stopped_at serve.NumbersSpent failed failed' turns p entries few why h = ((h.written, h.closed), elim h.spent [ inl most ↦ inl most | inr most ↦ inr (omega (arith, most, few)) ])
 stopped_at f failed failed' turns p entries few why h = absurd why
 
-pub stops_so : {held : ℕ} (start now : IoState) {trace : List TraceEntry} {fits : Fits start.engine trace} {f : ServeFault} {failed failed' turns s : ℕ} → IsStop f failed failed' ⊥ → Serves held (IsToldBy turns (since_at start trace fits) s now.engine now.told) start.line now.line (IsStopped f failed failed' turns)
-    → (session : ℕ) × (p : Progress) × (tells : IsTold (since_at start trace fits) session now.engine now.told p.state) × ServedSoFar held start.line now.line p × HasStoppedAt f tells.entries p
+pub stops_so : {held : ℕ} (start now : IoState) {log : List Entry} {has : HasLog start.engine log} {f : ServeFault} {failed failed' turns s : ℕ} → IsStop f failed failed' ⊥ → Serves held (IsToldBy turns (since_at start log has) s now.engine now.told) start.line now.line (IsStopped f failed failed' turns)
+    → (session : ℕ) × (p : Progress) × (tells : IsTold (since_at start log has) session now.engine now.told p.state) × ServedSoFar held start.line now.line p × HasStoppedAt f tells.later.entries p
 stops_so start now {f = f} {failed = failed} {failed' = failed'} {turns = turns} {s = s} why serves =
-    (s, serves.0, serves.1.0, serves.2, stopped_at f failed failed' turns serves.0 serves.1.0.entries serves.1.1 why serves.3)
+    (s, serves.0, serves.1.0, serves.2, stopped_at f failed failed' turns serves.0 serves.1.0.later.entries serves.1.1 why serves.3)
 
 pub serve_fault : (f : ServeFault) (failed failed' : ℕ) → IsStop f failed failed' ⊥ → IsServeFault f failed failed'
 serve_fault serve.Line failed failed' h = h

@@ -1,9 +1,6 @@
-pub mod Alone
-pub mod Following
+pub mod Ending
+pub mod Entries
 pub mod Hosting
 pub mod Laws
-pub mod OneStream
-pub mod Reaching
-pub mod Standing
 pub mod Talking
 pub mod Turning

@@ -1,251 +1,252 @@
 -- Turns of a session of an engine.
-use Rattle.std.proofs.Common.{◌≡◌, ◌≢◌, ◌<◌, ◌≤◌, ◌⊎◌, ℕ, List, [], ◌∷◌, ◌++◌, length, Option, Bool, true, false, Result, Ok, Err, zero, suc, refl, ap, sym, ◌∙◌, subst, inl, inr, ◌+◌, append_assoc, length-append, length-drop, arith}
+use Rattle.std.proofs.Common.{◌≡◌, ◌≢◌, ◌<◌, ◌≤◌, ◌⊎◌, ℕ, List, [], ◌∷◌, ◌++◌, length, Option, Bool, true, false, Result, Ok, refl, ap, sym, ◌∙◌, subst, inl, inr, ◌+◌, append-nil, append_assoc, length-append, arith}
 use Rattle.std.specs.List.{AllByRecursion}
-use Rattle.std.specs.Io.KnownBytes.{Appends}
-use Rattle.std.proofs.KnownBytes.{Appends-nil}
-use Rattle.sf_wire.specs.declared.cutting.Cut.TheVariants as cut
-use Rattle.sf_wire.specs.Packets.{IsCut}
-use Rattle.sf_call.specs.declared.record.Record.{Record}
-use Rattle.sf_session.specs.Sessions.{EndsBy}
-use Rattle.sf_session.specs.declared.cause.Cause.TheVariants.{Closed}
+use Rattle.sf_session.specs.Responses.{Response, RepliedCall, transcript, recorded_in, answered_in, Due, NothingDue, asked_due}
+use Rattle.sf_session.specs.declared.cause.Cause.{Cause}
+use Rattle.sf_session.specs.SessionStates.{SessionState}
 use Rattle.sf_engine.specs.declared.event.Event.TheVariants as event
 use Rattle.sf_engine.specs.declared.event.Happened.{Happened}
 use Rattle.sf_engine.specs.declared.event.Happened.TheVariants as happened
 use Rattle.sf_engine.specs.declared.event.EngineFault.{EngineFault}
-use Rattle.sf_session.specs.Responses.{Response, ByCall, transcript, has_begun}
-use Rattle.sf_session.specs.SessionStates.{Phase, Resting, UnderWay, Decided, Gone, SessionState, unsent, is_here_in, with_phase, TakesBytes, with_answer, left_if_closed, HasShortPacket}
-use Rattle.sf_engine.specs.Worlds.{World}
-use Rattle.sf_engine.specs.Traces.{goes_on, IsSession, Turn, Walking, walking, Happens, TurnLeads, RestLeads, StepLeads, calls_begun}
 use Rattle.sf_engine.specs.Views.{EngineView}
-use Rattle.sf_engine.specs.Fits.{GoesOnTrace, HasTurns}
-use Rattle.sf_serving.specs.Hosts.{IsFront, HasSent, IsBatch}
-use Rattle.sf_alone.specs.OnEngine.{MayBegin, may_begin_after, engine_held, IsLow, Since, IsTold, Turns}
-use Rattle.sf_session.proofs.Laws.{not_closed}
-use Rattle.sf_serving.proofs.Laws.{transcript_append, front_of, front_all, all_but_last}
-use Rattle.sf_alone.proofs.Following.{Leading, Timing, IsNext, tells_on, same_told, told_now}
+use Rattle.sf_engine.specs.HasLog.{HasLog}
+use Rattle.sf_engine.specs.Promise.{Entry, BytesFed, CallBegun, CallMoved, CallBlocked, CallDecided, ReplyWritten, SessionIdle, SessionEnded, SessionClosed, BytesSent, EventRefused, event_of, result_of, linearization, SessionLog, with_own, of_session, IsKnown, IsAnswered, IsKept, IsLawful, continues}
+use Rattle.sf_engine.proofs.Laws.{own_push, other_push}
+use Rattle.sf_serving.specs.Hosts.{IsFront, IsOpen, HasSent}
+use Rattle.sf_serving.proofs.Laws.{transcript_append, front_same, all_but_last}
+use Rattle.sf_alone.specs.OnEngine.{IsOf, moment_of, IsTimed, AreTimed, may_begin_after, engine_held, IsLow, IsLowAt, AreLow, has_left, IsStateOf, Since, HasEntries, Turns}
+use Rattle.sf_alone.proofs.Entries.{known_more, Added, joined, extended}
 
--- ---- the unsent output
+-- ---- one turn
 
--- before the last answer at most `engine_held` bytes were unsent
-abbrev pub HoldsFew : SessionState → Type 0
-HoldsFew t = (before : List Response) (last : Response) → t.answers ≡ before ++ last ∷ [] → length (transcript before) ≤ length t.sent + engine_held
+-- a session's part of a log after one more turn
+abbrev pub after : SessionLog → Entry → SessionLog
+after l (EventRefused ev f) = l
+after l x = with_own l x
 
-last_of_all : {A : Type 0} (P : A → Type 0) (xs : List A) (x : A) → AllByRecursion P (xs ++ x ∷ []) → P x
-last_of_all P [] x all = all.0
-last_of_all P (y ∷ xs) x all = last_of_all P xs x all.1
+turn_part : (s m : ℕ) (log : List Entry) (x : Entry) → 0 < s → event_of x ≡ event.Turn s m → of_session s (log ++ x ∷ []) ≡ after (of_session s log) x
+turn_part s m log (EventRefused ev f) pos e = other_push s log (EventRefused ev f) (λ z. omega (arith, z, pos))
+turn_part s m log x pos e = own_push s log x cc
 
--- the answers since all was sent are a batch
-pub batch_of : (t t' : SessionState) (made : List Response) → t'.answers ≡ t.answers ++ made → t'.sent ≡ t.sent → HasSent t → HoldsFew t' → AllByRecursion HasShortPacket t'.answers → IsBatch engine_held made
-batch_of t t' made more same sent few short before last e =
-    let cut : t'.answers ≡ (t.answers ++ before) ++ last ∷ [] = more ∙ ap (λ (x : List Response). t.answers ++ x) e ∙ sym (append_assoc t.answers before (last ∷ [])) in
-    let bytes : length (transcript (t.answers ++ before)) ≡ length (transcript t.answers ++ transcript before) = ap (λ (x : List ℕ). length x) (transcript_append t.answers before) in
-    let waited : length t'.sent ≡ length (transcript t.answers) = ap (λ (x : List ℕ). length x) (same ∙ sent) in (
-      omega (arith, few (t.answers ++ before) last cut, bytes, waited, length-append (transcript t.answers) (transcript before)),
-      last_of_all HasShortPacket (t.answers ++ before) last (subst (λ (x : List Response). AllByRecursion HasShortPacket x) cut short),
-    )
+-- the session's next turn may begin a call, or a call is pending
+abbrev pub MayBegin : Bool → SessionLog → Type 0
+MayBegin true l = Unit {0}
+MayBegin false l = length (answered_in l.wrote) < l.begun
 
--- if all was sent, nothing is unsent, and one more answer may be
-pub few_sent : (t : SessionState) → HasSent t → HoldsFew t
-few_sent t sent before last e =
-    let bytes : length (transcript t.answers) ≡ length (transcript before ++ transcript (last ∷ [])) = ap (λ (x : List Response). length (transcript x)) e ∙ ap (λ (x : List ℕ). length x) (transcript_append before (last ∷ [])) in
-    omega (arith, ap (λ (x : List ℕ). length x) sent, bytes, length-append (transcript before) (transcript (last ∷ [])))
-
-pub few_more : (t t' : SessionState) (a : Response) → t'.answers ≡ t.answers ++ a ∷ [] → t'.sent ≡ t.sent → length (transcript t.answers) ≤ length t.sent + engine_held → HoldsFew t'
-few_more t t' a more same few before last e =
-    let all : length (transcript before) ≡ length (transcript t.answers) = ap (λ (x : List Response). length (transcript x)) (all_but_last before t.answers last a (sym more ∙ e)) in
-    omega (arith, few, all, ap (λ (x : List ℕ). length x) same)
-
--- ---- the effect of turns
-
--- how turns may change the state of a session that accepts input
-pub record Turned (t t' : SessionState) : Type 0 where
-  pub stream : t'.stream ≡ t.stream
-  pub sent : t'.sent ≡ t.sent
-  pub bodies : IsFront t.bodies t'.bodies
-  pub answers : IsFront t.answers t'.answers
-  pub few : HoldsFew t → HoldsFew t'
-
-pub turned_none : (t : SessionState) → Turned t t
-turned_none t = record { stream = refl; sent = refl; bodies = front_all t.bodies; answers = front_all t.answers; few = λ few. few }
-
-pub turned_more : (t u v : SessionState) → Turned t u → Turned u v → Turned t v
-turned_more t u v p q = record {
-  stream = q.stream ∙ p.stream;
-  sent = q.sent ∙ p.sent;
-  bodies = front_of t.bodies u.bodies v.bodies p.bodies q.bodies;
-  answers = front_of t.answers u.answers v.answers p.answers q.answers;
-  few = λ few. q.few (p.few few);
-}
-
--- the state after a turn with this result
-abbrev pub ComesTo : Happened → SessionState → SessionState → Type 0
-ComesTo happened.Idle t t' = TakesBytes t' × (t'.phase ≡ Resting) × IsCut t'.unread cut.More
-ComesTo (happened.Ended cause) t t' = (t'.phase ≡ Gone cause) × EndsBy (has_begun t.bodies) t.unread cause
-ComesTo happened.Wrote t t' = (t'.phase ≡ Resting) × (t'.closed ≡ false) × (length t.answers < length t'.answers)
-ComesTo r t t' = TakesBytes t' × MayBegin (may_begin_after r) t'.phase × (unsent t' ≡ unsent t)
-
-abbrev pub IsTurn : Happened → SessionState → SessionState → Type 0
-IsTurn r t t' = (IsLow t → Turned t t') × ComesTo r t t'
-
-turn_to : (r : Happened) (t t' u : SessionState) → t' ≡ u → IsTurn r t u → IsTurn r t t'
-turn_to r t t' u e h = subst (λ (z : SessionState). IsTurn r t z) (sym e) h
-
--- a body was processed, or none, without an answer
-read_on : (t : SessionState) (rest : List ℕ) (bodies : List (List ℕ)) (f : Phase) → Turned t (record t { unread = rest; bodies = t.bodies ++ bodies; phase = f })
-read_on t rest bodies f = record { stream = refl; sent = refl; bodies = (bodies, refl); answers = front_all t.answers; few = λ few. few }
-
--- or with an answer
-answered : (t : SessionState) (rest : List ℕ) (bodies : List (List ℕ)) (a : Response) → IsLow t → Turned t (record t { unread = rest; bodies = t.bodies ++ bodies; answers = t.answers ++ a ∷ []; phase = Resting })
-answered t rest bodies a low =
-    let t' = record t { unread = rest; bodies = t.bodies ++ bodies; answers = t.answers ++ a ∷ []; phase = Resting } in
-    let little : length (transcript t.answers) ≤ length t.sent + engine_held = omega (arith, length-drop (length t.sent) (transcript t.answers), low) in
-    record { stream = refl; sent = refl; bodies = (bodies, refl); answers = (a ∷ [], refl); few = λ few. few_more t t' a refl refl little }
-
-one_longer : {A : Type 0} (xs : List A) (x : A) → length xs < length (xs ++ x ∷ [])
-one_longer xs x = omega (arith, length-append xs (x ∷ []))
-
--- only its phase changes
-phase_on : (t : SessionState) (f : Phase) → Turned t (with_phase t f)
-phase_on t f = record { stream = refl; sent = refl; bodies = front_all t.bodies; answers = front_all t.answers; few = λ few. few }
-
-rest_turn : (x : Turn) (m : ℕ) (r : Happened) → x.known.phase ≡ Resting → TakesBytes x.known → RestLeads m x r → IsTurn r x.known x.now
-rest_turn x m happened.Idle rests takes g = turn_to happened.Idle _ _ _ g.2 ((λ low. turned_none x.known), (takes, rests, g.0))
-rest_turn x m happened.Wrote rests takes g =
-    turn_to happened.Wrote _ _ _ g.0.now ((λ low. answered x.known g.0.rest (g.0.body ∷ []) g.0.answer low), (refl, takes.0, one_longer x.known.answers g.0.answer))
-rest_turn x m happened.Begun rests takes g = turn_to happened.Begun _ _ _ g.0.now ((λ low. read_on x.known g.0.rest (g.0.body ∷ []) _), ((takes.0, refl), tt, refl))
-rest_turn x m (happened.Ended cause) rests takes g =
-    turn_to (happened.Ended cause) _ _ _ g.2 ((λ low. record { stream = refl; sent = refl; bodies = front_all x.known.bodies; answers = front_all x.known.answers; few = λ few. few }), (refl, g.0))
-rest_turn x m r rests takes g = absurd g
-
-step_turn : (x : Turn) (call : Walking) (r : Happened) → TakesBytes x.known → MayBegin false x.known.phase → StepLeads x call r → IsTurn r x.known x.now
-step_turn x call happened.Moved takes busy g = turn_to happened.Moved _ _ _ g.2 ((λ low. phase_on x.known _), ((takes.0, refl), tt, refl))
-step_turn x call (happened.Blocked holder) takes busy g = turn_to (happened.Blocked holder) _ _ _ g.2 ((λ low. turned_none x.known), (takes, busy, refl))
-step_turn x call happened.Decided takes busy g = turn_to happened.Decided _ _ _ g.2 ((λ low. phase_on x.known _), ((takes.0, refl), tt, refl))
-step_turn x call r takes busy g = absurd g
-
--- a reply is written
-write_turn : (t t' : SessionState) (a : Response) → TakesBytes t → t' ≡ left_if_closed t.closed (with_answer t a) → IsTurn happened.Wrote t t'
-write_turn t t' a takes now =
-    let little : IsLow t → length (transcript t.answers) ≤ length t.sent + engine_held = λ low. omega (arith, length-drop (length t.sent) (transcript t.answers), low) in
-    turn_to happened.Wrote t t' (with_answer t a) (now ∙ ap (λ (c : Bool). left_if_closed c (with_answer t a)) takes.0) (
-      (λ low. record { stream = refl; sent = refl; bodies = front_all t.bodies; answers = (a ∷ [], refl); few = λ few. few_more t (with_answer t a) a refl refl (little low) }),
-      (refl, takes.0, one_longer t.answers a),
-    )
-
-turn_by : (x : Turn) (m : ℕ) (f : Phase) (r : Happened) → x.known.phase ≡ f → TakesBytes x.known → TurnLeads m x f r → IsTurn r x.known x.now
-turn_by x m Resting r at takes g = rest_turn x m r at takes g
-turn_by x m (UnderWay id n k q moves) r at takes g = step_turn x (walking id n k q moves) r takes (subst (λ (f : Phase). MayBegin false f) (sym at) tt) g
-turn_by x m (Decided id n q given) r at takes g =
-    subst (λ (z : Happened). IsTurn z x.known x.now) (sym g.0) (write_turn x.known x.now (ByCall id n q given) takes g.2)
-turn_by x m (Gone cause) r at takes g =
-    let here : is_here_in (Gone cause) ≡ true = subst (λ (f : Phase). is_here_in f ≡ true) at takes.1 in absurd (let no : false ≡ true = here in cc)
-
--- a session that is not idle begins no call
-begins_none : (x : Turn) (m : ℕ) (f : Phase) (r : Happened) → MayBegin false f → TurnLeads m x f r → r ≢ happened.Begun
-begins_none x m Resting r busy g e = busy
-begins_none x m (UnderWay id n k q moves) r busy g e = subst (λ (z : Happened). StepLeads x (walking id n k q moves) z) e g
-begins_none x m (Decided id n q given) r busy g e = let no : happened.Wrote ≡ happened.Begun = sym g.0 ∙ e in cc
-begins_none x m (Gone cause) r busy g e = let no : happened.Ended cause ≡ happened.Begun = sym g.0 ∙ e in cc
-
--- the turn of an entry
-turn_of : (s m : ℕ) (t : SessionState) (r : Happened) (w w' : World) (added : List Record) → IsSession w s t → Happens w (event.Turn s m) r added w'
-    → (t' : SessionState) × TurnLeads m (record { world = w; session = s; known = t; added = added; now = t' }) t.phase r × IsSession w' s t'
-turn_of s m t r w w' added session leads =
-    let same : leads.0 ≡ t = same_told w s leads.0 t leads.2 session in
-    let L : SessionState → Type 0 = λ z. TurnLeads m (record { world = w; session = s; known = z; added = added; now = leads.1 }) z.phase r in
-    (leads.1, subst L same leads.3, subst (λ (z : World). IsSession z s leads.1) (sym leads.4) (told_now w s leads.0 leads.1 added (calls_begun r) leads.2))
+any_begin : (b : Bool) (l : SessionLog) → length (answered_in l.wrote) < l.begun → MayBegin b l
+any_begin true l h = tt
+any_begin false l h = h
 
 -- when a session may take a turn
-pub record HasTurn (may_begin : Bool) (t : SessionState) : Type 0 where
-  pub takes : TakesBytes t
-  pub low : IsLow t
-  pub may : MayBegin may_begin t.phase
+pub record HasTurn (begin : Bool) (l : SessionLog) : Type 0 where
+  pub left : l.left ≡ false
+  pub low : IsLow l
+  pub may : MayBegin begin l
 
--- after a turn the session waits for input, has ended, has more answers, or may take another turn
-abbrev pub HasTurned : Result Happened EngineFault → SessionState → SessionState → Type 0
-HasTurned (Ok happened.Idle) t t' = TakesBytes t' × (t'.phase ≡ Resting) × IsCut t'.unread cut.More
-HasTurned (Ok (happened.Ended cause)) t t' = (t'.phase ≡ Gone cause) × (cause ≢ Closed)
-HasTurned (Ok happened.Wrote) t t' = (t'.phase ≡ Resting) × (t'.closed ≡ false) × (length t.answers < length t'.answers)
-HasTurned (Ok r) t t' = HasTurn (may_begin_after r) t'
-HasTurned (Err fault) t t' = Unit {0}
+due_one : (due : Due) → (due ≡ NothingDue → ⊥) → length (asked_due due) ≡ 1
+due_one NothingDue some = absurd (some refl)
+due_one due some = refl
 
-has_turned : (r : Happened) (t t' : SessionState) → IsLow t → ComesTo r t t' → HasTurned (Ok r) t t'
-has_turned happened.Idle t t' low to = to
-has_turned (happened.Ended cause) t t' low to = (to.0, λ e. not_closed (has_begun t.bodies) t.unread cause e to.1)
-has_turned happened.Wrote t t' low to = to
-has_turned r t t' low to = record { takes = to.0; low = subst (λ (b : List ℕ). length b ≤ engine_held) (sym to.2) low; may = to.1 }
+due_few : (due : Due) → length (asked_due due) ≤ 1
+due_few NothingDue = omega arith
+due_few due = omega arith
 
-turn_leads : (s m : ℕ) (t : SessionState) (begin : Bool) (r : Result Happened EngineFault) → HasTurn begin t → Leading s t (event.Turn s m) r (λ t'. Turned t t' × HasTurned r t t')
-turn_leads s m t begin (Ok r) has w w' added session leads =
-    let x = turn_of s m t r w w' added session leads in
-    let by = turn_by (record { world = w; session = s; known = t; added = added; now = x.0 }) m t.phase r refl has.takes x.1 in
-    (x.0, x.2, (by.0 has.low, has_turned r t x.0 has.low by.1))
-turn_leads s m t begin (Err f) has w w' added session leads = (t, subst (λ (z : World). IsSession z s t) (sym leads.2) session, (turned_none t, tt))
+-- the turn leaves a call pending
+abbrev is_call : Entry → Bool
+is_call (CallBegun s m n) = true
+is_call (CallMoved s m added) = true
+is_call (CallBlocked s m holder) = true
+is_call (CallDecided s m added) = true
+is_call _ = false
 
--- a turn at a timestamp read from the clock, or one that begins no call
-turn_timed : (s m : ℕ) (t : SessionState) (r : Result Happened EngineFault) (begin : Bool) (moments : List ℕ) → MayBegin begin t.phase → (moments ≡ m ∷ []) ⊎ ((moments ≡ []) × (begin ≡ false)) → Timing s t (event.Turn s m) r moments
-turn_timed s m t r begin moments may (inl told) w w' added session leads = inl told
-turn_timed s m t (Err f) begin moments may (inr none) w w' added session leads = inr (none.0, λ e. cc)
-turn_timed s m t (Ok r) begin moments may (inr none) w w' added session leads =
-    let x = turn_of s m t r w w' added session leads in
-    let busy : MayBegin false t.phase = subst (λ (b : Bool). MayBegin b t.phase) none.1 may in
-    inr (none.0, λ e. begins_none (record { world = w; session = s; known = t; added = added; now = x.0 }) m t.phase r busy x.1 (let begun : r ≡ happened.Begun = cc in begun))
+goes_busy : {b : Bool} (begin : Bool) (l : SessionLog) (x : Entry) (rs : List RepliedCall) → is_call x ≡ true → IsAnswered (after l x) rs → HasTurn b l → HasTurn begin (after l x)
+goes_busy begin l (CallBegun s m n) rs call a h = record { left = h.left; low = h.low; may = any_begin begin (with_own l (CallBegun s m n)) (omega (arith, a.begun, due_one a.due a.after_last)) }
+goes_busy begin l (CallMoved s m added) rs call a h = record { left = h.left; low = h.low; may = any_begin begin (with_own l (CallMoved s m added)) (omega (arith, a.begun, due_one a.due a.after_last)) }
+goes_busy begin l (CallBlocked s m holder) rs call a h = record { left = h.left; low = h.low; may = any_begin begin (with_own l (CallBlocked s m holder)) (omega (arith, a.begun, due_one a.due a.after_last)) }
+goes_busy begin l (CallDecided s m added) rs call a h =
+    record { left = h.left; low = h.low; may = any_begin begin (with_own l (CallDecided s m added)) (omega (arith, a.begun, ap (λ (d : Due). length (asked_due d)) a.after_last.2)) }
+goes_busy begin l x rs call a h = absurd cc
 
--- the progress of a session by its turns
-pub record ToldOn (start : Since) (s : ℕ) (e' : EngineView) (tl' : Option (List ℕ)) (n : ℕ) (t : SessionState) (r : Result Happened EngineFault) : Type 0 where
-  pub now : SessionState
-  pub tells : IsTold start s e' tl' now
-  pub more : n < length tells.entries
-  pub turned : Turned t now
-  pub has_turned : HasTurned r t now
+-- a session with a pending call begins no call
+not_begun : (l : SessionLog) (x : Entry) (rs : List RepliedCall) → length (answered_in l.wrote) < l.begun → IsAnswered (after l x) rs → result_of x ≢ Ok happened.Begun
+not_begun l (CallBegun s m n) rs busy a e = omega (arith, busy, a.begun, due_few a.due)
+not_begun l x rs busy a e = absurd cc
 
--- one turn, at a timestamp read from the clock, or at any if no call may begin
-one_turn : {start : Since} {s m : ℕ} {e e' : EngineView} {tl tl' : Option (List ℕ)} {t : SessionState} {begin : Bool} {moments : List ℕ} {r : Result Happened EngineFault}
-    → (T : IsTold start s e tl t) → HasTurn begin t → GoesOnTrace e (event.Turn s m) r e' → Appends tl tl' moments → (moments ≡ m ∷ []) ⊎ ((moments ≡ []) × (begin ≡ false))
-    → ToldOn start s e' tl' (length T.entries) t r
-one_turn {s = s} {m = m} {e' = e'} {tl' = tl'} {t = t} {begin = begin} {moments = moments} {r = r} T has goes clock timely =
-    let next : IsNext s t (event.Turn s m) r moments (λ u. Turned t u × HasTurned r t u) = record {
-      own = refl;
-      timed = turn_timed s m t r begin moments has.may timely;
-      low = λ w is u other. subst (λ (z : SessionState). IsLow z) (same_told w s t u is other) has.low;
-      leads = turn_leads s m t begin r has;
-    } in
-    let g = tells_on {e' = e'} {tl' = tl'} T goes clock next in
-    record { now = g.0; tells = g.1; more = omega (arith, g.2); turned = g.3.0; has_turned = g.3.1 }
+continues_call : (x : Entry) → continues (result_of x) ≡ true → is_call x ≡ true
+continues_call (CallBegun s m n) e = refl
+continues_call (CallMoved s m added) e = refl
+continues_call (CallBlocked s m holder) e = refl
+continues_call (CallDecided s m added) e = refl
+continues_call x e = e
 
--- a session with a pending call may take its next turn
-goes_busy : (h : Happened) (t t' : SessionState) → goes_on h ≡ true → HasTurned (Ok h) t t' → HasTurn false t'
-goes_busy happened.Begun t t' goes to = to
-goes_busy happened.Moved t t' goes to = to
-goes_busy happened.Decided t t' goes to = to
-goes_busy h t t' goes to = absurd cc
+-- the timestamp was read from the clock, or no call may begin
+abbrev pub IsTimely : ℕ → Bool → List ℕ → Type 0
+IsTimely m begin moments = (moments ≡ m ∷ []) ⊎ ((moments ≡ []) × (begin ≡ false))
 
-pub front_short : {A : Type 0} (a b : List A) → IsFront a b → length a ≤ length b
-front_short a b f = let count : length b ≡ length (a ++ f.0) = ap (λ (l : List _). length l) f.1 in omega (arith, count, length-append a f.0)
+one_timed : (s m : ℕ) (l : SessionLog) (x : Entry) (rs : List RepliedCall) (begin : Bool) (moments : List ℕ) → event_of x ≡ event.Turn s m → IsTimely m begin moments → MayBegin begin l → IsAnswered (after l x) rs → IsTimed (event_of x) (result_of x) moments
+one_timed s m l x rs begin moments e (inl told) may a = inl (told ∙ sym (ap moment_of e))
+one_timed s m l x rs begin moments e (inr none) may a = inr (none.0, not_begun l x rs (subst (λ (b : Bool). MayBegin b l) none.1 may) a)
 
--- what holds of the last turn holds of all turns
-pub since_first : (r : Result Happened EngineFault) (t u v : SessionState) → Turned t u → HasTurned r u v → HasTurned r t v
-since_first (Ok happened.Wrote) t u v p to = (to.0, to.1, omega (arith, to.2, front_short t.answers u.answers p.answers))
-since_first r t u v p to = to
+-- ---- what was written since a state
 
--- `n` turns that continue, and a last one: the clock was read only for the first
-many_turns : (n : ℕ) {start : Since} {s m : ℕ} {e e' : EngineView} {tl tl' : Option (List ℕ)} {t : SessionState} {begin : Bool} {moments : List ℕ} {r : Result Happened EngineFault}
-    → (T : IsTold start s e tl t) → HasTurn begin t → HasTurns n e (event.Turn s m) r e' → Appends tl tl' moments → (moments ≡ m ∷ []) ⊎ ((moments ≡ []) × (begin ≡ false))
-    → ToldOn start s e' tl' (length T.entries) t r
-unfolding HasTurns
-many_turns zero T has turns clock timely = one_turn T has turns.0 clock timely
-many_turns (suc n) {start = start} {s = s} {m = m} {e' = e'} {tl' = tl'} {t = t} {r = r} T has turns clock timely =
-    let first : ToldOn start s turns.0 tl' (length T.entries) t (Ok turns.1) = one_turn T has turns.2 clock timely in
-    let busy : HasTurn false first.now = goes_busy turns.1 t first.now turns.3 first.has_turned in
-    let more : ToldOn start s e' tl' (length first.tells.entries) first.now r = many_turns n {m = m} {moments = []} first.tells busy turns.4 (Appends-nil tl') (inr (refl, refl)) in
+-- before the last answer at most `engine_held` bytes were unsent
+abbrev pub HoldsFew : SessionLog → Type 0
+HoldsFew l = (before : List Response) (last : Response) → l.wrote ≡ before ++ last ∷ [] → length (transcript before) ≤ l.sent + engine_held
+
+-- a session that was in this state took turns
+pub record Turned (t : SessionState) (l : SessionLog) : Type 0 where
+  pub fed : t.stream ≡ l.fed
+  pub sent : length t.sent ≡ l.sent
+  pub wrote : IsFront t.answers l.wrote
+  pub few : HoldsFew l
+  pub closed : l.closed ≡ false
+
+after_turn : (s m : ℕ) (t : SessionState) (l : SessionLog) (x : Entry) → event_of x ≡ event.Turn s m → IsLow l → Turned t l → Turned t (after l x)
+after_turn s m t l (ReplyWritten z k a leaves) e low h = record {
+  fed = h.fed;
+  sent = h.sent;
+  wrote = (h.wrote.0 ++ a ∷ [], ap (λ (w : List Response). w ++ a ∷ []) h.wrote.1 ∙ append_assoc t.answers h.wrote.0 (a ∷ []));
+  few = λ before last same. omega (arith, low, ap (λ (w : List Response). length (transcript w)) (all_but_last before l.wrote last a same));
+  closed = h.closed;
+}
+after_turn s m t l (BytesFed z bytes) e low h = absurd cc
+after_turn s m t l (SessionClosed z leaves) e low h = absurd cc
+after_turn s m t l (BytesSent z n) e low h = absurd cc
+after_turn s m t l x e low h = record { fed = h.fed; sent = h.sent; wrote = h.wrote; few = h.few; closed = h.closed }
+
+-- if all was sent, nothing is unsent
+module _ (t : SessionState) (l : SessionLog) (is : IsStateOf l t) (is_open : IsOpen t) (sent : HasSent t) where
+  all_sent : length (transcript l.wrote) ≡ l.sent
+  all_sent = ap (λ (w : List Response). length (transcript w)) (sym is.answers) ∙ ap (λ (b : List ℕ). length b) (sym sent) ∙ is.sent
+
+  not_left : l.left ≡ false
+  not_left = is.left ∙ ap has_left is_open.rests
+
+  few_sent : HoldsFew l
+  few_sent before last e =
+      let bytes : length (transcript l.wrote) ≡ length (transcript before ++ transcript (last ∷ [])) = ap (λ (w : List Response). length (transcript w)) e ∙ ap (λ (b : List ℕ). length b) (transcript_append before (last ∷ [])) in
+      omega (arith, all_sent, bytes, length-append (transcript before) (transcript (last ∷ [])))
+
+  pub turned_none : Turned t l
+  turned_none = record { fed = is.stream; sent = is.sent; wrote = front_same t.answers l.wrote (sym is.answers); few = few_sent; closed = sym (is.closed not_left) ∙ is_open.closed }
+
+  pub first_turn : HasTurn true l
+  first_turn = record { left = not_left; low = omega (arith, all_sent); may = tt }
+
+-- ---- turns
+
+-- the last of turns, after which the log ends
+pub record IsLast (s m : ℕ) (t : SessionState) (log : List Entry) (last : Entry) : Type 0 where
+  pub front : List Entry
+  pub is : log ≡ front ++ last ∷ []
+  pub known : IsKnown front s
+  pub event : event_of last ≡ event.Turn s m
+  pub begin : Bool
+  pub has : HasTurn begin (of_session s front)
+  pub turned : Turned t (of_session s front)
+
+module _ (s m : ℕ) (t : SessionState) (whole : List Entry) (kept : IsKept whole) where
+  answered_after : (log : List Entry) (x : Entry) (rest : List Entry) → whole ≡ log ++ x ∷ rest → IsKnown log s → event_of x ≡ event.Turn s m → IsAnswered (after (of_session s log) x) (recorded_in s (linearization (log ++ x ∷ [])))
+  answered_after log x rest same known e =
+      subst (λ (l : SessionLog). IsAnswered l (recorded_in s (linearization (log ++ x ∷ [])))) (turn_part s m log x known.0 e)
+      (kept.linearizable.answered (log ++ x ∷ []) rest (same ∙ sym (append_assoc log (x ∷ []) rest)) s (known_more log (x ∷ []) s known))
+
+  one_added : (log : List Entry) (x : Entry) (rest : List Entry) (begin : Bool) (moments : List ℕ) → whole ≡ log ++ x ∷ rest → IsKnown log s → event_of x ≡ event.Turn s m → IsTimely m begin moments → HasTurn begin (of_session s log) → Added s log (x ∷ []) moments
+  unfolding AreLow AreTimed
+  one_added log x rest begin moments same known e timely has = record {
+    own = (subst (λ ev. IsOf s ev (result_of x)) (sym e) refl, tt);
+    low = (subst (λ ev. IsLowAt (of_session s log) ev) (sym e) has.low, tt);
+    timed = (moments, [], sym (append-nil moments), one_timed s m (of_session s log) x (recorded_in s (linearization (log ++ x ∷ []))) begin moments e timely has.may (answered_after log x rest same known e), refl);
+  }
+
+  many_added : (earlier : List Entry) (last : Entry) (log : List Entry) (begin : Bool) (moments : List ℕ) → whole ≡ log ++ (earlier ++ last ∷ []) → IsKnown log s → AllByRecursion (λ x. (event_of x ≡ event.Turn s m) × (continues (result_of x) ≡ true)) earlier → event_of last ≡ event.Turn s m
+      → IsTimely m begin moments → HasTurn begin (of_session s log) → Turned t (of_session s log) → Added s log (earlier ++ last ∷ []) moments × IsLast s m t (log ++ (earlier ++ last ∷ [])) last
+  many_added [] last log begin moments same known all e timely has turned =
+      (one_added log last [] begin moments same known e timely has, record { front = log; is = refl; known = known; event = e; begin = begin; has = has; turned = turned })
+  many_added (x ∷ earlier) last log begin moments same known all e timely has turned =
+      let l = of_session s log in
+      let more = earlier ++ last ∷ [] in
+      let part = turn_part s m log x known.0 all.0.0 in
+      let a = answered_after log x more same known all.0.0 in
+      let assoc = append_assoc log (x ∷ []) more in
+      let busy = goes_busy false l x (recorded_in s (linearization (log ++ x ∷ []))) (continues_call x all.0.1) a has in
+      let to = after_turn s m t l x all.0.0 has.low turned in
+      let rest = many_added earlier last (log ++ x ∷ []) false [] (same ∙ sym assoc) (known_more log (x ∷ []) s known) all.1 e (inr (refl, refl)) (subst (λ (z : SessionLog). HasTurn false z) (sym part) busy) (subst (λ (z : SessionLog). Turned t z) (sym part) to) in
+      let added = joined s log (x ∷ []) more moments [] (one_added log x more begin moments same known all.0.0 timely has) rest.0 in (
+        subst (λ (ms : List ℕ). Added s log (x ∷ more) ms) (append-nil moments) added,
+        record { front = rest.1.front; is = sym assoc ∙ rest.1.is; known = rest.1.known; event = e; begin = rest.1.begin; has = rest.1.has; turned = rest.1.turned },
+      )
+
+-- a session with entries since a start, which was in the state `t`, and may take a turn
+pub record MayTurn (turns : ℕ) (start : Since) (s : ℕ) (e : EngineView) (tl : Option (List ℕ)) (begin : Bool) (t : SessionState) : Type 0 where
+  pub later : HasEntries start s e tl
+  pub count : turns ≤ length later.entries
+  pub turned : Turned t (of_session s later.log)
+  pub has : HasTurn begin (of_session s later.log)
+
+-- the same after turns with this result
+pub record Stepped (turns : ℕ) (start : Since) (s : ℕ) (e : EngineView) (tl : Option (List ℕ)) (r : Result Happened EngineFault) (t : SessionState) : Type 0 where
+  pub later : HasEntries start s e tl
+  pub count : turns ≤ length later.entries
+  pub moment : ℕ
+  pub last : Entry
+  pub is_last : IsLast s moment t later.log last
+  pub result : result_of last ≡ r
+
+pub turns_on : {turns : ℕ} {start : Since} {s : ℕ} {e e' : EngineView} {tl tl' : Option (List ℕ)} {t : SessionState} {begin : Bool} {r : Result Happened EngineFault} → MayTurn turns start s e tl begin t → Turns s begin tl tl' e r e' → Stepped (turns + 1) start s e' tl' r t
+turns_on {s = s} {e' = e'} {tl' = tl'} {t = t} {begin = begin} h by =
+    let g = by.2 h.later.log h.later.has in
+    let parts = g.1 in
+    let more = parts.0 ++ parts.1 ∷ [] in
+    let has = subst (λ (xs : List Entry). HasLog e' (h.later.log ++ xs)) parts.2 g.2 in
+    let all = many_added s by.0 t (h.later.log ++ more) has.kept parts.0 parts.1 h.later.log begin by.1 refl h.later.known parts.3 parts.4 by.4 h.has h.turned in
     record {
-      now = more.now;
-      tells = more.tells;
-      more = omega (arith, first.more, more.more);
-      turned = turned_more t first.now more.now first.turned more.turned;
-      has_turned = since_first r t first.now more.now first.turned more.has_turned;
+      later = extended h.later more by.1 has by.3 all.0;
+      count = omega (arith, h.count, length-append h.later.entries more, length-append parts.0 (parts.1 ∷ []));
+      moment = by.0;
+      last = parts.1;
+      is_last = all.1;
+      result = parts.5;
     }
 
-pub turns_on : {start : Since} {s : ℕ} {e e' : EngineView} {tl tl' : Option (List ℕ)} {t : SessionState} {begin : Bool} {r : Result Happened EngineFault}
-    → (T : IsTold start s e tl t) → HasTurn begin t → Turns s begin tl tl' e r e' → ToldOn start s e' tl' (length T.entries) t r
-turns_on T has turns = many_turns turns.0 T has turns.3 turns.4 turns.5
+-- ---- after the last turn
+
+module _ {turns : ℕ} {start : Since} {s : ℕ} {e : EngineView} {tl : Option (List ℕ)} {r : Result Happened EngineFault} {t : SessionState} (g : Stepped turns start s e tl r t) where
+  pub part_after : of_session s g.later.log ≡ after (of_session s g.is_last.front) g.last
+  part_after = ap (λ (l : List Entry). of_session s l) g.is_last.is ∙ turn_part s g.moment g.is_last.front g.last g.is_last.known.0 g.is_last.event
+
+  pub answers_after : IsAnswered (after (of_session s g.is_last.front) g.last) (recorded_in s (linearization g.later.log))
+  answers_after =
+      subst (λ (l : List Entry). IsAnswered (after (of_session s g.is_last.front) g.last) (recorded_in s (linearization l))) (sym g.is_last.is)
+      (answered_after s g.moment t g.later.log g.later.has.kept g.is_last.front g.last [] g.is_last.is g.is_last.known g.is_last.event)
+
+  pub lawful_after : IsLawful g.is_last.front g.last
+  lawful_after = g.later.has.kept.lawful g.is_last.front [] g.last g.is_last.is
+
+  pub turned_after : Turned t (after (of_session s g.is_last.front) g.last)
+  turned_after = after_turn s g.moment t (of_session s g.is_last.front) g.last g.is_last.event g.is_last.has.low g.is_last.turned
+
+  pub may_turn : {begin : Bool} → HasTurn begin (after (of_session s g.is_last.front) g.last) → MayTurn turns start s e tl begin t
+  may_turn {begin} has = record {
+    later = g.later;
+    count = g.count;
+    turned = subst (λ (l : SessionLog). Turned t l) (sym part_after) turned_after;
+    has = subst (λ (l : SessionLog). HasTurn begin l) (sym part_after) has;
+  }
+
+-- a session may take its next turn if it doesn't wait for input, has not ended, and wrote no reply
+still_call : (s m : ℕ) (x : Entry) (r : Happened) → event_of x ≡ event.Turn s m → result_of x ≡ Ok r → (r ≡ happened.Idle → ⊥) → ((cause : Cause) → r ≡ happened.Ended cause → ⊥) → (r ≡ happened.Wrote → ⊥) → is_call x ≡ true
+still_call s m (SessionIdle z k) r e is idle ended wrote = absurd (idle cc)
+still_call s m (SessionEnded z k cause leaves) r e is idle ended wrote = absurd (ended cause cc)
+still_call s m (ReplyWritten z k a leaves) r e is idle ended wrote = absurd (wrote cc)
+still_call s m (CallBegun z k n) r e is idle ended wrote = refl
+still_call s m (CallMoved z k added) r e is idle ended wrote = refl
+still_call s m (CallBlocked z k holder) r e is idle ended wrote = refl
+still_call s m (CallDecided z k added) r e is idle ended wrote = refl
+still_call s m x r e is idle ended wrote = absurd cc
+
+pub still_turns : {turns : ℕ} {start : Since} {s : ℕ} {e : EngineView} {tl : Option (List ℕ)} {r : Happened} {t : SessionState} → Stepped turns start s e tl (Ok r) t → (r ≡ happened.Idle → ⊥) → ((cause : Cause) → r ≡ happened.Ended cause → ⊥) → (r ≡ happened.Wrote → ⊥)
+    → MayTurn turns start s e tl (may_begin_after r) t
+still_turns {s = s} {r = r} g idle ended wrote =
+    let call = still_call s g.moment g.last r g.is_last.event g.result idle ended wrote in
+    may_turn g (goes_busy (may_begin_after r) (of_session s g.is_last.front) g.last (recorded_in s (linearization g.later.log)) call (answers_after g) g.is_last.has)

@@ -1,3 +1,2 @@
 pub mod OnEngine
-pub mod Alone
 pub mod Talks

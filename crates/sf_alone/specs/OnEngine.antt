@@ -1,5 +1,5 @@
 -- A session of an engine, served over a transport.
-use Rattle.std.specs.Prelude.{◌≡◌, ◌≢◌, ◌≤◌, ◌⊎◌, ℕ, List, [], ◌∷◌, ◌++◌, length, Bool, true, false, Option, Result, Ok}
+use Rattle.std.specs.Prelude.{◌≡◌, ◌≢◌, ◌≤◌, ◌+◌, ◌⊎◌, ℕ, List, [], ◌∷◌, ◌++◌, length, Bool, true, false, Option, Result, Ok}
 use Rattle.std.specs.Global.{Vec}
 use Rattle.std.specs.List.{AllByRecursion}
 use Rattle.std.specs.Io.KnownBytes.{Appends}
@@ -7,20 +7,18 @@ use Rattle.sf_line.specs.Lines.{Rose}
 use Rattle.sf_session.specs.declared.cause.Cause.{Cause}
 use Rattle.sf_session.specs.declared.fault.ServeFault.{ServeFault}
 use Rattle.sf_session.specs.declared.fault.ServeFault.TheVariants as fault
-use Rattle.sf_core.specs.Cores.{most_sessions, last_number}
+use Rattle.sf_session.specs.Responses.{transcript, answered_in, most_calls}
+use Rattle.sf_session.specs.SessionStates.{Phase, UnderWay, Decided, Gone, SessionState, TakesNone, pending}
 use Rattle.sf_engine.specs.declared.event.Event.{Event}
 use Rattle.sf_engine.specs.declared.event.Event.TheVariants as event
 use Rattle.sf_engine.specs.declared.event.Happened.{Happened}
 use Rattle.sf_engine.specs.declared.event.Happened.TheVariants as happened
 use Rattle.sf_engine.specs.declared.event.EngineFault.{EngineFault}
 use Rattle.sf_engine.specs.declared.event.EngineFault.TheVariants as refused
-use Rattle.sf_engine.specs.Worlds.{TraceEntry, World, here}
-use Rattle.sf_session.specs.SessionStates.{Phase, Resting, UnderWay, Decided, Gone, SessionState, unsent, TakesNone}
-use Rattle.sf_session.specs.Responses.{transcript}
-use Rattle.sf_engine.specs.Traces.{IsSession, Leads}
 use Rattle.sf_engine.specs.Views.{EngineView}
-use Rattle.sf_engine.specs.Fits.{Fits, GoesOnTrace, HasTurns}
-use Rattle.sf_serving.specs.Hosts.{most_counted}
+use Rattle.sf_engine.specs.Promise.{Entry, event_of, result_of, opened_in, left_in, CallLog, SessionLog, of_session, IsKnown, IsUnsent}
+use Rattle.sf_engine.specs.HasLog.{HasLog, AppendsEntry, AppendsTurns}
+use Rattle.sf_serving.specs.Hosts.{IsFront, most_counted}
 use Rattle.sf_serving.specs.Serving.{LineView, Progress, ServedSoFar, Serves, HasWritten, IsServed}
 
 -- the event is of the session: open, feed, turn, close or sent
@@ -31,8 +29,8 @@ IsOf session (event.Turn s moment) result = s ≡ session
 IsOf session (event.Close s) result = s ≡ session
 IsOf session (event.Sent s n) result = s ≡ session
 
-abbrev pub IsEntryOf : ℕ → TraceEntry → Type 0
-IsEntryOf session e = IsOf session e.event e.result
+abbrev pub IsEntryOf : ℕ → Entry → Type 0
+IsEntryOf session x = IsOf session (event_of x) (result_of x)
 
 -- the timestamp of a turn; none for other events
 abbrev pub moment_of : Event → List ℕ
@@ -49,20 +47,12 @@ IsTimed ev result moments =
 
 -- These timestamps were read from the clock for the entries, in order. Each call that began has its
 -- own.
-unfoldable pub AreTimed : List TraceEntry → List ℕ → Type 0
+unfoldable pub AreTimed : List Entry → List ℕ → Type 0
 AreTimed [] moments = moments ≡ []
-AreTimed (e ∷ entries) moments = (now : List ℕ) × (later : List ℕ) × (moments ≡ now ++ later)
-    × IsTimed e.event e.result now × AreTimed entries later
+AreTimed (x ∷ entries) moments = (now : List ℕ) × (later : List ℕ) × (moments ≡ now ++ later)
+    × IsTimed (event_of x) (result_of x) now × AreTimed entries later
 
--- The session's next turn may begin a call; if it may not, the session is not idle.
-abbrev pub MayBegin : Bool → Phase → Type 0
-MayBegin true f = Unit {0}
-MayBegin false Resting = ⊥
-MayBegin false (UnderWay id number moment request moves) = Unit {0}
-MayBegin false (Decided id number request reply) = Unit {0}
-MayBegin false (Gone cause) = Unit {0}
-
--- the same, after a turn with this result
+-- whether the session's next turn may begin a call, after a turn with this result
 abbrev pub may_begin_after : Happened → Bool
 may_begin_after happened.Begun = false
 may_begin_after happened.Moved = false
@@ -75,51 +65,75 @@ abbrev pub engine_held : ℕ
 engine_held = 65535
 
 -- less than 64 KiB are unsent
-abbrev pub IsLow : SessionState → Type 0
-IsLow t = length (unsent t) ≤ engine_held
+abbrev pub IsLow : SessionLog → Type 0
+IsLow l = length (transcript l.wrote) ≤ l.sent + engine_held
 
 -- this holds when the session takes a turn
-abbrev pub IsLowAt : World → ℕ → Event → Type 0
-IsLowAt w session (event.Turn s moment) = (t : SessionState) → IsSession w session t → IsLow t
-IsLowAt w session _ = Unit {0}
+abbrev pub IsLowAt : SessionLog → Event → Type 0
+IsLowAt l (event.Turn s moment) = IsLow l
+IsLowAt l _ = Unit {0}
 
--- The entries lead from world w to world w', one after the other. Before each turn less than 64 KiB
--- are unsent, so these and one reply bound the unsent output.
-unfoldable pub RunsLow : ℕ → World → List TraceEntry → World → Type 0
-RunsLow session w [] w' = w' ≡ w
-RunsLow session w (e ∷ entries) w' =
-    (mid : World) × IsLowAt w session e.event × Leads w e mid × RunsLow session mid entries w'
+-- Before each turn less than 64 KiB are unsent, so these and one reply bound the unsent output.
+unfoldable pub AreLow : (session : ℕ) → (log : List Entry) → (entries : List Entry) → Type 0
+AreLow session log [] = Unit {0}
+AreLow session log (x ∷ entries) = IsLowAt (of_session session log) (event_of x)
+    × AreLow session (log ++ x ∷ []) entries
 
--- An engine that represents a trace, and the timestamps read from a clock.
+-- whether the session has left
+abbrev pub has_left : Phase → Bool
+has_left (Gone cause) = true
+has_left _ = false
+
+-- the session's pending call
+abbrev pub HasCall : Phase → CallLog → Type 0
+HasCall (UnderWay id number moment request moves) call =
+    (number ≡ call.number) × (moment ≡ call.moment) × (moves ≡ call.moves)
+HasCall (Decided id number request reply) call = number ≡ call.number
+HasCall _ call = Unit {0}
+
+-- The state of a session, by its part of a log.
+pub record IsStateOf (l : SessionLog) (t : SessionState) : Type 0 where
+  pub stream : t.stream ≡ l.fed
+  pub answers : t.answers ≡ l.wrote
+  pub sent : length t.sent ≡ l.sent
+  pub front : IsFront t.sent (transcript t.answers)
+  pub closed : l.left ≡ false → t.closed ≡ l.closed
+  pub left : l.left ≡ has_left t.phase
+  pub begun : l.begun ≡ length (answered_in l.wrote) + length (pending t.phase)
+  pub call : HasCall t.phase l.call
+
+-- An engine that has a log, and the timestamps read from a clock.
 pub record Since : Type 0 where
   pub engine : EngineView
-  pub trace : List TraceEntry
-  pub fits : Fits engine trace
+  pub log : List Entry
+  pub has : HasLog engine log
   pub told : Option (List ℕ)
 
-abbrev pub since : (engine : EngineView) (trace : List TraceEntry) → Fits engine trace
-    → Option (List ℕ)
-    → Since
-since engine trace fits told =
-    record { engine = engine; trace = trace; fits = fits; told = told }
-
--- The state of a session since then. All entries since then are the session's, less than 64 KiB
--- were unsent before each turn, and its calls began at timestamps read from the clock.
-pub record IsTold (start : Since) (session : ℕ) (engine : EngineView) (told : Option (List ℕ))
-    (t : SessionState) : Type 0 where
-  pub entries : List TraceEntry
-  pub fit : Fits engine (start.trace ++ entries)
+-- The log since then. All its entries are of one session that opened. Less than 64 KiB were unsent
+-- before each turn, and the calls began at timestamps read from the clock.
+pub record HasEntries (start : Since) (session : ℕ) (engine : EngineView)
+    (told : Option (List ℕ)) : Type 0 where
+  pub log : List Entry
+  pub has : HasLog engine log
+  pub entries : List Entry
+  pub since : log ≡ start.log ++ entries
+  pub known : IsKnown log session
   pub own : AllByRecursion (IsEntryOf session) entries
-  pub low : RunsLow session start.fits.world entries fit.world
-  pub is_session : IsSession fit.world session t
+  pub low : AreLow session start.log entries
   pub moments : List ℕ
   pub timed : AreTimed entries moments
   pub clock : Appends start.told told moments
 
+-- and the session's state
+pub record IsTold (start : Since) (session : ℕ) (engine : EngineView) (told : Option (List ℕ))
+    (t : SessionState) : Type 0 where
+  pub later : HasEntries start session engine told
+  pub state : IsStateOf (of_session session later.log) t
+
 -- and there were at least `turns` entries
 abbrev pub IsToldBy : (turns : ℕ) → Since → ℕ → EngineView → Option (List ℕ) → SessionState → Type 0
 IsToldBy turns start session engine told t =
-    (tells : IsTold start session engine told t) × (turns ≤ length tells.entries)
+    (tells : IsTold start session engine told t) × (turns ≤ length tells.later.entries)
 
 -- a transport, the timestamps read from a clock if exposed, and an engine
 pub record IoState : Type 0 where
@@ -130,31 +144,32 @@ pub record IoState : Type 0 where
 abbrev pub io_state : LineView → Option (List ℕ) → EngineView → IoState
 io_state line told engine = record { line = line; told = told; engine = engine }
 
--- since the engine represented this trace
-abbrev pub since_at : (start : IoState) (trace : List TraceEntry) → Fits start.engine trace → Since
-since_at start trace fits = since start.engine trace fits start.told
+-- since the engine had this log
+abbrev pub since_at : (start : IoState) (log : List Entry) → HasLog start.engine log → Since
+since_at start log has =
+    record { engine = start.engine; log = log; has = has; told = start.told }
 
--- The effect of serving a transport to this end, whatever trace the engine represents. A new
--- session was fed all bytes read, its whole transcript was sent, and it has ended. At the end of
--- the input the session is closed.
+-- The effect of serving a transport to this end, whatever log the engine had. A new session was fed
+-- all bytes read, its whole transcript was sent, and it has ended. At the end of the input the
+-- session is closed.
 abbrev pub ServesLine : IoState → IoState → Cause → Type 0
-ServesLine start now cause = (trace : List TraceEntry) → (fits : Fits start.engine trace)
+ServesLine start now cause = (log : List Entry) → (has : HasLog start.engine log)
     → (session : ℕ) × Serves engine_held
-    (IsTold (since_at start trace fits) session now.engine now.told)
+    (IsTold (since_at start log has) session now.engine now.told)
     start.line now.line (IsServed now.line.incoming cause)
 
 -- why no session opened: memory ran out, the maximum number of sessions exists, or session numbers
 -- are exhausted
-abbrev pub MayNotOpen : World → ServeFault → Type 0
-MayNotOpen w fault.Line = ⊥
-MayNotOpen w fault.OutOfMemory = Unit {0}
-MayNotOpen w fault.Sessions = most_sessions ≤ here w
-MayNotOpen w fault.Stranger = ⊥
-MayNotOpen w fault.NumbersSpent = length w.sessions ≡ last_number
+abbrev pub MayNotOpen : List Entry → ServeFault → Type 0
+MayNotOpen log fault.Line = ⊥
+MayNotOpen log fault.OutOfMemory = Unit {0}
+MayNotOpen log fault.Sessions = left_in log + 256 ≤ opened_in log
+MayNotOpen log fault.Stranger = ⊥
+MayNotOpen log fault.NumbersSpent = opened_in log ≡ most_calls
 
 -- Serving has stopped and the session is closed. Unless the transport failed, all replies were
 -- written. `NumbersSpent` occurs only after 2^64 - 1 bytes read or events.
-abbrev pub HasStoppedAt : ServeFault → List TraceEntry → Progress → Type 0
+abbrev pub HasStoppedAt : ServeFault → List Entry → Progress → Type 0
 HasStoppedAt fault.Line entries p = TakesNone p.state
 HasStoppedAt fault.OutOfMemory entries p = HasWritten p × TakesNone p.state
 HasStoppedAt fault.Sessions entries p = ⊥
@@ -165,15 +180,15 @@ HasStoppedAt fault.NumbersSpent entries p = (HasWritten p × TakesNone p.state)
 -- The effect of serving that stopped with this error: none, if no session could open; otherwise a
 -- new session progressed to `p`.
 abbrev pub StopsEarly : IoState → IoState → ServeFault → Type 0
-StopsEarly start now f = (trace : List TraceEntry) → (fits : Fits start.engine trace)
-    → ((now ≡ start) × MayNotOpen fits.world f)
+StopsEarly start now f = (log : List Entry) → (has : HasLog start.engine log)
+    → ((now ≡ start) × MayNotOpen log f)
     ⊎ ((session : ℕ) × (p : Progress)
-    × (tells : IsTold (since_at start trace fits) session now.engine now.told p.state)
-    × ServedSoFar engine_held start.line now.line p × HasStoppedAt f tells.entries p)
+    × (tells : IsTold (since_at start log has) session now.engine now.told p.state)
+    × ServedSoFar engine_held start.line now.line p × HasStoppedAt f tells.later.entries p)
 
--- unchanged, whatever trace the engine represents
+-- unchanged, whatever log the engine has
 abbrev pub IsUnchanged : EngineView → EngineView → Type 0
-IsUnchanged e e' = (trace : List TraceEntry) → Fits e trace → e' ≡ e
+IsUnchanged e e' = (log : List Entry) → HasLog e log → e' ≡ e
 
 -- the serving error for each engine error
 abbrev pub open_refusal : EngineFault → ServeFault
@@ -181,15 +196,11 @@ open_refusal refused.Sessions = fault.Sessions
 open_refusal refused.NumbersSpent = fault.NumbersSpent
 open_refusal _ = fault.OutOfMemory
 
--- whatever trace the engine represents, it may not open a session
+-- whatever log the engine has, it may not open a session
 abbrev pub IsOpenFault : EngineView → ServeFault → Type 0
 IsOpenFault e fault.Line = ⊥
-IsOpenFault e fault.OutOfMemory = Unit {0}
-IsOpenFault e fault.Sessions =
-    (trace : List TraceEntry) → (fits : Fits e trace) → MayNotOpen fits.world fault.Sessions
 IsOpenFault e fault.Stranger = ⊥
-IsOpenFault e fault.NumbersSpent =
-    (trace : List TraceEntry) → (fits : Fits e trace) → MayNotOpen fits.world fault.NumbersSpent
+IsOpenFault e f = (log : List Entry) → HasLog e log → MayNotOpen log f
 
 -- why serving stops early; on `Line` the transport's error count rose
 abbrev pub IsServeFault : ServeFault → ℕ → ℕ → Type 0
@@ -201,22 +212,21 @@ IsServeFault fault.NumbersSpent failed failed' = Unit {0}
 
 -- the session was fed these bytes
 abbrev pub Feeds : EngineView → ℕ → List ℕ → EngineView → Type 0
-Feeds e session bytes e' = (bytes' : Vec ℕ) × (bytes'.items ≡ bytes) × (r : Happened)
-    × GoesOnTrace e (event.Feed session bytes') (Ok r) e'
+Feeds e session bytes e' = (fed : Vec ℕ) × (fed.items ≡ bytes) × (r : Happened)
+    × AppendsEntry e (event.Feed session fed) (Ok r) e'
 
 -- the event was applied or refused
 abbrev pub Applies : EngineView → Event → EngineView → Type 0
-Applies e ev e' = (r : Result Happened EngineFault) × GoesOnTrace e ev r e'
+Applies e ev e' = (r : Result Happened EngineFault) × AppendsEntry e ev r e'
 
 -- the session's unsent output
 abbrev pub HasOutput : EngineView → ℕ → List ℕ → Type 0
-HasOutput e session output = (trace : List TraceEntry) → (fits : Fits e trace) → (t : SessionState)
-    → IsSession fits.world session t → transcript t.answers ≡ t.sent ++ output
+HasOutput e session output = (log : List Entry) → HasLog e log → IsKnown log session
+    → IsUnsent (of_session session log).wrote (of_session session log).sent output
 
--- Turns of the session; all but the last report that it can continue. The timestamp of the first
--- was read from the clock, if it may begin a call.
+-- Turns of the session at a timestamp. It was read from the clock, if a call may begin.
 abbrev pub Turns : ℕ → Bool → (told told' : Option (List ℕ)) → EngineView
     → Result Happened EngineFault → EngineView → Type 0
-Turns session may_begin told told' e result e' = (n : ℕ) × (moment : ℕ) × (moments : List ℕ)
-    × HasTurns n e (event.Turn session moment) result e' × Appends told told' moments
+Turns session may_begin told told' e result e' = (moment : ℕ) × (moments : List ℕ)
+    × AppendsTurns e session moment result e' × Appends told told' moments
     × ((moments ≡ moment ∷ []) ⊎ ((moments ≡ []) × (may_begin ≡ false)))

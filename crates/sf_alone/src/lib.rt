@@ -4,14 +4,10 @@
 //! runs the serve loop of `sf_serving` with the engine as backend. `specs/OnEngine.antt` states its
 //! effect on the transport, the clock and the engine. `serve_alone` in `own_engine.rt` creates an
 //! engine for one session, so its contract is about bytes and timestamps only (`specs/Talks.antt`).
-//! `alone_law.rt` states that a single session is deterministic, and `specs/Alone.antt` defines its
-//! answers by the sequential specification.
 #![tactic(auto)]
 
-mod alone_law;
 mod on_engine;
 mod own_engine;
 
-pub use alone_law::one_session_alone;
 pub use on_engine::serve_one;
 pub use own_engine::serve_alone;

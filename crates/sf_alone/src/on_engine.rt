@@ -7,7 +7,7 @@ ghost use Rattle.sf_engine.specs.declared.event.Event.TheVariants.{Open};
 ghost use Rattle.sf_engine.specs.declared.event.Happened.TheVariants.{Opened};
 ghost use Rattle.sf_session.specs.SessionStates.{SessionState, fed, IsRead};
 ghost use Rattle.sf_session.specs.Responses.{transcript};
-ghost use Rattle.sf_engine.specs.Fits.{GoesOnTrace};
+ghost use Rattle.sf_engine.specs.HasLog.{AppendsEntry};
 ghost use Rattle.sf_serving.specs.Hosts.{IsOpen, HasSent, IsFurther, IsSessionStep, with_sent, ended, IsHostFault};
 ghost use Rattle.sf_serving.specs.Serving.{line_view};
 ghost use Rattle.sf_alone.specs.OnEngine.{Since, IsToldBy, io_state, may_begin_after, Turns, Feeds, Applies, HasOutput, ServesLine, StopsEarly, IsUnchanged, open_refusal, IsOpenFault, IsServeFault};
@@ -35,7 +35,7 @@ fn open_refusal(fault: EngineFault) -> ServeFault
 
 /// Opens a session.
 fn open(engine: &mut Engine) -> Result<u64, ServeFault>
-    ensures opened { IfOk result (λ session. GoesOnTrace engine.old Open
+    ensures opened { IfOk result (λ session. AppendsEntry engine.old Open
         (Ok (Opened session)) engine.new) }
     ensures unchanged { OnErr result (IsUnchanged engine.old engine.new) }
     ensures fault { IfErr result (λ fault. IsOpenFault engine.old fault) }

@@ -5,7 +5,7 @@ use Rattle.sf_field.specs.Reading.{string_at}
 use Rattle.sf_field.proofs.Laws.{IsBytes, reads_string}
 use Rattle.sf_reply.specs.declared.reply.Reply.{Reply}
 use Rattle.sf_reply.specs.Reading.{IsReply}
-use Rattle.sf_reply.specs.Replies.{reply_body, ReplyFits}
+use Rattle.sf_reply.specs.Replies.{reply_body}
 use Rattle.sf_trees.specs.declared.fault.TreeFault.TheVariants as fault
 use Rattle.sf_trees.specs.Lengths.{id}
 use Rattle.sf_asking.specs.Asking.{MayMissReply}

@@ -1,4 +1,2 @@
 pub mod Once
 pub mod Bodies
-pub mod OnLogs
-pub mod Laws

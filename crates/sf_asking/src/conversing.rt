@@ -8,7 +8,7 @@ ghost use Rattle.sf_asking.specs.Asking.{fault_for, stuck_by, Converses, Gets, T
 
 use crate::packet::{ID, read_packet};
 use bytes::BytesMut;
-use sf_engine::{Engine, EngineFault, Event, Happened};
+use sf_engine::{EngineFault, Event, Happened, Sftp};
 use sf_reply::Reply;
 use sf_request::{WireRequest, init_packet, write_request};
 use sf_trees::TreeFault;
@@ -39,9 +39,14 @@ fn stuck_by(outcome: Result<Happened, EngineFault>) -> Option<TreeFault>
 }
 
 /// Feeds bytes, and takes turns until a reply is written. Fails if the session can't progress.
-fn converse(engine: &mut Engine, session: u64, moment: u32, bytes: &[u8]) -> Result<(), TreeFault>
+fn converse<E: Sftp>(
+    engine: &mut E,
+    session: u64,
+    moment: u32,
+    bytes: &[u8],
+) -> Result<(), TreeFault>
     requires { length bytes.now < 2 ^ 63 }
-    ensures { Converses session moment bytes.now engine.old result engine.new }
+    ensures { Converses E.has_log session moment bytes.now engine.old result engine.new }
 {
     if let Err(fault) = engine.feed(session, bytes) {
         return Err(fault_for(fault));
@@ -53,8 +58,8 @@ fn converse(engine: &mut Engine, session: u64, moment: u32, bytes: &[u8]) -> Res
 }
 
 /// Takes one reply, which must be the session's whole output.
-pub(crate) fn take(engine: &mut Engine, alloc: Global, session: u64) -> Result<Reply, TreeFault>
-    ensures { Gets session engine.old result engine.new }
+pub(crate) fn take<E: Sftp>(engine: &mut E, alloc: Global, session: u64) -> Result<Reply, TreeFault>
+    ensures { Gets E.has_log session engine.old result engine.new }
 {
     let Some(output) = engine.output(session) else {
         return Err(TreeFault::Reply);
@@ -78,15 +83,15 @@ fn packet_of(alloc: Global, request: &WireRequest) -> Result<BytesMut, AllocErro
 }
 
 /// Feeds a request's packet, and takes turns until a reply is written.
-pub(crate) fn say(
-    engine: &mut Engine,
+pub(crate) fn say<E: Sftp>(
+    engine: &mut E,
     alloc: Global,
     session: u64,
     moment: u32,
     request: &WireRequest,
 ) -> Result<(), TreeFault>
     requires { length (request_body id request.now) < 2 ^ 32 }
-    ensures { Converses session moment (packet (request_body id request.now)) engine.old result
+    ensures { Converses E.has_log session moment (packet (request_body id request.now)) engine.old result
         engine.new }
 {
     let Ok(packet) = packet_of(alloc, request) else {
@@ -96,8 +101,8 @@ pub(crate) fn say(
 }
 
 /// Takes the session's whole output, which is VERSION.
-fn take_all(engine: &mut Engine, session: u64) -> Result<(), TreeFault>
-    ensures { TakesAll session engine.old result engine.new }
+fn take_all<E: Sftp>(engine: &mut E, session: u64) -> Result<(), TreeFault>
+    ensures { TakesAll E.has_log session engine.old result engine.new }
 {
     let Some(output) = engine.output(session) else {
         return Err(TreeFault::Reply);
@@ -110,15 +115,15 @@ fn take_all(engine: &mut Engine, session: u64) -> Result<(), TreeFault>
 }
 
 /// Feeds INIT, and takes turns until it is answered.
-fn say_init(engine: &mut Engine, session: u64, moment: u32) -> Result<(), TreeFault>
-    ensures { Converses session moment (packet init_body) engine.old result engine.new }
+fn say_init<E: Sftp>(engine: &mut E, session: u64, moment: u32) -> Result<(), TreeFault>
+    ensures { Converses E.has_log session moment (packet init_body) engine.old result engine.new }
 {
     converse(engine, session, moment, &init_packet())
 }
 
 /// Sends INIT, and receives VERSION.
-fn greet(engine: &mut Engine, session: u64, moment: u32) -> Result<(), TreeFault>
-    ensures { Greets session moment engine.old result engine.new }
+fn greet<E: Sftp>(engine: &mut E, session: u64, moment: u32) -> Result<(), TreeFault>
+    ensures { Greets E.has_log session moment engine.old result engine.new }
 {
     say_init(engine, session, moment)?;
     take_all(engine, session)?;
@@ -128,16 +133,16 @@ fn greet(engine: &mut Engine, session: u64, moment: u32) -> Result<(), TreeFault
 /// Closes a session. If a reply is still pending, as after a turn in which memory ran out, further
 /// turns write it, so that the session leaves. A session stays only if its call is blocked or
 /// memory still runs out.
-pub(crate) fn close(engine: &mut Engine, session: u64, moment: u32)
-    ensures { IsClosed session moment engine.old engine.new }
+pub(crate) fn close<E: Sftp>(engine: &mut E, session: u64, moment: u32)
+    ensures { IsClosed E.has_log session moment engine.old engine.new }
 {
     let _closed = engine.apply(&Event::Close(session));
     let _left = engine.turns(session, moment);
 }
 
 /// As `greet`, but closes the session on an error.
-pub(crate) fn welcome(engine: &mut Engine, session: u64, moment: u32) -> Result<(), TreeFault>
-    ensures { Welcomes session moment engine.old result engine.new }
+pub(crate) fn welcome<E: Sftp>(engine: &mut E, session: u64, moment: u32) -> Result<(), TreeFault>
+    ensures { Welcomes E.has_log session moment engine.old result engine.new }
 {
     match greet(engine, session, moment) {
         Ok(()) => Ok(()),
@@ -160,8 +165,8 @@ fn opened_by(outcome: Result<Happened, EngineFault>) -> Result<u64, TreeFault>
 }
 
 /// Opens a session.
-pub(crate) fn open(engine: &mut Engine) -> Result<u64, TreeFault>
-    ensures { Opens engine.old result engine.new }
+pub(crate) fn open<E: Sftp>(engine: &mut E) -> Result<u64, TreeFault>
+    ensures { Opens E.has_log engine.old result engine.new }
 {
     opened_by(engine.apply(&Event::Open))
 }

@@ -2,14 +2,14 @@
 //!
 //! Start with `audit` in `audits.rt`. A `Transcript` contains the calls of one session and their
 //! replies, and `audit` compares transcripts with the retained history (`specs/Audits.antt`).
-//! `gather` compares the workers' shares of calls with the core's count.
+//! `Totals` has the number of a core's calls.
 #![tactic(auto)]
 
 mod audits;
-mod gathering;
 mod same;
+mod totals;
 mod transcript;
 
 pub use audits::{AuditFault, audit};
-pub use gathering::{GatherFault, Totals, gather};
+pub use totals::Totals;
 pub use transcript::{AnsweredCall, Transcript};

@@ -41,8 +41,8 @@ impl Filling {
         }
     }
 
-    /// No copies, and buffers for the whole blocks of a write. None if it is so short that its
-    /// blocks share its bytes.
+    /// No copies, and buffers for the blocks of a write, without a last one that is not whole. None
+    /// if the write is so short that its blocks share its bytes.
     pub(crate) fn reserve(alloc: Global, offset: u64, len: usize) -> Result<Filling, AllocError>
         requires { offset + len < 2 ^ 64 }
         ensures { IfOk result (λ filling. filling.bytes ≡ []) }
@@ -51,7 +51,7 @@ impl Filling {
         if len <= MOST_SHARED {
             return Ok(filling);
         }
-        let first = offset.div_ceil(BLOCK);
+        let first = offset / BLOCK;
         let end = (offset + len as u64) / BLOCK;
         for run in (first / ROW..end.div_ceil(ROW)).rev() {
             let blocks = end.min(run * ROW + ROW) - first.max(run * ROW);

@@ -7,7 +7,7 @@ use Rattle.sf_engine.specs.declared.event.Event.TheVariants as event
 use Rattle.sf_engine.specs.declared.event.Happened.{Happened}
 use Rattle.sf_engine.specs.declared.event.Happened.TheVariants as happened
 use Rattle.sf_engine.specs.declared.event.EngineFault.{EngineFault}
-use Rattle.sf_engine.specs.Promise.{LogEntry, IsKnown, AreTurns, WaitsForBytes}
+use Rattle.sf_engine.specs.Promise.{Entry, event_of, result_of, IsKnown, continues, AreTurnsOf, WaitsForBytes}
 use Rattle.sf_engine.specs.Views.{EngineView}
 use Rattle.sf_engine.specs.contracts.promise.EngineSftp.TheImpl.{ghosts}
 use Rattle.sf_refusing.specs.declared.refusals.Refusals.{Refusals}
@@ -36,14 +36,14 @@ InBoth before rules Leads after rules' =
 
 -- The bytes were received, after the engine accepted an empty feed; or they were rejected.
 abbrev pub ComeBytes : ℕ → List ℕ → Result Happened EngineFault → List Act → List Act → Type 0
-ComeBytes session bytes (Ok h) journal acts = (asked : LogEntry) × IsFed session [] asked
-    × (asked.result ≡ Ok h) × (acts ≡ Made asked ∷ Received session bytes ∷ [])
+ComeBytes session bytes (Ok h) journal acts = (asked : Entry) × IsFed session [] asked
+    × (result_of asked ≡ Ok h) × (acts ≡ Made asked ∷ Received session bytes ∷ [])
 ComeBytes session bytes (Err f) journal acts =
     MayRefuseFeed (log_of journal) session f × (acts ≡ [])
 
 abbrev pub GoBytes : ℕ → ℕ → Result Happened EngineFault → List Act → List Act → Type 0
 GoBytes session count (Ok h) journal acts = (h ≡ happened.Sent)
-    × ((entries : List LogEntry) × (acts ≡ map Made entries ++ Delivered session count ∷ []))
+    × ((entries : List Entry) × (acts ≡ map Made entries ++ Delivered session count ∷ []))
 GoBytes session count (Err f) journal acts =
     MayRefuseSent journal session count f × (acts ≡ [])
 
@@ -64,26 +64,26 @@ SendsBytes session count n = Moves (GoBytes session count) n
 -- one turn of a session: a refusal, or a turn of the engine, perhaps after a packet was passed on
 abbrev pub IsOneTurn : ℕ → ℕ → Result Happened EngineFault → List Act → List Act → Type 0
 IsOneTurn session moment result journal acts =
-    IsTurn journal session (λ entries. (e : LogEntry) × (entries ≡ e ∷ [])
-    × AreTurns (event.Turn session moment) result entries) result acts
+    IsTurn journal session (λ entries. (e : Entry) × (entries ≡ e ∷ [])
+    × (event_of e ≡ event.Turn session moment) × (result_of e ≡ result)) result acts
 
 abbrev pub TurnsOnce : ℕ → ℕ → ℤ → EngineView → Refusals → EngineView → Refusals → Type 0
 TurnsOnce session moment n old r new r' = (result : Result Happened EngineFault)
     × IsNumber result n × JournalGoesOn (IsOneTurn session moment result) old r new r'
 
--- The same, but the engine takes turns until the session's call is answered or can't progress. No
--- call has as many as 2^64 steps.
-abbrev pub AreTurnsOf : ℕ → ℕ → Result Happened EngineFault → List Act → List Act → Type 0
-AreTurnsOf session moment result journal acts =
-    IsTurn journal session (AreTurns (event.Turn session moment) result) result acts
-    × (replies_of result ≡ 0 → leads_on result ≡ true → 2 ^ 64 - 1 ≤ length acts)
+-- The same, but the engine takes turns until the session's call is answered or blocked. No call has
+-- as many as 2^64 - 1 steps.
+abbrev pub IsManyTurns : ℕ → ℕ → Result Happened EngineFault → List Act → List Act → Type 0
+IsManyTurns session moment result journal acts =
+    IsTurn journal session (λ entries. AreTurnsOf session moment result entries
+    × (continues result ≡ true → 2 ^ 64 - 1 ≤ length entries)) result acts
 
 -- turns that wrote this many replies, one after another
 abbrev pub HaveReplied : ℕ → ℕ → ℕ → List Act → List Act → Type 0
 HaveReplied zero session moment journal acts = acts ≡ []
 HaveReplied (suc replies) session moment journal acts = (front : List Act) × (back : List Act)
     × (acts ≡ front ++ back) × HaveReplied replies session moment journal front
-    × AreTurnsOf session moment (Ok happened.Wrote) (journal ++ front) back
+    × IsManyTurns session moment (Ok happened.Wrote) (journal ++ front) back
 
 -- Turns up to one that wrote no reply and made no progress, with fewer than `most` replies before
 -- it; or turns that wrote `most` replies.
@@ -92,7 +92,7 @@ TurnsTo most session moment None journal acts = HaveReplied most session moment 
 TurnsTo most session moment (Some result) journal acts = (replies : ℕ) × (replies < most)
     × (front : List Act) × (back : List Act) × (acts ≡ front ++ back)
     × HaveReplied replies session moment journal front × (replies_of result ≡ 0)
-    × AreTurnsOf session moment result (journal ++ front) back
+    × IsManyTurns session moment result (journal ++ front) back
 
 -- the turns after a first one, if it made progress
 abbrev pub FollowsFirst : Bool → Result Happened EngineFault → ℕ → ℕ → ℕ → Settled → List Act

@@ -6,6 +6,7 @@ use Rattle.sf_trees.specs.declared.fault.TreeFault.{TreeFault}
 use Rattle.sf_trees.specs.declared.fault.TreeFault.TheVariants as fault
 use Rattle.sf_trees.specs.declared.fault.Refused.{Refused}
 use Rattle.sf_trees.specs.Operations.{Operation}
+use Rattle.sf_engine.specs.contracts.promise.EngineSftp.TheImpl.{ghosts}
 use Rattle.sf_asking.specs.Asking.{AreDone}
 use Rattle.sf_c.specs.declared.making.At.{At}
 
@@ -29,7 +30,7 @@ TellsMade (Err r) n at = (n ≡ tree_fault_number r.fault)
 -- Operations were done on an engine, with this result.
 abbrev pub DoesIn : {R : Type 0} → ℕ → (List Operation → R → Type 0) → EngineView → R → EngineView
     → Type 0
-DoesIn moment P old r new = (operations : List Operation) × AreDone moment operations old new
+DoesIn moment P old r new = (operations : List Operation) × AreDone ghosts.has_log moment operations old new
     × P operations r
 
 -- the same for the engine that C holds, and the reported number

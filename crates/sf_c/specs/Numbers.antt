@@ -1,7 +1,9 @@
 -- The numbers that the library returns to C.
 use Rattle.std.specs.Prelude.{◌≡◌, ◌<◌, ◌≤◌, ◌+◌, ◌-◌, ◌⊎◌, ◌^◌, ◌++◌, Bool, true, false, ℕ, zero, suc, ℤ, pos, negsuc, List, [], length, take, drop, Option, Some, None, Result, Ok, Err, Vec}
 use Rattle.std.specs.Global.{Global}
-use Rattle.std.specs.List.{AllByRecursion}
+use Rattle.std.specs.List.{AllZip, flat_map, sum_by}
+use Rattle.sf_call.specs.declared.record.Record.{Record}
+use Rattle.sf_call.specs.declared.request.Request.{Request}
 use Rattle.sf_session.specs.declared.cause.Cause.{Cause}
 use Rattle.sf_session.specs.declared.cause.Cause.TheVariants as cause
 use Rattle.sf_engine.specs.declared.event.Event.{Event}
@@ -10,9 +12,8 @@ use Rattle.sf_engine.specs.declared.event.Happened.{Happened}
 use Rattle.sf_engine.specs.declared.event.Happened.TheVariants as happened
 use Rattle.sf_engine.specs.declared.event.EngineFault.{EngineFault}
 use Rattle.sf_engine.specs.declared.event.EngineFault.TheVariants as fault
-use Rattle.sf_engine.specs.Promise.{LogEntry, IsStepAtZero, AreDecided}
-use Rattle.sf_engine.specs.Fits.{Fits}
-use Rattle.sf_engine.specs.Rounds.{AreUnderWay, HasRounds, IsWithinBounds}
+use Rattle.sf_engine.specs.Promise.{Entry, linearization, under_way, AreRounds, IsDueTo, most_steps}
+use Rattle.sf_engine.specs.HasLog.{AppendsEntry}
 use Rattle.sf_engine.specs.Views.{EngineView}
 use Rattle.sf_engine.specs.contracts.promise.EngineSftp.TheImpl.{ghosts}
 use Rattle.sf_refusing.specs.declared.refusals.Refusals.{Refusals}
@@ -55,10 +56,12 @@ abbrev pub IsNumber : Result Happened EngineFault → ℤ → Type 0
 IsNumber (Ok happened) n = IsHappened happened n
 IsNumber (Err fault) n = n ≡ negsuc (fault_number fault)
 
--- an event changes an engine, and its result has this number
+-- An event changes an engine, and its result has this number. `AppendsEntry` says what the core
+-- did.
 abbrev pub LeadsToNumber : EngineView → Event → ℤ → EngineView → Type 0
-LeadsToNumber old event n new =
-    (result : Result Happened EngineFault) × EventLeads old event result new × IsNumber result n
+LeadsToNumber old event n new = (result : Result Happened EngineFault)
+    × EventLeads ghosts.has_log old event result new × AppendsEntry old event result new
+    × IsNumber result n
 
 -- the same for the engine that C holds
 abbrev pub AnswersNumber : Option EngineView → Event → ℤ → Option EngineView → Type 0
@@ -95,21 +98,24 @@ replies_of (Ok happened.Closed) = 0
 replies_of (Ok happened.Sent) = 0
 replies_of (Err fault) = 0
 
--- turns of some sessions, until no call is unanswered
-abbrev pub RunsToEnd : EngineView → EngineView → Type 0
-RunsToEnd old new = (log : List LogEntry) → ghosts.has_log old log → (entries : List LogEntry)
-    × AllByRecursion IsStepAtZero entries × ghosts.has_log new (log ++ entries)
-    × AreDecided (log ++ entries)
+-- An engine took this many rounds, at most as many as its calls have steps, and then no call is
+-- running.
+abbrev pub RunsRounds : ℕ → EngineView → EngineView → Type 0
+RunsRounds count old new = ((log : List Entry) → ghosts.has_log old log
+    → (rounds : List (List Entry)) × (length rounds ≡ count) × AreRounds log rounds
+    × ghosts.has_log new (log ++ flat_map (λ r. r) rounds))
+    × ((log : List Entry) → ghosts.has_log old log → (requests : List Request)
+    × AllZip (IsDueTo log) (under_way log) requests × (count ≤ sum_by most_steps requests))
+    × ((log : List Entry) → ghosts.has_log new log → under_way log ≡ [])
 
--- An engine took this many rounds, within the bounds of its calls, and then no call is unanswered.
+-- the same for the engine that C holds
 abbrev pub RunsAll : Option EngineView → ℕ → Option EngineView → Type 0
-RunsAll before rounds after =
-    (old : EngineView) × (new : EngineView) × (before ≡ Some old) × (after ≡ Some new)
-    × RunsToEnd old new × HasRounds rounds old new × IsWithinBounds rounds old × AreUnderWay [] new
+RunsAll before count after = (old : EngineView) × (new : EngineView) × (before ≡ Some old)
+    × (after ≡ Some new) × RunsRounds count old new
 
 -- a new engine that retains `keep` records, or all for 0
 abbrev pub IsFresh : ℕ → EngineView → Type 0
-IsFresh keep engine = ghosts.has_log engine [] × Fits engine []
+IsFresh keep engine = ghosts.has_log engine []
     × (keep ≡ 0 → engine.core.keep ≡ None)
     × (0 < keep → engine.core.keep ≡ Some keep)
 
@@ -118,3 +124,8 @@ abbrev pub IsNewEngine : ℕ → ℤ → Option EngineView → Option Refusals �
 IsNewEngine keep n made rules = ((n ≡ negsuc 0) × (made ≡ None) × (rules ≡ None))
     ⊎ ((engine : EngineView) × (r : Refusals) × (n ≡ pos 0) × (made ≡ Some engine)
     × (rules ≡ Some r) × IsFresh keep engine × HasJournal r [])
+
+-- the retained records are a suffix of the linearization of each log that the engine may have
+abbrev pub KeepsLastRecords : EngineView → Type 0
+KeepsLastRecords engine = (log : List Entry) → ghosts.has_log engine log
+    → (gone : List Record) × (linearization log ≡ gone ++ engine.core.records)

@@ -14,9 +14,7 @@ use Rattle.sf_call.specs.declared.request.Request.{Request}
 use Rattle.sf_call.specs.declared.request.Request.TheVariants as request
 use Rattle.sf_call.specs.declared.record.Record.{Record}
 use Rattle.sf_call.specs.declared.record.Record.TheVariants as record_of
-use Rattle.sf_engine.specs.Promise.{LogEntry, linearization}
 use Rattle.sf_engine.specs.Views.{EngineView}
-use Rattle.sf_engine.specs.contracts.promise.EngineSftp.TheImpl.{ghosts}
 use Rattle.sf_c.specs.declared.record_parts.Attributes.{Attributes}
 use Rattle.sf_c.specs.declared.record_parts.AskedParts.{AskedParts}
 use Rattle.sf_c.specs.declared.record_parts.Answered.{Answered}
@@ -192,11 +190,6 @@ abbrev pub TellsParts : EngineView → ℕ → List ℕ → RecordParts → List
 TellsParts engine at old parts new = (kept : Record) × (r : Recounted)
     × (slice_get engine.core.records at ≡ Some kept) × Recounts kept r × (parts ≡ r.parts)
     × (new ≡ take (length old) r.bytes.items ++ drop (length r.bytes.items) old)
-
--- the retained records are a suffix of the linearization of each log that the engine may have
-abbrev pub KeepsLastRecords : EngineView → Type 0
-KeepsLastRecords engine = (log : List LogEntry) → ghosts.has_log engine log
-    → (gone : List Record) × (linearization log ≡ gone ++ engine.core.records)
 
 -- Returns the number of retained records, with the record at an index if there is one; or -1 if
 -- memory runs out.

@@ -40,16 +40,16 @@ abbrev pub HasKind : Option RequestKind → ℕ → Type 0
 HasKind None number = number ≡ 0
 HasKind (Some wanted) number = number ≡ kind_number wanted
 
-abbrev pub session_of : ℕ → Option ℕ
-session_of zero = None
-session_of (suc before) = Some (suc before)
+abbrev pub ruled_session : ℕ → Option ℕ
+ruled_session zero = None
+ruled_session (suc before) = Some (suc before)
 
 abbrev pub HasPath : Option Path → Bool → List ℕ → Type 0
 HasPath wanted false text = wanted ≡ None
 HasPath wanted true text = (path : Path) × (path_at text ≡ Some path) × (wanted ≡ Some path)
 
 pub record IsRuleOf (parts : RuleParts) (text : List ℕ) (rule : Rule) : Type 0 where
-  pub session : rule.session ≡ session_of parts.session
+  pub session : rule.session ≡ ruled_session parts.session
   pub kind : HasKind rule.kind parts.kind
   pub path : HasPath rule.path parts.has_path text
   pub pass : rule.pass ≡ parts.pass

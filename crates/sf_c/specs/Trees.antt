@@ -2,11 +2,19 @@
 use Rattle.std.specs.Prelude.{◌≡◌, ◌⊎◌, ◌++◌, ℕ, ℤ, pos, negsuc, List, [], length, min, take, drop, replicate, slice_get, Option, Some, None}
 use Rattle.sf_path.specs.Names.{text_of}
 use Rattle.sf_call.specs.Attributes.{attrs_of}
-use Rattle.sf_call.specs.Leaves.{Leaf, contents_of}
+use Rattle.sf_call.specs.Histories.{replay}
+use Rattle.sf_call.specs.Leaves.{Leaf, leaves_of, contents_of}
 use Rattle.sf_engine.specs.Views.{EngineView}
-use Rattle.sf_asking.specs.Logs.{HasTree}
+use Rattle.sf_engine.specs.Promise.{Entry, linearization}
+use Rattle.sf_engine.specs.contracts.promise.EngineSftp.TheImpl.{ghosts}
 use Rattle.sf_c.specs.declared.leaves.LeafParts.{LeafParts}
 use Rattle.sf_c.specs.Records.{attributes_parts}
+
+-- The leaves of the engine's tree: each path once, in the order of paths, with its object after the
+-- calls that were decided so far.
+abbrev pub HasTree : EngineView → List Leaf → Type 0
+HasTree engine leaves = (log : List Entry) → ghosts.has_log engine log
+    → leaves ≡ leaves_of (replay (linearization log))
 
 -- a snapshot of the engine's tree was taken, or memory ran out
 abbrev pub TakesTree : EngineView → ℤ → Option (List Leaf) → Type 0

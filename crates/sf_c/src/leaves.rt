@@ -3,8 +3,7 @@
 ghost use Rattle.std.specs.Prelude.{◌≡◌, ◌<◌, ◌≤◌, ◌+◌, ◌-◌, ◌^◌, ℕ, length, min, take, drop, replicate, slice_get, pos, IfOk, IfErr};
 ghost use Rattle.std.specs.Option.{option_copied};
 ghost use Rattle.sf_path.specs.Names.{text_of};
-ghost use Rattle.sf_asking.specs.Logs.{HasTree};
-ghost use Rattle.sf_c.specs.Trees.{leaf_parts, bytes_at, bytes_of_object, IsFilled, ReadsBytes, ReadsLeaf, HasGap, TellsGap, TellsLeaf};
+ghost use Rattle.sf_c.specs.Trees.{HasTree, leaf_parts, bytes_at, bytes_of_object, IsFilled, ReadsBytes, ReadsLeaf, HasGap, TellsGap, TellsLeaf};
 
 use crate::copy_front;
 use crate::record_parts::{Attributes, attributes_parts};

@@ -13,12 +13,12 @@
 ghost use Rattle.std.specs.Prelude.{◌≡◌, ◌++◌, length, take, drop, None, IsSome, IfOk, IfSome};
 ghost use Rattle.sf_engine.specs.declared.event.Event.TheVariants as event;
 ghost use Rattle.sf_trees.specs.Makings.{MakesDirectory, WritesFile, Links};
-ghost use Rattle.sf_c.specs.Records.{TellsRecord, KeepsLastRecords};
+ghost use Rattle.sf_c.specs.Records.{TellsRecord};
 ghost use Rattle.sf_c.specs.Journals.{InBoth, OfBoth, FeedsBytes, SendsBytes, TurnsOnce, Settles, SaysItWaits, Outputs};
 ghost use Rattle.sf_c.specs.Rules.{TakesRule, TellsRefused};
 ghost use Rattle.sf_c.specs.Making.{AnswersMade};
 ghost use Rattle.sf_c.specs.Trees.{TakesTree, TellsLeaf, ReadsLeaf, TellsGap};
-ghost use Rattle.sf_c.specs.Numbers.{AnswersNumber, RunsAll, IsFresh, IsNewEngine};
+ghost use Rattle.sf_c.specs.Numbers.{AnswersNumber, KeepsLastRecords, RunsAll, IsFresh, IsNewEngine};
 
 mod held;
 mod held_refusals;

@@ -6,7 +6,7 @@ ghost use Rattle.sf_reply.specs.Replies.{number_of};
 ghost use Rattle.sf_reply.specs.declared.reply.StatusCode.{StatusCode};
 ghost use Rattle.sf_refusing.specs.declared.rule.RequestKind.{RequestKind};
 ghost use Rattle.sf_session.specs.Asking.{path_at};
-ghost use Rattle.sf_c.specs.Rules.{kind_number, HasKind, session_of, HasPath, IsRuleOf, IsFaulty, rule_fault_number, GivesRule, TellsRefused};
+ghost use Rattle.sf_c.specs.Rules.{kind_number, HasKind, ruled_session, HasPath, IsRuleOf, IsFaulty, rule_fault_number, GivesRule, TellsRefused};
 
 use sf_path::{Path, PathFault};
 use sf_refusing::{Refusals, RequestKind, Rule};
@@ -81,7 +81,7 @@ fn status_at(number: u32) -> Option<StatusCode>
 
 /// The session that a rule is for; none for 0, which means any.
 fn session_of(number: u64) -> Option<u64>
-    ensures { result ≡ session_of number }
+    ensures { result ≡ ruled_session number }
 {
     if number == 0 {
         return None;

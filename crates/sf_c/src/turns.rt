@@ -1,9 +1,9 @@
 //! Events of an engine, bytes for a session through its refusals, and a session's turns until it is
 //! idle.
 
-ghost use Rattle.std.specs.Prelude.{◌≡◌, ◌≤◌, ◌<◌, ◌^◌, ℕ, length};
+ghost use Rattle.std.specs.Prelude.{◌≡◌, ◌≤◌, ◌<◌, ◌^◌, length};
 ghost use Rattle.sf_c.specs.Numbers.{leads_on, replies_of, LeadsToNumber};
-ghost use Rattle.sf_c.specs.Journals.{JournalGoesOn, FeedsBytes, SendsBytes, TurnsOnce, AreTurnsOf, TurnsTo, AreSettled, Settles};
+ghost use Rattle.sf_c.specs.Journals.{JournalGoesOn, FeedsBytes, SendsBytes, TurnsOnce, TurnsTo, AreSettled, Settles};
 
 use crate::number::number_of;
 use sf_engine::{Engine, EngineFault, Event, Happened};
@@ -35,22 +35,6 @@ pub fn turn(engine: &mut Engine, refusals: &mut Refusals, session: u64, moment: 
     ensures { TurnsOnce session moment result engine.old refusals.old engine.new refusals.new }
 {
     number_of(refusals.turn(engine, session, moment))
-}
-
-/// As `turn`, but the engine takes turns until the session's call is answered or can't progress.
-fn turns(
-    engine: &mut Engine,
-    refusals: &mut Refusals,
-    session: u64,
-    moment: u32,
-) -> Result<Happened, EngineFault>
-    ensures { JournalGoesOn (AreTurnsOf session moment result) engine.old refusals.old engine.new
-        refusals.new }
-{
-    if refusals.move_on(engine, session)? {
-        return Ok(Happened::Wrote);
-    }
-    engine.turns(session, moment)
 }
 
 /// Whether a turn made progress, so that another one follows.
@@ -87,7 +71,7 @@ fn follow(
         refusals.new }
 {
     for _ in 0..most {
-        let outcome = turns(engine, refusals, session, moment);
+        let outcome = refusals.turns(engine, session, moment);
         if replies_of(outcome) == 0 {
             return Some(outcome);
         }

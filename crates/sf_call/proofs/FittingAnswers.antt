@@ -1,7 +1,7 @@
 -- The answers to requests with values in range: short replies, and trees with values in range.
-use Rattle.std.proofs.Common.{◌≡◌, ℕ, zero, suc, refl, ◌+◌, ◌<◌, ◌≤◌, ◌^◌, Bool, true, false, cond, not, nat_eq, nat_lt, nat_le, ◌&&◌, List, [], ◌∷◌, ◌++◌, length, take, filter_map, Option, Some, None, option_map, option_and_then, unwrap_or, IfSome, arith}
+use Rattle.std.proofs.Common.{◌≡◌, ℕ, zero, suc, refl, ◌+◌, ◌<◌, ◌≤◌, ◌^◌, Bool, true, false, cond, eqb, not, nat_eq, nat_lt, nat_le, ◌&&◌, List, [], ◌∷◌, ◌++◌, length, take, filter_map, Option, Some, None, option_map, option_and_then, unwrap_or, IfSome, arith}
 use Rattle.std.specs.List.{AllByRecursion}
-use Rattle.std.specs.Option.{is_some}
+use Rattle.std.specs.Option.{is_some, option_map_or}
 use Rattle.std.specs.Ordering.{nat_cmp}
 use Rattle.std.specs.BTreeMap.{is_at}
 use Rattle.std.proofs.lemmas.Bool.{ltb-false}
@@ -10,6 +10,7 @@ use Rattle.std.proofs.lemmas.List.Elements.{All-head}
 use Rattle.sf_path.specs.Names.{Name, Path, IsName, IsPath}
 use Rattle.sf_path.specs.Order.{parent}
 use Rattle.sf_field.specs.declared.attrs.Attrs.{Attrs}
+use Rattle.sf_field.specs.declared.attrs.Owner.{Owner}
 use Rattle.sf_field.specs.declared.open_flags.OpenFlags.{OpenFlags}
 use Rattle.sf_reply.specs.declared.reply.Entry.{Entry}
 use Rattle.sf_reply.specs.declared.reply.Reply.{Reply}
@@ -23,7 +24,7 @@ use Rattle.sf_call.specs.declared.lookup.Lookup.{Lookup}
 use Rattle.sf_call.specs.declared.lookup.Lookup.TheVariants.{NoWay, Absent, At}
 use Rattle.sf_call.specs.declared.request.Request.{Request}
 use Rattle.sf_call.specs.declared.request.Request.TheVariants.{Stat, SetStat, Mkdir, Rmdir, Remove, OpenDir, Open, Close, FStat, FSetStat, Read, Write, ReadDir, Rename, PosixRename, Link}
-use Rattle.sf_call.specs.Attributes.{Object, made_at, modified_at, with_parts, attrs_of}
+use Rattle.sf_call.specs.Attributes.{Object, made_at, modified_at, new_id, new_owner, with_parts, attrs_of}
 use Rattle.sf_call.specs.Attributes.Object.{Directory, File}
 use Rattle.sf_block.specs.Contents.{resized, written}
 use Rattle.sf_call.specs.Tree.{Tree, Handle, FoundObject, label_at, object_of, links, directory_metadata, directory_at, look_up, found_object, found_place, found_at, after_front, only_name, is_nil, is_empty}
@@ -75,9 +76,17 @@ given_or : {A : Type 0} (P : A → Type 0) (o : Option A) (d : A) → IfSome o P
 given_or P None d p q = q
 given_or P (Some x) d p q = p
 
+id_fits : (given stored : ℕ) → given < 2 ^ 32 → stored < 2 ^ 32 → new_id given stored < 2 ^ 32
+id_fits given stored p q = elim (eqb given 4294967295) as (λ b. cond b stored given < 2 ^ 32) [ true ↦ q | false ↦ p ]
+
+owner_fits : (o : Option Owner) (stored : Owner) → IfSome o OwnerFits → OwnerFits stored → OwnerFits (option_map_or (λ given. new_owner given stored) o stored)
+owner_fits None stored p q = q
+owner_fits (Some given) stored p q =
+    record { uid = id_fits given.uid stored.uid p.uid q.uid; gid = id_fits given.gid stored.gid p.gid q.gid }
+
 parts_fit : (m : Metadata) (attrs : Attrs) → MetadataFits m → AttrsFit attrs → MetadataFits (with_parts m attrs)
 parts_fit m attrs fits a = record {
-  owner = given_or OwnerFits attrs.owner m.owner a.owner fits.owner;
+  owner = owner_fits attrs.owner m.owner a.owner fits.owner;
   times = given_or TimesFit attrs.times m.times a.times fits.times;
 }
 

@@ -1,7 +1,8 @@
 -- The attributes of directories and files, as stored and as sent.
-use Rattle.std.specs.Prelude.{ℕ, ◌+◌, ◌%◌, Some, unwrap_or, List, length}
+use Rattle.std.specs.Prelude.{ℕ, ◌+◌, ◌%◌, ◌==◌, if◌then◌else◌, Some, unwrap_or, List, length}
 use Rattle.std.specs.Option.{option_map_or}
 use Rattle.sf_field.specs.declared.attrs.Attrs.{Attrs}
+use Rattle.sf_field.specs.declared.attrs.Owner.{Owner}
 use Rattle.sf_call.specs.declared.metadata.FileType.{FileType}
 use Rattle.sf_call.specs.declared.metadata.FileType.TheVariants as file_type
 pub use Rattle.sf_call.specs.declared.metadata.Metadata.{Metadata}
@@ -28,11 +29,19 @@ modified_at moment m = record {
   times = record { atime = m.times.atime; mtime = moment };
 }
 
+-- a given user or group replaces the stored one, unless it is 4294967295 (POSIX, chown: -1)
+abbrev pub new_id : ℕ → ℕ → ℕ
+new_id given stored = if given == 4294967295 then stored else given
+
+abbrev pub new_owner : Owner → Owner → Owner
+new_owner given stored =
+    record { uid = new_id given.uid stored.uid; gid = new_id given.gid stored.gid }
+
 -- The given attributes replace the stored ones (draft, section 5). Only the low twelve bits of the
 -- permissions are stored. The size is ignored here.
 abbrev pub with_parts : Metadata → Attrs → Metadata
 with_parts m attrs = record {
-  owner = unwrap_or attrs.owner m.owner;
+  owner = option_map_or (λ given. new_owner given m.owner) attrs.owner m.owner;
   permissions = option_map_or (λ bits. bits % 0o10000) attrs.permissions m.permissions;
   times = unwrap_or attrs.times m.times;
 }

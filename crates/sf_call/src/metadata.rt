@@ -1,7 +1,7 @@
 //! The attributes of a directory or a file, apart from its size.
 
 ghost use Rattle.std.specs.Prelude.{◌≡◌};
-ghost use Rattle.sf_call.specs.Attributes.{new_metadata, modified_at, with_parts, sent, type_bits};
+ghost use Rattle.sf_call.specs.Attributes.{new_metadata, modified_at, new_id, new_owner, with_parts, sent, type_bits};
 
 use sf_field::{Attrs, Owner, Times};
 
@@ -51,12 +51,16 @@ impl Metadata {
         made.with_parts(attrs)
     }
 
-    /// Replaces the attributes that `attrs` gives; a size is ignored.
+    /// Replaces the attributes that `attrs` gives; a size is ignored, and so is a user or a group
+    /// of 4294967295.
     pub fn with_parts(self, attrs: &Attrs) -> Metadata
         ensures { result ≡ with_parts self attrs.now }
     {
         Metadata {
-            owner: attrs.owner.unwrap_or(self.owner),
+            owner: match attrs.owner {
+                Some(given) => new_owner(given, self.owner),
+                None => self.owner,
+            },
             permissions: attrs
                 .permissions
                 .map_or(self.permissions, |bits| bits % 0o10000),
@@ -86,4 +90,21 @@ impl Metadata {
             times: Some(self.times),
         }
     }
+}
+
+/// The owner after `given` was set: a user or a group of 4294967295 leaves that one as it is, as in
+/// POSIX's `chown`.
+fn new_owner(given: Owner, stored: Owner) -> Owner
+    ensures { result ≡ new_owner given stored }
+{
+    Owner {
+        uid: new_id(given.uid, stored.uid),
+        gid: new_id(given.gid, stored.gid),
+    }
+}
+
+fn new_id(given: u32, stored: u32) -> u32
+    ensures { result ≡ new_id given stored }
+{
+    if given == u32::MAX { stored } else { given }
 }

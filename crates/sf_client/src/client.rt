@@ -168,22 +168,6 @@ impl<L: Line + Drop> Client<L> {
         }
     }
 
-    /// Returns the transport, in whatever state it is.
-    pub fn into_line(self) -> L
-        ensures incoming { L.incoming result ≡ self.incoming }
-        ensures outgoing { L.outgoing result ≡ self.outgoing }
-        ensures failures { L.failed result ≡ self.failures }
-    {
-        let Client {
-            alloc: _alloc,
-            line,
-            next: _next,
-            failed: _failed,
-            body: _body,
-        } = self;
-        line
-    }
-
     /// The client's allocator.
     pub(crate) fn alloc(&self) -> Global {
         self.alloc

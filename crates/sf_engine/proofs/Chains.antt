@@ -1,4 +1,4 @@
--- Turns of a session, one after the other: from a walk of its call to turns of its place, and from these to turns of the engine.
+-- Many turns of a session, from the many-step walk of its call.
 use Rattle.std.proofs.Common.{◌≡◌, ◌≢◌, ℕ, zero, suc, ◌+◌, ◌-◌, ◌<◌, ◌^◌, length, List, [], ◌++◌, Bool, true, false, Some, None, Result, Ok, Err, IfOk, IfErr, OnErr, IfSome, IsSome, slice_get, slice_set, refl, ap, sym, ◌∙◌, subst, arith, inl, inr, zero-add, append-nil}
 use Rattle.sf_field.specs.Fields.{packet}
 use Rattle.sf_reply.specs.Replies.{reply_body}
@@ -22,23 +22,15 @@ use Rattle.sf_engine.specs.declared.event.Happened.{Happened}
 use Rattle.sf_engine.specs.declared.event.Happened.TheVariants as happened
 use Rattle.sf_engine.specs.declared.event.EngineFault.{EngineFault}
 use Rattle.sf_engine.specs.declared.event.EngineFault.TheVariants as fault
-use Rattle.sf_session.specs.SessionStates.{Phase, Resting, UnderWay, Decided, Gone}
-use Rattle.sf_engine.specs.Worlds.{World}
-use Rattle.sf_engine.specs.Traces.{goes_on, goes_on_at}
+use Rattle.sf_engine.specs.Promise.{continues}
 use Rattle.sf_engine.specs.Turns.{AddsRecords, ReadGives, RestsOrLeaves, IsLaneOf, GivesAt, IsHostedState, MayRefuseTurn, is_resting, is_under_way, is_busy, Stand, stand, IsReady, TurnGives, TurnsGive, GoesFar, Finding, finding}
-use Rattle.sf_engine.specs.Views.{EngineView}
-use Rattle.sf_engine.specs.Fits.{PlaceAgrees, Agrees, IsEngine, HasTurns}
-use Rattle.sf_engine.proofs.Tracing.{Steps, goes_on_trace, stays_engine}
 use Rattle.sf_engine.proofs.MovesBy.{moves_by}
-use Rattle.sf_engine.proofs.Moving.{get_set_same, set_twice}
-use Rattle.sf_engine.proofs.HostedChanges.{HostedChange, engine, hosted_session, changed, stand_before, stand_after}
-use Rattle.sf_engine.proofs.Turning.{told_at, same_engine, any_turn_steps, is_placed}
 
--- a session whose call is under way
+-- a session whose call is running
 abbrev pub going : CoreView → SessionView → LaneView → Stand
 going v x lane = stand v x (state.UnderWay lane)
 
--- a session whose call waits to be answered
+-- a session with a pending reply
 abbrev pub answered : CoreView → SessionView → LaneView → AnswerView → Stand
 answered v x lane given = stand v x (state.Decided lane given)
 
@@ -72,7 +64,7 @@ still_own (suc n) v w lane x moved own =
       },
     )
 
--- one turn that doesn't go on
+-- one last turn
 one_turn : (a : Stand) (f : Finding) (r : Happened) (b : Stand) → TurnGives a f r b → TurnsGive 0 a f (Ok r) b
 unfolding TurnsGive
 one_turn a f r b turn = turn
@@ -81,7 +73,7 @@ one_turn a f r b turn = turn
 record GoingTurn (a : Stand) (f : Finding) : Type 0 where
   happened : Happened
   mid : Stand
-  goes_on : goes_on happened ≡ true
+  goes_on : continues (Ok happened) ≡ true
   gives : TurnGives a f happened mid
 
 -- before other turns
@@ -125,15 +117,15 @@ moved_walk a lane f most w lane' many k =
       far = λ e. omega (arith, full);
     }
 
--- where a walk comes to an answer: the core, the lane and the answer then
+-- a walk that answers its call: the core, the lane and the answer after it
 pub record AnsweredEnd : Type 0 where
   pub core : CoreView
   pub lane : LaneView
   pub answer : AnswerView
 
--- a walk that comes to an answer, and the turn that is to write it
+-- a walk that answers its call, and the turn that writes the reply
 pub answered_walk : (a : Stand) (lane : LaneView) (f : Finding) (most : ℕ) (c : AnsweredEnd) (r : Result Happened EngineFault) (b : Stand)
-    → Walks a.core lane most (walk_end (step.Answered c.answer) c.core c.lane) → TurnsGive 0 (answered c.core a.session c.lane c.answer) f r b × (goes_on_at r ≡ false) → GoesFar (going a.core a.session lane) f r b
+    → Walks a.core lane most (walk_end (step.Answered c.answer) c.core c.lane) → TurnsGive 0 (answered c.core a.session c.lane c.answer) f r b × (continues r ≡ false) → GoesFar (going a.core a.session lane) f r b
 answered_walk a lane f most c r b k last =
     let mid = going k.mid a.session lane in
     let waits = answered c.core a.session c.lane c.answer in
@@ -144,14 +136,14 @@ answered_walk a lane f most c r b k last =
       far = λ e. absurd (let no : false ≡ true = sym last.1 ∙ e in cc);
     }
 
--- that turn, where the reply was written
+-- that turn, if the reply was written
 pub written_turn : (a : Stand) (lane : LaneView) (given : AnswerView) (f : Finding) (y : SessionView) (b : Stand)
     → IfSome a.session.waiting (λ id. y ≡ record a.session { output = a.session.output ++ packet (reply_body id given.reply); waiting = None })
     → AddsRecords a.core b.core (λ h added. RestsOrLeaves (stand a.core y (state.Resting lane)) lane f.closed added b) → TurnsGive 0 (answered a.core a.session lane given) f (Ok happened.Wrote) b
 written_turn a lane given f y b wrote settles =
     one_turn (answered a.core a.session lane given) f happened.Wrote b (λ h is. let g = settles h is in (g.0, g.1, (refl, (y, wrote, g.2))))
 
--- and where memory was wanting
+-- and if memory ran out
 pub unwritten_turn : (a : Stand) (lane : LaneView) (given : AnswerView) (f : Finding) (y : SessionView) (lane' : LaneView) → lane' ≡ lane → y ≡ a.session → ((id : ℕ) → reply_room < length (packet (reply_body id given.reply)))
     → TurnsGive 0 (answered a.core a.session lane given) f (Err fault.OutOfMemory) (answered a.core y lane' given)
 unwritten_turn a lane given f y lane' same kept long =
@@ -161,12 +153,10 @@ unwritten_turn a lane given f y lane' same kept long =
 
 -- a place has one lane
 pub lane_same : (p : HostedState) (lane other : LaneView) → IsLaneOf p lane → IsLaneOf p other → lane ≡ other
-lane_same (state.Resting own) lane other a b = a ∙ sym b
-lane_same (state.UnderWay own) lane other a b = a ∙ sym b
-lane_same (state.Decided own given) lane other a b = a ∙ sym b
 lane_same (state.Gone cause) lane other a b = absurd a
+lane_same _ lane other a b = a ∙ sym b
 
--- and what this turn asks
+-- and the condition for this turn
 pub answered_placed : (a : Stand) (lane : LaneView) (most : ℕ) (c : AnsweredEnd) → Walks a.core lane most (walk_end (step.Answered c.answer) c.core c.lane) → IsReady (going a.core a.session lane) → IsHostedState c.core a.session (state.Decided c.lane c.answer)
 answered_placed a lane most c k ready =
     let own = still_own k.moves a.core k.mid lane a.session k.moved ready.placed in
@@ -175,7 +165,7 @@ answered_placed a lane most c k ready =
     let slot : lane_state c.core lane.session ≡ Idle = elim s.2.0.1 [ inl f ↦ f.slot.own | inr d ↦ d.slot ] in
     (ap (λ (l : LaneView). l.call) rests, ap (λ (l : LaneView). lane_state c.core l.session) rests ∙ slot, ready.waits refl)
 
--- the lane of a call under way is no stranger
+-- the core knows the lane of a running call
 pub no_stranger : (a : Stand) (lane : LaneView) (most : ℕ) (w : CoreView) (lane' : LaneView) → Walks a.core lane most (walk_end step.Stranger w lane') → IsReady (going a.core a.session lane) → ⊥
 no_stranger a lane most w lane' k ready =
     let own = still_own k.moves a.core k.mid lane a.session k.moved ready.placed in
@@ -184,18 +174,16 @@ no_stranger a lane most w lane' k ready =
 -- a session that rests has its lane in its place
 resting_lane : (p : HostedState) → is_resting p ≡ true → (lane : LaneView) × (p ≡ state.Resting lane)
 resting_lane (state.Resting lane) rests = (lane, refl)
-resting_lane (state.UnderWay lane) rests = absurd cc
-resting_lane (state.Decided lane given) rests = absurd cc
-resting_lane (state.Gone cause) rests = absurd cc
+resting_lane _ rests = absurd cc
 
--- what was read, as a turn, whether the session was closed or not
+-- reading as a turn, whether the session was closed or not
 read_turn : (a : Stand) (f : Finding) (r : Happened) (b : Stand) → is_resting a.place ≡ true → TurnGives a (finding false f.moment) r b → TurnGives a f r b
 read_turn a f r b rests give =
     let lane = resting_lane a.place rests in
     let P : Bool → HostedState → Type 0 = λ closed p. AddsRecords a.core b.core (λ h added. GivesAt p a h (finding closed f.moment) r added b) in
     subst (P f.closed) (sym lane.1) (subst (P false) lane.1 give)
 
--- a call that has begun can go on
+-- a call that has begun can take turns
 pub begun_ready : (a : Stand) (m : ℕ) (b : Stand) → is_resting a.place ≡ true → IsReady a → TurnGives a (finding false m) happened.Begun b → (is_under_way b.place ≡ true) × IsReady b
 begun_ready a m b rests ready give =
     let lane = resting_lane a.place rests in
@@ -222,14 +210,14 @@ begun_far a f b last end rests give k = record {
   far = λ e. omega (arith, k.far e);
 }
 
--- else the session's call doesn't go on
-read_ends : (a : Stand) (lane : LaneView) (m : ℕ) (r : Happened) (added : List Record) (b : Stand) → ReadGives a lane m r added b → r ≢ happened.Begun → goes_on r ≡ true → ⊥
+-- otherwise the session has no running call
+read_ends : (a : Stand) (lane : LaneView) (m : ℕ) (r : Happened) (added : List Record) (b : Stand) → ReadGives a lane m r added b → r ≢ happened.Begun → continues (Ok r) ≡ true → ⊥
 read_ends a lane m happened.Begun added b g other e = other refl
 read_ends a lane m happened.Moved added b g other e = g
 read_ends a lane m happened.Decided added b g other e = g
 read_ends a lane m _ added b g other e = absurd cc
 
--- what else was read
+-- a packet without a call
 pub read_far : (a : Stand) (f : Finding) (r : Happened) (b : Stand) → is_resting a.place ≡ true → IsReady a → TurnGives a (finding false f.moment) r b → r ≢ happened.Begun → GoesFar a f (Ok r) b
 read_far a f r b rests ready give other =
     let lane = resting_lane a.place rests in
@@ -241,24 +229,24 @@ read_far a f r b rests ready give other =
       far = λ e. absurd (read_ends a lane.0 f.moment r g.0 b read other e);
     }
 
--- nothing was read, for want of memory
+-- nothing was read, as memory ran out
 pub unread_far : (a : Stand) (f : Finding) (b : Stand) → is_resting a.place ≡ true → b ≡ a → GoesFar a f (Err fault.OutOfMemory) b
 unread_far a f b rests same =
     let lane = resting_lane a.place rests in
     record { turns = 0; give = no_turn a f b same (subst MayRefuseTurn (sym lane.1) tt); far = λ e. absurd cc }
 
--- what a turn of a session gives, or that memory was wanting
+-- a turn of a session, or memory ran out
 pub record TurnAnswers (a : Stand) (f : Finding) (r : Result Happened EngineFault) (b : Stand) : Type 0 where
   pub ok : IfOk r (λ k. TurnGives a f k b)
   pub err : OnErr r ((b.place ≡ a.place) × (b.core ≡ a.core) × (b.session ≡ a.session))
   pub fault : IfErr r (λ f. (f ≡ fault.OutOfMemory) × MayRefuseTurn a.place)
 
--- one turn of a session whose answer waits
+-- one turn of a session with a pending reply
 pub answer_far : (a : Stand) (f : Finding) (r : Result Happened EngineFault) (b : Stand) (lane : LaneView) (given : AnswerView) → a.place ≡ state.Decided lane given → IsReady a → TurnAnswers a f r b → GoesFar a f r b
 answer_far a f (Ok r) b lane given waits ready t =
     let g = t.ok ready.history ready.is_history in
     let wrote = (subst (λ (o : HostedState). GivesAt o a ready.history f r g.0 b) waits g.2).0 in
-    record { turns = 0; give = one_turn a f r b t.ok; far = λ e. absurd (let no : false ≡ true = ap goes_on (sym wrote) ∙ e in cc) }
+    record { turns = 0; give = one_turn a f r b t.ok; far = λ e. absurd (let no : false ≡ true = ap (λ (z : Happened). continues (Ok z)) (sym wrote) ∙ e in cc) }
 answer_far a f (Err e) b lane given waits ready t =
     let P : EngineFault → Type 0 = λ z. GoesFar a f (Err z) b in
     let why = t.fault in
@@ -270,46 +258,3 @@ left_far v x cause f =
     let a = stand v x (state.Gone cause) in
     let turn : TurnGives a f (happened.Ended cause) a = λ h is. ([], subst (λ (l : List Record). IsHistory v l) (sym (append-nil h)) is, (refl, refl, refl, refl, refl)) in
     record { turns = 0; give = one_turn a f (happened.Ended cause) a turn; far = λ e. absurd cc }
-
--- a turn of an engine for each of a session's, and an engine stays one
-pub turns_trace : (n : ℕ) (s : HostedChange) (m : ℕ) (r : Result Happened EngineFault) → s.now.closed ≡ s.was.closed → TurnsGive n (stand_before s) (finding s.was.closed m) r (stand_after s)
-    → HasTurns n s.old (event.Turn s.session m) r (changed s) × (IsEngine s.old.core s.old.hosted → IsEngine s.core (slice_set s.old.hosted s.at s.now))
-unfolding TurnsGive HasTurns
-turns_trace zero s m (Ok r) closed give =
-    let does = any_turn_steps s m (Ok r) (record { ok = give; closed = closed; err = tt; fault = tt }) in
-    ((goes_on_trace s.old (event.Turn s.session m) (Ok r) (changed s) does, tt), stays_engine s.old (event.Turn s.session m) (Ok r) (changed s) does)
-turns_trace zero s m (Err f) closed give =
-    let core : s.core ≡ s.old.core = ap (λ (z : Stand). z.core) give.0 in
-    let same : s.now ≡ s.was = ap (λ (z : Stand). hosted_session z.session z.place s.now.closed) give.0 ∙ ap (λ (b : Bool). hosted_session s.was.session s.was.place b) closed in
-    let does = any_turn_steps s m (Err f) (record { ok = tt; closed = closed; err = (core, same); fault = (give.1, give.2) }) in
-    ((goes_on_trace s.old (event.Turn s.session m) (Err f) (changed s) does, same_engine s core same), stays_engine s.old (event.Turn s.session m) (Err f) (changed s) does)
-turns_trace (suc n) s m r closed give =
-    let h : Happened = give.0 in
-    let mid : Stand = give.1 in
-    let hosted = s.old.hosted in
-    let between : HostedSession = hosted_session mid.session mid.place s.was.closed in
-    let first : HostedChange = record s { core = mid.core; now = between } in
-    let others : HostedChange = record { old = changed first; at = s.at; session = s.session; was = between; core = s.core; now = s.now; number = s.number; stood = get_set_same hosted s.at s.was between s.stood } in
-    let does = any_turn_steps first m (Ok h) (record { ok = give.3; closed = refl; err = tt; fault = tt }) in
-    let rest = turns_trace n others m r closed give.4 in
-    let once : slice_set (slice_set hosted s.at between) s.at s.now ≡ slice_set hosted s.at s.now = set_twice hosted s.at between s.now in (
-      (changed first, h, goes_on_trace s.old (event.Turn s.session m) (Ok h) (changed first) does, give.2, subst (λ (z : List HostedSession). HasTurns n (changed first) (event.Turn s.session m) r (engine s.core z)) once rest.0),
-      λ is. subst (λ (z : List HostedSession). IsEngine s.core z) once (rest.1 (stays_engine s.old (event.Turn s.session m) (Ok h) (changed first) does is)),
-    )
-
--- turns of a session that there is not
-pub no_turns : (e : EngineView) (s m : ℕ) (f : EngineFault) → ((w : World) → Agrees w e → Steps e (event.Turn s m) (Err f) e w) → HasTurns 0 e (event.Turn s m) (Err f) e
-unfolding HasTurns
-no_turns e s m f does = (goes_on_trace e (event.Turn s m) (Err f) e does, refl)
-
--- a session of an engine is ready for its turns
-pub is_ready : (w : World) (v : CoreView) (hosted : List HostedSession) (at : ℕ) (p : HostedSession) → Agrees w (engine v hosted) → slice_get hosted at ≡ Some p → IsReady (stand v p.session p.place)
-is_ready w v hosted at p agrees was =
-    let t = told_at w v hosted at p agrees was in
-    record { history = w.records; is_history = agrees.history; placed = is_placed w v hosted at p agrees was; waits = waits v (at + 1) p.session t.0.phase p.place t.3.at }
-  where
-    waits : (v : CoreView) (s : ℕ) (x : SessionView) (f : Phase) (o : HostedState) → PlaceAgrees v s x f o → is_busy o ≡ true → IsSome x.waiting
-    waits v s x Resting o a busy = absurd (let no : false ≡ true = ap is_busy (sym a.place_is) ∙ busy in cc)
-    waits v s x (UnderWay id n m q moves) o a busy = subst IsSome (sym a.waiting) refl
-    waits v s x (Decided id n q given) o a busy = subst IsSome (sym a.waiting) refl
-    waits v s x (Gone cause) o a busy = absurd (let no : false ≡ true = ap is_busy (sym a.0) ∙ busy in cc)

@@ -1,4 +1,4 @@
--- Where a call stops, and that nobody is told want of memory who takes none.
+-- The moves after which a call stops, and which calls may be answered out of memory.
 use Rattle.std.proofs.Common.{◌≡◌, ℕ, ◌+◌, ◌<◌, false, length, take, ap, ◌∙◌, arith, inl, inr}
 use Rattle.sf_path.specs.Names.{Path}
 use Rattle.sf_reply.specs.declared.reply.Reply.{Reply}
@@ -15,9 +15,9 @@ use Rattle.sf_core.specs.Progress.{MayDecideBy}
 use Rattle.sf_walk.specs.Steps.MayDecideWhere.{AtOnce, AtRoot, AtEnd}
 use Rattle.sf_core.specs.Events.{Before, After, Decides}
 use Rattle.sf_engine.specs.Deciding.{StopsOnWay, WalkStops, AreSure}
-use Rattle.sf_engine.specs.Fits.{HasMoved}
+use Rattle.sf_engine.specs.HasLog.{HasMoved}
 
--- one move more
+-- one more move
 pub moved_on : (c d : Stage) (moves : ℕ) → HasMoved c moves → AdvancesOne c d → HasMoved d (moves + 1)
 moved_on c d moves h (TakesRoot node) = omega (arith, h)
 moved_on c d moves h (PartsAtRoot to e) = omega (arith, h, e)
@@ -29,7 +29,7 @@ moved_on c d moves h (NewGoesOn common old new to e) = omega (arith, h, e)
 early : (tree : Tree) (path : Path) (walked moves : ℕ) → moves ≡ walked + 1 → walked + 1 < length path → is_directory tree (take (walked + 1) path) ≡ false → StopsOnWay tree path moves
 early tree path walked moves h less none = (omega (arith, h), omega (arith, h, less), ap (λ (k : ℕ). is_directory tree (take k path)) h ∙ none)
 
--- where the core may decide, the call has stopped
+-- if the core may decide the call, it has stopped
 pub stops : (tree : Tree) (r : Route) (at : Stage) (moves : ℕ) → IsPosition r at → HasMoved at moves → MayDecideBy tree r at → WalkStops tree r moves
 stops tree r at moves is h AtOnce = h
 stops tree r at moves is h AtRoot = inl h
@@ -43,6 +43,6 @@ stops tree r at moves (IsApart o u d f g is) h (AtEnd q j path from (OldEnd old 
     let same = is.in_turn more in inl (early tree path from.walked moves (omega (arith, h, same)) e.0 e.1)
 stops tree r at moves (IsApart o u d f g is) h (AtEnd q j path from (NewEnd old new c a b parent) e) = inr (c.walked, is.part, (from.walked, is.new_below, omega (arith, h, parent), e))
 
--- the records of a step that carries its call out
+-- the records of a step at which its call takes effect
 pub step_sure : (b : Before) (a : After) (c : Call) (given : Reply) → Decides b a c given → AreSure b.history a.added
 step_sure b a c given d = d.sure

@@ -1,4 +1,4 @@
--- What the next packet of a resting session leads to.
+-- The effect of the next packet of a resting session.
 use Rattle.std.proofs.Common.{◌≡◌, ℕ, List, [], ◌++◌, true, false, None, Result, IfSome, refl, ap, sym, subst, arith, inr, append-nil}
 use Rattle.sf_field.specs.Fields.{packet}
 use Rattle.sf_reply.specs.Replies.{reply_body}
@@ -18,7 +18,7 @@ use Rattle.sf_engine.specs.declared.hosted.HostedState.TheVariants as state
 use Rattle.sf_engine.specs.declared.event.Happened.{Happened}
 use Rattle.sf_engine.specs.declared.event.Happened.TheVariants as happened
 use Rattle.sf_engine.specs.declared.event.EngineFault.{EngineFault}
-use Rattle.sf_engine.specs.Traces.{goes_on_at}
+use Rattle.sf_engine.specs.Promise.{continues}
 use Rattle.sf_engine.specs.Turns.{GivesAt, IsHostedState, is_resting, Stand, stand, IsReady, TurnGives, TurnsGive, GoesFar, Finding, finding}
 use Rattle.sf_engine.proofs.Chains.{AnsweredEnd, going, answered, begun_ready, begun_far, answered_walk, answered_placed}
 
@@ -27,7 +27,7 @@ walk_of_one : (v w : CoreView) (lane lane' : LaneView) (s : Step) → StepsOn v 
 unfolding TakesMoves
 walk_of_one v w lane lane' s on = record { moves = 0; mid = v; few = omega arith; moved = refl; last = on; full = λ e. refl }
 
--- A packet that asks for a call: the session that rested, what it is then, the request, and the
+-- A packet that needs a call: the session before and after it is read, the request, and the
 -- session's lane.
 pub record CallAsked : Type 0 where
   pub from : Stand
@@ -89,7 +89,7 @@ unfolding began
 placed_at_once a m c made ready = answered_placed (begun_stand a made.mid) (begun a.lane made.mid.drawn) 1 c (walks a m c made) (can_go_on a m (began a m c made) ready)
 
 pub far_at_once : (a : CallAsked) (f : Finding) (c : AnsweredEnd) → IsAnsweredAtOnce a f.moment c → (last : Result Happened EngineFault) (end : Stand)
-    → TurnsGive 0 (answered c.core a.session c.lane c.answer) f last end × (goes_on_at last ≡ false) → GoesFar a.from f last end
+    → TurnsGive 0 (answered c.core a.session c.lane c.answer) f last end × (continues last ≡ false) → GoesFar a.from f last end
 unfolding began
 far_at_once a f c made last end give =
     goes_far a f (began a f.moment c made) last end (answered_walk (begun_stand a made.mid) (begun a.lane made.mid.drawn) f 1 c last end (walks a f.moment c made) give)

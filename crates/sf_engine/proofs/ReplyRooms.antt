@@ -5,7 +5,7 @@ use Rattle.sf_reply.specs.declared.reply.Reply.{Reply}
 use Rattle.sf_reply.specs.Replies.{reply_body}
 use Rattle.sf_session.specs.Sessions.{reply_room}
 
--- a reply's packet is as long by any id
+-- the length of a reply's packet does not depend on its id
 pub any_id : (a b : ℕ) (r : Reply) → length (packet (reply_body a r)) ≡ length (packet (reply_body b r))
 any_id a b r = refl
 

@@ -1,4 +1,4 @@
--- All calls of an engine together have few steps left: their paths were read from short texts, and few sessions are there.
+-- The calls of an engine together have few steps left, as paths are short and sessions are few.
 use Rattle.std.proofs.Common.{◌≡◌, ℕ, zero, suc, ◌+◌, ◌-◌, ◌*◌, ◌^◌, ◌≤◌, ◌<◌, List, [], ◌∷◌, ◌++◌, Bool, true, false, Option, Some, None, cond, slice_get, length, map, refl, ap, sym, ◌∙◌, subst, arith, length-append}
 use Rattle.std.specs.Prelude.{nat_lt, ◌==◌, if◌then◌else◌, option_map, option_and_then}
 use Rattle.std.specs.List.{sum_by, count_by, flat_map, list_any}
@@ -20,16 +20,11 @@ use Rattle.sf_session.specs.declared.asking.Ask.{Ask}
 use Rattle.sf_session.specs.declared.asking.Ask.TheVariants as ask
 use Rattle.sf_session.specs.declared.cause.Cause.TheVariants.{OldVersion}
 use Rattle.sf_session.specs.Asking.{path_unless, path_at, handle_number, call_of, call_ask, real_path_at, request_ask, ask_in, AsksFor}
-use Rattle.sf_request.specs.Requests.{SpellsFields, Asks}
+use Rattle.sf_request.specs.Requests.{Asks, RequestFits}
+use Rattle.sf_request.proofs.Laws.{asked_fits}
 use Rattle.sf_core.specs.Progress.{bound_of, blocks_in}
-use Rattle.sf_engine.specs.Worlds.{TraceEntry}
-use Rattle.sf_session.specs.SessionStates.{Phase, Resting, UnderWay, Decided, Gone, SessionState, is_here, is_here_in, asks_of}
 use Rattle.sf_session.specs.Responses.{ask_behind, AreAsked}
-use Rattle.sf_engine.specs.Traces.{IsSession}
-use Rattle.sf_engine.specs.Views.{EngineView}
-use Rattle.sf_engine.specs.Fits.{Fits}
-use Rattle.sf_engine.specs.Rounds.{bound_at, bounds}
-use Rattle.sf_engine.proofs.Reading.{told_sessions}
+use Rattle.sf_engine.specs.Promise.{most_steps}
 
 -- ---- paths
 flat_names : (path : Path) → length path ≤ length (flat_map slashed path)
@@ -57,7 +52,7 @@ abbrev IsShortCall : Option Request → Type 0
 IsShortCall None = Unit {0}
 IsShortCall (Some request) = request_names request + blocks_in request ≤ 2 ^ 21
 
-abbrev IsShortAsk : Ask → Type 0
+abbrev pub IsShortAsk : Ask → Type 0
 IsShortAsk (ask.Call id request) = request_names request + blocks_in request ≤ 2 ^ 21
 IsShortAsk _ = Unit {0}
 
@@ -86,30 +81,30 @@ by_handle : (f : ℕ → Request) → ((handle : ℕ) → request_names (f handl
 by_handle f names None = tt
 by_handle f names (Some handle) = omega (arith, names handle)
 
--- a WRITE's data are shorter than their length can tell
+-- a WRITE's data are shorter than their encoded length allows
 write_short : (offset : ℕ) (bytes : List ℕ) (o : Option ℕ) → length bytes < 2 ^ 32 → IsShortCall (option_map (λ n. call.Write n offset bytes) o)
 write_short offset bytes None short = tt
 write_short offset bytes (Some handle) short = omega (arith, short)
 
-call_short : (request : WireRequest) (text : List ℕ) → SpellsFields text request → IsShortCall (call_of request)
-call_short (wire.Open text flags attrs) fields spelled = one_path (λ path. call.Open path flags attrs) (λ path. omega arith) (path_at text) (path_short text)
-call_short (wire.LStat text) fields spelled = one_path call.Stat (λ path. omega arith) (path_at text) (path_short text)
-call_short (wire.SetStat text attrs) fields spelled = one_path (λ path. call.SetStat path attrs) (λ path. omega arith) (path_at text) (path_short text)
-call_short (wire.OpenDir text) fields spelled = one_path call.OpenDir (λ path. omega arith) (path_at text) (path_short text)
-call_short (wire.Remove text) fields spelled = one_path call.Remove (λ path. omega arith) (path_at text) (path_short text)
-call_short (wire.Mkdir text attrs) fields spelled = one_path (λ path. call.Mkdir path attrs) (λ path. omega arith) (path_at text) (path_short text)
-call_short (wire.Rmdir text) fields spelled = one_path call.Rmdir (λ path. omega arith) (path_at text) (path_short text)
-call_short (wire.RealPath text) fields spelled = tt
-call_short (wire.Stat text) fields spelled = one_path call.Stat (λ path. omega arith) (path_at text) (path_short text)
-call_short (wire.Rename old new) fields spelled = two_paths call.Rename (λ a b. omega arith) (path_at old) (path_at new) (path_short old) (path_short new)
-call_short (wire.PosixRename old new) fields spelled = two_paths call.PosixRename (λ a b. omega arith) (path_at old) (path_at new) (path_short old) (path_short new)
-call_short (wire.Link old new) fields spelled = two_paths call.Link (λ a b. omega arith) (path_at old) (path_at new) (path_short old) (path_short new)
-call_short (wire.Close handle) fields spelled = by_handle call.Close (λ n. omega arith) (handle_number handle)
-call_short (wire.Read handle offset len) fields spelled = by_handle (λ n. call.Read n offset len) (λ n. omega arith) (handle_number handle)
-call_short (wire.Write handle offset bytes) fields spelled = write_short offset bytes (handle_number handle) spelled.second.second.short
-call_short (wire.FStat handle) fields spelled = by_handle call.FStat (λ n. omega arith) (handle_number handle)
-call_short (wire.FSetStat handle attrs) fields spelled = by_handle (λ n. call.FSetStat n attrs) (λ n. omega arith) (handle_number handle)
-call_short (wire.ReadDir handle) fields spelled = by_handle call.ReadDir (λ n. omega arith) (handle_number handle)
+call_short : (request : WireRequest) → RequestFits request → IsShortCall (call_of request)
+call_short (wire.Open text flags attrs) fits = one_path (λ path. call.Open path flags attrs) (λ path. omega arith) (path_at text) (path_short text)
+call_short (wire.LStat text) fits = one_path call.Stat (λ path. omega arith) (path_at text) (path_short text)
+call_short (wire.SetStat text attrs) fits = one_path (λ path. call.SetStat path attrs) (λ path. omega arith) (path_at text) (path_short text)
+call_short (wire.OpenDir text) fits = one_path call.OpenDir (λ path. omega arith) (path_at text) (path_short text)
+call_short (wire.Remove text) fits = one_path call.Remove (λ path. omega arith) (path_at text) (path_short text)
+call_short (wire.Mkdir text attrs) fits = one_path (λ path. call.Mkdir path attrs) (λ path. omega arith) (path_at text) (path_short text)
+call_short (wire.Rmdir text) fits = one_path call.Rmdir (λ path. omega arith) (path_at text) (path_short text)
+call_short (wire.RealPath text) fits = tt
+call_short (wire.Stat text) fits = one_path call.Stat (λ path. omega arith) (path_at text) (path_short text)
+call_short (wire.Rename old new) fits = two_paths call.Rename (λ a b. omega arith) (path_at old) (path_at new) (path_short old) (path_short new)
+call_short (wire.PosixRename old new) fits = two_paths call.PosixRename (λ a b. omega arith) (path_at old) (path_at new) (path_short old) (path_short new)
+call_short (wire.Link old new) fits = two_paths call.Link (λ a b. omega arith) (path_at old) (path_at new) (path_short old) (path_short new)
+call_short (wire.Close handle) fits = by_handle call.Close (λ n. omega arith) (handle_number handle)
+call_short (wire.Read handle offset len) fits = by_handle (λ n. call.Read n offset len) (λ n. omega arith) (handle_number handle)
+call_short (wire.Write handle offset bytes) fits = write_short offset bytes (handle_number handle) fits.2
+call_short (wire.FStat handle) fits = by_handle call.FStat (λ n. omega arith) (handle_number handle)
+call_short (wire.FSetStat handle attrs) fits = by_handle (λ n. call.FSetStat n attrs) (λ n. omega arith) (handle_number handle)
+call_short (wire.ReadDir handle) fits = by_handle call.ReadDir (λ n. omega arith) (handle_number handle)
 
 call_ask_short : (id : ℕ) (o : Option Request) → IsShortCall o → IsShortAsk (call_ask id o)
 call_ask_short id None h = tt
@@ -119,13 +114,14 @@ real_path_short : (id : ℕ) (o : Option Path) → IsShortAsk (real_path_at id o
 real_path_short id None = tt
 real_path_short id (Some path) = tt
 
-request_short : (id : ℕ) (request : WireRequest) (text : List ℕ) → SpellsFields text request → IsShortAsk (request_ask id request)
-request_short id (wire.RealPath path) text spelled = real_path_short id (path_at path)
-request_short id request text spelled = call_ask_short id (call_of request) (call_short request text spelled)
+request_short : (id : ℕ) (request : WireRequest) → RequestFits request → IsShortAsk (request_ask id request)
+request_short id (wire.RealPath path) fits = real_path_short id (path_at path)
+request_short id request fits = call_ask_short id (call_of request) (call_short request fits)
 
 ask_short : (begun : Bool) (body : List ℕ) (packet : Asked) → Asks body packet → IsShortAsk (ask_in begun packet)
 ask_short true body (asked.Init version) asks = tt
-ask_short true body (asked.Request id request) asks = request_short id request asks.0 asks.3
+ask_short true body (asked.Request id request) asks = request_short id request (asked_fits body id request asks)
+ask_short true body (asked.Limits id) asks = tt
 ask_short true body (asked.BadFields id) asks = tt
 ask_short true body (asked.Unknown id) asks = tt
 ask_short true body asked.NoVersion asks = tt
@@ -136,6 +132,7 @@ ask_short false body (asked.Init version) asks = first_short (nat_lt version 3)
     first_short true = tt
     first_short false = tt
 ask_short false body (asked.Request id request) asks = tt
+ask_short false body (asked.Limits id) asks = tt
 ask_short false body (asked.BadFields id) asks = tt
 ask_short false body (asked.Unknown id) asks = tt
 ask_short false body asked.NoVersion asks = tt
@@ -144,8 +141,8 @@ ask_short false body asked.NoId asks = tt
 asked_short : (begun : Bool) (body : List ℕ) (a : Ask) → AsksFor begun body a → IsShortAsk a
 asked_short begun body a h = subst IsShortAsk (sym h.2) (ask_short begun body h.0 h.1)
 
--- the last ask of all
-last_short : (begun : Bool) (bodies : List (List ℕ)) (asks : List Ask) (a : Ask) → AreAsked begun bodies (asks ++ a ∷ []) → IsShortAsk a
+-- the last ask
+pub last_short : (begun : Bool) (bodies : List (List ℕ)) (asks : List Ask) (a : Ask) → AreAsked begun bodies (asks ++ a ∷ []) → IsShortAsk a
 unfolding AreAsked
 last_short begun [] [] a h = absurd h
 last_short begun [] (b ∷ asks) a h = absurd h
@@ -153,33 +150,28 @@ last_short begun (body ∷ bodies) [] a h = asked_short begun body a h.0
 last_short begun (body ∷ bodies) (b ∷ asks) a h = last_short true bodies asks a h.1
 
 -- ---- bounds
-bound_is : (request : Request) → bound_of request ≡ request_names request + 3 + blocks_in request
+pub bound_is : (request : Request) → bound_of request ≡ request_names request + 3 + blocks_in request
 unfolding bound_of
 bound_is request = refl
 
--- a session that is there has few steps left, and another one none
-phase_short : (t : SessionState) (f : Phase) → AreAsked false t.bodies (asks_of t.answers f) → bound_at f ≤ cond (is_here_in f) 1 0 * (2 ^ 21 + 3)
-phase_short t Resting h = omega arith
-phase_short t (UnderWay id n m q moves) h =
-    let few : request_names q + blocks_in q ≤ 2 ^ 21 = last_short false t.bodies (map ask_behind t.answers) (ask.Call id q) h in
-    omega (arith, few, bound_is q)
-phase_short t (Decided id n q given) h = omega arith
-phase_short t (Gone cause) h = omega arith
-
-sum_short : (ts : List SessionState) → ((i : ℕ) (t : SessionState) → slice_get ts i ≡ Some t → bound_at t.phase ≤ cond (is_here t) 1 0 * (2 ^ 21 + 3)) → sum_by (λ (t : SessionState). bound_at t.phase) ts ≤ count_by is_here ts * (2 ^ 21 + 3)
-sum_short [] each = omega arith
-sum_short (t ∷ ts) each =
-    let rest = sum_short ts (λ i u at. each (suc i) u at) in
-    let one = each zero t refl in
-    omega (arith, rest, one, sum_by-cons (λ (u : SessionState). bound_at u.phase) t ts, sum_by-cons (λ (u : SessionState). cond (is_here u) 1 0) t ts)
-
-pub bounds_short : (e : EngineView) (trace : List TraceEntry) (fits : Fits e trace) → bounds fits.world ≤ 256 * (2 ^ 21 + 3)
-bounds_short e trace fits =
-    let w = fits.world in
-    let sum = sum_short w.sessions (λ i t at.
-    let num : i + 1 - 1 ≡ i = omega arith in
-    let session : IsSession w (i + 1) t = (omega arith, ap (λ (n : ℕ). slice_get w.sessions n) num ∙ at) in
-    phase_short t t.phase (told_sessions trace w fits.tells (i + 1) t session).0.asked) in
-    let few = fits.agrees.history.few in
-    let here = fits.agrees.here in
-    omega (arith, sum, few, here)
+-- the bound in the promise's words
+pub most_is : (q : Request) → bound_of q ≡ most_steps q
+most_is q = bound_is q ∙ names_are q
+  where
+    names_are : (q : Request) → request_names q + 3 + blocks_in q ≡ most_steps q
+    names_are (call.Stat path) = omega arith
+    names_are (call.SetStat path attrs) = omega arith
+    names_are (call.Mkdir path attrs) = omega arith
+    names_are (call.Rmdir path) = omega arith
+    names_are (call.Remove path) = omega arith
+    names_are (call.OpenDir path) = omega arith
+    names_are (call.Open path flags attrs) = omega arith
+    names_are (call.Rename old new) = omega arith
+    names_are (call.PosixRename old new) = omega arith
+    names_are (call.Link old new) = omega arith
+    names_are (call.Write handle offset bytes) = refl
+    names_are (call.Close handle) = refl
+    names_are (call.FStat handle) = refl
+    names_are (call.FSetStat handle attrs) = refl
+    names_are (call.Read handle offset len) = refl
+    names_are (call.ReadDir handle) = refl

@@ -1,4 +1,4 @@
--- Where a call may be carried out, in the words of a trace.
+-- Where path resolution stops, so that a call may take effect.
 use Rattle.std.specs.Prelude.{◌≡◌, ◌<◌, ◌≤◌, ◌+◌, ◌⊎◌, ℕ, false, length, take}
 use Rattle.sf_path.specs.Names.{Path}
 use Rattle.sf_call.specs.declared.record.Record.{Record}
@@ -11,16 +11,16 @@ use Rattle.sf_core.specs.Progress.{EndsWalk}
 pub use Rattle.sf_core.specs.Sure.{IsSure}
 unfoldable pub use Rattle.sf_core.specs.Sure.{AreSure}
 
--- the names that so many moves walked lead to no directory, and are fewer than the path's
+-- the components resolved by this many moves are fewer than the path's, and name no directory
 abbrev pub StopsOnWay : Tree → Path → ℕ → Type 0
 StopsOnWay tree path moves =
     (0 < moves) × (moves < length path) × (is_directory tree (take moves path) ≡ false)
 
--- After how many moves a call stops. The first takes the root, each further one walks a name: a
--- call without a path stops at once; one on a path where all its names but the last are walked, or
--- where the next is missing or no directory. One between two paths stops where its old path's walk
--- does before its parent; else it walks to that parent, then from the last directory in common on
--- to where its new path's walk stops.
+-- The moves after which a call stops. The first move takes the root, and each further one resolves
+-- a component. A call without a path stops at once. A call on one path stops once all components
+-- but the last are resolved, or the next one is missing or no directory. A call on two paths stops
+-- if its old path stops before its parent. Otherwise it resolves that parent, and then its new path
+-- from the last common directory.
 abbrev pub WalkStops : Tree → Route → ℕ → Type 0
 WalkStops tree NoPath moves = moves ≡ 0
 WalkStops tree (Along path) moves = (moves ≡ length path) ⊎ StopsOnWay tree path moves
@@ -29,7 +29,7 @@ WalkStops tree (Between old new) moves =
     ⊎ ((count : ℕ) × PartAt old new count × ((walked : ℕ) × (count ≤ walked)
     × (moves + count ≡ length old + walked) × EndsWalk tree new walked))
 
--- so does the call of a record
+-- the same of a record's call
 abbrev pub WalkHasStopped : Tree → ℕ → Record → Type 0
 WalkHasStopped tree moves (Did number session moment request given) =
     WalkStops tree (route_of request) moves

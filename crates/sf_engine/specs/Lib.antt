@@ -1,14 +1,8 @@
 pub mod Promise
-pub mod Worlds
 pub mod Deciding
-pub mod Traces
+pub mod Steady
 pub mod Views
 pub mod Works
-pub mod Fits
+pub mod HasLog
 pub mod Turns
-pub mod Laws
-pub mod Examples
-pub mod Promised
-pub mod Overtaking
 pub mod Wrong
-pub mod Rounds

@@ -1,5 +1,5 @@
 -- No public clause cites this module.
--- What an event does to a core and to one session, from their public contracts.
+-- The effect of an event on a core and on one session, by their contracts.
 use Rattle.std.specs.Prelude.{◌≡◌, ◌≢◌, ◌<◌, ◌≤◌, ◌+◌, ◌-◌, ◌^◌, ◌⊎◌, ◌++◌, ◌∷◌, ℕ, zero, suc, List, [], length, drop, Bool, true, false, Some, None, Result, Ok, Err, IsSome, IfSome}
 use Rattle.sf_field.specs.Fields.{packet}
 use Rattle.sf_reply.specs.Replies.{reply_body}
@@ -25,9 +25,9 @@ use Rattle.sf_engine.specs.declared.event.Happened.{Happened}
 use Rattle.sf_engine.specs.declared.event.Happened.TheVariants as happened
 use Rattle.sf_engine.specs.declared.event.EngineFault.{EngineFault}
 use Rattle.sf_engine.specs.declared.event.EngineFault.TheVariants as fault
-use Rattle.sf_engine.specs.Traces.{goes_on, goes_on_at}
+use Rattle.sf_engine.specs.Promise.{continues}
 
--- whatever the history was, records are added to it so
+-- each history of the core gets more records, by this relation
 abbrev pub AddsRecords : CoreView → CoreView → (List Record → List Record → Type 0) → Type 0
 AddsRecords v w R =
     (h : List Record) → IsHistory v h → (added : List Record) × IsHistory w (h ++ added) × R h added
@@ -41,7 +41,7 @@ pub record Stand : Type 0 where
 abbrev pub stand : CoreView → SessionView → HostedState → Stand
 stand v x p = record { core = v; session = x; place = p }
 
--- what turns find: whether the session was closed, and the moment
+-- whether the session was closed, and the moment
 pub record Finding : Type 0 where
   pub closed : Bool
   pub moment : ℕ
@@ -65,7 +65,7 @@ StepGives b happened.Decided a p =
     × Answers b given a × (p ≡ state.Decided a.lane given)
 StepGives b _ a p = ⊥
 
--- a packet was answered with no call: by the session alone, or since the call could not begin
+-- a reply without a call: the session's own, or a refusal, as the call could not begin
 abbrev pub WritesAtOnce : Stand → LaneView → SessionView → Type 0
 WritesAtOnce a lane y = NextGives a.session next.Local y
     ⊎ ((request : Request) × (mid : SessionView) × (fault : CoreFault)
@@ -75,7 +75,7 @@ WritesAtOnce a lane y = NextGives a.session next.Local y
       waiting = None;
     }))
 
--- what stood at the front of a resting session's bytes
+-- a turn of a resting session, by the next packet
 abbrev pub ReadGives : Stand → LaneView → ℕ → Happened → List Record → Stand → Type 0
 ReadGives a lane m happened.Idle added b = NextGives a.session next.More b.session
     × (b.core ≡ a.core) × (added ≡ []) × (b.place ≡ state.Resting lane)
@@ -90,7 +90,7 @@ ReadGives a lane m (happened.Ended cause) added b =
     × (added ≡ Left lane.session ∷ []) × (b.place ≡ state.Gone cause)
 ReadGives a lane m _ added b = ⊥
 
--- after a reply: the session rests, or leaves since it was closed
+-- after a reply the session rests, or leaves if it was closed
 abbrev pub RestsOrLeaves : Stand → LaneView → Bool → List Record → Stand → Type 0
 RestsOrLeaves a lane false added b = (b.core ≡ a.core) × (added ≡ [])
     × (b.session ≡ a.session) × (b.place ≡ state.Resting lane)
@@ -99,7 +99,7 @@ RestsOrLeaves a lane true added b =
     × (b.session ≡ record a.session { unread = []; ended = Some Closed })
     × (b.place ≡ state.Gone Closed)
 
--- the answer that waited was written
+-- the pending reply is written
 abbrev pub WritesAnswer : Stand → LaneView → AnswerView → Bool → List Record → Stand → Type 0
 WritesAnswer a lane given closed added b = (mid : SessionView)
     × IfSome a.session.waiting (λ id. mid ≡ record a.session {
@@ -108,7 +108,7 @@ WritesAnswer a lane given closed added b = (mid : SessionView)
     })
     × RestsOrLeaves (stand a.core mid (state.Resting lane)) lane closed added b
 
--- what a session's state asks of the core and of the session
+-- the core and the session agree with the session's place
 abbrev pub IsHostedState : CoreView → SessionView → HostedState → Type 0
 IsHostedState v x (state.Resting lane) =
     (lane.call ≡ None) × (lane_state v lane.session ≡ Idle) × (x.waiting ≡ None)
@@ -118,18 +118,15 @@ IsHostedState v x (state.Decided lane a) =
     (lane.call ≡ None) × (lane_state v lane.session ≡ Idle) × IsSome x.waiting
 IsHostedState v x (state.Gone cause) = Unit {0}
 
--- whether a session's call goes on: it is under way, or its answer waits
+-- whether a session has a call: it is running, or its reply waits
 abbrev pub is_busy : HostedState → Bool
-is_busy (state.Resting lane) = false
 is_busy (state.UnderWay lane) = true
 is_busy (state.Decided lane given) = true
-is_busy (state.Gone cause) = false
+is_busy _ = false
 
 abbrev pub is_resting : HostedState → Bool
 is_resting (state.Resting lane) = true
-is_resting (state.UnderWay lane) = false
-is_resting (state.Decided lane given) = false
-is_resting (state.Gone cause) = false
+is_resting _ = false
 
 abbrev pub is_under_way : HostedState → Bool
 is_under_way (state.UnderWay lane) = true
@@ -137,10 +134,8 @@ is_under_way _ = false
 
 -- whether it has a lane, and which
 abbrev pub has_lane : HostedState → Bool
-has_lane (state.Resting lane) = true
-has_lane (state.UnderWay lane) = true
-has_lane (state.Decided lane given) = true
 has_lane (state.Gone cause) = false
+has_lane _ = true
 
 abbrev pub IsLaneOf : HostedState → LaneView → Type 0
 IsLaneOf (state.Resting own) lane = lane ≡ own
@@ -148,7 +143,7 @@ IsLaneOf (state.UnderWay own) lane = lane ≡ own
 IsLaneOf (state.Decided own given) lane = lane ≡ own
 IsLaneOf (state.Gone cause) lane = ⊥
 
--- what a turn gives at a place
+-- a turn at a place
 abbrev pub GivesAt : HostedState → Stand → List Record → Finding → Happened → List Record → Stand
     → Type 0
 GivesAt (state.Resting lane) a h f r added b = ReadGives a lane f.moment r added b
@@ -161,16 +156,16 @@ GivesAt (state.Gone cause) a h f r added b =
     (r ≡ happened.Ended cause) × (b.core ≡ a.core) × (added ≡ []) × (b.session ≡ a.session)
     × (b.place ≡ state.Gone cause)
 
--- what a turn gives, by the place before it
+-- a turn, by the place before it
 abbrev pub PlaceGives : Stand → List Record → Finding → Happened → List Record → Stand → Type 0
 PlaceGives a h f r added b = GivesAt a.place a h f r added b
 
--- nothing changes but that it is told whether the session goes on to its answer first
+-- nothing changes
 abbrev pub StaysAs : Stand → List Record → Stand → Type 0
 StaysAs a added b =
     (b.core ≡ a.core) × (added ≡ []) × (b.session ≡ a.session) × (b.place ≡ a.place)
 
--- what closing gives at a place
+-- closing at a place; `goes_on` says whether the session's call is answered first
 abbrev pub ClosesAt : HostedState → Stand → List Record → Stand → Bool → Type 0
 ClosesAt (state.Resting lane) a added b goes_on = RestsOrLeaves a lane true added b
     × (goes_on ≡ false)
@@ -178,7 +173,7 @@ ClosesAt (state.UnderWay lane) a added b goes_on = StaysAs a added b × (goes_on
 ClosesAt (state.Decided lane given) a added b goes_on = StaysAs a added b × (goes_on ≡ true)
 ClosesAt (state.Gone cause) a added b goes_on = StaysAs a added b × (goes_on ≡ false)
 
--- what closing gives, by the place before it
+-- closing, by the place before it
 abbrev pub CloseGives : Stand → List Record → Stand → Bool → Type 0
 CloseGives a added b goes_on = ClosesAt a.place a added b goes_on
 
@@ -222,7 +217,7 @@ OpenFault v fault.Sessions = most_sessions ≤ joined v
 OpenFault v fault.NumbersSpent = (joined v < most_sessions) × (v.joins ≡ last_number)
 OpenFault v _ = ⊥
 
--- where a turn may want memory: to read a packet, or for a reply that is longer than its room
+-- A turn may run out of memory when it reads a packet, or writes a reply longer than its room.
 abbrev pub MayRefuseTurn : HostedState → Type 0
 MayRefuseTurn (state.Resting lane) = Unit {0}
 MayRefuseTurn (state.UnderWay lane) = ⊥
@@ -230,7 +225,7 @@ MayRefuseTurn (state.Decided lane a) = (id : ℕ)
     → reply_room < length (packet (reply_body id a.reply))
 MayRefuseTurn (state.Gone cause) = ⊥
 
--- what turns ask of the core and of the session
+-- the condition for turns
 pub record IsReady (a : Stand) : Type 0 where
   pub history : List Record
   pub is_history : IsHistory a.core history
@@ -241,21 +236,21 @@ pub record IsReady (a : Stand) : Type 0 where
 abbrev pub TurnGives : Stand → Finding → Happened → Stand → Type 0
 TurnGives a f r b = AddsRecords a.core b.core (λ h added. PlaceGives a h f r added b)
 
--- the next packet was taken, and asked for no call
+-- the next packet needs no call
 abbrev pub OtherGives : Stand → Happened → Stand → Type 0
 OtherGives a r b = ((m : ℕ) → TurnGives a (finding false m) r b) × (r ≢ happened.Begun)
 
--- Turns, one after the other: so many after which the call goes on, and a last one that came to
--- this. Refused, it changes nothing.
+-- Turns: a number of them after which the call goes on, and a last one with this result. A refused
+-- turn changes nothing.
 unfoldable pub TurnsGive : ℕ → Stand → Finding → Result Happened EngineFault → Stand → Type 0
 TurnsGive zero a f (Ok r) b = TurnGives a f r b
 TurnsGive zero a f (Err e) b = (b ≡ a) × (e ≡ fault.OutOfMemory) × MayRefuseTurn a.place
-TurnsGive (suc n) a f r b = (h : Happened) × (mid : Stand) × (goes_on h ≡ true)
+TurnsGive (suc n) a f r b = (h : Happened) × (mid : Stand) × (continues (Ok h) ≡ true)
     × TurnGives a f h mid × TurnsGive n mid f r b
 
--- turns up to one after which the call doesn't go on, unless very many were made
+-- turns until the call does not go on, unless very many were made
 pub record GoesFar (a : Stand) (f : Finding) (r : Result Happened EngineFault)
     (b : Stand) : Type 0 where
   pub turns : ℕ
   pub give : TurnsGive turns a f r b
-  pub far : goes_on_at r ≡ true → 2 ^ 64 - 2 ≤ turns
+  pub far : continues r ≡ true → 2 ^ 64 - 2 ≤ turns

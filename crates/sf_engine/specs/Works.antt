@@ -1,4 +1,4 @@
--- What an event does to the core, in the core's words: the steps of calls, and the work.
+-- The steps and the work of an event, in the core's words.
 use Rattle.std.specs.Prelude.{◌≡◌, ◌≤◌, ◌+◌, ◌⊎◌, ℕ, nat_eq, not, Bool, false, List, filter, Result, Ok}
 use Rattle.sf_reply.specs.declared.reply.Reply.{Reply}
 use Rattle.sf_call.specs.declared.call.Call.{Call}
@@ -14,7 +14,7 @@ use Rattle.sf_engine.specs.declared.event.Happened.{Happened}
 use Rattle.sf_engine.specs.declared.event.Happened.TheVariants as happened
 use Rattle.sf_engine.specs.declared.event.EngineFault.{EngineFault}
 
--- how many names have the paths of the records that are of other sessions' calls
+-- the number of components in the paths of the records of other sessions' calls
 abbrev pub is_of_other : ℕ → Record → Bool
 is_of_other s (Did number session moment request given) = not (nat_eq session s)
 is_of_other s (Left session) = false
@@ -22,16 +22,16 @@ is_of_other s (Left session) = false
 abbrev pub names_helped : ℕ → List Record → ℕ
 names_helped s added = names_in_records (filter (is_of_other s) added)
 
--- By how much look-ups rise: by two at most for a turn's step, and by the names of the paths of
--- other sessions' calls that it carried out. No other event makes any.
+-- A turn makes at most two look-ups, and one for each component in the paths of the calls that it
+-- helps. No other event makes any.
 abbrev pub IsWork : Event → CoreView → List Record → CoreView → Type 0
 IsWork (event.Turn s m) old added new = (old.look_ups ≤ new.look_ups)
     × (new.look_ups ≤ old.look_ups + (2 + names_helped s added))
 IsWork _ old added new = new.look_ups ≡ old.look_ups
 
--- A step of a lane's call: it walks one name, or copies a block, the first with its record; or
--- another call that looks further down, or that copies, holds what it wants; or its record was
--- there; or it is carried out where its walk ends, behind those that it helps, in their order.
+-- A step of a lane's call. `Moved`: it resolves one component, or copies a block, the first one
+-- with its record. `Blocked`: a call that is further down, or that copies, holds the lock it needs.
+-- `Decided`: its record exists, or it takes effect after the calls that it helps.
 abbrev pub StepsTo : Before → Happened → After → Type 0
 StepsTo b happened.Moved a = MovesOn b a
 StepsTo b (happened.Blocked holder) a = (c : Call) × IsBlocked b.core a.core b.lane c holder
@@ -39,8 +39,8 @@ StepsTo b happened.Decided a =
     (c : Call) × (given : Reply) × (Fetches b a c given ⊎ Decides b a c given)
 StepsTo b _ a = Unit {0}
 
--- a turn's step is one of the session's lane, from a core with its history to the core that the
--- records were added to
+-- A turn is a step of the session's lane, from a core with its history to the core with the records
+-- that were added.
 abbrev pub IsStep : Event → Result Happened EngineFault → CoreView → List Record → List Record
     → CoreView → Type 0
 IsStep (event.Turn s m) (Ok r) old history added new =

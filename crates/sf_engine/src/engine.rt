@@ -6,13 +6,10 @@ ghost use Rattle.sf_call.specs.Histories.{replay};
 ghost use Rattle.sf_call.specs.Leaves.{leaves_of};
 ghost use Rattle.sf_core.specs.Cores.{new_core};
 ghost use Rattle.sf_core.specs.Histories.{IsHistory};
-ghost use Rattle.sf_engine.specs.Promise.{refusals};
-ghost use Rattle.sf_engine.specs.Traces.{goes_on_at, order};
 ghost use Rattle.sf_engine.specs.declared.hosted.HostedSession.{HostedSession};
 ghost use Rattle.sf_engine.specs.Turns.{is_under_way};
-ghost use Rattle.sf_engine.specs.Worlds.{TraceEntry};
-ghost use Rattle.sf_engine.specs.Rounds.{AreUnderWay, IsRound, HasRounds, IsWithinBounds, left_to};
-ghost use Rattle.sf_engine.specs.Fits.{IsEngine, Fits, GoesOnTrace, HasTurns, HasRun, IsSentBy, IsUnknownSession, WantsBytesBy};
+ghost use Rattle.sf_engine.specs.Promise.{refusals, Entry, linearization};
+ghost use Rattle.sf_engine.specs.HasLog.{IsEngine, left_to, HasLog, AppendsEntry, AppendsTurns, ShowsOutput, IsNoSession, AppendsEvents, AppendsRound, AppendsRounds, AreDecided, IsWithinBounds, WantsBytes};
 
 use crate::event::{EngineFault, Event, Happened};
 use crate::hosted::{
@@ -24,7 +21,7 @@ use sf_core::Core;
 use std::alloc::{AllocError, Global};
 use std::marker::Model;
 
-/// Many sessions on one core, by events, without threads. No trace of them is kept.
+/// Many sessions on one core, by events, without threads. The engine keeps no log of them.
 pub struct Engine {
     alloc: Global,
     core: Core,
@@ -32,7 +29,7 @@ pub struct Engine {
 }
 
 impl Drop for Engine {
-    // By hand: where an engine is dropped, a proof then sees one call and not the engine's parts.
+    // By hand, so that a proof that drops an engine sees one call and not the engine's parts.
     fn drop(self) {
         let Engine {
             alloc: _,
@@ -49,12 +46,12 @@ impl Model for Engine {
 
     ghost view = { λ e. record { core = e.core; hosted = e.hosted.items } };
 
-    ghost use Rattle.sf_engine.specs.Fits.{IsEngine};
+    ghost use Rattle.sf_engine.specs.HasLog.{IsEngine};
 
     ghost invariant = { λ e. IsEngine e.core e.hosted.items };
 }
 
-/// Where a session is among those that the engine hosts.
+/// The index of a session in the list of hosted sessions.
 fn index_of(session: u64, count: usize) -> Option<usize>
     ensures some { IfSome result (λ at. (at + 1 ≡ session) × (at < count)) }
     ensures none { IfNone result ((session ≡ 0) ⊎ (count < session)) }
@@ -65,7 +62,7 @@ fn index_of(session: u64, count: usize) -> Option<usize>
     Some((session - 1) as usize)
 }
 
-/// How many were refused, none or one.
+/// 1 if the event was refused, else 0.
 fn refusal(outcome: &Result<Happened, EngineFault>) -> usize
     ensures is { result ≡ refusals outcome.now }
     ensures few { result ≤ 1 }
@@ -77,30 +74,30 @@ fn refusal(outcome: &Result<Happened, EngineFault>) -> usize
 }
 
 impl Engine {
-    /// No session, and the root alone. The core keeps the records of all calls.
+    /// No session, and the root alone. The core keeps all records.
     pub fn new(alloc: Global) -> Result<Engine, AllocError>
-        ensures fits { IfOk result (λ engine. Fits engine []) }
+        ensures log { IfOk result (λ engine. HasLog engine []) }
         ensures keep { IfOk result (λ engine. engine.core.keep ≡ None) }
     {
         let core = Core::new(alloc)?;
         Ok(Engine::over(alloc, core))
     }
 
-    /// As `new`, but the core keeps the last `n` records. What the engine answers is the same.
+    /// As `new`, but the core keeps only the last `n` records. Replies do not depend on it.
     pub fn with_keep(alloc: Global, n: usize) -> Result<Engine, AllocError>
         requires { 0 < n }
-        ensures fits { IfOk result (λ engine. Fits engine []) }
+        ensures log { IfOk result (λ engine. HasLog engine []) }
         ensures keep { IfOk result (λ engine. engine.core.keep ≡ Some n) }
     {
         let core = Core::with_keep(alloc, n)?;
         Ok(Engine::over(alloc, core))
     }
 
-    /// No session, on a new core.
+    /// An engine without sessions on a new core.
     fn over(alloc: Global, core: Core) -> Engine
         requires core { core ≡ new_core core.keep core.store }
         requires history { IsHistory core [] }
-        ensures fits { Fits result [] }
+        ensures log { HasLog result [] }
         ensures keep { result.core.keep ≡ core.keep }
     {
         Engine {
@@ -111,14 +108,14 @@ impl Engine {
     }
 
     fn open(&mut self) -> Result<Happened, EngineFault>
-        ensures fits { GoesOnTrace self.old Event.Open result self.new }
+        ensures log { AppendsEntry self.old Event.Open result self.new }
         ensures err { OnErr result (self.new ≡ self.old) }
     {
         open_hosted(self.alloc, &mut self.core, &mut self.hosted)
     }
 
     fn turn(&mut self, session: u64, moment: u32) -> Result<Happened, EngineFault>
-        ensures fits { GoesOnTrace self.old (Event.Turn session moment) result self.new }
+        ensures log { AppendsEntry self.old (Event.Turn session moment) result self.new }
         ensures err { OnErr result (self.new ≡ self.old) }
     {
         let Some(at) = index_of(session, self.hosted.len()) else {
@@ -128,7 +125,7 @@ impl Engine {
     }
 
     fn close(&mut self, session: u64) -> Result<Happened, EngineFault>
-        ensures fits { GoesOnTrace self.old (Event.Close session) result self.new }
+        ensures log { AppendsEntry self.old (Event.Close session) result self.new }
         ensures err { OnErr result (self.new ≡ self.old) }
     {
         let Some(at) = index_of(session, self.hosted.len()) else {
@@ -138,9 +135,9 @@ impl Engine {
         Ok(Happened::Closed)
     }
 
-    /// One event. Refused, it changes nothing.
+    /// Applies one event. A refused event changes nothing.
     pub fn apply(&mut self, event: &Event) -> Result<Happened, EngineFault>
-        ensures fits { GoesOnTrace self.old event.now result self.new }
+        ensures log { AppendsEntry self.old event.now result self.new }
         ensures err { OnErr result (self.new ≡ self.old) }
     {
         match event {
@@ -152,12 +149,12 @@ impl Engine {
         }
     }
 
-    /// Appends to the bytes that a session has not read, as the event `Feed` of them does, without
-    /// a copy for the event. A slice has fewer than 2^63 bytes.
+    /// The event `Feed` of these bytes, without a copy for the event. A slice has fewer than 2^63
+    /// bytes.
     pub fn feed(&mut self, session: u64, bytes: &[u8]) -> Result<Happened, EngineFault>
         requires { length bytes.now < 2 ^ 63 }
-        ensures fits { (fed : Vec ℕ) → fed.items ≡ bytes.now
-            → GoesOnTrace self.old (Event.Feed session fed) result self.new }
+        ensures log { (fed : Vec ℕ) → fed.items ≡ bytes.now
+            → AppendsEntry self.old (Event.Feed session fed) result self.new }
         ensures err { OnErr result (self.new ≡ self.old) }
     {
         let Some(at) = index_of(session, self.hosted.len()) else {
@@ -166,10 +163,9 @@ impl Engine {
         feed_hosted(&mut self.hosted[at], bytes)
     }
 
-    /// Tells that so many bytes of a session's output were sent, as the event `Sent` does, without
-    /// an event.
+    /// The event `Sent`: drops the first `n` bytes of a session's output.
     pub fn sent(&mut self, session: u64, n: usize) -> Result<Happened, EngineFault>
-        ensures fits { GoesOnTrace self.old (Event.Sent session n) result self.new }
+        ensures log { AppendsEntry self.old (Event.Sent session n) result self.new }
         ensures err { OnErr result (self.new ≡ self.old) }
     {
         let Some(at) = index_of(session, self.hosted.len()) else {
@@ -178,11 +174,10 @@ impl Engine {
         send_hosted(&mut self.hosted[at], n)
     }
 
-    /// Turns of a session at a moment, as long as its call is on its way to its reply. What came of
-    /// the last one is told. One packet is read at most.
+    /// Turns of a session at a moment, until its call is answered or blocked. Returns the result of
+    /// the last one. Reads at most one packet.
     pub fn turns(&mut self, session: u64, moment: u32) -> Result<Happened, EngineFault>
-        ensures { (n : ℕ) × HasTurns n self.old (Event.Turn session moment) result self.new
-            × (goes_on_at result ≡ true → 2 ^ 64 - 2 ≤ n) }
+        ensures { AppendsTurns self.old session moment result self.new }
     {
         let Some(at) = index_of(session, self.hosted.len()) else {
             return Err(EngineFault::NoSuchSession);
@@ -190,7 +185,7 @@ impl Engine {
         turns_hosted(&mut self.core, &mut self.hosted[at], moment)
     }
 
-    /// How many sessions there ever were.
+    /// The number of sessions that ever opened.
     fn count(&self) -> usize
         ensures count { result ≡ length self.now.hosted }
         ensures engine { IsEngine self.now.core self.now.hosted }
@@ -198,7 +193,7 @@ impl Engine {
         self.hosted.len()
     }
 
-    /// Whether the call of the session at this place is under way.
+    /// Whether the call of the session at this index is running.
     fn is_under_way(&self, at: usize) -> bool
         requires { at < length self.now.hosted }
         ensures { (hosted_session : HostedSession)
@@ -208,12 +203,12 @@ impl Engine {
         self.hosted[at].place.is_under_way()
     }
 
-    /// One step of each session whose call is under way, by rising number. Whether there was one is
-    /// told.
+    /// One turn of each session whose call is running, by rising number. Returns whether there was
+    /// one.
     fn round(&mut self) -> bool
-        ensures some { result ≡ true
-            → IsRound self.old self.new × (left_to self.new < left_to self.old) }
-        ensures none { result ≡ false → (self.new ≡ self.old) × AreUnderWay [] self.old }
+        ensures some { result ≡ true → left_to self.new < left_to self.old }
+        ensures none { result ≡ false → self.new ≡ self.old }
+        ensures log { AppendsRound self.old result self.new }
     {
         let mut any = false;
         'hosted: for at in 0..self.count() {
@@ -225,15 +220,15 @@ impl Engine {
         any
     }
 
-    /// Rounds, up to where no call is under way: in each, every session whose call is under way
-    /// makes one step, by rising number, which is a turn at the moment 0. How many there were is
-    /// told. Answers wait for later turns. Needs no memory, and isn't refused.
+    /// Makes rounds until no call is running. In each round every session whose call is running has
+    /// one turn, by rising number, at the moment 0. Returns the number of rounds. Later turns write
+    /// the replies. Allocates nothing, and no turn is refused.
     pub fn run_all(&mut self) -> u64
-        ensures rounds { HasRounds result self.old self.new }
+        ensures log { AppendsRounds self.old result self.new }
         ensures few { IsWithinBounds result self.old }
-        ensures done { AreUnderWay [] self.new }
+        ensures decided { AreDecided self.new }
     {
-        // A look into the engine, by which the proof knows it from the start.
+        // The read makes the engine's invariant known to the proof.
         let _core = &self.core;
         let mut rounds: u64 = 0;
         'rounds: while self.round() {
@@ -242,9 +237,9 @@ impl Engine {
         rounds
     }
 
-    /// Applies the events in order, and answers how many were refused.
+    /// Applies the events in order. Returns how many were refused.
     pub fn run(&mut self, events: &[Event]) -> usize
-        ensures { HasRun events.now result self.old self.new }
+        ensures { AppendsEvents self.old events.now result self.new }
     {
         let mut refused = 0;
         for event in events {
@@ -254,11 +249,11 @@ impl Engine {
         refused
     }
 
-    /// What a session is to be sent: all that it was answered, without the bytes that were sent. It
-    /// stays readable after the session left.
+    /// The bytes to send to a session: its replies, without the bytes that were sent. They stay
+    /// readable after the session left.
     pub fn output(&self, session: u64) -> Option<&[u8]>
-        ensures sent { IfSome result (λ output. IsSentBy self.now session output.now) }
-        ensures unknown { IfNone result (IsUnknownSession self.now session) }
+        ensures log { IfSome result (λ output. ShowsOutput self.now session output.now) }
+        ensures none { IfNone result (IsNoSession self.now session) }
     {
         let Some(at) = index_of(session, self.hosted.len()) else {
             return None;
@@ -267,10 +262,10 @@ impl Engine {
         Some(hosted_session.session.output())
     }
 
-    /// Whether a session rests with no whole packet unread, and no wrong length: a turn would come
-    /// to `Idle`. A number without a session wants none.
+    /// Whether a turn of the session would be `Idle`: it rests, and its unread bytes have no whole
+    /// packet and no wrong length. False for an unknown session.
     pub fn wants_bytes(&self, session: u64) -> bool
-        ensures { WantsBytesBy self.now session result }
+        ensures { WantsBytes self.now session result }
     {
         let Some(at) = index_of(session, self.hosted.len()) else {
             return false;
@@ -278,18 +273,17 @@ impl Engine {
         wants_bytes(&self.hosted[at])
     }
 
-    /// Every path of the tree once, in the order of paths, with the label, the attributes and, of a
-    /// file, the contents of what it names, and nothing else: exactly the tree after the calls that
-    /// were decided so far, also while others are under way. A WRITE that still copies counts as
-    /// copied. The contents' bytes are shared and not copied. Nothing is changed.
+    /// A snapshot of the tree after the calls that were decided so far, in the order of paths. It
+    /// has each path once, with its label, its attributes and a file's contents. A WRITE that still
+    /// copies counts as copied. The contents are shared and not copied.
     pub fn tree(&self, alloc: Global) -> Result<Vec<Leaf>, AllocError>
-        ensures { IfOk result (λ leaves. (trace : List TraceEntry) → Fits self.now trace
-            → leaves.items ≡ leaves_of (replay (order trace))) }
+        ensures { IfOk result (λ leaves. (log : List Entry) → HasLog self.now log
+            → leaves.items ≡ leaves_of (replay (linearization log))) }
     {
         self.core.tree(alloc)
     }
 
-    /// The core, to be looked at.
+    /// The core.
     pub fn core(&self) -> &Core
         ensures { result.now ≡ self.now.core }
     {

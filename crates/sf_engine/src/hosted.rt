@@ -1,4 +1,4 @@
-//! A session that an engine hosts: how far it is, and its turns.
+//! A hosted session: its place, and its turns.
 
 ghost use Rattle.std.specs.Prelude.{◌≡◌, ◌≢◌, ◌++◌, ◌∷◌, ◌||◌, ◌↔◌, IsTrue, ℕ, Bool, List, [], true, false, Some, None, IfOk, IfErr, OnErr, OnOk};
 ghost use Rattle.sf_wire.specs.declared.cutting.Cut.TheVariants.{More};
@@ -12,7 +12,7 @@ ghost use Rattle.sf_core.specs.Cores.{lane_state};
 ghost use Rattle.sf_core.specs.Events.{SessionLeaves};
 ghost use Rattle.sf_core.specs.Histories.{IsHistory};
 ghost use Rattle.sf_core.specs.Lanes.{LaneView};
-ghost use Rattle.sf_engine.specs.Traces.{goes_on_at};
+ghost use Rattle.sf_engine.specs.Promise.{continues};
 ghost use Rattle.sf_engine.specs.Turns.{AddsRecords, RestsOrLeaves, has_lane, is_resting, is_under_way, IsLaneOf, TurnGives, OtherGives, CloseGives, FeedGives, FeedFault, SentGives, SentFault, IsHostedState, OpenGives, OpenFault, MayRefuseTurn, stand, IsReady, TurnsGive, GoesFar, finding};
 
 use crate::event::{EngineFault, Happened};
@@ -25,13 +25,13 @@ use std::mem;
 /// More steps than any call takes.
 const MOST_STEPS: u64 = u64::MAX;
 
-/// How far a session is.
+/// The place of a session.
 #[derive(Debug)]
 pub(crate) enum HostedState {
     Resting(Lane),
     /// Its call is in the core.
     UnderWay(Lane),
-    /// Its call's answer waits to be written.
+    /// Its call's reply is pending.
     Decided(Lane, Answer),
     Gone(Cause),
 }
@@ -47,16 +47,16 @@ impl Drop for HostedState {
     }
 }
 
-/// A session that an engine hosts.
+/// A hosted session.
 #[derive(Debug, Drop)]
 pub(crate) struct HostedSession {
     pub session: Session,
     pub place: HostedState,
-    /// It was closed while its call went on.
+    /// It was closed while it had a call.
     pub closed: bool,
 }
 
-/// The lane's session leaves.
+/// Removes the lane's session from the core.
 fn leave(core: &mut Core, lane: Lane)
     requires idle { lane.call ≡ None }
     requires slot { lane_state core.old lane.session ≡ Idle }
@@ -111,7 +111,7 @@ impl HostedState {
         }
     }
 
-    /// Its lane, taken out. Another state is to be put here then.
+    /// Takes its lane. The caller sets another state.
     fn take_lane(&mut self) -> Lane
         requires { has_lane self.old ≡ true }
         ensures { IsLaneOf self.old result }
@@ -119,7 +119,7 @@ impl HostedState {
         mem::replace(self, HostedState::Gone(Cause::Closed)).into_lane()
     }
 
-    /// What the next packet of a resting session came to, where it asks for no call.
+    /// The outcome of the next packet of a resting session, if it needs no call.
     fn read_other(&mut self, core: &mut Core, next: Next) -> Happened
         requires resting { is_resting self.old ≡ true }
         requires placed { (x : SessionView) × IsHostedState core.old x self.old }
@@ -139,7 +139,7 @@ impl HostedState {
         }
     }
 
-    /// A turn of a resting session: takes the next packet, and its call begins.
+    /// A turn of a resting session: reads the next packet, and begins its call.
     fn read(
         &mut self,
         core: &mut Core,
@@ -175,7 +175,7 @@ impl HostedState {
         }
     }
 
-    /// One turn. Where memory is wanting nothing changes.
+    /// One turn. If memory runs out, nothing changes.
     fn turn(
         &mut self,
         core: &mut Core,
@@ -213,7 +213,7 @@ impl HostedState {
         }
     }
 
-    /// Turns, as long as its call goes on.
+    /// Turns until its call is answered or blocked.
     #[inline(always)]
     fn turns(
         &mut self,
@@ -234,7 +234,7 @@ impl HostedState {
         }
     }
 
-    /// The turns of a resting session: its call goes on, if it wasn't answered at once.
+    /// The turns of a resting session: reads a packet, and runs its call.
     #[inline(always)]
     fn read_on(
         &mut self,
@@ -271,7 +271,7 @@ impl HostedState {
         }
     }
 
-    /// The turns of a session whose call is under way: steps up to its answer, and then its reply.
+    /// The turns of a session whose call is running: its steps, and then its reply.
     #[inline(always)]
     fn walk_on(
         &mut self,
@@ -296,8 +296,8 @@ impl HostedState {
         }
     }
 
-    /// Writes the reply of a call that has just been decided. Where memory is wanting its answer
-    /// waits.
+    /// Writes the reply of a call that has just been decided. If memory runs out, the reply stays
+    /// pending.
     #[inline(always)]
     fn write_on(
         &mut self,
@@ -313,7 +313,7 @@ impl HostedState {
             → TurnsGive 0 (stand core.old session.old (HostedState.Decided lane answer))
             (finding closed moment)
             result (stand core.new session.new self.new)
-            × (goes_on_at result ≡ false) }
+            × (continues result ≡ false) }
     {
         let lane = self.take_lane();
         match session.answer(&answer) {
@@ -328,8 +328,8 @@ impl HostedState {
         }
     }
 
-    /// Closing: a session that rests leaves at once. Whether it goes on to its answer first is told
-    /// with the state.
+    /// Closes the session. A resting session leaves at once. Returns its state, and whether its
+    /// call is answered first.
     fn close(self, core: &mut Core, session: &mut Session) -> (HostedState, bool)
         requires { IsHostedState core.old session.old self }
         ensures { AddsRecords core.old core.new (λ h added.
@@ -345,7 +345,7 @@ impl HostedState {
     }
 }
 
-/// One turn of a session, whatever its state.
+/// One turn of a session.
 pub(crate) fn turn_hosted(
     core: &mut Core,
     hosted: &mut HostedSession,
@@ -364,7 +364,7 @@ pub(crate) fn turn_hosted(
         .turn(core, &mut hosted.session, hosted.closed, moment)
 }
 
-/// Turns of a session, as long as its call goes on.
+/// Turns of a session until its call is answered or blocked.
 #[inline(always)]
 pub(crate) fn turns_hosted(
     core: &mut Core,
@@ -382,7 +382,7 @@ pub(crate) fn turns_hosted(
         .turns(core, &mut hosted.session, hosted.closed, moment)
 }
 
-/// Whether a session rests, with no whole packet unread.
+/// Whether a session rests, and its unread bytes have no whole packet and no wrong length.
 pub(crate) fn wants_bytes(hosted: &HostedSession) -> bool
     ensures { IsTrue result ↔ (is_resting hosted.now.place ≡ true)
         × IsCut hosted.now.session.unread More }
@@ -393,7 +393,7 @@ pub(crate) fn wants_bytes(hosted: &HostedSession) -> bool
     }
 }
 
-/// Closes a session. It leaves at once if it rests, and else once its call's reply is written.
+/// Closes a session. It leaves at once if it rests, and otherwise after its call's reply.
 pub(crate) fn close_hosted(core: &mut Core, hosted: &mut HostedSession)
     requires { IsHostedState core.old hosted.old.session hosted.old.place }
     ensures { AddsRecords core.old core.new (λ h added. (goes_on : Bool)
@@ -407,7 +407,7 @@ pub(crate) fn close_hosted(core: &mut Core, hosted: &mut HostedSession)
     hosted.closed |= goes_on;
 }
 
-/// Appends to the bytes that a session has not read.
+/// Appends to a session's unread bytes.
 pub(crate) fn feed_hosted(hosted: &mut HostedSession, bytes: &[u8]) -> Result<Happened, EngineFault>
     ensures ok { IfOk result (λ r. FeedGives hosted.old bytes.now r hosted.new) }
     ensures err { OnErr result (hosted.new ≡ hosted.old) }
@@ -423,7 +423,7 @@ pub(crate) fn feed_hosted(hosted: &mut HostedSession, bytes: &[u8]) -> Result<Ha
     }
 }
 
-/// Drops the first bytes of a session's output, since they were sent. Takes no memory.
+/// Drops the first bytes of a session's output, which were sent. Allocates nothing.
 pub(crate) fn send_hosted(hosted: &mut HostedSession, n: usize) -> Result<Happened, EngineFault>
     ensures ok { IfOk result (λ r. SentGives hosted.old n r hosted.new) }
     ensures err { OnErr result (hosted.new ≡ hosted.old) }
@@ -436,7 +436,7 @@ pub(crate) fn send_hosted(hosted: &mut HostedSession, n: usize) -> Result<Happen
     Ok(Happened::Sent)
 }
 
-/// A session joins, and is the next one that the engine hosts.
+/// Opens the next session.
 pub(crate) fn open_hosted(
     alloc: Global,
     core: &mut Core,

@@ -1,30 +1,23 @@
 //! Many sessions on one core, by events, without threads.
 //!
-//! What is promised is in `promise.rt` (the trait `Sftp`) and `specs/Promise.antt`: a log of events
-//! is kept. The part for one session alone is `specs/Conversation.antt` of `sf_session`.
+//! The trait `Sftp` in `promise.rt` has the promise: each event appends one entry to the engine's
+//! log, and `specs/Promise.antt` says what holds of that log. It is the specification that other
+//! crates use.
 //!
-//! To read the code, start with `Engine::apply` in `engine.rt`: an event comes, and what came of it
-//! is told. Its contracts are the proof's own. Events, their results and the records that they
-//! added are a trace; `specs/Worlds.antt` says what a trace tells of each session,
-//! `specs/Traces.antt` is the law of results (`Leads`: from which world an entry leads to which),
-//! and `specs/Fits.antt` says when an engine fits a trace, which `new`, `apply`, `feed`, `sent`,
-//! `turns`, `run`, `output` and `tree` carry; each such trace is that of a kept log.
-//! `specs/Works.antt` has the steps and the work of a turn, and `trace_laws.rt` what every lawful
-//! trace tells. One session's turns are in `hosted.rt`, whose contracts (`specs/Turns.antt`) name
-//! no trace. `Engine::turns` is many turns at once. No trace and no log is kept when the program
-//! runs.
+//! To read the code, start with `Engine::apply` in `engine.rt`. Its contracts are in
+//! `specs/HasLog.antt`, which says when an engine has a log, and add the steps of calls
+//! (`specs/Steady.antt`, `specs/Works.antt`). `hosted.rt` has one session's turns; its contracts
+//! (`specs/Turns.antt`) speak of no log. `Engine::turns` makes many turns at once. No program
+//! keeps a log.
 #![tactic(auto)]
 
 mod engine;
 mod event;
 mod hosted;
+mod log_laws;
 mod promise;
-mod trace_laws;
 
 pub use engine::Engine;
 pub use event::{EngineFault, Event, Happened};
+pub use log_laws::{determinism, wrong_logs};
 pub use promise::{Outcome, Sftp, apply_all};
-pub use trace_laws::{
-    example_kept, example_told, one_output, overtaking_kept, records_begun, sent_bytes,
-    sessions_read, short_packets, wrong_logs,
-};

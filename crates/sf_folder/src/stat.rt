@@ -1,28 +1,51 @@
-//! The type and the attributes of a path.
+//! The type and the attributes of files and directories.
 
-use crate::listing::opened;
 use libc::{S_IFBLK, S_IFCHR, S_IFDIR, S_IFIFO, S_IFLNK, S_IFMT, S_IFREG, S_IFSOCK};
 use sf_field::{Attrs, NO_ATTRS, Owner, Times};
-use std::alloc::{AllocError, Global};
 use std::fs::{self, Metadata};
 use std::io;
 use std::os::unix::fs::MetadataExt;
 
 /// The type of a file.
 #[derive(Clone, Copy, Debug, PartialEq, Eq)]
-pub(crate) enum Kind {
+pub enum Kind {
     File,
     Directory,
     /// Another type, by its name.
     Other(&'static str),
 }
 
-/// The type, size and attributes of a path. A directory's attributes have no size.
+/// The device of a file, and its number there.
+#[derive(Clone, Copy, Debug, PartialEq, Eq)]
+pub struct FileId {
+    device: u64,
+    inode: u64,
+}
+
+/// The type, size and attributes of a file or directory. A directory's attributes have no size.
 #[derive(Clone, Copy, Debug)]
-pub(crate) struct Found {
-    pub(crate) kind: Kind,
-    pub(crate) size: u64,
-    pub(crate) attrs: Attrs,
+pub struct Found {
+    pub kind: Kind,
+    pub size: u64,
+    pub attrs: Attrs,
+    pub id: FileId,
+    /// When it was written: seconds and nanoseconds.
+    pub written: (i64, i64),
+}
+
+impl Found {
+    /// How a file with this description has changed.
+    pub fn change_to(&self, now: &Found) -> Option<&'static str> {
+        if now.size < self.size {
+            Some("it shrank")
+        } else if now.size > self.size {
+            Some("it grew")
+        } else if now.written != self.written {
+            Some("it was written")
+        } else {
+            None
+        }
+    }
 }
 
 const LINK: &str = "symbolic link";
@@ -83,35 +106,28 @@ fn found_of(found: &Metadata) -> Found {
             permissions: Some(found.mode() & 0o7777),
             times: Some(times),
         },
+        id: FileId {
+            device: found.dev(),
+            inode: found.ino(),
+        },
+        written: (found.mtime(), found.mtime_nsec()),
     }
 }
 
 /// The result of `stat`, or the system's error number.
-fn settled(found: io::Result<Metadata>) -> Result<Found, i32> {
+pub(crate) fn settled(found: io::Result<Metadata>) -> Result<Found, i32> {
     match found {
         Ok(found) => Ok(found_of(&found)),
         Err(error) => Err(error.raw_os_error().unwrap_or(libc::EIO)),
     }
 }
 
-/// The type and attributes of a path, or the system's error number. A symbolic link at the end of
-/// the path is followed if `follow`.
-pub(crate) fn look_at(rt: &HostRuntime, path: &[u8], follow: bool) -> Result<Found, i32> {
+/// The type and attributes of an absolute path. A symbolic link at its end isn't followed.
+pub(crate) fn look_at(rt: &HostRuntime, path: &[u8]) -> Result<Found, i32> {
     match str::from_utf8(path) {
-        Ok(text) if follow => settled(fs::metadata(rt, text)),
         Ok(text) => settled(fs::symlink_metadata(rt, text)),
         Err(_) => look_by_link(rt, path),
     }
-}
-
-/// The path as an absolute one.
-fn from_root(alloc: Global, path: &[u8]) -> Result<Vec<u8>, AllocError> {
-    let mut whole = Vec::new(alloc);
-    if !path.starts_with(b"/") {
-        whole.extend_from_slice(b"/proc/self/cwd/")?;
-    }
-    whole.extend_from_slice(path)?;
-    Ok(whole)
 }
 
 /// As `look_at`, for a path that isn't UTF-8, which `std::fs` doesn't accept. It uses a temporary
@@ -119,21 +135,16 @@ fn from_root(alloc: Global, path: &[u8]) -> Result<Vec<u8>, AllocError> {
 fn look_by_link(rt: &HostRuntime, path: &[u8]) -> Result<Found, i32> {
     let mut target = [0u8; 1];
     if os::readlink(path, &mut target) >= 0 {
-        return Ok(Found {
-            kind: Kind::Other(LINK),
-            size: 0,
-            attrs: NO_ATTRS,
-        });
+        return Ok(link());
     }
-    let Ok(whole) = from_root(rt.alloc(), path) else {
-        return Err(libc::ENOMEM);
-    };
     let mut name = *b"/tmp/sftpd.XXXXXX";
-    // The file only reserves the name.
-    if opened(os::create_temp(&mut name)).is_err() || os::unlink(&name) < 0 {
+    let reserved = os::create_temp(&mut name);
+    if reserved < 0 {
         return Err(os::errno());
     }
-    if os::symlink(&whole, &name) < 0 {
+    // The file only reserves the name.
+    libc::close(reserved);
+    if os::unlink(&name) < 0 || os::symlink(path, &name) < 0 {
         return Err(os::errno());
     }
     let found = match str::from_utf8(&name) {
@@ -142,4 +153,18 @@ fn look_by_link(rt: &HostRuntime, path: &[u8]) -> Result<Found, i32> {
     };
     let _ = os::unlink(&name);
     found
+}
+
+/// A symbolic link, of which no more is asked.
+fn link() -> Found {
+    Found {
+        kind: Kind::Other(LINK),
+        size: 0,
+        attrs: NO_ATTRS,
+        id: FileId {
+            device: 0,
+            inode: 0,
+        },
+        written: (0, 0),
+    }
 }

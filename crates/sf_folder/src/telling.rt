@@ -45,6 +45,11 @@ pub(crate) fn tell_left_out(rt: &HostRuntime, path: &[u8], kind: &str) {
     tell(rt, "left out", path, kind);
 }
 
+/// Reports something that changed while it was read.
+pub(crate) fn tell_changed(rt: &HostRuntime, path: &[u8], how: &str) {
+    tell(rt, "changed while it was read", path, how);
+}
+
 /// Reports something that can't be read, with the system's error.
 pub(crate) fn tell_unreadable(rt: &HostRuntime, path: &[u8], error: i32) {
     let mut buffer = [0u8; 128];

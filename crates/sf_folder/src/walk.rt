@@ -1,49 +1,64 @@
 //! The walk through a folder.
 
+ghost use Rattle.std.specs.Prelude.{◌≡◌, ◌<◌, ℕ, [], ◌∷◌, ◌++◌, IfOk, IfNone, vec_len};
+ghost use Rattle.std.specs.Global.{Vec};
+ghost use Rattle.sf_folder.specs.Names.{IsAtEnd};
+
 use crate::file::{LocalFile, Piece};
-use crate::listing::{ReadFault, names_in};
-use crate::stat::{Kind, look_at};
-use crate::telling::{Progress, tell_left_out, tell_unreadable};
+use crate::names::names_in;
+use crate::opening::{Opened, open_name};
+use crate::stat::Found;
+use crate::system::{Descriptor, ReadFault, SystemDescriptor, open_root};
+use crate::telling::{Progress, tell_changed, tell_left_out, tell_unreadable};
 use sf_field::Attrs;
 use sf_loading::{Folder, FolderFault, Item};
 use std::alloc::{AllocError, Global};
 use std::mem;
 
+/// How many directories are open at once at most. Outer ones are opened again by `..`.
+const OPEN: usize = 64;
+
+/// The system's error if a directory is no longer in its outer one.
+const ESTALE: i32 = 116;
+
 /// A directory that the walk is in.
 #[derive(Drop)]
-struct Level {
+struct Level<'a> {
     /// The length of its local path.
     len: usize,
+    directory: Option<SystemDescriptor<'a>>,
     /// The names that remain, the next one last.
     names: Vec<Vec<u8>>,
-    attrs: Attrs,
+    found: Found,
 }
 
 /// The state of the current file.
 #[derive(Drop)]
-enum Stage {
+enum Stage<'a> {
     /// There is no current file.
     Nothing,
-    Bytes(LocalFile),
+    Bytes(LocalFile<SystemDescriptor<'a>>),
     End,
 }
 
 /// A local folder as a `Folder`: its files and directories, in the order of their names. Other
-/// things are left out. These, and what can't be read, are reported on standard error.
+/// things are left out. These, what can't be read, and what changes while it is read are reported
+/// on standard error.
 #[derive(Drop)]
 pub struct LocalFolder<'a> {
     rt: &'a HostRuntime,
+    /// A change while the folder is read is an error.
+    is_strict: bool,
     /// The local path of the last item.
     path: Vec<u8>,
     /// The length of the folder's own path.
     root: usize,
-    levels: Vec<Level>,
-    stage: Stage,
+    /// The directories that the walk is in: the innermost one, and the others.
+    inner: Level<'a>,
+    outer: Vec<Level<'a>>,
+    stage: Stage<'a>,
     progress: Progress,
 }
-
-/// The system's error for a path that isn't a directory's.
-const ENOTDIR: i32 = libc::ENOTDIR;
 
 fn copied(alloc: Global, bytes: &[u8]) -> Result<Vec<u8>, AllocError> {
     let mut copy = Vec::new(alloc);
@@ -51,35 +66,57 @@ fn copied(alloc: Global, bytes: &[u8]) -> Result<Vec<u8>, AllocError> {
     Ok(copy)
 }
 
-/// The path with a slash appended.
-fn slashed(alloc: Global, path: &[u8]) -> Result<Vec<u8>, AllocError> {
-    let mut copy = copied(alloc, path)?;
-    copy.push(b'/')?;
-    Ok(copy)
+/// A directory that was opened, with its names.
+fn level_of<'a>(
+    alloc: Global,
+    directory: SystemDescriptor<'a>,
+    found: Found,
+    len: usize,
+) -> Result<Level<'a>, ReadFault> {
+    let mut directory = directory;
+    let names = names_in(alloc, &mut directory)?;
+    Ok(Level {
+        len,
+        directory: Some(directory),
+        names,
+        found,
+    })
 }
 
-fn go_into(levels: &mut Vec<Level>, level: Level) -> Result<(), AllocError> {
-    levels.push(level)?;
+/// The folder itself.
+fn root_level<'a>(rt: &'a HostRuntime, path: &[u8]) -> Result<Level<'a>, ReadFault> {
+    let directory = open_root(rt, path)?;
+    match directory.found() {
+        Ok(found) => level_of(rt.alloc(), directory, found, path.len()),
+        Err(error) => Err(ReadFault::System(error)),
+    }
+}
+
+/// Adds an outer directory, and closes one that is far outside.
+fn add_outer<'a>(outer: &mut Vec<Level<'a>>, level: Level<'a>) -> Result<(), AllocError> {
+    if let Some(far) = outer.len().checked_sub(OPEN) {
+        if let Some(level) = outer.get_mut(far) {
+            level.directory = None;
+        }
+    }
+    outer.push(level)?;
     Ok(())
 }
 
-/// The folder itself. Its path may be a symbolic link's.
-fn root_level(rt: &HostRuntime, path: &[u8]) -> Result<Level, ReadFault> {
-    let alloc = rt.alloc();
-    let found = match look_at(rt, path, true) {
-        Ok(found) => found,
-        Err(error) => return Err(ReadFault::System(error)),
-    };
-    if found.kind != Kind::Directory {
-        return Err(ReadFault::System(ENOTDIR));
+/// Opens a directory again, by `..` in the directory that was left.
+fn reopen<'a>(outer: &mut Level<'a>, inner: &Level<'a>) -> Result<(), i32> {
+    if outer.directory.is_some() {
+        return Ok(());
     }
-    // With a slash appended a link is followed.
-    let inside = slashed(alloc, path)?;
-    Ok(Level {
-        len: path.len(),
-        names: names_in(alloc, &inside)?,
-        attrs: found.attrs,
-    })
+    let Some(inner) = &inner.directory else {
+        return Err(ESTALE);
+    };
+    let directory = inner.open_directory(b"..")?;
+    if directory.found()?.id != outer.found.id {
+        return Err(ESTALE);
+    }
+    outer.directory = Some(directory);
+    Ok(())
 }
 
 /// Reports what can't be read.
@@ -94,21 +131,26 @@ fn unreadable(rt: &HostRuntime, path: &[u8], fault: ReadFault) -> FolderFault {
 }
 
 impl<'a> LocalFolder<'a> {
-    /// Opens the folder at a path.
-    pub fn open(rt: &'a HostRuntime, path: &str) -> Result<LocalFolder<'a>, FolderFault> {
+    /// Opens the folder at a path. If `is_strict`, something that changes while it is read is an
+    /// error, and otherwise it is only reported.
+    pub fn open(
+        rt: &'a HostRuntime,
+        path: &str,
+        is_strict: bool,
+    ) -> Result<LocalFolder<'a>, FolderFault> {
         let alloc = rt.alloc();
         let bytes = path.as_bytes();
         let level = match root_level(rt, bytes) {
             Ok(level) => level,
             Err(fault) => return Err(unreadable(rt, bytes, fault)),
         };
-        let mut levels = Vec::new(alloc);
-        go_into(&mut levels, level)?;
         Ok(LocalFolder {
             rt,
+            is_strict,
             path: copied(alloc, bytes)?,
             root: bytes.len(),
-            levels,
+            inner: level,
+            outer: Vec::new(alloc),
             stage: Stage::Nothing,
             progress: Progress::begin(rt),
         })
@@ -130,8 +172,30 @@ impl<'a> LocalFolder<'a> {
         unreadable(self.rt, &self.path, fault)
     }
 
+    /// Reports that what is at the current path changed.
+    fn changed(&self, how: &str) -> Result<(), FolderFault> {
+        tell_changed(self.rt, &self.path, how);
+        if self.is_strict {
+            return Err(FolderFault::Unreadable);
+        }
+        Ok(())
+    }
+
+    /// The attributes of a file that was read.
+    fn end_of_file(&self, file: &LocalFile<SystemDescriptor<'a>>) -> Result<Item, FolderFault> {
+        match file.end() {
+            Ok((attrs, how)) => {
+                if let Some(how) = how {
+                    self.changed(how)?;
+                }
+                Ok(Item::FileAttributes(attrs))
+            }
+            Err(fault) => Err(self.fault(fault)),
+        }
+    }
+
     /// The next bytes of the current file, or its attributes at the end.
-    fn next_of_file(&mut self, file: LocalFile) -> Result<Item, FolderFault> {
+    fn next_of_file(&mut self, file: LocalFile<SystemDescriptor<'a>>) -> Result<Item, FolderFault> {
         let mut file = file;
         match file.next(self.rt.alloc()) {
             Ok(Some(Piece { offset, bytes })) => {
@@ -141,89 +205,108 @@ impl<'a> LocalFolder<'a> {
             }
             Ok(None) => {
                 self.stage = Stage::End;
-                Ok(Item::FileAttributes(file.attrs))
+                self.end_of_file(&file)
             }
             Err(fault) => Err(self.fault(fault)),
         }
     }
 
-    /// Moves to the next name of the innermost directory. Returns false if there is none.
-    fn go_on(&mut self) -> Result<bool, AllocError> {
-        let Some(level) = self.levels.last_mut() else {
-            return Ok(false);
-        };
-        self.path.truncate(level.len);
-        let Some(name) = level.names.pop() else {
-            return Ok(false);
-        };
-        self.path.push(b'/')?;
-        self.path.extend_from_slice(&name)?;
-        Ok(true)
-    }
-
     /// Leaves the innermost directory. Returns its attributes, or `None` at the end. The folder
     /// itself becomes `/`; the attributes of `/` aren't set.
-    fn leave(&mut self) -> Result<Option<Item>, FolderFault> {
-        match self.levels.pop() {
-            Some(level) if !self.levels.is_empty() => Ok(Some(Item::DirectoryAttributes(
-                self.own_path()?,
-                level.attrs,
-            ))),
-            _ => Ok(None),
+    fn leave(&mut self) -> Result<Option<Item>, FolderFault>
+        requires { self.old.inner.names.items ≡ [] }
+        ensures { IfOk result (λ item. IfNone item (IsAtEnd self.new.inner.names.items
+            self.new.outer.items)) }
+    {
+        let Some(outer) = self.outer.pop() else {
+            return Ok(None);
+        };
+        let inner = mem::replace(&mut self.inner, outer);
+        self.path.truncate(inner.len);
+        if let Err(error) = reopen(&mut self.inner, &inner) {
+            return Err(self.fault(ReadFault::System(error)));
         }
+        Ok(Some(Item::DirectoryAttributes(self.own_path()?, inner.found.attrs)))
     }
 
-    fn enter(&mut self, attrs: Attrs) -> Result<Item, FolderFault> {
-        let names = match names_in(self.rt.alloc(), &self.path) {
-            Ok(names) => names,
+    fn enter(
+        &mut self,
+        directory: SystemDescriptor<'a>,
+        found: Found,
+    ) -> Result<Item, FolderFault> {
+        let level = match level_of(self.rt.alloc(), directory, found, self.path.len()) {
+            Ok(level) => level,
             Err(fault) => return Err(self.fault(fault)),
         };
-        let level = Level {
-            len: self.path.len(),
-            names,
-            attrs,
-        };
-        go_into(&mut self.levels, level)?;
+        let outer = mem::replace(&mut self.inner, level);
+        add_outer(&mut self.outer, outer)?;
         self.progress.add_object();
         Ok(Item::Directory(self.own_path()?))
     }
 
-    fn open_file(&mut self, attrs: Attrs, size: u64) -> Result<Item, FolderFault> {
-        match LocalFile::open(&self.path, attrs, size) {
-            Ok(file) => self.stage = Stage::Bytes(file),
-            Err(fault) => return Err(self.fault(fault)),
-        }
+    fn begin_file(
+        &mut self,
+        file: SystemDescriptor<'a>,
+        found: Found,
+    ) -> Result<Item, FolderFault> {
+        self.stage = Stage::Bytes(LocalFile::new(file, found));
         self.progress.add_object();
         Ok(Item::File(self.own_path()?))
     }
 
-    /// The item at the current path; `None` if it is left out.
-    fn at_path(&mut self) -> Result<Option<Item>, FolderFault> {
-        let found = match look_at(self.rt, &self.path, false) {
-            Ok(found) => found,
-            Err(error) => return Err(self.fault(ReadFault::System(error))),
-        };
-        match found.kind {
-            Kind::Directory => Ok(Some(self.enter(found.attrs)?)),
-            Kind::File => Ok(Some(self.open_file(found.attrs, found.size)?)),
-            Kind::Other(kind) => {
+    /// The item of what was opened at the current path; `None` if it is left out.
+    fn item_of(
+        &mut self,
+        opened: Result<Opened<SystemDescriptor<'a>>, ReadFault>,
+    ) -> Result<Option<Item>, FolderFault>
+        ensures { IfOk result (λ item. IfNone item (self.new.inner.names ≡ self.old.inner.names)) }
+    {
+        match opened {
+            Ok(Opened::Directory(directory, found)) => Ok(Some(self.enter(directory, found)?)),
+            Ok(Opened::File(file, found)) => Ok(Some(self.begin_file(file, found)?)),
+            Ok(Opened::Other(kind)) => {
                 tell_left_out(self.rt, &self.path, kind);
                 Ok(None)
             }
+            Ok(Opened::Changed(how)) => {
+                self.changed(how)?;
+                Ok(None)
+            }
+            Err(fault) => Err(self.fault(fault)),
         }
     }
 
-    /// The next file or directory, or the end of a directory.
-    fn walk(&mut self) -> Result<Option<Item>, FolderFault> {
-        for _ in 0..u64::MAX {
-            if !self.go_on()? {
-                return self.leave();
-            }
-            if let Some(item) = self.at_path()? {
+    /// Takes the next name of the innermost directory, makes its path the current one, and opens
+    /// it.
+    fn open_next(&mut self) -> Result<Opened<SystemDescriptor<'a>>, ReadFault>
+        requires { 0 < vec_len self.old.inner.names }
+        ensures { (name : Vec ℕ)
+            × (self.old.inner.names.items ≡ self.new.inner.names.items ++ name ∷ []) }
+    {
+        let Some(name) = self.inner.names.pop() else {
+            unreachable!()
+        };
+        self.path.truncate(self.inner.len);
+        self.path.extend_from_slice(b"/")?;
+        self.path.extend_from_slice(&name)?;
+        match &self.inner.directory {
+            Some(directory) => open_name(directory, &name),
+            None => Err(ReadFault::System(ESTALE)),
+        }
+    }
+
+    /// The next file or directory, or the end of a directory. `None` only if no name remains.
+    fn walk(&mut self) -> Result<Option<Item>, FolderFault>
+        ensures { IfOk result (λ item. IfNone item (IsAtEnd self.new.inner.names.items
+            self.new.outer.items)) }
+    {
+        while !self.inner.names.is_empty() {
+            let opened = self.open_next();
+            if let Some(item) = self.item_of(opened)? {
                 return Ok(Some(item));
             }
         }
-        Err(FolderFault::TooMany)
+        self.leave()
     }
 }
 

@@ -1,15 +1,18 @@
 -- A session's place in the core, as its page tells it.
-use Rattle.std.proofs.Common.{◌≡◌, ◌+◌, ◌-◌, ◌^◌, ◌++◌, ◌∷◌, [], ℕ, min, length, None, refl, sym, ap, ◌∙◌, subst, inl, inr, length-append}
+use Rattle.std.proofs.Common.{◌≡◌, ◌+◌, ◌-◌, ◌^◌, ◌++◌, ◌∷◌, [], ℕ, List, min, length, None, refl, sym, ap, ◌∙◌, subst, inl, inr, arith, length-append}
 use Rattle.sf_reply.specs.declared.reply.Reply.{Reply}
+use Rattle.sf_call.specs.declared.record.Record.{Record}
 use Rattle.sf_core.specs.Lanes.{LaneView, at_rest}
 use Rattle.sf_core.specs.Cores.{CoreView, LaneState}
 use Rattle.sf_core.specs.Cores.LaneState.{NoLane, Idle, Busy}
 use Rattle.sf_core.specs.declared.step.Step.{Step}
 use Rattle.sf_core.specs.declared.step.Step.TheVariants.{Moved}
 use Rattle.sf_core.specs.Events.{Before, After, TakesStep, StepsOn}
-use Rattle.sf_noted.specs.Pages.{BegunCall, Page}
+use Rattle.sf_audit.specs.Audits.{CallRecord}
+use Rattle.sf_noted.specs.Pages.{BegunCall, Page, calls_under_way}
 use Rattle.sf_noted.specs.PageChanges.{page, as_told, IsUnderWay}
 use Rattle.sf_noted.specs.Noted.{number_in, begun_beside, lane_of}
+use Rattle.sf_noted.specs.Growth.{AddsBy}
 
 pub own_place : (lane : LaneView) (place : ℕ) (p : Page) → lane ≡ lane_of (place + 1, p) → lane.session ≡ place + 1
 own_place lane place p is = ap (λ (l : LaneView). l.session) is
@@ -33,6 +36,13 @@ answers_lane s p given under_way = by_state p.state refl under_way
     by_state Idle e busy = absurd busy
     by_state NoLane e busy = absurd busy
 
+pub answered_calls : (state : LaneState BegunCall) (told : List CallRecord) (given : Reply) → IsUnderWay state → length (told ++ as_told state given) + 0 ≡ length told + calls_under_way state
+answered_calls (Busy call) told given busy =
+    let more = length-append told (record { number = call.number; request = call.request; reply = given } ∷ []) in
+    omega arith
+answered_calls Idle told given busy = absurd busy
+answered_calls NoLane told given busy = absurd busy
+
 -- the lane after a step that doesn't answer its call, and its ticket
 pub lane_kept : (lane lane' : LaneView) (t t' : ℕ × Page) → lane ≡ lane_of (t.0 + 1, t.1) → lane' ≡ lane → t' ≡ t → lane' ≡ lane_of (t'.0 + 1, t'.1)
 lane_kept lane lane' t t' is same e = same ∙ (is ∙ ap (λ (u : ℕ × Page). lane_of (u.0 + 1, u.1)) (sym e))
@@ -50,3 +60,7 @@ lane_goes b a (inr (inr x)) = x.1.lane
 pub steps_as : (v v' w w' : CoreView) (l l' m m' : LaneView) (s s' : Step) → v ≡ v' → l ≡ l' → s ≡ s' → w ≡ w' → m ≡ m' → StepsOn v l s w m → StepsOn v' l' s' w' m'
 steps_as v v' w w' l l' m m' s s' ev el es ew em steps =
     subst (λ x. StepsOn x l' s' w' m') ev (subst (λ x. StepsOn v x s' w' m') el (subst (λ x. StepsOn v l x w' m') es (subst (λ x. StepsOn v l s x m') ew (subst (λ x. StepsOn v l s w x) em steps))))
+
+pub adds_as : (v v' : CoreView) (l l' : LaneView) (s s' : Step) (w w' : CoreView) (m m' : LaneView) (h added : List Record) → v ≡ v' → l ≡ l' → s ≡ s' → w ≡ w' → m ≡ m' → AddsBy v l s w m h added → AddsBy v' l' s' w' m' h added
+adds_as v v' l l' s s' w w' m m' h added ev el es ew em adds =
+    subst (λ x. AddsBy x l' s' w' m' h added) ev (subst (λ x. AddsBy v x s' w' m' h added) el (subst (λ x. AddsBy v l x w' m' h added) es (subst (λ x. AddsBy v l s x m' h added) ew (subst (λ x. AddsBy v l s w x h added) em adds))))

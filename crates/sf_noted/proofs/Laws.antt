@@ -10,6 +10,8 @@ use Rattle.sf_core.specs.Progress.{waiting_reply}
 use Rattle.sf_noted.specs.Pages.{Page}
 use Rattle.sf_noted.specs.Noted.{waiting_for, waits_in, noted_state, FitsPage, PagesAgree}
 use Rattle.sf_noted.specs.Visits.{MayWait, IsVisitIn}
+-- the calls of a session among more records
+pub use Rattle.sf_noted.proofs.Records.{records_append}
 
 waits_so : (l : LaneState Call) → MayWait (noted_state l) (waits_in l)
 waits_so NoLane = inl refl

@@ -1,5 +1,6 @@
 -- A core, and what is noted of its sessions.
 use Rattle.std.specs.Prelude.{◌≡◌, ◌<◌, ◌+◌, ◌-◌, ◌^◌, ℕ, min, List, [], ◌∷◌, ◌++◌, length, Option, Some, None, slice_get}
+use Rattle.std.specs.List.{sum_by}
 use Rattle.sf_reply.specs.declared.reply.Reply.{Reply}
 use Rattle.sf_call.specs.declared.call.Call.{Call}
 use Rattle.sf_call.specs.declared.record.Record.{Record}
@@ -11,7 +12,7 @@ use Rattle.sf_core.specs.Cores.LaneState.{NoLane, Idle, Busy}
 use Rattle.sf_core.specs.Progress.{waiting_reply}
 use Rattle.sf_core.specs.Histories.{IsHistory}
 use Rattle.sf_audit.specs.Audits.{CallRecord, call_records}
-use Rattle.sf_noted.specs.Pages.{BegunCall, begun_call, Page}
+use Rattle.sf_noted.specs.Pages.{BegunCall, begun_call, Page, page_calls}
 use Rattle.sf_noted.specs.PageChanges.{page, as_told}
 
 -- a call with its reply, as a session is told
@@ -40,16 +41,15 @@ pub record FitsPage (v : CoreView) (h : List Record) (s : ℕ) (p : Page) : Type
   pub state : noted_state (lane_state v s) ≡ p.state
   pub told : call_records s h ≡ p.told ++ waits_in (lane_state v s)
 
--- so of each session; sessions are numbered from 1 on
+-- So each session fits its page. Sessions have the numbers from 1 on: no call is of number 0 or of
+-- a later session. All pages together have as many calls as the core began.
 pub record PagesAgree (v : CoreView) (pages : List Page) (h : List Record) : Type 0 where
   pub history : IsHistory v h
   pub joins : length pages ≡ v.joins
   pub each : (place : ℕ) (p : Page) → slice_get pages place ≡ Some p → FitsPage v h (place + 1) p
   pub later : (s : ℕ) → v.joins < s → call_records s h ≡ []
-
--- some history is the whole one, and agrees with what is noted
-abbrev pub HasPages : CoreView → List Page → Type 0
-HasPages v pages = (h : List Record) × PagesAgree v pages h
+  pub nobody : (p : Page) × FitsPage v h 0 p × (page_calls p ≡ 0)
+  pub calls : sum_by page_calls pages ≡ v.drawn
 
 -- the number of the call under way
 abbrev pub number_in : LaneState BegunCall → Option ℕ

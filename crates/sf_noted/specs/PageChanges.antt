@@ -26,6 +26,15 @@ page_after p (Begins number moment request) =
 page_after p (Answered reply) = page Idle (p.told ++ as_told p.state reply.value)
 page_after p Leaves = page NoLane p.told
 
+-- another state, and a page with it that has no calls
+abbrev pub other_state : LaneState BegunCall → LaneState BegunCall
+other_state NoLane = Idle
+other_state Idle = NoLane
+other_state (Busy call) = NoLane
+
+abbrev pub cleared : Page → Page
+cleared p = page (other_state p.state) []
+
 abbrev pub IsUnderWay : LaneState BegunCall → Type 0
 IsUnderWay (Busy call) = Unit {0}
 IsUnderWay _ = ⊥

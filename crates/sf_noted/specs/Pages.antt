@@ -1,7 +1,8 @@
 -- What is noted of a session.
-use Rattle.std.specs.Prelude.{ℕ, List}
+use Rattle.std.specs.Prelude.{◌+◌, ℕ, List, length}
 use Rattle.sf_call.specs.declared.request.Request.{Request}
 use Rattle.sf_core.specs.Cores.{LaneState}
+use Rattle.sf_core.specs.Cores.LaneState.{Busy}
 use Rattle.sf_audit.specs.Audits.{CallRecord}
 
 -- a call that began under a number, at a moment
@@ -18,3 +19,11 @@ begun_call number moment request =
 pub record Page : Type 0 where
   pub state : LaneState BegunCall
   pub told : List CallRecord
+
+-- the number of calls that the session began: those with a reply, and the one under way
+abbrev pub calls_under_way : LaneState BegunCall → ℕ
+calls_under_way (Busy call) = 1
+calls_under_way _ = 0
+
+abbrev pub page_calls : Page → ℕ
+page_calls p = length p.told + calls_under_way p.state

@@ -1,25 +1,31 @@
-//! A core, and what is noted of its sessions.
+//! A core with ghost pages of its sessions and a ghost log of its history.
 
-ghost use Rattle.std.specs.Prelude.{◌≡◌, ◌≢◌, ◌<◌, ◌+◌, ◌-◌, ◌++◌, ◌∷◌, List, [], Some, Ok, slice_get, IsOk, IfOk, IfErr, OnOk, OnErr};
+ghost use Rattle.std.specs.Prelude.{◌≡◌, ◌≢◌, ◌<◌, ◌+◌, ◌++◌, ◌∷◌, List, [], Ok, IsOk, IfOk, IfErr, OnOk, OnErr, All};
 ghost use Rattle.sf_call.specs.declared.record.Record.{Record};
 ghost use Rattle.sf_call.specs.declared.record.Record.TheVariants.{Left};
+ghost use Rattle.sf_call.specs.Histories.{IsNewNumber};
 ghost use Rattle.sf_core.specs.Cores.LaneState.{NoLane, Idle, Busy};
 ghost use Rattle.sf_core.specs.Histories.{IsHistory};
 ghost use Rattle.sf_core.specs.Events.{Joins, CallBegins, StepsOn, SessionLeaves, RefusesJoin, RefusesBegin};
 ghost use Rattle.sf_noted.specs.Pages.{begun_call};
 ghost use Rattle.sf_noted.specs.PageChanges.{page, fresh_page, IsUnderWay};
-ghost use Rattle.sf_noted.specs.Noted.{HasPages, PagesAgree, StepTells, lane_of, begun_on};
-ghost use Rattle.sf_noted.specs.Visits.{IsVisitIn};
+ghost use Rattle.sf_noted.specs.Noted.{PagesAgree, StepTells, lane_of, begun_on};
+ghost use Rattle.sf_noted.specs.Seen.{HasSeen, StepShows};
+ghost use Rattle.sf_noted.specs.Visits.{visit_calls, AreCallsOf, IsOnPage};
+ghost use Rattle.sf_noted.specs.Closing.{AreCleared};
+ghost use Rattle.sf_roll.specs.Seen.{IsPrefixOf};
 
-use crate::page::{Page, PageChange};
-use sf_call::{CoreFault, Request};
+use crate::growth::{CoreStep, HistoryGrowth};
+use crate::page::{Clears, Page, PageChange};
+use sf_call::{CoreFault, Record, Request};
 use sf_core::{Core, Lane, Share, Step};
-use sf_roll::{Keeper, NewRoll, RollName, Ticket};
+use sf_roll::{Keeper, Log, NewRoll, RollName, Seen, Ticket};
+use std::alloc::{AllocError, Global};
 use std::marker::Model;
 use std::snapshot::Snapshot;
 use std::sync::ledger::{self, Book, Ledger};
 
-/// The share of a session that could leave.
+/// The share of a session that has left.
 fn left(left: Result<Share, Lane>) -> Share
     requires { IsOk left }
     ensures { left ≡ Ok result }
@@ -33,29 +39,31 @@ fn left(left: Result<Share, Lane>) -> Share
     }
 }
 
-/// A core, what is noted of its sessions, and the count of its calls. Contracts see the core and
-/// the pages.
+/// A core, the pages of its sessions, its history and the count of its calls. Contracts see the
+/// core, the pages and the history.
 #[derive(Drop)]
 pub struct NotedCore<B: RollName + Ledger> {
     core: Core,
     keeper: Keeper<Page, B>,
+    log: Log<Record, B>,
     calls: Book<B>,
 }
 
 impl<B: RollName + Ledger> Model for NotedCore<B> {
     ghost use Rattle.std.specs.Prelude.{◌≡◌, List};
+    ghost use Rattle.sf_call.specs.declared.record.Record.{Record};
     ghost use Rattle.sf_core.specs.Cores.{CoreView};
     ghost use Rattle.sf_noted.specs.Pages.{Page};
-    ghost use Rattle.sf_noted.specs.Noted.{HasPages};
+    ghost use Rattle.sf_noted.specs.Noted.{PagesAgree};
 
-    ghost Value = { CoreView × List Page };
+    ghost Value = { CoreView × List Page × List Record };
 
-    ghost view = { λ n. (n.core, n.keeper) };
+    ghost view = { λ n. (n.core, n.keeper, n.log) };
 
-    ghost invariant = { λ n. HasPages n.core n.keeper × (n.calls.total ≡ n.core.drawn) };
+    ghost invariant = { λ n. PagesAgree n.core n.keeper n.log × (n.calls.total ≡ n.core.drawn) };
 }
 
-/// A session's place in a core. Contracts see its number, and what is noted of it.
+/// A session of a core. Contracts see its number and its page.
 pub struct NotedLane<B: RollName> {
     lane: Lane,
     ticket: Ticket<Page, B>,
@@ -73,8 +81,8 @@ impl<B: RollName> Model for NotedLane<B> {
     ghost invariant = { λ l. l.lane ≡ lane_of (l.ticket.0 + 1, l.ticket.1) };
 }
 
-/// What is noted of a session that makes no more calls. Contracts see its number and its page. It
-/// takes no memory.
+/// The page of a session that makes no more calls. Contracts see its number and its page. It has no
+/// bytes.
 #[derive(Drop)]
 pub struct Visit<B: RollName> {
     ticket: Ticket<Page, B>,
@@ -97,7 +105,7 @@ impl<B: RollName> NotedLane<B> {
         self.lane.session()
     }
 
-    /// Gives the place up. What was noted is told still.
+    /// Abandons the session, perhaps with a call under way. Its page stays.
     pub fn abandon(self) -> Visit<B>
         ensures { result ≡ self }
     {
@@ -109,43 +117,53 @@ impl<B: RollName> NotedLane<B> {
 
 impl<B: RollName + Ledger> NotedCore<B> {
     /// A core that no session has joined.
-    pub fn open(core: Core, roll: NewRoll<Page>, calls: Book<B>) -> NotedCore<B>
+    pub fn open(core: Core, roll: NewRoll<Page, Record>, calls: Book<B>) -> NotedCore<B>
         requires new { IsHistory core [] }
         requires none { (core.joins ≡ 0) × (core.drawn ≡ 0) }
         requires name { roll ≡ B.table }
         requires total { calls.total ≡ 0 }
-        ensures { result ≡ (core, []) }
+        ensures { result ≡ (core, [], []) }
     {
+        core.owners();
+        let (keeper, log) = roll.named::<B>();
         NotedCore {
             core,
-            keeper: roll.named::<B>(),
+            keeper,
+            log,
             calls,
         }
     }
 
-    /// A session joins.
-    pub fn join(&mut self) -> Result<NotedLane<B>, CoreFault>
+    /// A session joins. It has no call in the token's prefix.
+    pub fn join(&mut self, seen: &mut Seen<Record, B>) -> Result<NotedLane<B>, CoreFault>
         ensures lane { IfOk result (λ lane. lane ≡ (self.old.0.joins + 1, fresh_page)) }
         ensures ok { OnOk result (Joins self.old.0 self.new.0) }
         ensures history { (h : List Record) → IsHistory self.old.0 h → IsHistory self.new.0 h }
         ensures err { OnErr result (self.new ≡ self.old) }
         ensures fault { IfErr result (λ fault. RefusesJoin self.old.0 fault) }
+        ensures log { self.new.2 ≡ self.old.2 }
+        ensures seen { IsPrefixOf seen.old seen.new }
+        ensures own { IfOk result (λ lane. HasSeen seen.new lane) }
     {
         let NotedCore {
             core,
             keeper,
+            log,
             calls: _,
         } = self;
+        log.show(seen);
         let lane = core.join()?;
         let ticket = keeper.open();
         Ok(NotedLane { lane, ticket })
     }
 
-    /// A call of the lane begins. It counts in the share.
+    /// A call begins, and the share counts it. It is not in the token's prefix, which has all calls
+    /// of the session so far.
     pub fn begin(
         &mut self,
         lane: &mut NotedLane<B>,
         share: &mut ledger::Share<B>,
+        seen: &mut Seen<Record, B>,
         request: Request,
         moment: u32,
     ) -> Result<u64, CoreFault>
@@ -162,13 +180,19 @@ impl<B: RollName + Ledger> NotedCore<B> {
         ensures refused { OnErr result (self.new ≡ self.old) }
         ensures known { IfErr result (λ fault. fault ≢ CoreFault.Stranger) }
         ensures fault { IfErr result (λ fault. RefusesBegin self.old.0 (lane_of lane.old) fault) }
+        ensures log { self.new.2 ≡ self.old.2 }
+        ensures seen { IsPrefixOf seen.old seen.new }
+        ensures own { HasSeen seen.new lane.old }
+        ensures new_number { IfOk result (λ n. IsNewNumber n seen.new) }
     {
         let NotedCore {
             core,
             keeper,
+            log,
             calls,
         } = self;
         let NotedLane { lane, ticket } = lane;
+        log.show(seen);
         keeper.agrees(ticket);
         let asked = Snapshot::of(&request);
         if let Err(fault) = core.begin(lane, request, moment) {
@@ -180,27 +204,44 @@ impl<B: RollName + Ledger> NotedCore<B> {
         Ok(number)
     }
 
-    /// One step of the lane's call.
-    pub fn step(&mut self, lane: &mut NotedLane<B>) -> Step
+    /// A step of the session's call. If the call is answered, it is in the token's prefix.
+    pub fn step(&mut self, lane: &mut NotedLane<B>, seen: &mut Seen<Record, B>) -> Step
         requires { IsUnderWay lane.old.1.state }
         ensures told { StepTells lane.old result lane.new }
         ensures steps { StepsOn self.old.0 (lane_of lane.old) result self.new.0 (lane_of lane.new) }
+        ensures log { IsPrefixOf self.old.2 self.new.2 }
+        ensures seen { IsPrefixOf seen.old seen.new }
+        ensures shows { StepShows result lane.new seen.old seen.new }
     {
         let NotedCore {
             core,
             keeper,
+            log,
             calls: _,
         } = self;
         let NotedLane { lane, ticket } = lane;
         core.owners();
+        let before = Snapshot::of(&*core);
+        let lane_before = Snapshot::of(&*lane);
         let step = core.step(lane);
         core.owners();
+        let made = Snapshot::of(&step);
+        let after = Snapshot::of(&*core);
+        let lane_after = Snapshot::of(&*lane);
+        log.grow(&HistoryGrowth::Steps(CoreStep {
+            before,
+            lane_before,
+            made,
+            after,
+            lane_after,
+        }));
         match step {
             Step::Moved => Step::Moved,
             Step::Blocked(holder) => Step::Blocked(holder),
             Step::Answered(answer) => {
                 keeper.agrees(ticket);
                 keeper.change(ticket, &PageChange::Answered(Snapshot::of(answer.reply())));
+                log.show(seen);
                 Step::Answered(answer)
             }
             Step::Stranger => {
@@ -210,7 +251,7 @@ impl<B: RollName + Ledger> NotedCore<B> {
         }
     }
 
-    /// The session leaves, and its share of the calls is told.
+    /// The session leaves. Returns its number of calls.
     pub fn leave(&mut self, lane: NotedLane<B>) -> (Share, Visit<B>)
         requires { lane.1.state ≡ Idle }
         ensures visit { result.1 ≡ (lane.0, page NoLane lane.1.told) }
@@ -218,47 +259,73 @@ impl<B: RollName + Ledger> NotedCore<B> {
         ensures leaves { SessionLeaves self.old.0 self.new.0 lane.0 }
         ensures history { (h : List Record) → IsHistory self.old.0 h
             → IsHistory self.new.0 (h ++ Left lane.0 ∷ []) }
+        ensures log { self.new.2 ≡ self.old.2 ++ Left lane.0 ∷ [] }
     {
         let NotedCore {
             core,
             keeper,
+            log,
             calls: _,
         } = self;
         let NotedLane { lane, mut ticket } = lane;
+        let number = lane.session();
         keeper.agrees(&mut ticket);
         let share = left(core.leave(lane));
+        log.grow(&HistoryGrowth::Leaves(number));
         keeper.change(&mut ticket, &PageChange::Leaves);
         (share, Visit { ticket })
     }
 
-    /// A law, for readers: what is noted of a session is on its page, and its calls in the history
-    /// are those that it was told, and one more at most.
-    pub fn confirm(&mut self, visit: &mut Visit<B>)
+    /// Law: a visit is on its page.
+    fn confirm(&mut self, visit: &mut Visit<B>)
         ensures core { self.new ≡ self.old }
         ensures visit { visit.new ≡ visit.old }
-        ensures known { slice_get self.old.1 (visit.old.0 - 1) ≡ Some visit.old.1 }
-        ensures above { 0 < visit.old.0 }
-        ensures told { (h : List Record) → PagesAgree self.old.0 self.old.1 h
-            → IsVisitIn h visit.old }
+        ensures page { IsOnPage self.old.1 visit.old }
     {
         let NotedCore {
             core: _,
             keeper,
+            log: _,
             calls: _,
         } = self;
         let Visit { ticket } = visit;
         keeper.agrees(ticket);
     }
 
-    /// A law, for readers: the pages agree with the history.
-    pub fn noted(&self)
-        ensures { HasPages self.now.0 self.now.1 }
+    /// Law: the pages agree with the history.
+    fn agrees(&self)
+        ensures { PagesAgree self.now.0 self.now.1 self.now.2 }
     {
         let _core = &self.core;
     }
 
-    /// The shares of all are together as many calls as the core has.
-    pub fn gather(&mut self, all: &mut ledger::Share<B>)
+    /// A token for the whole history so far.
+    pub fn token(&mut self) -> Seen<Record, B>
+        ensures core { self.new ≡ self.old }
+        ensures seen { result ≡ self.old.2 }
+    {
+        self.log.token()
+    }
+
+    /// A second token for the same prefix.
+    pub fn copy(&self, seen: &mut Seen<Record, B>) -> Seen<Record, B>
+        ensures seen { seen.new ≡ seen.old }
+        ensures copy { result ≡ seen.old }
+    {
+        self.log.copy(seen)
+    }
+
+    /// Extends a token to the whole history so far. Its old prefix is a prefix of the history.
+    pub fn show(&mut self, seen: &mut Seen<Record, B>)
+        ensures core { self.new ≡ self.old }
+        ensures seen { seen.new ≡ self.old.2 }
+        ensures known { IsPrefixOf seen.old self.old.2 }
+    {
+        self.log.show(seen);
+    }
+
+    /// Law: the whole share counts as many calls as the core has.
+    fn gather(&mut self, all: &mut ledger::Share<B>)
         requires { all.old.parts ≡ B.parts }
         ensures core { self.new ≡ self.old }
         ensures share { (all.new.amount ≡ all.old.amount) × (all.new.parts ≡ all.old.parts) }
@@ -267,15 +334,64 @@ impl<B: RollName + Ledger> NotedCore<B> {
         self.calls.audit(all);
     }
 
-    /// The core alone.
-    pub fn into_core(self) -> Core
-        ensures { result ≡ self.0 }
+    /// Takes the core apart when all sessions have ended. The history has exactly their calls.
+    pub fn close(
+        self,
+        alloc: Global,
+        visits: Vec<Visit<B>>,
+        all: &mut ledger::Share<B>,
+    ) -> Result<(Core, Log<Record, B>), AllocError>
+        requires parts { all.old.parts ≡ B.parts }
+        requires calls { all.old.amount ≡ visit_calls visits.items }
+        ensures core { IfOk result (λ r. r.0 ≡ self.0) }
+        ensures log { IfOk result (λ r. r.1 ≡ self.2) }
+        ensures share { (all.new.amount ≡ all.old.amount) × (all.new.parts ≡ all.old.parts) }
+        ensures all { all.old.amount ≡ self.0.drawn }
+        ensures history { IsHistory self.0 self.2 }
+        ensures calls { OnOk result (AreCallsOf self.2 visits.items) }
     {
+        let mut noted = self;
+        noted.gather(all);
+        noted.agrees();
+        let visits = confirm_all(alloc, &mut noted, visits)?;
         let NotedCore {
             core,
-            keeper: _keeper,
+            mut keeper,
+            log,
             calls: _calls,
-        } = self;
-        core
+        } = noted;
+        clear(&mut keeper, visits);
+        Ok((core, log))
+    }
+}
+
+/// Law: each visit is on its page.
+fn confirm_all<B: RollName + Ledger>(
+    alloc: Global,
+    core: &mut NotedCore<B>,
+    visits: Vec<Visit<B>>,
+) -> Result<Vec<Visit<B>>, AllocError>
+    ensures core { core.new ≡ core.old }
+    ensures visits { IfOk result (λ all. all.items ≡ visits.items) }
+    ensures pages { OnOk result (All (IsOnPage core.old.1) visits.items) }
+{
+    let mut all = Vec::new(alloc);
+    for visit in visits {
+        let mut visit = visit;
+        core.confirm(&mut visit);
+        all.push(visit)?;
+    }
+    Ok(all)
+}
+
+/// Clears the page of each visit: so no page is counted twice.
+fn clear<B: RollName>(keeper: &mut Keeper<Page, B>, visits: Vec<Visit<B>>)
+    requires { All (IsOnPage keeper.old) visits.items }
+    ensures { AreCleared keeper.old visits.items keeper.new }
+{
+    for visit in visits {
+        let Visit { mut ticket } = visit;
+        keeper.agrees(&mut ticket);
+        keeper.change(&mut ticket, &Clears);
     }
 }

@@ -1,4 +1,4 @@
-//! What is noted of a session.
+//! The ghost page of a session.
 
 use sf_call::Request;
 use sf_reply::Reply;
@@ -6,7 +6,7 @@ use sf_roll::{EntryChange, RollEntry};
 use std::marker::{Model, PhantomData};
 use std::snapshot::Snapshot;
 
-/// What is noted of a session, as contracts see it. No value of it is made.
+/// The page of a session, as contracts see it. No value of this type is made.
 pub struct Page {
     nothing: PhantomData<()>,
 }
@@ -26,7 +26,7 @@ impl RollEntry for Page {
     ghost fresh = { fresh_page };
 }
 
-/// A call began, or was answered, or the session left. It has no bytes but for two numbers.
+/// A call began or was answered, or the session ended.
 #[derive(Drop)]
 pub enum PageChange {
     Begins(u64, u32, Snapshot<Request>),
@@ -38,4 +38,13 @@ impl EntryChange<Page> for PageChange {
     ghost use Rattle.sf_noted.specs.PageChanges.{page_after};
 
     ghost after = { page_after };
+}
+
+/// The calls of a closed core's session were counted, and go.
+pub(crate) struct Clears;
+
+impl EntryChange<Page> for Clears {
+    ghost use Rattle.sf_noted.specs.PageChanges.{cleared};
+
+    ghost after = { λ page _. cleared page };
 }

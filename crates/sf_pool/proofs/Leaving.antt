@@ -102,7 +102,7 @@ pub served_not_new : (start now : LaneScene) (from line : LineView) (old new : �
 served_not_new start now from line old new (p, notes, served, (ends, left, shared)) = joined_not_new now.lane.place NoLane left
 
 pub stopped_not_new : (f : ServeFault) (start now : LaneScene) (from line : LineView) (failed failed' old new : ℕ) → StopsLane f start now from line failed failed' old new → now.lane.place ≢ New
-stopped_not_new f start now from line failed failed' old new (inl (never, begins, told, same, share)) =
+stopped_not_new f start now from line failed failed' old new (inl (never, begins, told, same, share, seen)) =
     refused_not_new now.lane.place never.0 (ap (λ (d : SessionLaneView). d.place) never.2)
 stopped_not_new f start now from line failed failed' old new (inr (p, notes, served, (wrote, leaves))) =
     left_for_not_new f now.lane p old new leaves

@@ -9,6 +9,7 @@ use Rattle.sf_field.specs.Fields.{packet}
 use Rattle.sf_wire.specs.declared.cutting.Cut.TheVariants as cut
 use Rattle.sf_wire.specs.Packets.{IsBody, IsCut}
 use Rattle.sf_call.specs.declared.request.Request.{Request}
+use Rattle.sf_call.specs.declared.record.Record.{Record}
 use Rattle.sf_call.specs.ReplyKinds.{longest_packet}
 use Rattle.sf_core.specs.Cores.LaneState.{Idle}
 use Rattle.sf_session.specs.declared.asking.Ask.{Ask}
@@ -31,9 +32,11 @@ use Rattle.sf_pool.specs.declared.calling.Stop.TheVariants as stop
 use Rattle.sf_pool.specs.declared.session_lane.Begin.{Begin}
 use Rattle.sf_pool.specs.declared.lane_host.Standing.{Standing}
 use Rattle.sf_pool.specs.declared.lane_host.Standing.TheVariants as standing
-use Rattle.sf_pool.specs.SessionLanes.{SessionLaneState, Joined, IsResting, SessionLaneView, Notes, share_of}
+use Rattle.sf_roll.specs.Seen.{IsPrefixOf}
+use Rattle.sf_pool.specs.SessionLanes.{SessionLaneState, Joined, IsResting, SessionLaneView, Notes, share_of, HasSeenCalls, SeesOn}
 use Rattle.sf_pool.specs.Scenes.{LaneScene, lane_scene, lane_held, response_calls, phase_calls, state_calls, Attempt, attempt_of, answer_attempts, phase_attempts, attempts_told, BeginsCalls, IsInCall}
 use Rattle.sf_pool.specs.LaneHosts.{standing_fault, MakesCall, talk, FailsCall, IsCounted, IsToldAt, standing_after, stop_fault}
+use Rattle.sf_pool.proofs.Seeing.{sees_same, stands_on, stands_new}
 
 -- ---- lists
 
@@ -70,13 +73,14 @@ rest_attempts t at = ap (λ (f : Phase). flat_map answer_attempts t.answers ++ p
 
 -- ---- it joins
 
-pub told_new : {start : LaneScene} {d : SessionLaneView} {b : Option (List Begin)} {at : Standing} {v : SessionView} (session : ℕ) → b ≡ start.begins → d ≡ record start.lane { session = session; place = Joined Idle; calls = [] } → v ≡ new_session → at ≡ standing.Joined
-    → IsToldAt start at v (lane_scene d b start.moments) new_state
-told_new {start = start} {d = d} {b = b} {v = v} session none joins new at = subst (λ (s : Standing). IsToldAt start s v (lane_scene d b start.moments) new_state) (sym at) (record {
+pub told_new : {start : LaneScene} {d : SessionLaneView} {b : Option (List Begin)} {seen : List Record} {at : Standing} {v : SessionView} (session : ℕ) → b ≡ start.begins → d ≡ record start.lane { session = session; place = Joined Idle; calls = [] } → IsPrefixOf start.seen seen → HasSeenCalls seen d → v ≡ new_session → at ≡ standing.Joined
+    → IsToldAt start at v (lane_scene d b start.moments seen) new_state
+told_new {start = start} {d = d} {b = b} {seen = seen} {v = v} session none joins further own new at = subst (λ (s : Standing). IsToldAt start s v (lane_scene d b start.moments seen) new_state) (sym at) (record {
   notes = record {
     noted = ap (λ (x : SessionLaneView). x.calls) joins;
     keeps = ap (λ (x : SessionLaneView). x.keeps) joins;
     asked = subst (λ (x : Option (List Begin)). BeginsCalls start.moments start.moments start.begins x []) (sym none) (begins_none start.moments start.begins);
+    stands = stands_new further own (ap (λ (x : SessionLaneView). x.calls) joins);
   };
   stands = λ at. record { unread = ap (λ (x : SessionView). x.unread) new; begun = ap (λ (x : SessionView). x.begun) new; ended = ap (λ (x : SessionView). x.ended) new };
   waits = none_written ∙ sym (ap (λ (x : SessionView). x.output) new);
@@ -96,7 +100,7 @@ pub told_fed : {start now : LaneScene} {at : Standing} {v w : SessionView} {t : 
 told_fed {now = now} {at = at} {t = t} bytes h is_open is =
     let s = h.stands is_open.rests in
     record {
-      notes = record { noted = h.notes.noted; keeps = h.notes.keeps; asked = h.notes.asked };
+      notes = record { noted = h.notes.noted; keeps = h.notes.keeps; asked = h.notes.asked; stands = h.notes.stands };
       stands = λ rests. record {
         unread = ap (λ (x : SessionView). x.unread) is ∙ ap (λ (b : List ℕ). b ++ bytes) s.unread;
         begun = ap (λ (x : SessionView). x.begun) is ∙ s.begun;
@@ -114,7 +118,7 @@ pub told_sent : {start now : LaneScene} {at : Standing} {v w : SessionView} {t :
 told_sent {now = now} {at = at} {v = v} {w = w} {t = t} h count is =
     let none : w.output ≡ [] = ap (λ (x : SessionView). x.output) is ∙ ap (λ (k : ℕ). drop k v.output) count ∙ drop_whole v.output in
     record {
-      notes = record { noted = h.notes.noted; keeps = h.notes.keeps; asked = h.notes.asked };
+      notes = record { noted = h.notes.noted; keeps = h.notes.keeps; asked = h.notes.asked; stands = h.notes.stands };
       stands = λ rests.
           let s = h.stands rests in
           record { unread = ap (λ (x : SessionView). x.unread) is ∙ s.unread; begun = ap (λ (x : SessionView). x.begun) is ∙ s.begun; ended = ap (λ (x : SessionView). x.ended) is ∙ s.ended };
@@ -123,9 +127,10 @@ told_sent {now = now} {at = at} {v = v} {w = w} {t = t} h count is =
     }
 
 -- a lane that rests is where it was
-pub told_still : {start : LaneScene} {at : Standing} {v : SessionView} {d d' : SessionLaneView} {b b' : Option (List Begin)} {tl : Option (List ℕ)} {t : SessionState} → d' ≡ d → b' ≡ b → IsToldAt start at v (lane_scene d b tl) t → IsToldAt start at v (lane_scene d' b' tl) t
-told_still {start = start} {at = at} {v = v} {d' = d'} {b = b} {tl = tl} {t = t} p q h =
-    subst (λ (x : Option (List Begin)). IsToldAt start at v (lane_scene d' x tl) t) (sym q) (subst (λ (x : SessionLaneView). IsToldAt start at v (lane_scene x b tl) t) (sym p) h)
+pub told_still : {start : LaneScene} {at : Standing} {v : SessionView} {d d' : SessionLaneView} {b b' : Option (List Begin)} {tl : Option (List ℕ)} {s s' : List Record} {t : SessionState} → d' ≡ d → b' ≡ b → s' ≡ s → IsToldAt start at v (lane_scene d b tl s) t → IsToldAt start at v (lane_scene d' b' tl s') t
+told_still {start = start} {at = at} {v = v} {d' = d'} {b = b} {b' = b'} {tl = tl} {s = s} {t = t} p q r h =
+    subst (λ (x : List Record). IsToldAt start at v (lane_scene d' b' tl x) t) (sym r)
+    (subst (λ (x : Option (List Begin)). IsToldAt start at v (lane_scene d' x tl s) t) (sym q) (subst (λ (x : SessionLaneView). IsToldAt start at v (lane_scene x b tl s) t) (sym p) h))
 
 -- ---- it ends
 
@@ -146,9 +151,9 @@ never_rests t Resting at e = cc
 never_rests t f at e = let no : f ≡ Resting = sym at ∙ e in cc
 
 -- it stands otherwise, or as it did
-pub told_ended : {start : LaneScene} {at at' : Standing} {v : SessionView} {d d' : SessionLaneView} {b b' : Option (List Begin)} {tl : Option (List ℕ)} {t : SessionState} → IsToldAt start at v (lane_scene d b tl) t → d'.calls ≡ d.calls → d'.keeps ≡ d.keeps → b' ≡ b
-    → (d.calls ≡ state_calls t → IsCounted at d t → IsCounted at' d' t) → IsToldAt start at' v (lane_scene d' b' tl) (ended t)
-told_ended {start = start} {at' = at'} {v = v} {d' = d'} {b' = b'} {tl = tl} {t = t} h calls keeps begins count =
+pub told_ended : {start : LaneScene} {at at' : Standing} {v : SessionView} {d d' : SessionLaneView} {b b' : Option (List Begin)} {tl : Option (List ℕ)} {s s' : List Record} {t : SessionState} → IsToldAt start at v (lane_scene d b tl s) t → d'.calls ≡ d.calls → d'.keeps ≡ d.keeps → b' ≡ b → SeesOn s d s' d'
+    → (d.calls ≡ state_calls t → IsCounted at d t → IsCounted at' d' t) → IsToldAt start at' v (lane_scene d' b' tl s') (ended t)
+told_ended {start = start} {at' = at'} {v = v} {d' = d'} {b' = b'} {tl = tl} {t = t} h calls keeps begins sees count =
     let same = ended_same t in
     let asked : BeginsCalls start.moments tl start.begins b' (attempts_told t) = subst (λ (x : Option (List Begin)). BeginsCalls start.moments tl start.begins x (attempts_told t)) (sym begins) h.notes.asked in
     record {
@@ -156,6 +161,7 @@ told_ended {start = start} {at' = at'} {v = v} {d' = d'} {b' = b'} {tl = tl} {t 
         noted = calls ∙ h.notes.noted ∙ sym (closed_calls t t.phase refl);
         keeps = keeps ∙ h.notes.keeps;
         asked = subst (λ (l : List Attempt). BeginsCalls start.moments tl start.begins b' l) (sym (closed_attempts t t.phase refl)) asked;
+        stands = stands_on h.notes.stands sees;
       };
       stands = λ rests. absurd (never_rests t t.phase refl rests);
       waits = ap transcript same.answers ∙ h.waits ∙ ap (λ (b : List ℕ). b ++ v.output) (sym same.sent);
@@ -221,6 +227,7 @@ goes_ended {start = start} {now = now} {v = v} {w = w} {cause = cause} {t = t} g
           noted = h.notes.noted ∙ sym operations;
           keeps = h.notes.keeps;
           asked = subst (λ (l : List Attempt). BeginsCalls start.moments now.moments start.begins now.begins l) (sym attempts) h.notes.asked;
+          stands = h.notes.stands;
         };
         stands = λ rests. absurd (let no : Gone cause ≡ Resting = rests in cc);
         waits = h.waits ∙ ap (λ (b : List ℕ). t.sent ++ b) (sym (ends_output v w cause gives));
@@ -273,6 +280,7 @@ record Noted (now now' : LaneScene) (asked : Ask) (more : List Response) (f : Ph
   noted : now'.lane.calls ≡ now.lane.calls ++ (flat_map response_calls more ++ phase_calls f)
   keeps : now'.lane.keeps ≡ now.lane.keeps
   begins : BeginsCalls now.moments now'.moments now.begins now'.begins (flat_map answer_attempts more ++ phase_attempts f)
+  sees : SeesOn now.seen now.lane now'.seen now'.lane
 
 abbrev after_body : SessionState → List ℕ → List ℕ → List Response → Phase → SessionState
 after_body t body rest more f = record t { unread = rest; bodies = t.bodies ++ body ∷ []; answers = t.answers ++ more; phase = f }
@@ -302,6 +310,7 @@ goes_body {start = start} {now = now} {now' = now'} {v = v} {t = t} {asked = ask
           keeps = n.keeps ∙ h.notes.keeps;
           asked = subst (λ (l : List Attempt). BeginsCalls start.moments now'.moments start.begins now'.begins l) same_attempts
               (begins_more start now now' begun n.begins);
+          stands = stands_on h.notes.stands n.sees;
         };
         stands = λ e. record { unread = ap (λ (x : SessionView). x.unread) shows; begun = ap (λ (x : SessionView). x.begun) shows ∙ sym (begun_push t.bodies b.body); ended = ap (λ (x : SessionView). x.ended) shows };
         waits = transcript_append t.answers more ∙ ap (λ (x : List ℕ). x ++ transcript more) h.waits ∙ append_assoc t.sent v.output (transcript more) ∙ ap (λ (x : SessionView). t.sent ++ x.output) (sym shows);
@@ -329,8 +338,8 @@ one_longer xs x = omega (arith, length-append xs (x ∷ []))
 
 -- a body asked for this, and was answered so: its output follows
 goes_answered : {start now now' : LaneScene} {v w : SessionView} {t : SessionState} (a : Response) → MayGo start now v t → (b : Body t (ask_behind a)) → w ≡ record w { unread = b.rest; output = v.output ++ packet_for a; begun = true; ended = None }
-    → now'.lane.calls ≡ now.lane.calls ++ response_calls a → now'.lane.keeps ≡ now.lane.keeps → BeginsCalls now.moments now'.moments now.begins now'.begins (answer_attempts a) → HasShortPacket a → Goes start standing.Joined w now' (Ok session_step.Answered) t
-goes_answered {now = now} {now' = now'} {v = v} {w = w} {t = t} a go b shows notes keeps begins short =
+    → now'.lane.calls ≡ now.lane.calls ++ response_calls a → now'.lane.keeps ≡ now.lane.keeps → BeginsCalls now.moments now'.moments now.begins now'.begins (answer_attempts a) → SeesOn now.seen now.lane now'.seen now'.lane → HasShortPacket a → Goes start standing.Joined w now' (Ok session_step.Answered) t
+goes_answered {now = now} {now' = now'} {v = v} {w = w} {t = t} a go b shows notes keeps begins sees short =
     let calls : response_calls a ≡ flat_map response_calls (a ∷ []) ++ [] = sym (append-nil (flat_map response_calls (a ∷ [])) ∙ append-nil (response_calls a)) in
     let attempts : answer_attempts a ≡ flat_map answer_attempts (a ∷ []) ++ [] = sym (append-nil (flat_map answer_attempts (a ∷ [])) ∙ append-nil (answer_attempts a)) in
     let n : Noted now now' (ask_behind a) (a ∷ []) Resting = record {
@@ -339,6 +348,7 @@ goes_answered {now = now} {now' = now'} {v = v} {w = w} {t = t} a go b shows not
       noted = notes ∙ ap (λ (l : List CallRecord). now.lane.calls ++ l) calls;
       keeps = keeps;
       begins = subst (λ (l : List Attempt). BeginsCalls now.moments now'.moments now.begins now'.begins l) attempts begins;
+      sees = sees;
     } in
     goes_body (Ok session_step.Answered) go b n (subst (λ (x : List ℕ). w ≡ record w { unread = b.rest; output = v.output ++ x; begun = true; ended = None }) (sym (one_packet a)) shows)
     (batch_one a short) tt (record { rests = refl; closed = go.is_open.closed }, one_longer t.answers a)
@@ -365,16 +375,17 @@ goes_local {now = now} {v = v} {w = w} go gives little =
     g.now ∙ ap (λ (x : List ℕ). record { unread = g.rest; output = v.output ++ x; begun = true; waiting = None; ended = None }) (sym a.2) in
     goes_answered a.0 go b (shown w g.rest (v.output ++ packet_for a.0) None out) (sym (append-nil now.lane.calls) ∙ ap (λ (l : List CallRecord). now.lane.calls ++ l) (sym a.4)) refl
     (subst (λ (l : List Attempt). BeginsCalls now.moments now.moments now.begins now.begins l) (sym a.3) (begins_none now.moments now.begins))
+    (sees_same refl refl)
     (omega (arith, little, ap (λ (x : SessionView). length x.output) out, length-append v.output (packet_for a.0)))
 
 -- a packet's call was made, or refused
-pub goes_called : {start now now' : LaneScene} {v m w : SessionView} {request : Request} {t : SessionState} → MayGo start now v t → NextGives v (next.Call request) m → MakesCall request (BeginsCalls now.moments now'.moments now.begins now'.begins) (talk now.lane m) (talk now'.lane w)
+pub goes_called : {start now now' : LaneScene} {v m w : SessionView} {request : Request} {t : SessionState} → MayGo start now v t → NextGives v (next.Call request) m → MakesCall request (BeginsCalls now.moments now'.moments now.begins now'.begins) (talk now.lane m) (talk now'.lane w) → SeesOn now.seen now.lane now'.seen now'.lane
     → Goes start standing.Joined w now' (Ok session_step.Answered) t
-goes_called {now = now} {now' = now'} {v = v} {w = w} {request = request} go gives made =
+goes_called {now = now} {now' = now'} {v = v} {w = w} {request = request} go gives made sees =
     let g = gives.1 in
     let a = subst (λ (x : SessionView). MakesCall request (BeginsCalls now.moments now'.moments now.begins now'.begins) (talk now.lane x) (talk now'.lane w)) g.now made in
     let b = body_at go g.begins (subst (λ (x : Ask). AsksFor v.begun g.body x) (sym a.1) g.asks) in
-    goes_answered a.0 go b (shown w g.rest (v.output ++ packet_for a.0) None a.2) (ap (λ (x : SessionLaneView). x.calls) a.3) (ap (λ (x : SessionLaneView). x.keeps) a.3) a.4 a.5
+    goes_answered a.0 go b (shown w g.rest (v.output ++ packet_for a.0) None a.2) (ap (λ (x : SessionLaneView). x.calls) a.3) (ap (λ (x : SessionLaneView). x.keeps) a.3) a.4 sees a.5
 
 pub called_ready : (Asked : List Attempt → Type 0) (d d' : SessionLaneView) (v m w : SessionView) (request : Request) → IsResting d.place → NextGives v (next.Call request) m → MakesCall request Asked (talk d m) (talk d' w) → IsResting d'.place × (w.waiting ≡ None)
 called_ready Asked d d' v m w request rests gives made =
@@ -394,18 +405,18 @@ goes_pended {v = v} {w = w} {t = t} {f = f} g go gives same n counts =
     same ∙ x.now ∙ ap (λ (l : List ℕ). record { unread = x.rest; output = l; begun = true; waiting = Some x.id; ended = None }) out in
     goes_body (Err g) go b n (shown w x.rest (v.output ++ transcript []) (Some x.id) is) batch_none (counts (after_body t x.body x.rest [] f) refl) tt
 
-pub goes_stopped : {start now now' : LaneScene} {v m w : SessionView} {request : Request} {t : SessionState} (why : Stop) → MayGo start now v t → NextGives v (next.Call request) m → w ≡ m → FailsCall m.waiting request why (BeginsCalls now.moments now'.moments now.begins now'.begins) now.lane now'.lane
+pub goes_stopped : {start now now' : LaneScene} {v m w : SessionView} {request : Request} {t : SessionState} (why : Stop) → MayGo start now v t → NextGives v (next.Call request) m → w ≡ m → FailsCall m.waiting request why (BeginsCalls now.moments now'.moments now.begins now'.begins) now.lane now'.lane → SeesOn now.seen now.lane now'.seen now'.lane
     → Goes start (standing_after why) w now' (Err (stop_fault why)) t
-goes_stopped {request = request} stop.OutOfMemory go gives same fails =
+goes_stopped {request = request} stop.OutOfMemory go gives same fails sees =
     let is = fails.1.1 in
     goes_pended {f = Decided gives.1.id fails.0 request fails.1.0} (stop_fault stop.OutOfMemory) go gives same
-    (record { asks = refl; left = λ begun bytes. refl; noted = ap (λ (x : SessionLaneView). x.calls) is; keeps = ap (λ (x : SessionLaneView). x.keeps) is; begins = fails.2 }) (λ t' phase. tt)
-goes_stopped {now = now} {now' = now'} {request = request} stop.UnderWay go gives same fails =
+    (record { asks = refl; left = λ begun bytes. refl; noted = ap (λ (x : SessionLaneView). x.calls) is; keeps = ap (λ (x : SessionLaneView). x.keeps) is; begins = fails.2; sees = sees }) (λ t' phase. tt)
+goes_stopped {now = now} {now' = now'} {request = request} stop.UnderWay go gives same fails sees =
     let is = fails.1.1 in
     let in_call : IsInCall now'.lane.place (UnderWay gives.1.id fails.0 fails.1.0 request 0) =
     record { id = gives.1.id; number = fails.0; moment = fails.1.0; request = request; moves = 0; placed = ap (λ (x : SessionLaneView). x.place) is; waits = refl } in
     goes_pended {f = UnderWay gives.1.id fails.0 fails.1.0 request 0} (stop_fault stop.UnderWay) go gives same
-    (record { asks = refl; left = λ begun bytes. refl; noted = ap (λ (x : SessionLaneView). x.calls) is ∙ sym (append-nil now.lane.calls); keeps = ap (λ (x : SessionLaneView). x.keeps) is; begins = fails.2 })
+    (record { asks = refl; left = λ begun bytes. refl; noted = ap (λ (x : SessionLaneView). x.calls) is ∙ sym (append-nil now.lane.calls); keeps = ap (λ (x : SessionLaneView). x.keeps) is; begins = fails.2; sees = sees })
     (λ t' phase. subst (λ (f : Phase). IsInCall now'.lane.place f) (sym phase) in_call)
 
 -- ---- a host goes on only where it has joined
@@ -418,9 +429,10 @@ pub may_go : {start now : LaneScene} {at : Standing} {v : SessionView} {t : Sess
 may_go {start = start} {now = now} {at = at} {v = v} {t = t} e h is_open read sent = record { told = subst (λ (s : Standing). IsToldAt start s v now t) (joined at e) h; is_open = is_open; read = read; sent = sent }
 
 -- a host stands as it did, and its lane is where it was
-pub goes_still : {start : LaneScene} {at at' : Standing} {w w' : SessionView} {d d' : SessionLaneView} {b b' : Option (List Begin)} {tl : Option (List ℕ)} (r : Result SessionStep ServeFault) {r' : Result SessionStep ServeFault} {t : SessionState}
-    → at' ≡ at → w' ≡ w → d' ≡ d → b' ≡ b → r' ≡ r → Goes start at w (lane_scene d b tl) r t → Goes start at' w' (lane_scene d' b' tl) r' t
-goes_still {start = start} {at = at} {w = w} {w' = w'} {d = d} {d' = d'} {b = b} {b' = b'} {tl = tl} r {r' = r'} {t = t} p q e f g h =
-    subst (λ (x : Standing). Goes start x w' (lane_scene d' b' tl) r' t) (sym p) (subst (λ (x : SessionView). Goes start at x (lane_scene d' b' tl) r' t) (sym q)
-    (subst (λ (x : SessionLaneView). Goes start at w (lane_scene x b' tl) r' t) (sym e) (subst (λ (x : Option (List Begin)). Goes start at w (lane_scene d x tl) r' t) (sym f)
-    (subst (λ (x : Result SessionStep ServeFault). Goes start at w (lane_scene d b tl) x t) (sym g) h))))
+pub goes_still : {start : LaneScene} {at at' : Standing} {w w' : SessionView} {d d' : SessionLaneView} {b b' : Option (List Begin)} {tl : Option (List ℕ)} {s s' : List Record} (r : Result SessionStep ServeFault) {r' : Result SessionStep ServeFault} {t : SessionState}
+    → at' ≡ at → w' ≡ w → d' ≡ d → b' ≡ b → s' ≡ s → r' ≡ r → Goes start at w (lane_scene d b tl s) r t → Goes start at' w' (lane_scene d' b' tl s') r' t
+goes_still {start = start} {at = at} {w = w} {w' = w'} {d = d} {d' = d'} {b = b} {b' = b'} {tl = tl} {s = s} {s' = s'} r {r' = r'} {t = t} p q e f z g h =
+    subst (λ (x : Standing). Goes start x w' (lane_scene d' b' tl s') r' t) (sym p) (subst (λ (x : SessionView). Goes start at x (lane_scene d' b' tl s') r' t) (sym q)
+    (subst (λ (x : SessionLaneView). Goes start at w (lane_scene x b' tl s') r' t) (sym e) (subst (λ (x : Option (List Begin)). Goes start at w (lane_scene d x tl s') r' t) (sym f)
+    (subst (λ (x : List Record). Goes start at w (lane_scene d b tl x) r' t) (sym z)
+    (subst (λ (x : Result SessionStep ServeFault). Goes start at w (lane_scene d b tl s) x t) (sym g) h)))))

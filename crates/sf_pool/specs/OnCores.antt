@@ -1,14 +1,13 @@
--- What the events of a session's lane do to its core, and what the lane comes to.
-use Rattle.std.specs.Prelude.{◌≡◌, ◌⊎◌, ◌+◌, ℕ, true, false, length, Result, Ok, Err}
+-- What the events of a session's lane do to its core, and how a lane ends.
+use Rattle.std.specs.Prelude.{◌≡◌, ◌⊎◌, ℕ, true, false, Result, Ok, Err}
 use Rattle.sf_call.specs.declared.request.Request.{Request}
 use Rattle.sf_call.specs.declared.fault.CoreFault.{CoreFault}
 use Rattle.sf_call.specs.declared.fault.CoreFault.TheVariants.{OutOfMemory}
 use Rattle.sf_core.specs.declared.step.Step.{Step}
 use Rattle.sf_core.specs.declared.step.Step.TheVariants as step
-use Rattle.sf_core.specs.Cores.{CoreView, LaneState}
-use Rattle.sf_core.specs.Cores.LaneState.{Busy}
+use Rattle.sf_core.specs.Cores.{CoreView}
 use Rattle.sf_core.specs.Events.{CallBegins, RefusesBegin, StepsOn}
-use Rattle.sf_noted.specs.Pages.{BegunCall, Page}
+use Rattle.sf_noted.specs.Pages.{Page, page_calls}
 use Rattle.sf_noted.specs.Noted.{lane_of}
 use Rattle.sf_pool.specs.declared.session_lane.StepResult.TheVariants.{Going, Answered}
 use Rattle.sf_pool.specs.declared.transcript_lane.Stepped.{Stepped}
@@ -20,19 +19,12 @@ pub record IsPageOf (d : SessionLaneView) (x : ℕ × Page) : Type 0 where
   pub place : Joined x.1.state ≡ d.place
   pub told : x.1.told ≡ d.calls
 
--- and this is what is noted of it, or why it never joined
+-- the result of a lane: the session's page, or why it never joined
 abbrev pub IsVisitOf : SessionLaneView → Result (ℕ × Page) CoreFault → Type 0
 IsVisitOf d (Ok x) = IsPageOf d x
 IsVisitOf d (Err refusal) = d.place ≡ JoinRefused refusal
 
--- how many calls the session began: those that it was told, and the one under way
-abbrev pub calls_under_way : LaneState BegunCall → ℕ
-calls_under_way (Busy call) = 1
-calls_under_way _ = 0
-
-abbrev pub page_calls : Page → ℕ
-page_calls p = length p.told + calls_under_way p.state
-
+-- the number of calls that the session began
 abbrev pub calls_begun_by : Result (ℕ × Page) CoreFault → ℕ
 calls_begun_by (Ok x) = page_calls x.1
 calls_begun_by (Err refusal) = 0
@@ -42,13 +34,12 @@ abbrev pub BeginsAt : SessionLaneView → CoreView → CoreView → Request → 
 BeginsAt d v w request moment =
     (x : ℕ × Page) × IsPageOf d x × CallBegins v w (lane_of x) request moment
 
--- memory was wanting, or the core refuses the session's call
+-- memory ran out, or the core refuses the session's call
 abbrev pub RefusesAt : SessionLaneView → CoreView → CoreFault → Type 0
 RefusesAt d v fault =
     (fault ≡ OutOfMemory) ⊎ ((x : ℕ × Page) × IsPageOf d x × RefusesBegin v (lane_of x) fault)
 
--- what is told of a step of the core: whether its call was answered, and how; and whether it was
--- blocked
+-- what a lane returns of a step: whether its call was answered, and whether it was blocked
 abbrev pub TellsOf : Step → Stepped → SessionLaneView → Type 0
 TellsOf step.Moved s d = (s.outcome ≡ Going) × (s.blocked ≡ false)
 TellsOf (step.Blocked holder) s d = (s.outcome ≡ Going) × (s.blocked ≡ true)
@@ -56,7 +47,7 @@ TellsOf (step.Answered answer) s d =
     (s.outcome ≡ Answered) × (s.blocked ≡ false) × IsLastAnswer d.calls answer.number answer.reply
 TellsOf step.Stranger s d = ⊥
 
--- what a step came to: what is told of it, and the lane and the core after it
+-- the outcome of a step, with the lane and the core after it
 pub record SteppedTo : Type 0 where
   pub stepped : Stepped
   pub lane : SessionLaneView

@@ -11,7 +11,7 @@ use Rattle.sf_noted.specs.Pages.{Page}
 use Rattle.sf_pool.specs.declared.transcript_lane.Place.{Place}
 use Rattle.sf_pool.specs.declared.transcript_lane.Place.TheVariants as place
 use Rattle.sf_pool.specs.SessionLanes.{SessionLaneState, New, JoinRefused, Joined, SessionLaneView}
-use Rattle.sf_pool.specs.OnCores.{page_calls}
+use Rattle.sf_noted.specs.Pages.{page_calls}
 
 -- the session's number and page, where it has a lane
 abbrev pub lane_in : {B : Type 0} → Place B → Option (ℕ × Page)

@@ -2,7 +2,7 @@
 
 ghost use Rattle.std.specs.Prelude.{◌≡◌, ◌≢◌, ◌≤◌, [], true, false, IsSome, OnOk, IfErr};
 ghost use Rattle.sf_serving.specs.Hosts.{most_counted};
-ghost use Rattle.sf_pool.specs.SessionLanes.{IsResting, HasCallUnderWay};
+ghost use Rattle.sf_pool.specs.SessionLanes.{IsResting, HasCallUnderWay, SeesOn};
 ghost use Rattle.sf_pool.specs.Scenes.{BeginsCalls};
 ghost use Rattle.sf_pool.specs.LaneHosts.{MakesCall, talk, after_steps, IsAnsweredAt, FailsCall};
 
@@ -17,12 +17,11 @@ use sf_session::{Clock, Session};
 #[derive(Clone, Copy, Debug, PartialEq, Eq)]
 pub(crate) enum Stop {
     OutOfMemory,
-    /// So many steps were made that no number is left to count them, and the call has no answer
-    /// yet.
+    /// The call has no reply after 2^64 - 1 steps.
     UnderWay,
 }
 
-/// Tells the observer of the next step where it wants that, outside of the lock.
+/// Reports the next step to the observer, if it wants it. Holds no lock then.
 fn stop_at<D: SessionLane, G: StepObserver>(
     lane: &mut D,
     observer: &G,
@@ -32,6 +31,7 @@ fn stop_at<D: SessionLane, G: StepObserver>(
 )
     ensures at { D.at lane.new ≡ D.at lane.old }
     ensures begins { D.begins lane.new ≡ D.begins lane.old }
+    ensures seen { D.seen lane.new ≡ D.seen lane.old }
 {
     if observer.stops(session, number, steps) {
         lane.rest();
@@ -39,7 +39,7 @@ fn stop_at<D: SessionLane, G: StepObserver>(
     }
 }
 
-/// Makes steps until the call is answered, but 2^64 - 1 at most. Tells whether it was.
+/// Makes steps until the call is answered, at most 2^64 - 1. Returns whether it was.
 fn finish<D: SessionLane, G: StepObserver>(
     lane: &mut D,
     observer: &G,
@@ -52,6 +52,7 @@ fn finish<D: SessionLane, G: StepObserver>(
         → (D.at lane.new ≡ after_steps (D.at lane.old) (D.at lane.new).steps)
         × (most_counted ≤ (D.at lane.new).steps) }
     ensures begins { D.begins lane.new ≡ D.begins lane.old }
+    ensures sees { SeesOn (D.seen lane.old) (D.at lane.old) (D.seen lane.new) (D.at lane.new) }
 {
     for steps in 0..u64::MAX {
         stop_at(lane, observer, session, number, steps);
@@ -63,11 +64,12 @@ fn finish<D: SessionLane, G: StepObserver>(
     false
 }
 
-/// Tells the observer of the last call where it wants that. Nothing is held then.
+/// Reports the last call to the observer, if it wants it. Holds no lock then.
 fn tell_call<D: SessionLane, G: CallObserver>(lane: &mut D, observer: &G, session: u64, moment: u32)
     requires { (D.at lane.old).calls ≢ [] }
     ensures at { D.at lane.new ≡ D.at lane.old }
     ensures begins { D.begins lane.new ≡ D.begins lane.old }
+    ensures seen { D.seen lane.new ≡ D.seen lane.old }
 {
     if !observer.hears_calls() {
         return;
@@ -83,8 +85,8 @@ fn tell_call<D: SessionLane, G: CallObserver>(lane: &mut D, observer: &G, sessio
     });
 }
 
-/// Makes the call that a packet asked for, at the clock's next moment. Its reply, or that of its
-/// refusal, is appended to the session's output.
+/// Makes the call of a packet, at the clock's next timestamp. Appends the reply to the session's
+/// output.
 pub(crate) fn make_call<D: SessionLane, C: Clock, G: StepObserver>(
     lane: &mut D,
     clock: &mut C,
@@ -104,6 +106,7 @@ pub(crate) fn make_call<D: SessionLane, C: Clock, G: StepObserver>(
         (D.begins lane.old) (D.begins lane.new))
         (D.at lane.old) (D.at lane.new)) }
     ensures session { IfErr result (λ _. session.new ≡ session.old) }
+    ensures sees { SeesOn (D.seen lane.old) (D.at lane.old) (D.seen lane.new) (D.at lane.new) }
 {
     let moment = clock.now();
     let call = match lane.begin(request, moment) {

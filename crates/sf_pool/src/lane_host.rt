@@ -18,49 +18,49 @@ use sf_session::{Clock, Next, ServeFault, Session};
 use std::alloc::{AllocError, Global};
 use std::mem;
 
-/// How many bytes of replies a line gathers before a write may wait. A worker's line gathers as
-/// many.
+/// The bytes of replies that a stream buffers before a write may block. A worker's stream buffers
+/// as many.
 const GATHERED: usize = 16384;
 
-/// How a session stands at the core.
+/// The state of a session at the core.
 #[derive(Debug, Drop)]
 pub(crate) enum Standing {
     Joined,
-    /// The reply to its last call found no room.
+    /// Memory ran out for the reply to its last call.
     Unanswered,
-    /// Its call has no answer, and no number is left to count its steps.
+    /// Its call has no reply after 2^64 - 1 steps.
     UnderWay,
-    /// With its share of the calls.
+    /// It has left, with its share of the calls.
     Left(Share),
 }
 
-/// A session's side at a line, whose calls are made by a lane that has joined.
+/// The host of a session whose lane has joined.
 pub(crate) struct LaneHost<'a, G> {
     number: u64,
     session: Session,
     observer: &'a G,
-    // How many bytes the line gathers before it writes.
+    // The bytes that the stream buffers before it writes.
     room: usize,
     standing: Standing,
 }
 
-/// Lets go of the core before a read or a write that may wait, and tells how much room the line has
-/// after it: by then it has written what it had gathered.
+/// Releases the core before a read or a flush, which may block. Returns the free buffer after it.
 fn let_go<D: SessionLane>(lane: &mut D) -> usize
     ensures at { D.at lane.new ≡ D.at lane.old }
     ensures rests { D.rests lane.new }
     ensures begins { D.begins lane.new ≡ D.begins lane.old }
+    ensures seen { D.seen lane.new ≡ D.seen lane.old }
 {
     lane.rest();
     GATHERED
 }
 
-/// Lets go of the core where a write of so many bytes may wait, and tells how much room the line
-/// has after it.
+/// Releases the core if a write of `len` bytes may block. Returns the free buffer after the write.
 fn let_go_for<D: SessionLane>(lane: &mut D, len: usize, room: usize) -> usize
     ensures at { D.at lane.new ≡ D.at lane.old }
     ensures rests { room ≤ len → D.rests lane.new }
     ensures begins { D.begins lane.new ≡ D.begins lane.old }
+    ensures seen { D.seen lane.new ≡ D.seen lane.old }
 {
     if len < room {
         return room - len;
@@ -69,7 +69,7 @@ fn let_go_for<D: SessionLane>(lane: &mut D, len: usize, room: usize) -> usize
 }
 
 impl<'a, G> LaneHost<'a, G> {
-    /// A session that has joined, and has read nothing.
+    /// A session that has joined and has read nothing.
     pub(crate) fn new(alloc: Global, number: u64, observer: &'a G) -> LaneHost<'a, G>
         ensures session { result.session ≡ new_session }
         ensures standing { result.standing ≡ Standing.Joined }
@@ -83,7 +83,7 @@ impl<'a, G> LaneHost<'a, G> {
         }
     }
 
-    /// Why it goes on no more, if so.
+    /// The fault that ended it, if any.
     fn fault(&self) -> Option<ServeFault>
         ensures { result ≡ standing_fault self.now.standing }
     {
@@ -94,19 +94,20 @@ impl<'a, G> LaneHost<'a, G> {
         }
     }
 
-    /// A reply waits. The core is let go of where writing it may wait.
+    /// Releases the core if writing the pending reply may block.
     fn answered<D: SessionLane>(&mut self, lane: &mut D) -> SessionStep
         ensures step { result ≡ SessionStep.Answered }
         ensures session { self.new.session ≡ self.old.session }
         ensures standing { self.new.standing ≡ self.old.standing }
         ensures at { D.at lane.new ≡ D.at lane.old }
         ensures begins { D.begins lane.new ≡ D.begins lane.old }
+        ensures seen { D.seen lane.new ≡ D.seen lane.old }
     {
         self.room = let_go_for(lane, self.session.output().len(), self.room);
         SessionStep::Answered
     }
 
-    /// A call has no reply: how it stands then, and why it goes on no more.
+    /// The state and the fault after a call without a reply.
     fn stand_after(&mut self, stop: Stop) -> ServeFault
         ensures fault { result ≡ stop_fault stop }
         ensures session { self.new.session ≡ self.old.session }
@@ -145,7 +146,7 @@ impl<D: SessionLane, G: StepObserver> Host<D> for LaneHost<'_, G> {
     ghost Start = { LaneScene };
 
     ghost serves = { λ start h d moments t. IsToldAt start h.standing h.session
-        (lane_scene (D.at d) (D.begins d) moments) t };
+        (lane_scene (D.at d) (D.begins d) moments (D.seen d)) t };
 
     ghost held = { lane_held };
 

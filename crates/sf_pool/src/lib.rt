@@ -1,12 +1,10 @@
-//! A session's calls on a core that threads share, and a session served over a line whose calls are
-//! made so.
+//! Serves a session over a stream, with its calls on a core that threads share.
 //!
-//! Start with `SessionLane` in `session_lane.rt` (`specs/SessionLanes.antt`): what serving asks of
-//! a session's lane, its side at a core, which makes the calls and notes what the session was told.
-//! `SharedLane` is a lane at a core that threads share, and a `TranscriptLane` its part without the
-//! lock, so that what it notes is on the session's page of that core. `serve` in `serving.rt`
-//! serves a session over a line, whose host is a `LaneHost`: its calls are made by such a lane.
-//! What it promises is in `specs/Scenes.antt`, beside what the one loop of `sf_serving` promises.
+//! Start with `SessionLane` in `session_lane.rt` (`specs/SessionLanes.antt`): a session's calls on
+//! a core. `SharedLane` is a lane at a core under a mutex. Its `TranscriptLane` is the part without
+//! the mutex, and agrees with the session's page. A lane has a token for a prefix of the history
+//! (`sf_roll`): no call that begins is in it, and each call that is answered is. `serve` in
+//! `serving.rt` serves a session; its contract is in `specs/Scenes.antt`.
 #![tactic(auto)]
 
 mod calling;

@@ -1,19 +1,18 @@
-//! Who is told of the steps of a session's calls.
+//! Observers of the steps of a session's calls.
 
 use sf_serving::{CallObserver, NoObserver};
 
-/// Told of each answer of a session's calls at once, and of their steps where it stops before them.
+/// Observes each reply of a session, and each step that it wants to see.
 pub trait StepObserver: CallObserver {
-    /// Whether it is told of the next step of a call, outside of the lock: so many steps of it
-    /// were made, blocked ones too.
+    /// Whether it observes the next step of a call that has made `steps` steps, blocked ones too.
     fn stops(&self, _session: u64, _number: u64, _steps: u64) -> bool {
         false
     }
 
-    /// Before each such step.
+    /// Observes the next step. No lock is held.
     fn between(&self, _session: u64, _number: u64, _steps: u64) {}
 
-    /// After the answer to a call, whatever is held then.
+    /// Observes the reply to a call. Locks may be held.
     fn answered(&self, _session: u64, _number: u64) {}
 }
 

@@ -1,4 +1,4 @@
-//! A session over a line, whose calls a lane makes.
+//! Serves a session over a stream, with its calls made by a lane.
 
 ghost use Rattle.std.specs.Prelude.{◌≡◌, ◌≢◌, vec_len, OnOk, IfErr};
 ghost use Rattle.sf_serving.specs.Serving.{line_view};
@@ -15,7 +15,7 @@ use sf_serving::serve_session;
 use sf_session::{Clock, ServeFault};
 use std::alloc::Global;
 
-/// Why no session joined.
+/// Why the session did not join.
 fn join_refusal(fault: CoreFault) -> ServeFault
     requires { fault ≢ CoreFault.Stranger }
     ensures { result ≡ join_refusal fault }
@@ -28,11 +28,11 @@ fn join_refusal(fault: CoreFault) -> ServeFault
     }
 }
 
-/// Serves one session over a line, by a lane that has not joined, to the end of the input or of the
-/// session, and merges its share of the calls. The observer is told of it, and of its calls.
-/// What is read comes into the piece, which whoever served its session may use again.
+/// Serves one session over a stream, until its input or the session ends, and merges its share of
+/// the calls. The lane has not joined before. The observer receives the session and its calls.
+/// `piece` is the read buffer.
 ///
-/// Where a call has no answer after 2^64 - 1 steps, its session doesn't leave.
+/// If a call has no reply after 2^64 - 1 steps, the session doesn't leave.
 pub fn serve<D: SessionLane, L: Line, C: Clock, G: StepObserver>(
     alloc: Global,
     lane: &mut D,
@@ -46,14 +46,14 @@ pub fn serve<D: SessionLane, L: Line, C: Clock, G: StepObserver>(
     requires room { vec_len piece.old ≡ 65536 }
     ensures len { vec_len piece.new ≡ vec_len piece.old }
     ensures served { OnOk result (ServesLane
-        (lane_scene (D.at lane.old) (D.begins lane.old) (C.moments clock.old))
-        (lane_scene (D.at lane.new) (D.begins lane.new) (C.moments clock.new))
+        (lane_scene (D.at lane.old) (D.begins lane.old) (C.moments clock.old) (D.seen lane.old))
+        (lane_scene (D.at lane.new) (D.begins lane.new) (C.moments clock.new) (D.seen lane.new))
         (line_view (L.incoming line.old) (L.outgoing line.old) (L.calls line.old))
         (line_view (L.incoming line.new) (L.outgoing line.new) (L.calls line.new))
         share.old share.new) }
     ensures stopped { IfErr result (λ fault. StopsLane fault
-        (lane_scene (D.at lane.old) (D.begins lane.old) (C.moments clock.old))
-        (lane_scene (D.at lane.new) (D.begins lane.new) (C.moments clock.new))
+        (lane_scene (D.at lane.old) (D.begins lane.old) (C.moments clock.old) (D.seen lane.old))
+        (lane_scene (D.at lane.new) (D.begins lane.new) (C.moments clock.new) (D.seen lane.new))
         (line_view (L.incoming line.old) (L.outgoing line.old) (L.calls line.old))
         (line_view (L.incoming line.new) (L.outgoing line.new) (L.calls line.new))
         (L.failed line.old) (L.failed line.new) share.old share.new) }

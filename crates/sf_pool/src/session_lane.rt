@@ -1,23 +1,26 @@
-//! One session's calls on a core that others use too.
+//! The calls of one session on a shared core.
 
 ghost use Rattle.std.specs.Prelude.{◌≡◌, ◌≢◌, ◌<◌, List, [], ◌∷◌, length, Option, None, OnErr, IfOk, IfErr};
+ghost use Rattle.sf_call.specs.declared.record.Record.{Record};
 ghost use Rattle.sf_call.specs.declared.fault.CoreFault.TheVariants.{Stranger};
+ghost use Rattle.sf_call.specs.Histories.{IsNewNumber};
 ghost use Rattle.sf_core.specs.Cores.LaneState.{NoLane, Idle, Busy};
 ghost use Rattle.sf_audit.specs.Audits.{call_record};
+ghost use Rattle.sf_roll.specs.Seen.{IsPrefixOf};
 ghost use Rattle.sf_noted.specs.Pages.{begun_call};
 ghost use Rattle.sf_pool.specs.declared.session_lane.Begin.{Begin};
-ghost use Rattle.sf_pool.specs.SessionLanes.{New, JoinRefused, Joined, IsResting, HasCallUnderWay, IsLast, Notes, share_of, SessionLaneView, Steps};
+ghost use Rattle.sf_pool.specs.SessionLanes.{New, JoinRefused, Joined, IsResting, HasCallUnderWay, IsLast, Notes, share_of, SessionLaneView, Steps, HasSeenCalls, SeesOn};
 
 use sf_audit::AnsweredCall;
 use sf_call::{CoreFault, Request};
 use sf_core::Share;
 
-/// What a step came to.
+/// The outcome of a step.
 #[derive(Clone, Copy, Debug, PartialEq, Eq)]
 pub enum StepResult {
-    /// The call has no answer yet.
+    /// The call has no reply yet.
     Going,
-    /// The call was answered: `last_call` tells how.
+    /// The call was answered. `last_call` returns the reply.
     Answered,
 }
 
@@ -31,21 +34,24 @@ pub struct Begin {
     pub outcome: Result<u64, CoreFault>,
 }
 
-/// A session's side at a core: it joins, makes one call after the other, and leaves. The core
-/// knows each session that joined: no lane tells that one is a stranger.
+/// A session at a core: it joins, makes one call after the other, and leaves. A session that joined
+/// is never unknown to the core.
 pub trait SessionLane {
-    /// The session's number, how far it is, the calls that it was answered, in order, and whether
-    /// the lane keeps them; and how many steps were made of its calls.
+    /// The session's number and state, its answered calls in order, whether the lane retains them,
+    /// and the number of steps made.
     ghost at: { Self → SessionLaneView };
 
-    /// The calls that it was asked to begin, in order, where it tells them. A lane that tells them
-    /// goes on telling them.
+    /// The calls that it was asked to begin, in order, if they are known. Once known, they stay
+    /// known.
     ghost begins: { Self → Option (List Begin) } = { λ _. None };
+
+    /// The prefix of the core's history of its token. It exists in proofs only.
+    ghost seen: { Self → List Record };
 
     /// It holds nothing that others wait for.
     ghost rests: { Self → Type 0 } = { λ _. Unit {0} };
 
-    /// The session joins. Its number is told; or why it was refused, which the lane then shows.
+    /// The session joins. Returns its number, or why it was refused. It has no call in the prefix.
     fn join(&mut self) -> Result<u64, CoreFault>
         requires { (at self.old).place ≡ New }
         ensures number { IfOk result (λ session. 0 < session) }
@@ -57,10 +63,12 @@ pub trait SessionLane {
         ensures err { IfErr result (λ fault. at self.new
             ≡ record (at self.old) { place = JoinRefused fault }) }
         ensures known { IfErr result (λ fault. fault ≢ Stranger) }
-        ensures begins { begins self.new ≡ begins self.old };
+        ensures begins { begins self.new ≡ begins self.old }
+        ensures further { IsPrefixOf (seen self.old) (seen self.new) }
+        ensures own { IfOk result (λ _. HasSeenCalls (seen self.new) (at self.new)) };
 
-    /// A call begins at a moment, in seconds since 1970. Its number is told. Room to note its
-    /// answer is made first.
+    /// Begins a call at a timestamp, in seconds since 1970. Returns its number. Reserves memory for
+    /// its reply. The call is not in the prefix, so it follows all of it in the history.
     fn begin(&mut self, request: Request, moment: u32) -> Result<u64, CoreFault>
         requires { IsResting (at self.old).place }
         ensures ok { IfOk result (λ number. at self.new
@@ -71,31 +79,36 @@ pub trait SessionLane {
           request = request;
           moment = moment;
           outcome = result;
-        } ∷ []) };
+        } ∷ []) }
+        ensures sees { SeesOn (seen self.old) (at self.old) (seen self.new) (at self.new) }
+        ensures new_number { IfOk result (λ number. IsNewNumber number (seen self.new)) };
 
-    /// One step of the call. Where it is answered the answer is noted.
+    /// One step of the call. If the call is answered, it is in the prefix.
     fn step(&mut self) -> StepResult
         requires { HasCallUnderWay (at self.old).place }
         ensures steps { Steps (at self.old) result (at self.new) }
-        ensures begins { begins self.new ≡ begins self.old };
+        ensures begins { begins self.new ≡ begins self.old }
+        ensures sees { SeesOn (seen self.old) (at self.old) (seen self.new) (at self.new) }
+        ensures shows { result ≡ StepResult.Answered → HasSeenCalls (seen self.new) (at self.new) };
 
-    /// Lets go of what it holds from one event to the next: others needn't wait for it.
+    /// Releases what it holds between events, so that nobody waits for it.
     fn rest(&mut self)
         ensures at { at self.new ≡ at self.old }
         ensures rests { rests self.new }
-        ensures begins { begins self.new ≡ begins self.old };
+        ensures begins { begins self.new ≡ begins self.old }
+        ensures seen { seen self.new ≡ seen self.old };
 
-    /// The last call, with its answer.
+    /// The last call, with its reply.
     fn last_call(&self) -> &AnsweredCall
         requires { (at self.now).calls ≢ [] }
         ensures { IsLast (at self.now).calls (call_record result.now) };
 
-    /// The session leaves, and its share of the calls is told: as many as it was answered. It rests
-    /// then.
+    /// The session leaves. Returns its number of answered calls. It holds nothing then.
     fn leave(&mut self) -> Share
         requires { IsResting (at self.old).place }
         ensures at { at self.new ≡ record (at self.old) { place = Joined NoLane } }
         ensures share { result ≡ share_of (length (at self.old).calls) }
         ensures rests { rests self.new }
-        ensures begins { begins self.new ≡ begins self.old };
+        ensures begins { begins self.new ≡ begins self.old }
+        ensures seen { seen self.new ≡ seen self.old };
 }

@@ -1,4 +1,4 @@
-//! A session's lane at a core under a lock.
+//! A session's lane at a core under a mutex.
 
 ghost use Rattle.std.specs.Prelude.{◌≡◌, ◌≢◌, None, true, map};
 ghost use Rattle.sf_audit.specs.Audits.{call_record};
@@ -9,10 +9,10 @@ use crate::session_lane::{SessionLane, StepResult};
 use crate::transcript_lane::{EndedLane, TranscriptLane};
 use crate::wait_queue::{LOOKS, WaitQueue};
 use sf_audit::AnsweredCall;
-use sf_call::{CoreFault, Request};
+use sf_call::{CoreFault, Record, Request};
 use sf_core::Share;
 use sf_noted::NotedCore;
-use sf_roll::RollName;
+use sf_roll::{RollName, Seen};
 use std::alloc::Global;
 use std::hint::spin_loop;
 use std::marker::Model;
@@ -20,20 +20,19 @@ use std::sync::ledger::{self, Ledger};
 use std::sync::{Mutex, MutexGuard, Wait};
 use std::thread;
 
-/// How often a thread lets others run before it sleeps for the lock.
+/// How often a thread yields before it blocks on the mutex.
 const YIELDS: u32 = 20;
 
-/// How often a blocked step is tried again before its thread sleeps until something happens.
+/// How often a blocked step is retried before its thread sleeps until an event.
 const TRIES_AWAKE: u32 = 64;
 
-/// How many calls a session makes from one rest to the next before it takes the permit.
+/// How many calls a session makes without a pause before it takes the batch token.
 const CALLS_BEFORE_PERMIT: u64 = 4;
 
-/// How many calls it makes before it leaves the permit to others.
+/// How many calls it makes before it gives the batch token to others.
 const CALLS_BY_PERMIT: u64 = 256;
 
-/// Whether a call moves much data: its packet and its reply are best made while others have the
-/// core.
+/// Whether a call moves much data. Its packet and reply are best made while others have the core.
 fn is_large(request: &Request) -> bool {
     matches!(
         request,
@@ -41,26 +40,26 @@ fn is_large(request: &Request) -> bool {
     )
 }
 
-/// One session's calls on a core that threads share. Each of its events is one hold of the core,
-/// and between any two of them whoever asks for the core is let in. Where nobody asks it keeps
-/// the lock until its call is answered, and with the permit until it rests. Where another
-/// session's call is in the way of its own, its step is tried again after others ran, and at last
-/// waits until something happened on the core.
+/// One session's calls on a core under a mutex. Each event holds the mutex once, and waiters may
+/// acquire it between two events. Without waiters the lane holds it until its call is answered, and
+/// with the batch token until it pauses. A step that another session's call blocks is retried after
+/// others ran. After some tries its thread sleeps until an event.
 pub struct SharedLane<'a, R: Wait, B: RollName + Ledger> {
     rt: &'a R,
     core: &'a Mutex<NotedCore<B>>,
     wait_queue: &'a WaitQueue,
     transcript_lane: TranscriptLane<B>,
+    seen: Seen<Record, B>,
     held: Option<MutexGuard<'a, NotedCore<B>>>,
     permit: Option<MutexGuard<'a, ()>>,
-    // How many calls were begun since it rested, and how many between the two rests before.
+    // Calls begun since the last pause, and between the two pauses before.
     made: u64,
     before: u64,
-    // How often the step under way was blocked.
+    // How often the current step was blocked.
     blocked: u32,
-    // How often the core had been asked for when it last waited for those that ask in vain.
+    // The number of requests for the core when it last yielded to waiters that didn't run.
     vain: u64,
-    // It made an event that those asleep weren't told of.
+    // It made an event, and hasn't woken sleeping threads yet.
     moved: bool,
     // The call under way moves much data.
     is_large: bool,
@@ -73,6 +72,7 @@ impl<R: Wait, B: RollName + Ledger> Drop for SharedLane<'_, R, B> {
             core: _,
             wait_queue,
             transcript_lane: _transcript_lane,
+            seen: _seen,
             held,
             permit: _permit,
             made: _,
@@ -88,8 +88,8 @@ impl<R: Wait, B: RollName + Ledger> Drop for SharedLane<'_, R, B> {
 }
 
 impl<'a, R: Wait, B: RollName + Ledger> SharedLane<'a, R, B> {
-    /// A session that hasn't joined. What it is told is kept, or its last call alone, and its calls
-    /// are counted in the share.
+    /// A session that hasn't joined. Retains all its calls or only the last one, and counts them in
+    /// the share. The token's prefix has none of them.
     pub fn new(
         rt: &'a R,
         alloc: Global,
@@ -97,16 +97,19 @@ impl<'a, R: Wait, B: RollName + Ledger> SharedLane<'a, R, B> {
         wait_queue: &'a WaitQueue,
         keeps: bool,
         share: ledger::Share<B>,
+        seen: Seen<Record, B>,
     ) -> SharedLane<'a, R, B>
         requires part { share.parts ≡ 1 }
         requires none { share.amount ≡ 0 }
-        ensures { result.transcript_lane ≡ new_session_lane keeps }
+        ensures lane { result.transcript_lane ≡ new_session_lane keeps }
+        ensures seen { result.seen ≡ seen }
     {
         SharedLane {
             rt,
             core,
             wait_queue,
             transcript_lane: TranscriptLane::new(alloc, keeps, share),
+            seen,
             held: None,
             permit: None,
             made: 0,
@@ -118,22 +121,24 @@ impl<'a, R: Wait, B: RollName + Ledger> SharedLane<'a, R, B> {
         }
     }
 
-    /// The session makes no more calls: what came of it. One that hasn't left is given up.
-    pub fn end(self) -> EndedLane<B>
+    /// Ends the lane, and returns its result and its token. Abandons a session that hasn't left.
+    pub fn end(self) -> (EndedLane<B>, Seen<Record, B>)
         requires { self.transcript_lane.place ≢ New }
-        ensures visit { IsVisitOf self.entry.transcript_lane result.visit }
-        ensures session { result.transcript.session ≡ self.entry.transcript_lane.session }
+        ensures visit { IsVisitOf self.entry.transcript_lane result.0.visit }
+        ensures session { result.0.transcript.session ≡ self.entry.transcript_lane.session }
         ensures calls { self.entry.transcript_lane.keeps ≡ true
-            → map call_record result.transcript.calls.items ≡ self.entry.transcript_lane.calls }
-        ensures part { result.share.parts ≡ 1 }
-        ensures begun { result.share.amount ≡ calls_begun_by result.visit }
-        ensures steps { result.steps ≡ self.entry.transcript_lane.steps }
+            → map call_record result.0.transcript.calls.items ≡ self.entry.transcript_lane.calls }
+        ensures part { result.0.share.parts ≡ 1 }
+        ensures begun { result.0.share.amount ≡ calls_begun_by result.0.visit }
+        ensures seen { result.1 ≡ self.entry.seen }
+        ensures steps { result.0.steps ≡ self.entry.transcript_lane.steps }
     {
         let SharedLane {
             rt: _,
             core: _,
             wait_queue,
             transcript_lane,
+            seen,
             held,
             permit: _permit,
             made: _,
@@ -145,10 +150,10 @@ impl<'a, R: Wait, B: RollName + Ledger> SharedLane<'a, R, B> {
         } = self;
         drop(held);
         wait_queue.tell();
-        transcript_lane.end()
+        (transcript_lane.end(), seen)
     }
 
-    /// Tries to take the lock for a while.
+    /// Spins for the mutex.
     fn look(&self) -> Option<MutexGuard<'a, NotedCore<B>>> {
         for _ in 0..LOOKS {
             if !self.wait_queue.is_taken() {
@@ -161,7 +166,7 @@ impl<'a, R: Wait, B: RollName + Ledger> SharedLane<'a, R, B> {
         None
     }
 
-    /// Takes the lock: tries, lets others run, and sleeps for it at last.
+    /// Acquires the mutex: spins, yields, and finally blocks.
     fn take(&self) -> MutexGuard<'a, NotedCore<B>> {
         for _ in 0..YIELDS {
             if let Some(guard) = self.look() {
@@ -172,7 +177,7 @@ impl<'a, R: Wait, B: RollName + Ledger> SharedLane<'a, R, B> {
         self.core.lock(self.rt)
     }
 
-    /// Takes the lock, and asks whoever keeps it where it isn't free soon.
+    /// Acquires the mutex, and registers as a waiter if it isn't free soon.
     fn ask(&self) -> MutexGuard<'a, NotedCore<B>> {
         if let Some(guard) = self.look() {
             return guard;
@@ -184,7 +189,7 @@ impl<'a, R: Wait, B: RollName + Ledger> SharedLane<'a, R, B> {
         guard
     }
 
-    /// Takes the lock for an event. Whoever has the permit lets others in, and asks for nothing.
+    /// Acquires the mutex for an event. The holder of the batch token lets others in first.
     fn lock(&self) -> MutexGuard<'a, NotedCore<B>> {
         let guard = if self.permit.is_some() && self.blocked == 0 {
             self.take()
@@ -195,20 +200,21 @@ impl<'a, R: Wait, B: RollName + Ledger> SharedLane<'a, R, B> {
         guard
     }
 
-    /// Takes the lock for many calls, of all sessions that make so many the only one. It waits for
-    /// the permit with no lock, and between two calls alone: nobody can be in its way who waits for
-    /// it.
+    /// Acquires the mutex for many calls. Only one session has the batch token. A lane waits for it
+    /// without the mutex and between two calls, so it blocks nobody then.
     fn lock_for_many(&mut self) -> MutexGuard<'a, NotedCore<B>>
-        ensures { self.new.transcript_lane ≡ self.old.transcript_lane }
+        ensures transcript_lane { self.new.transcript_lane ≡ self.old.transcript_lane }
+        ensures seen { self.new.seen ≡ self.old.seen }
     {
         self.permit = None;
         self.permit = Some(self.wait_queue.take_permit(self.rt));
         self.lock()
     }
 
-    /// Gives the lock up.
+    /// Releases the mutex.
     fn release(&mut self, guard: MutexGuard<'a, NotedCore<B>>)
         ensures transcript_lane { self.new.transcript_lane ≡ self.old.transcript_lane }
+        ensures seen { self.new.seen ≡ self.old.seen }
         ensures held { self.new.held ≡ self.old.held }
         ensures permit { self.new.permit ≡ self.old.permit }
     {
@@ -217,9 +223,10 @@ impl<'a, R: Wait, B: RollName + Ledger> SharedLane<'a, R, B> {
         drop(guard);
     }
 
-    /// Wakes those that wait for something to happen, where something happened.
+    /// Wakes sleeping threads if there was an event.
     fn tell(&mut self)
         ensures transcript_lane { self.new.transcript_lane ≡ self.old.transcript_lane }
+        ensures seen { self.new.seen ≡ self.old.seen }
         ensures held { self.new.held ≡ self.old.held }
         ensures permit { self.new.permit ≡ self.old.permit }
     {
@@ -229,14 +236,15 @@ impl<'a, R: Wait, B: RollName + Ledger> SharedLane<'a, R, B> {
         }
     }
 
-    /// Lets those in that ask, if any, and takes the lock again. Where they don't come in a
-    /// while, since their threads don't run, it doesn't wait for the same ones again.
+    /// Lets waiters in, if any, and acquires the mutex again. If they don't run for a while, it
+    /// doesn't wait for the same ones again.
     fn let_in(
         &mut self,
         guard: MutexGuard<'a, NotedCore<B>>,
         is_over: bool,
     ) -> MutexGuard<'a, NotedCore<B>>
-        ensures { self.new.transcript_lane ≡ self.old.transcript_lane }
+        ensures transcript_lane { self.new.transcript_lane ≡ self.old.transcript_lane }
+        ensures seen { self.new.seen ≡ self.old.seen }
     {
         if !self.wait_queue.is_asked(is_over) {
             return guard;
@@ -249,8 +257,7 @@ impl<'a, R: Wait, B: RollName + Ledger> SharedLane<'a, R, B> {
         self.lock()
     }
 
-    /// Waits a while until all have come in who may. Whoever keeps the core for many calls lets
-    /// their threads run, too; one call is over before that.
+    /// Waits a while until all waiters came in. The holder of the batch token also yields.
     fn are_in(&self, is_over: bool) -> bool {
         if self.wait_queue.are_in(is_over) {
             return true;
@@ -262,9 +269,10 @@ impl<'a, R: Wait, B: RollName + Ledger> SharedLane<'a, R, B> {
         self.wait_queue.are_in(is_over)
     }
 
-    /// The lock, for the next call.
+    /// The mutex, for the next call.
     fn lock_for_call(&mut self) -> MutexGuard<'a, NotedCore<B>>
-        ensures { self.new.transcript_lane ≡ self.old.transcript_lane }
+        ensures transcript_lane { self.new.transcript_lane ≡ self.old.transcript_lane }
+        ensures seen { self.new.seen ≡ self.old.seen }
     {
         let made = self.made;
         self.made = made.saturating_add(1);
@@ -284,9 +292,10 @@ impl<'a, R: Wait, B: RollName + Ledger> SharedLane<'a, R, B> {
         }
     }
 
-    /// The lock, for the next step.
+    /// The mutex, for the next step.
     fn lock_for_step(&mut self) -> MutexGuard<'a, NotedCore<B>>
-        ensures { self.new.transcript_lane ≡ self.old.transcript_lane }
+        ensures transcript_lane { self.new.transcript_lane ≡ self.old.transcript_lane }
+        ensures seen { self.new.seen ≡ self.old.seen }
     {
         match self.held.take() {
             Some(guard) => self.let_in(guard, false),
@@ -294,9 +303,10 @@ impl<'a, R: Wait, B: RollName + Ledger> SharedLane<'a, R, B> {
         }
     }
 
-    /// A step was blocked: whoever is in the way goes on.
+    /// After a blocked step, lets the blocking call proceed.
     fn wait(&mut self, core: MutexGuard<'a, NotedCore<B>>)
-        ensures { self.new.transcript_lane ≡ self.old.transcript_lane }
+        ensures transcript_lane { self.new.transcript_lane ≡ self.old.transcript_lane }
+        ensures seen { self.new.seen ≡ self.old.seen }
     {
         if self.blocked < TRIES_AWAKE {
             self.blocked += 1;
@@ -309,9 +319,10 @@ impl<'a, R: Wait, B: RollName + Ledger> SharedLane<'a, R, B> {
         self.held = Some(self.wait_queue.wait(self.rt, core));
     }
 
-    /// Gives the lock up, where it keeps it.
+    /// Releases the mutex, if it holds it.
     fn give_up(&mut self)
         ensures transcript_lane { self.new.transcript_lane ≡ self.old.transcript_lane }
+        ensures seen { self.new.seen ≡ self.old.seen }
         ensures held { self.new.held ≡ None }
     {
         if let Some(guard) = self.held.take() {
@@ -319,9 +330,10 @@ impl<'a, R: Wait, B: RollName + Ledger> SharedLane<'a, R, B> {
         }
     }
 
-    /// Gives up all that it keeps.
+    /// Releases all that it holds.
     fn let_go(&mut self)
         ensures transcript_lane { self.new.transcript_lane ≡ self.old.transcript_lane }
+        ensures seen { self.new.seen ≡ self.old.seen }
         ensures held { self.new.held ≡ None }
         ensures permit { self.new.permit ≡ None }
     {
@@ -332,9 +344,10 @@ impl<'a, R: Wait, B: RollName + Ledger> SharedLane<'a, R, B> {
         self.vain = 0;
     }
 
-    /// The call has its answer. The lock is kept for the next one with the permit alone.
+    /// After the reply. Holds the mutex for the next call only with the batch token.
     fn end_call(&mut self)
-        ensures { self.new.transcript_lane ≡ self.old.transcript_lane }
+        ensures transcript_lane { self.new.transcript_lane ≡ self.old.transcript_lane }
+        ensures seen { self.new.seen ≡ self.old.seen }
     {
         if self.is_large {
             self.let_go();
@@ -349,11 +362,13 @@ impl<R: Wait, B: RollName + Ledger> SessionLane for SharedLane<'_, R, B> {
 
     ghost at = { λ d. d.transcript_lane };
 
+    ghost seen = { λ d. d.seen };
+
     ghost rests = { λ d. (d.held ≡ None) × (d.permit ≡ None) };
 
     fn join(&mut self) -> Result<u64, CoreFault> {
         let mut core = self.lock();
-        let joined = self.transcript_lane.join(&mut core);
+        let joined = self.transcript_lane.join(&mut core, &mut self.seen);
         self.moved = true;
         self.release(core);
         joined
@@ -362,7 +377,9 @@ impl<R: Wait, B: RollName + Ledger> SessionLane for SharedLane<'_, R, B> {
     fn begin(&mut self, request: Request, moment: u32) -> Result<u64, CoreFault> {
         self.is_large = is_large(&request);
         let mut core = self.lock_for_call();
-        let begun = self.transcript_lane.begin(&mut core, request, moment);
+        let begun = self
+            .transcript_lane
+            .begin(&mut core, &mut self.seen, request, moment);
         self.moved = true;
         self.held = Some(core);
         begun
@@ -370,7 +387,7 @@ impl<R: Wait, B: RollName + Ledger> SessionLane for SharedLane<'_, R, B> {
 
     fn step(&mut self) -> StepResult {
         let mut core = self.lock_for_step();
-        let stepped = self.transcript_lane.step(&mut core);
+        let stepped = self.transcript_lane.step(&mut core, &mut self.seen);
         if stepped.blocked {
             self.wait(core);
             return stepped.outcome;

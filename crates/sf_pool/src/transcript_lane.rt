@@ -1,31 +1,33 @@
-//! A session's lane that notes what the session was told.
+//! A session's lane with a transcript of its calls.
 
 ghost use Rattle.std.specs.Prelude.{◌≡◌, ◌≢◌, ◌<◌, ◌+◌, ◌++◌, ◌∷◌, List, [], true, false, length, map, vec_len, if◌then◌else◌, OnErr, IfOk, IfErr};
 ghost use Rattle.std.specs.Vec.{vec_capacity};
 ghost use Rattle.sf_call.specs.declared.record.Record.{Record};
 ghost use Rattle.sf_call.specs.declared.record.Record.TheVariants.{Left};
 ghost use Rattle.sf_call.specs.declared.fault.CoreFault.TheVariants.{Stranger};
+ghost use Rattle.sf_call.specs.Histories.{IsNewNumber};
 ghost use Rattle.sf_core.specs.Cores.LaneState.{NoLane, Idle, Busy};
 ghost use Rattle.sf_core.specs.Histories.{IsHistory};
 ghost use Rattle.sf_core.specs.Events.{Joins, RefusesJoin, SessionLeaves};
 ghost use Rattle.sf_audit.specs.Audits.{call_record};
+ghost use Rattle.sf_roll.specs.Seen.{IsPrefixOf};
 ghost use Rattle.sf_noted.specs.Pages.{begun_call};
 ghost use Rattle.sf_pool.specs.OnCores.{BeginsAt, RefusesAt, StepsAt, stepped_to, IsVisitOf, calls_begun_by};
 ghost use Rattle.sf_pool.specs.TranscriptLanes.{lane_in, WasAsked, EndsAs};
-ghost use Rattle.sf_pool.specs.SessionLanes.{New, JoinRefused, Joined, IsResting, HasCallUnderWay, IsLast, new_session_lane, share_of, Steps};
+ghost use Rattle.sf_pool.specs.SessionLanes.{New, JoinRefused, Joined, IsResting, HasCallUnderWay, IsLast, new_session_lane, share_of, Steps, HasSeenCalls, SeesOn};
 
 use crate::session_lane::StepResult;
 use sf_audit::{AnsweredCall, Transcript};
-use sf_call::{Answer, CoreFault, Request};
+use sf_call::{Answer, CoreFault, Record, Request};
 use sf_core::{Share, Step};
 use sf_noted::{NotedCore, NotedLane, Visit};
-use sf_roll::RollName;
+use sf_roll::{RollName, Seen};
 use std::alloc::Global;
 use std::marker::Model;
 use std::mem;
 use std::sync::ledger::{self, Ledger};
 
-/// Where a session is.
+/// The state of a session.
 enum Place<B: RollName> {
     New,
     Refused(CoreFault),
@@ -46,7 +48,7 @@ impl<B: RollName> Drop for Place<B> {
 }
 
 impl<B: RollName> Place<B> {
-    /// The lane of a session that hasn't left, if it has joined.
+    /// The lane of a session that has joined and not left.
     fn into_lane(self) -> Option<NotedLane<B>>
         ensures { result ≡ lane_in self }
     {
@@ -57,7 +59,7 @@ impl<B: RollName> Place<B> {
         }
     }
 
-    /// What is noted of the session, or why it never joined. It makes no more calls.
+    /// The session's page, or why it never joined. It makes no more calls.
     fn end(self) -> Result<Visit<B>, NotJoined>
         requires { WasAsked self }
         ensures { EndsAs self result }
@@ -71,7 +73,7 @@ impl<B: RollName> Place<B> {
     }
 }
 
-/// Why a session never joined. Nobody tells it but the lane of a session that was refused.
+/// Why a session never joined. Only the lane of a refused session makes it.
 #[derive(Debug, Drop)]
 pub struct NotJoined {
     fault: CoreFault,
@@ -94,30 +96,30 @@ impl Model for NotJoined {
     ghost view = { λ n. n.fault };
 }
 
-/// What a lane came to that makes no more calls.
+/// The result of a lane that has ended.
 #[derive(Drop)]
 pub struct EndedLane<B: RollName + Ledger> {
-    /// What is noted of the session, which takes no memory; or why it never joined.
+    /// The session's page, which has no bytes, or why it never joined.
     pub visit: Result<Visit<B>, NotJoined>,
-    /// What the session was told, where that was kept, or its last call alone.
+    /// The session's calls with replies, if they were retained, or only the last one.
     pub transcript: Transcript,
-    /// The part of the count that was lent, with the calls that the session began.
+    /// The lent part of the count, with the calls that the session began.
     pub share: ledger::Share<B>,
-    /// How many steps were made of its calls, up to 2^64 - 1.
+    /// The number of steps made, up to 2^64 - 1.
     pub steps: u64,
 }
 
-/// A session's lane at a core, and what the session was told. It counts its calls in a part of the
-/// core's count that is lent to it.
+/// A session's lane at a core, with its transcript. It counts its calls in a lent part of the
+/// core's count.
 #[derive(Drop)]
 pub struct TranscriptLane<B: RollName + Ledger> {
     place: Place<B>,
     share: ledger::Share<B>,
-    // What the call under way asks for.
+    // The request of the call under way.
     asked: Option<Request>,
-    // How many steps were made of its calls.
+    // The number of steps made.
     steps: u64,
-    // All calls that were answered, or the last one.
+    // All answered calls, or the last one.
     transcript: Transcript,
     keeps: bool,
 }
@@ -137,11 +139,11 @@ impl<B: RollName + Ledger> Model for TranscriptLane<B> {
         × (s.share.amount ≡ calls_in s.place) };
 }
 
-/// What a step of the call under way came to.
+/// The outcome of a step.
 #[derive(Clone, Copy, Debug, PartialEq, Eq)]
 pub struct Stepped {
     pub outcome: StepResult,
-    /// Another call held what the call wanted.
+    /// Another call blocked the step.
     pub blocked: bool,
 }
 
@@ -168,7 +170,7 @@ impl Stepped {
 }
 
 impl<B: RollName + Ledger> TranscriptLane<B> {
-    /// A session that hasn't joined. Its calls are kept, or the last one alone, and are counted in
+    /// A session that hasn't joined. Retains all its calls or only the last one, and counts them in
     /// the share.
     pub fn new(alloc: Global, keeps: bool, share: ledger::Share<B>) -> TranscriptLane<B>
         requires part { share.parts ≡ 1 }
@@ -189,7 +191,11 @@ impl<B: RollName + Ledger> TranscriptLane<B> {
     }
 
     /// The session joins the core.
-    pub fn join(&mut self, core: &mut NotedCore<B>) -> Result<u64, CoreFault>
+    pub fn join(
+        &mut self,
+        core: &mut NotedCore<B>,
+        seen: &mut Seen<Record, B>,
+    ) -> Result<u64, CoreFault>
         requires { self.old.place ≡ New }
         ensures number { IfOk result (λ session. 0 < session) }
         ensures ok { IfOk result (λ session. self.new ≡ record self.old {
@@ -205,8 +211,10 @@ impl<B: RollName + Ledger> TranscriptLane<B> {
         ensures history { (h : List Record) → IsHistory core.old.0 h → IsHistory core.new.0 h }
         ensures refused { OnErr result (core.new ≡ core.old) }
         ensures fault { IfErr result (λ fault. RefusesJoin core.old.0 fault) }
+        ensures further { IsPrefixOf seen.old seen.new }
+        ensures own { IfOk result (λ _. HasSeenCalls seen.new self.new) }
     {
-        match core.join() {
+        match core.join(seen) {
             Ok(lane) => {
                 let session = lane.session();
                 self.transcript.session = session;
@@ -220,10 +228,11 @@ impl<B: RollName + Ledger> TranscriptLane<B> {
         }
     }
 
-    /// A call begins. Room to note its answer is made first.
+    /// Begins a call. Reserves memory for its reply.
     pub fn begin(
         &mut self,
         core: &mut NotedCore<B>,
+        seen: &mut Seen<Record, B>,
         request: Request,
         moment: u32,
     ) -> Result<u64, CoreFault>
@@ -237,28 +246,32 @@ impl<B: RollName + Ledger> TranscriptLane<B> {
         ensures history { (h : List Record) → IsHistory core.old.0 h → IsHistory core.new.0 h }
         ensures refused { OnErr result (core.new ≡ core.old) }
         ensures fault { IfErr result (λ fault. RefusesAt self.old core.old.0 fault) }
+        ensures sees { SeesOn seen.old self.old seen.new self.new }
+        ensures new_number { IfOk result (λ number. IsNewNumber number seen.new) }
     {
         self.transcript.calls.reserve(1)?;
         let asked = request.share()?;
         let Place::Joined(lane) = &mut self.place else {
             unreachable!();
         };
-        let number = core.begin(lane, &mut self.share, request, moment)?;
+        let number = core.begin(lane, &mut self.share, seen, request, moment)?;
         self.asked = Some(asked);
         Ok(number)
     }
 
     /// One step of the call.
-    pub fn step(&mut self, core: &mut NotedCore<B>) -> Stepped
+    pub fn step(&mut self, core: &mut NotedCore<B>, seen: &mut Seen<Record, B>) -> Stepped
         requires { HasCallUnderWay self.old.place }
         ensures outcome { Steps self.old result.outcome self.new }
         ensures steps { StepsAt self.old core.old.0 (stepped_to result self.new core.new.0) }
+        ensures sees { SeesOn seen.old self.old seen.new self.new }
+        ensures shows { result.outcome ≡ StepResult.Answered → HasSeenCalls seen.new self.new }
     {
         self.steps = self.steps.saturating_add(1);
         let Place::Joined(lane) = &mut self.place else {
             unreachable!();
         };
-        match core.step(lane) {
+        match core.step(lane, seen) {
             Step::Moved => Stepped::going(false),
             Step::Blocked(_) => Stepped::going(true),
             Step::Answered(answer) => {
@@ -272,7 +285,7 @@ impl<B: RollName + Ledger> TranscriptLane<B> {
         }
     }
 
-    /// The last call, with its answer.
+    /// The last call, with its reply.
     pub fn last_call(&self) -> &AnsweredCall
         requires { self.now.calls ≢ [] }
         ensures { IsLast self.now.calls (call_record result.now) }
@@ -283,7 +296,7 @@ impl<B: RollName + Ledger> TranscriptLane<B> {
         }
     }
 
-    /// The session leaves, and its share of the calls is told.
+    /// The session leaves. Returns its number of answered calls.
     pub fn leave(&mut self, core: &mut NotedCore<B>) -> Share
         requires { IsResting self.old.place }
         ensures at { self.new ≡ record self.old { place = Joined NoLane } }
@@ -301,7 +314,7 @@ impl<B: RollName + Ledger> TranscriptLane<B> {
         share
     }
 
-    /// The session makes no more calls: what came of it. One that hasn't left is given up.
+    /// Ends the lane, and returns its result. Abandons a session that hasn't left.
     pub fn end(self) -> EndedLane<B>
         requires { self.place ≢ New }
         ensures visit { IsVisitOf self result.visit }
@@ -329,7 +342,7 @@ impl<B: RollName + Ledger> TranscriptLane<B> {
     }
 }
 
-/// An answer is noted behind those before it, or in their place.
+/// Appends a reply, or replaces the last one.
 fn note(transcript: &mut Transcript, keeps: bool, request: Request, answer: Answer)
     requires { vec_len transcript.old.calls < vec_capacity transcript.old.calls }
     ensures session { transcript.new.session ≡ transcript.old.session }

@@ -1,32 +1,31 @@
-//! Who waits for a core that threads share.
+//! The threads that wait for a shared core.
 
 use std::hint::spin_loop;
 use std::sync::atomic::{AtomicU64, Ordering};
 use std::sync::{Condvar, Mutex, MutexGuard, Wait};
 
-/// How often a thread looks whether what it waits for is so, before it lets others run.
+/// How often a thread spins before it yields.
 pub(crate) const LOOKS: u32 = 20;
 
-/// Who waits for a core that threads share, and whether one keeps it.
+/// The threads that wait for a shared core, and whether one holds it.
 #[derive(Drop)]
 pub struct WaitQueue {
     happened: Condvar,
-    // How many wait for something to happen on the core. Changed by whoever has the lock.
+    // Threads that sleep until an event. Changed under the mutex.
     asleep: AtomicU64,
-    // 1 while a session has the lock, so that others needn't try it. Changed by whoever has the
-    // lock.
+    // 1 while a session has the mutex, so that others needn't try it. Changed under the mutex.
     taken: AtomicU64,
-    // How often the core was asked for.
+    // Requests for the core so far.
     asks: AtomicU64,
-    // How many ask for it now: those that want an event, and those whose step was blocked.
+    // Present waiters: for an event, and after a blocked step.
     asking: AtomicU64,
     blocked: AtomicU64,
-    // Whoever has it may keep the core for many calls.
+    // The batch token: its holder may hold the core for many calls.
     permit: Mutex<()>,
 }
 
 impl WaitQueue {
-    /// Nobody waits.
+    /// A queue without waiters.
     pub fn new() -> WaitQueue {
         WaitQueue {
             happened: Condvar::new(),
@@ -39,13 +38,13 @@ impl WaitQueue {
         }
     }
 
-    /// A session asks for the core, after its step was blocked or for another event.
+    /// Registers a waiter, after a blocked step or for another event.
     pub(crate) fn ask(&self, is_blocked: bool) {
         self.asks.fetch_add(1, Ordering::SeqCst);
         self.those(is_blocked).fetch_add(1, Ordering::SeqCst);
     }
 
-    /// It got it.
+    /// The waiter acquired the core.
     pub(crate) fn got(&self, is_blocked: bool) {
         self.those(is_blocked).fetch_sub(1, Ordering::SeqCst);
     }
@@ -58,19 +57,19 @@ impl WaitQueue {
         }
     }
 
-    /// Whether one asks who may come in. One whose step was blocked may only where no call holds
-    /// anything.
+    /// Whether there is a waiter that may come in. After a blocked step one may only if no call
+    /// holds a lock of the tree.
     pub(crate) fn is_asked(&self, is_over: bool) -> bool {
         self.asking.load(Ordering::SeqCst) != 0
             || is_over && self.blocked.load(Ordering::SeqCst) != 0
     }
 
-    /// How often the core was asked for so far.
+    /// The number of requests for the core so far.
     pub(crate) fn asks(&self) -> u64 {
         self.asks.load(Ordering::SeqCst)
     }
 
-    /// Looks for a while whether all have come in who may.
+    /// Spins until all waiters came in that may.
     pub(crate) fn are_in(&self, is_over: bool) -> bool {
         for _ in 0..LOOKS {
             if !self.is_asked(is_over) {
@@ -81,31 +80,24 @@ impl WaitQueue {
         false
     }
 
-    /// A session has the lock, or is about to give it up.
+    /// Marks that a session has the mutex, or is about to release it.
     pub(crate) fn set_taken(&self, is_taken: bool) {
         self.taken.store(is_taken as u64, Ordering::SeqCst);
     }
 
-    /// Whether the lock was taken, as it was last marked.
+    /// Whether the mutex was last marked as held.
     pub(crate) fn is_taken(&self) -> bool {
         self.taken.load(Ordering::SeqCst) != 0
     }
 
-    /// Wakes those that wait for something to happen. Whoever calls it has the lock, or had it
-    /// just now.
+    /// Wakes sleeping threads. The caller has the mutex, or has just released it.
     pub(crate) fn tell(&self) {
         if self.asleep.load(Ordering::SeqCst) != 0 {
             self.happened.notify_all();
         }
     }
 
-    /// How many wait for something to happen. They are counted under the lock, which they give up
-    /// as they begin to wait: whoever has it next makes no event that they miss.
-    pub fn asleep(&self) -> u64 {
-        self.asleep.load(Ordering::SeqCst)
-    }
-
-    /// Waits until something happened on the core.
+    /// Sleeps until an event on the core.
     pub(crate) fn wait<'a, R: Wait, T>(
         &self,
         rt: &R,
@@ -119,7 +111,7 @@ impl WaitQueue {
         guard
     }
 
-    /// Waits for the leave to keep the core for many calls.
+    /// Waits for the batch token.
     pub(crate) fn take_permit<R: Wait>(&self, rt: &R) -> MutexGuard<'_, ()> {
         self.permit.lock(rt)
     }

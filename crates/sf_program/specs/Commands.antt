@@ -1,6 +1,5 @@
 -- The requests of the client's commands, and what they print.
 use Rattle.std.specs.Prelude.{◌≡◌, ℕ, List, [], ◌∷◌, ◌++◌, false, Option, Ok, unwrap_or}
-use Rattle.std.specs.List.{flat_map}
 use Rattle.std.specs.Fmt.{decimal, digits}
 use Rattle.sf_field.specs.Attributes.{no_attrs}
 use Rattle.sf_field.specs.declared.attrs.Attrs.{Attrs}
@@ -14,6 +13,7 @@ use Rattle.sf_reply.specs.declared.reply.StatusCode.TheVariants.{Success}
 use Rattle.sf_client.specs.Calls.{DoesCall, ByHandle, ReadsAll, WritesAll, ListsAll, to_read, to_write}
 use Rattle.sf_client.specs.Exchanges.{ClientView, Exchanged, IsStarted}
 use Rattle.sf_client.specs.Outcomes.{asked}
+use Rattle.sf_program.specs.Terminal.{IsTerminalText}
 use Rattle.sf_words.specs.declared.command.ClientCommand.{ClientCommand}
 use Rattle.sf_words.specs.declared.command.ClientCommand.TheVariants as command
 
@@ -38,9 +38,11 @@ stat_text attrs =
     ++ 32 ∷ decimal (unwrap_or attrs.times no_times).mtime
     ++ 10 ∷ []
 
--- each longname and a newline
-abbrev pub lines_of : List Entry → List ℕ
-lines_of entries = flat_map (λ (e : Entry). e.longname ++ 10 ∷ []) entries
+-- each longname as text for a terminal, and a newline
+unfoldable pub AreLinesOf : List Entry → List ℕ → Type 0
+AreLinesOf [] printed = printed ≡ []
+AreLinesOf (e ∷ entries) printed = (text rest : List ℕ) × IsTerminalText e.longname text
+    × AreLinesOf entries rest × (printed ≡ text ++ 10 ∷ rest)
 
 -- one request, answered by STATUS OK
 abbrev pub Succeeds : ClientView → WireRequest → ClientView → Type 0
@@ -56,7 +58,7 @@ PrintsAttrs path printed v w = (attrs : Attrs)
 abbrev pub Lists : List ℕ → List ℕ → ClientView → ClientView → Type 0
 Lists path printed v w = (entries : List Entry)
     × DoesCall (ByHandle (request.OpenDir path) ListsAll) v (Ok entries) w
-    × (printed ≡ lines_of entries)
+    × AreLinesOf entries printed
 
 -- A command was done by these requests and their replies, and printed these bytes.
 abbrev pub RunsCommand : ClientCommand → List ℕ → List ℕ → ClientView → ClientView → Type 0

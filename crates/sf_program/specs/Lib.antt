@@ -3,3 +3,4 @@ pub mod Commands
 pub mod Carrying
 pub mod Loading
 pub mod Descriptors
+pub mod Terminal

@@ -6,7 +6,7 @@ use Rattle.sf_session.specs.Causes.{words_of}
 use Rattle.sf_session.specs.declared.fault.ServeFault.{ServeFault}
 use Rattle.sf_session.specs.declared.fault.ServeFault.TheVariants as fault
 use Rattle.sf_engine.specs.Views.{EngineView}
-use Rattle.sf_engine.specs.Fits.{Fits}
+use Rattle.sf_engine.specs.HasLog.{HasLog}
 use Rattle.sf_alone.specs.OnEngine.{IoState, ServesLine, StopsEarly, IsServeFault}
 
 -- the end of the input is no fault
@@ -52,11 +52,11 @@ ServingComesTo start now failed failed' (Ok cause) = ServesLine start now cause
 ServingComesTo start now failed failed' (Err fault) =
     StopsEarly start now fault × IsServeFault fault failed failed'
 
--- Memory ran out for an engine, and nothing was read or written; or a line was served on a new engine
--- that keeps `keep` records, with this outcome.
+-- Memory ran out for an engine, and nothing was read or written; or a line was served on a new
+-- engine that keeps `keep` records, with this outcome.
 abbrev pub SessionEnds : (keep : ℕ) → (start now : EngineView → IoState) → (failed failed' : ℕ)
     → Result Cause ServeFault → Type 0
 SessionEnds keep start now failed failed' outcome =
     ((outcome ≡ Err fault.OutOfMemory) × ((e : EngineView) → now e ≡ start e))
-    ⊎ ((first last : EngineView) × Fits first [] × (first.core.keep ≡ Some keep)
+    ⊎ ((first last : EngineView) × HasLog first [] × (first.core.keep ≡ Some keep)
     × ServingComesTo (start first) (now last) failed failed' outcome)

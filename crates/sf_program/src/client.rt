@@ -3,8 +3,9 @@
 ghost use Rattle.std.specs.Prelude.{◌≡◌, ◌<◌, ◌^◌, ◌⊎◌, ℕ, List, length, IfOk, OnOk};
 ghost use Rattle.std.specs.Io.KnownBytes.{Appends, Keeps};
 ghost use Rattle.sf_words.specs.Words.{paths_len};
-ghost use Rattle.sf_program.specs.Commands.{lines_of, stat_text, PrintsAttrs, Lists, RunsCommand, IsDoneOver};
+ghost use Rattle.sf_program.specs.Commands.{AreLinesOf, stat_text, PrintsAttrs, Lists, RunsCommand, IsDoneOver};
 
+use crate::terminal::terminal_text;
 use sf_client::{Client, ClientFault};
 use sf_field::{Attrs, Owner, Times};
 use sf_folder::shown;
@@ -161,13 +162,14 @@ fn stat_line(alloc: Global, attrs: &Attrs) -> Result<Vec<u8>, AllocError>
     Ok(line.into_bytes())
 }
 
-/// Each longname, followed by a newline.
+/// Each longname as text for a terminal, followed by a newline.
 fn list_lines(alloc: Global, entries: &[Entry]) -> Result<Vec<u8>, AllocError>
-    ensures { IfOk result (λ bytes. bytes.items ≡ lines_of entries.now) }
+    ensures { IfOk result (λ bytes. AreLinesOf entries.now bytes.items) }
 {
     let mut lines = Vec::new(alloc);
     for entry in entries {
-        lines.extend_from_slice(entry.longname.as_slice())?;
+        let text = terminal_text(alloc, entry.longname.as_slice())?;
+        lines.extend_from_slice(&text)?;
         lines.push(b'\n')?;
     }
     Ok(lines)

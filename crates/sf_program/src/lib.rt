@@ -4,7 +4,8 @@
 //! Start with `stdio.rt`, which serves one session on standard input and output. Its contract and
 //! `specs/Statuses.antt` define the exit status and the message of each way to end. `loading.rt`
 //! loads a local folder into the tree first. `connection.rt` copies standard input and output to
-//! and from a socket. `client.rt` runs one command on a server. `descriptors.rt` and `output.rt`
+//! and from a socket. `client.rt` runs one command on a server, and
+//! shows names by `terminal.rt`. `descriptors.rt` and `output.rt`
 //! implement the streams that `sf_ahead` reads ahead on. How the system's descriptors move bytes is
 //! tested, not proved.
 #![tactic(auto)]
@@ -16,3 +17,4 @@ pub mod loading;
 pub mod output;
 pub mod reporting;
 pub mod stdio;
+mod terminal;

@@ -34,8 +34,12 @@ fn report_fault(rt: &HostRuntime, folder: &LocalFolder<'_>, fault: LoadFault) ->
 }
 
 /// Opens the folder, or reports why it can't be read.
-fn open_folder<'a>(rt: &'a HostRuntime, path: &'a str) -> Result<LocalFolder<'a>, NotLoaded> {
-    match LocalFolder::open(rt, path) {
+fn open_folder<'a>(
+    rt: &'a HostRuntime,
+    path: &'a str,
+    is_strict: bool,
+) -> Result<LocalFolder<'a>, NotLoaded> {
+    match LocalFolder::open(rt, path, is_strict) {
         Ok(folder) => Ok(folder),
         Err(fault) => {
             if fault != FolderFault::Unreadable {
@@ -46,13 +50,15 @@ fn open_folder<'a>(rt: &'a HostRuntime, path: &'a str) -> Result<LocalFolder<'a>
     }
 }
 
-/// Loads a folder into a server's tree, or reports why it can't.
+/// Loads a folder into a server's tree, or reports why it can't. If `is_strict`, a change of the
+/// folder while it is read is an error.
 pub fn load_folder<S: Server>(
     rt: &HostRuntime,
     path: &str,
+    is_strict: bool,
     server: &mut S,
 ) -> Result<(), NotLoaded> {
-    let mut folder = open_folder(rt, path)?;
+    let mut folder = open_folder(rt, path, is_strict)?;
     match load(&mut folder, server) {
         Ok(()) => Ok(()),
         Err(fault) => Err(report_fault(rt, &folder, fault)),
@@ -85,10 +91,15 @@ pub fn load_engine<F: Folder>(
 }
 
 /// `load_engine` of a local folder, at the system's time. Reports why there is no engine.
-pub fn engine_of_folder(rt: &HostRuntime, keep: usize, path: &str) -> Result<Box<Engine>, NotLoaded>
+pub fn engine_of_folder(
+    rt: &HostRuntime,
+    keep: usize,
+    path: &str,
+    is_strict: bool,
+) -> Result<Box<Engine>, NotLoaded>
     requires { 0 < keep }
 {
-    let mut folder = open_folder(rt, path)?;
+    let mut folder = open_folder(rt, path, is_strict)?;
     let moment = SystemClock::new(rt).now();
     match load_engine(rt.alloc(), keep, moment, &mut folder) {
         Ok(engine) => Ok(engine),

@@ -31,7 +31,7 @@ pub(crate) fn asked(fd: RawFd, events: i16) -> pollfd {
 }
 
 /// The events of a descriptor that is polled for writing: 0 if it is not ready in time.
-pub(crate) fn shown(fd: RawFd, milliseconds: i32) -> i16 {
+pub fn shown(fd: RawFd, milliseconds: i32) -> i16 {
     let mut all = [asked(fd, POLLOUT)];
     if poll(&mut all, milliseconds) > 0 {
         all[0].revents

@@ -22,6 +22,21 @@ pub fn report(rt: &HostRuntime, what: &str, path: &str, error: &io::Error) {
     };
 }
 
+/// Prints how many lines of a log were lost.
+pub fn report_lost(rt: &HostRuntime, path: &str, lost: u64) {
+    match shown(rt.alloc(), path.as_bytes()) {
+        Ok(path) => {
+            let _ = writeln!(
+                rt.stderr(),
+                "sftpd: lines of the log were lost: {path}: {lost}"
+            );
+        }
+        Err(_) => {
+            let _ = report_out_of_memory(rt);
+        }
+    }
+}
+
 /// Reports that memory ran out.
 pub fn report_out_of_memory(rt: &HostRuntime) -> io::Result<()> {
     rt.eprintln("sftpd: out of memory")

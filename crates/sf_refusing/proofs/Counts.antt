@@ -1,15 +1,15 @@
 -- Rules, after one more event.
-use Rattle.std.proofs.Common.{◌≡◌, ℕ, zero, suc, ◌+◌, ◌-◌, ◌<◌, ◌≤◌, ◌⊎◌, List, [], ◌∷◌, ◌++◌, Bool, true, false, Option, Some, None, length, min, slice_get, refl, ap, sym, ◌∙◌, subst, arith, inl, inr, append-nil, length-append}
-use Rattle.std.specs.Prelude.{slice_set, nat_eq, nat_lt, not, ◌&&◌, if◌then◌else◌, option_map}
+use Rattle.std.proofs.Common.{◌≡◌, ℕ, zero, suc, ◌+◌, ◌-◌, ◌<◌, ◌≤◌, ◌⊎◌, List, [], ◌∷◌, ◌++◌, Bool, true, false, Option, Some, length, min, slice_get, refl, ap, sym, ◌∙◌, subst, arith, inl, inr, append-nil, length-append}
+use Rattle.std.specs.Prelude.{slice_set, nat_lt, not, ◌&&◌, if◌then◌else◌}
 use Rattle.std.proofs.lemmas.Bool.{cases_lt, cases_eq, lt-ltb, le-ltb, ltb-true, ltb-false, eq-eqb, ne_eqb, both_ways, and_parts, not-true}
 use Rattle.std.proofs.lemmas.List.Sums.{sum_by_push}
 use Rattle.std.proofs.lemmas.Option.{slice_get_within}
 use Rattle.sf_reply.specs.declared.reply.StatusCode.{StatusCode}
-use Rattle.sf_engine.specs.Promise.{LogEntry}
+use Rattle.sf_engine.specs.Promise.{Entry}
 use Rattle.sf_refusing.specs.declared.rule.Rule.{Rule}
 use Rattle.sf_refusing.specs.declared.given.GivenRule.{GivenRule}
 use Rattle.sf_refusing.specs.Counting.{is_ready, counted_once, counted_if}
-use Rattle.sf_refusing.specs.Journal.{Act, Ruled, PassedOn, RefusedBy, Packet, ruled, rules_in, since_given, fits_packet, counts, count_since, refused_by, refused_in, is_refusing, refuses_since, rule_refuses}
+use Rattle.sf_refusing.specs.Journal.{Act, Ruled, PassedOn, RefusedBy, Packet, ruled, rules_in, fits_packet, counts, count_since, refused_by, is_refusing, refuses_since, rule_refuses}
 use Rattle.sf_refusing.specs.Refusing.{IsGivenRule, AreGiven}
 use Rattle.sf_refusing.proofs.Growing.{more, since_more, since_new, since_none, get_set_same, get_set_other, some_same}
 
@@ -33,7 +33,7 @@ given_on journal number given given' act G rule passed refused told =
           (passed ∙ ap (λ (k : ℕ). min given.rule.pass k) (sym count));
       refused = subst (λ (r : Rule). given'.refused ≡ min r.refuse (count_since number r since - r.pass)) (sym rule)
           (refused ∙ ap (λ (k : ℕ). min given.rule.refuse (k - given.rule.pass)) (sym count));
-      told = told ∙ ap (λ (k : ℕ). k + refused_by number act) G.told ∙ sym (sum_by_push (refused_by number) G.since act);
+      counted = told ∙ ap (λ (k : ℕ). k + refused_by number act) G.counted ∙ sym (sum_by_push (refused_by number) G.since act);
     }
 
 pub same_given : (journal : List Act) (number : ℕ) (given : GivenRule) (act : Act) → IsGivenRule journal number given → counts number given.rule act ≡ 0 → refused_by number act ≡ 0
@@ -163,7 +163,7 @@ was_counted rules rules' count fit C number now at =
     let got = got_at rules number (omega (arith, slice_get_within rules' number now at, C.0)) in
     (got.0, got.1, some_same _ _ (sym (C.1 number got.0 got.1) ∙ at))
 
-pub pass_rules : (journal : List Act) (rules rules' : List GivenRule) (p : Packet) (e : LogEntry) → AreGiven journal rules → AreCounted rules rules' (length rules) (λ given. fits_packet given.rule p) → ((number : ℕ) (given : GivenRule) → slice_get rules number ≡ Some given → (fits_packet given.rule p && is_ready given) ≡ false)
+pub pass_rules : (journal : List Act) (rules rules' : List GivenRule) (p : Packet) (e : Entry) → AreGiven journal rules → AreCounted rules rules' (length rules) (λ given. fits_packet given.rule p) → ((number : ℕ) (given : GivenRule) → slice_get rules number ≡ Some given → (fits_packet given.rule p && is_ready given) ≡ false)
     → AreGiven (journal ++ PassedOn p e ∷ []) rules'
 pass_rules journal rules rules' p e A C none = record {
   count = C.0 ∙ A.count ∙ ap (λ (rs : List Rule). length rs) (same_rules journal (PassedOn p e) refl);
@@ -176,7 +176,7 @@ pass_rules journal rules rules' p e A C none = record {
       (pass_given journal number was.0 (PassedOn p e) (fits_packet was.0.rule p) (A.each number was.0 was.1) (none number was.0 was.1) refl refl);
 }
 
-pub refuse_rules : (journal : List Act) (rules rules' : List GivenRule) (p : Packet) (id by : ℕ) (code : StatusCode) (e : LogEntry) (given : GivenRule) → AreGiven journal rules → AreCounted rules rules' (by + 1) (λ given. fits_packet given.rule p) → slice_get rules by ≡ Some given → (fits_packet given.rule p && is_ready given) ≡ true → ((number : ℕ) (given : GivenRule) → number < by → slice_get rules number ≡ Some given → (fits_packet given.rule p && is_ready given) ≡ false)
+pub refuse_rules : (journal : List Act) (rules rules' : List GivenRule) (p : Packet) (id by : ℕ) (code : StatusCode) (e : Entry) (given : GivenRule) → AreGiven journal rules → AreCounted rules rules' (by + 1) (λ given. fits_packet given.rule p) → slice_get rules by ≡ Some given → (fits_packet given.rule p && is_ready given) ≡ true → ((number : ℕ) (given : GivenRule) → number < by → slice_get rules number ≡ Some given → (fits_packet given.rule p && is_ready given) ≡ false)
     → AreGiven (journal ++ RefusedBy p id by code e ∷ []) rules'
 refuse_rules journal rules rules' p id by code e given A C here ready first = record {
   count = C.0 ∙ A.count ∙ ap (λ (rs : List Rule). length rs) (same_rules journal (RefusedBy p id by code e) refl);
@@ -225,7 +225,7 @@ new_rules journal rules rule given is A = record {
         let number_is : length (rules_in journal) ≡ number = sym A.count ∙ sym new.0 in
         subst (λ (n : ℕ). IsGivenRule (journal ++ Ruled rule ∷ []) n found) number_is
         (subst (λ (g : GivenRule). IsGivenRule (journal ++ Ruled rule ∷ []) (length (rules_in journal)) g) (sym is ∙ new.1)
-        (record { since = []; is = since_new journal rule; passed = omega arith; refused = omega arith; told = refl }))
+        (record { since = []; is = since_new journal rule; passed = omega arith; refused = omega arith; counted = refl }))
   ];
 }
   where

@@ -1,5 +1,5 @@
 -- Deciding on the first buffered packet.
-use Rattle.std.proofs.Common.{◌≡◌, ℕ, ◌+◌, ◌-◌, ◌<◌, ◌≤◌, ◌⊎◌, List, [], ◌∷◌, ◌++◌, Bool, true, false, Option, Some, None, Result, Ok, Err, length, take, drop, slice_get, refl, ap, sym, ◌∙◌, subst, arith, inl, inr, append-nil}
+use Rattle.std.proofs.Common.{◌≡◌, ℕ, ◌+◌, ◌-◌, ◌<◌, ◌⊎◌, List, [], ◌∷◌, ◌++◌, Bool, true, false, Some, Result, Ok, Err, length, take, drop, slice_get, refl, ap, sym, ◌∙◌, subst, arith, inl, inr, append-nil}
 use Rattle.std.specs.Prelude.{nat_lt, ◌&&◌, if◌then◌else◌, slice_range}
 use Rattle.std.proofs.lemmas.List.{take-append-drop, append_cancel_right, append_cancel_left, drop-take, take_all, length-take-le, nil_from_length}
 use Rattle.std.proofs.lemmas.Bool.{ltb-true, ltb-false}
@@ -7,7 +7,7 @@ use Rattle.sf_path.specs.Names.{Path}
 use Rattle.sf_field.specs.Fields.{packet}
 use Rattle.sf_request.specs.declared.request.WireRequest.{WireRequest}
 use Rattle.sf_request.specs.declared.request.Asked.{Asked}
-use Rattle.sf_request.specs.declared.request.Asked.TheVariants.{Init, Request, BadFields, Unknown, NoVersion, NoId}
+use Rattle.sf_request.specs.declared.request.Asked.TheVariants.{Init, Request, Limits, BadFields, Unknown, NoVersion, NoId}
 use Rattle.sf_request.specs.Requests.{Asks}
 use Rattle.sf_reply.specs.declared.reply.StatusCode.{StatusCode}
 use Rattle.sf_reply.specs.declared.reply.Reply.TheVariants.{Status}
@@ -15,27 +15,27 @@ use Rattle.sf_reply.specs.Replies.{reply_body}
 use Rattle.sf_wire.specs.declared.cutting.Cut.TheVariants as cut
 use Rattle.sf_wire.specs.declared.cutting.BadCut.{BadCut}
 use Rattle.sf_wire.specs.declared.cutting.BadCut.TheVariants.{ZeroLength, TooLong}
-use Rattle.sf_wire.specs.Packets.{IsBody, IsCut}
+use Rattle.sf_wire.specs.Packets.{IsCut}
 use Rattle.sf_wire.specs.Streams.{HasBody}
 use Rattle.sf_engine.specs.declared.event.EngineFault.{EngineFault}
 use Rattle.sf_engine.specs.declared.event.EngineFault.TheVariants as fault
-use Rattle.sf_engine.specs.Promise.{LogEntry, IsUnsent, WaitsForBytes}
+use Rattle.sf_engine.specs.Promise.{Entry, BytesSent}
 use Rattle.sf_refusing.specs.declared.rule.Rule.{Rule}
 use Rattle.sf_refusing.specs.declared.rule.RequestKind.{RequestKind}
 use Rattle.sf_refusing.specs.declared.given.GivenRule.{GivenRule}
 use Rattle.sf_refusing.specs.declared.passage.Passage.{Passage}
 use Rattle.sf_refusing.specs.Rules.{kind_asked, paths_of, fits}
 use Rattle.sf_refusing.specs.Counting.{is_ready, counted_if}
-use Rattle.sf_refusing.specs.Journal.{Act, Ruled, Made, PassedOn, RefusedBy, Packet, log_of, received_in, taken_in, taken_by, rules_in, since_given, fits_asked, fits_packet, counts, rule_refuses}
-use Rattle.sf_refusing.specs.Refusing.{IsFed, IsUnruled, MayPass, MayRefusePacket, IsOwn, ServesHere, AreGiven, MovesFront}
+use Rattle.sf_refusing.specs.Journal.{Act, Made, PassedOn, RefusedBy, Packet, log_of, taken_in, rules_in, fits_asked, fits_packet}
+use Rattle.sf_refusing.specs.Refusing.{IsFed, IsUnruled, MayPass, MayRefusePacket, HasUnsent, ServesHere, AreGiven, MovesFront}
 use Rattle.sf_refusing.specs.Fronts.{IsPassageAt, StandsBefore, EngineHoldsAfter}
 use Rattle.std.proofs.lemmas.Option.{slice_get_within}
-use Rattle.sf_refusing.proofs.Counts.{got_at, AreCounted, ready_is, refuses_is, none_refuses, pass_rules, refuse_rules, rules_stay}
-use Rattle.sf_refusing.proofs.Steps.{IsSentAll, nothing_leaves, did_leaves, passed_leaves, refused_leaves, fed_is}
+use Rattle.sf_refusing.proofs.Counts.{got_at, AreCounted, refuses_is, none_refuses, pass_rules, refuse_rules, rules_stay}
+use Rattle.sf_refusing.proofs.Steps.{nothing_leaves, did_leaves, passed_leaves, refused_leaves, fed_is}
 use Rattle.sf_refusing.proofs.Growing.{own_so}
 
 -- the decision on the first packet
-abbrev pub IsDone : {E : Type 0} → (E → List LogEntry → Type 0) → E → List Act → ℕ → Passage → List GivenRule → Result Bool EngineFault → Type 0
+abbrev pub IsDone : {E : Type 0} → (E → List Entry → Type 0) → E → List Act → ℕ → Passage → List GivenRule → Result Bool EngineFault → Type 0
 IsDone has_log engine journal s p rules r = (acts : List Act) × MovesFront journal s r acts × EngineHoldsAfter has_log engine journal s p rules (journal ++ acts)
 
 -- the body of the first packet
@@ -54,22 +54,23 @@ seen_body bytes held len same B =
 no_fit : (rule : Rule) (s : ℕ) (asked : Asked) → ((id : ℕ) (request : WireRequest) → asked ≡ Request id request → ⊥) → fits_asked rule s asked ≡ false
 no_fit rule s (Init version) none = refl
 no_fit rule s (Request id request) none = absurd (none id request refl)
+no_fit rule s (Limits id) none = refl
 no_fit rule s (BadFields id) none = refl
 no_fit rule s (Unknown id) none = refl
 no_fit rule s NoVersion none = refl
 no_fit rule s NoId none = refl
 
-pub done_nothing : {E : Type 0} (has_log : E → List LogEntry → Type 0) (engine : E) (journal : List Act) (s : ℕ) (p : Passage) (rules : List GivenRule) (r : Result Bool EngineFault) → MovesFront journal s r [] → StandsBefore has_log engine journal s p rules → IsDone has_log engine journal s p rules r
+pub done_nothing : {E : Type 0} (has_log : E → List Entry → Type 0) (engine : E) (journal : List Act) (s : ℕ) (p : Passage) (rules : List GivenRule) (r : Result Bool EngineFault) → MovesFront journal s r [] → StandsBefore has_log engine journal s p rules → IsDone has_log engine journal s p rules r
 done_nothing {E} has_log engine journal s p rules r moves S = ([], moves, nothing_leaves has_log engine journal s p rules S)
 
 -- less than a packet is buffered
-pub none_held : {E : Type 0} (has_log : E → List LogEntry → Type 0) (engine : E) (journal : List Act) (s : ℕ) (p : Passage) (rules : List GivenRule) → StandsBefore has_log engine journal s p rules → IsCut p.held.items cut.More → MovesFront journal s (Ok false) []
+pub none_held : {E : Type 0} (has_log : E → List Entry → Type 0) (engine : E) (journal : List Act) (s : ℕ) (p : Passage) (rules : List GivenRule) → StandsBefore has_log engine journal s p rules → IsCut p.held.items cut.More → MovesFront journal s (Ok false) []
 none_held {E} has_log engine journal s p rules S more = λ waits own held received.
     let is : p.held.items ≡ held = append_cancel_left (taken_in s journal) p.held.items held (sym (S.at.served own).received ∙ received) in
     subst (λ (b : List ℕ). IsCut b cut.More) is more
 
 -- bytes to which no rule applies were passed on
-pub done_did : {E : Type 0} (has_log : E → List LogEntry → Type 0) (engine engine' : E) (journal : List Act) (s : ℕ) (p p' : Passage) (rules : List GivenRule) (e : LogEntry) (len : ℕ) → StandsBefore has_log engine journal s p rules → IsFed s (take len p.held.items) e → has_log engine' (log_of journal ++ e ∷ []) → p'.held.items ≡ drop len p.held.items → p'.output.items ≡ p.output.items → p'.begun ≡ true → 0 < length (take len p.held.items) → IsUnruled journal s (take len p.held.items) → IsDone has_log engine' journal s p' rules (Ok false)
+pub done_did : {E : Type 0} (has_log : E → List Entry → Type 0) (engine engine' : E) (journal : List Act) (s : ℕ) (p p' : Passage) (rules : List GivenRule) (e : Entry) (len : ℕ) → StandsBefore has_log engine journal s p rules → IsFed s (take len p.held.items) e → has_log engine' (log_of journal ++ e ∷ []) → p'.held.items ≡ drop len p.held.items → p'.output.items ≡ p.output.items → p'.begun ≡ true → 0 < length (take len p.held.items) → IsUnruled journal s (take len p.held.items) → IsDone has_log engine' journal s p' rules (Ok false)
 done_did {E} has_log engine engine' journal s p p' rules e len S F has held output begun some unruled =
     let front : List ℕ = take len p.held.items in (
       Made e ∷ [],
@@ -83,7 +84,7 @@ held_is : (p p' : Passage) (len : ℕ) → HasBody p.held.items len → p'.held.
 held_is p p' len B held = B.parts ∙ ap (λ (b : List ℕ). packet (body_at p.held.items len) ++ b) (sym held)
 
 -- a packet that is no request was passed on
-pub done_other : {E : Type 0} (has_log : E → List LogEntry → Type 0) (engine engine' : E) (journal : List Act) (s : ℕ) (p p' : Passage) (rules : List GivenRule) (e : LogEntry) (len : ℕ) (asked : Asked) → StandsBefore has_log engine journal s p rules → HasBody p.held.items len → Asks (body_at p.held.items len) asked → ((id : ℕ) (request : WireRequest) → asked ≡ Request id request → ⊥) → IsFed s (take len p.held.items) e → has_log engine' (log_of journal ++ e ∷ []) → p'.held.items ≡ drop len p.held.items → p'.output.items ≡ p.output.items → p'.begun ≡ true → IsDone has_log engine' journal s p' rules (Ok false)
+pub done_other : {E : Type 0} (has_log : E → List Entry → Type 0) (engine engine' : E) (journal : List Act) (s : ℕ) (p p' : Passage) (rules : List GivenRule) (e : Entry) (len : ℕ) (asked : Asked) → StandsBefore has_log engine journal s p rules → HasBody p.held.items len → Asks (body_at p.held.items len) asked → ((id : ℕ) (request : WireRequest) → asked ≡ Request id request → ⊥) → IsFed s (take len p.held.items) e → has_log engine' (log_of journal ++ e ∷ []) → p'.held.items ≡ drop len p.held.items → p'.output.items ≡ p.output.items → p'.begun ≡ true → IsDone has_log engine' journal s p' rules (Ok false)
 done_other {E} has_log engine engine' journal s p p' rules e len asked S B asks none F has held output begun =
     let one : Packet = record { session = s; body = body_at p.held.items len; asked = asked } in
     let no : (rule : Rule) → fits_packet rule one ≡ false = λ rule. no_fit rule s asked none in
@@ -119,7 +120,7 @@ fit_is s request session kind paths I rule =
     ∙ ap (λ (ps : List Path). fits rule s (kind_asked request) ps) I.paths_are
 
 -- a request that no rule refuses was passed on
-pub done_pass : {E : Type 0} (has_log : E → List LogEntry → Type 0) (engine engine' : E) (journal : List Act) (s : ℕ) (p p' : Passage) (rules rules' : List GivenRule) (e : LogEntry) (len id : ℕ) (request : WireRequest) (session : ℕ) (kind : RequestKind) (paths : List Path) → StandsBefore has_log engine journal s p rules → HasBody p.held.items len → Asks (body_at p.held.items len) (Request id request) → IsSeen s request session kind paths → ((number : ℕ) (given : GivenRule) → slice_get rules number ≡ Some given → (fits given.rule session kind paths && is_ready given) ≡ false) → IsFed s (take len p.held.items) e → has_log engine' (log_of journal ++ e ∷ []) → p'.held.items ≡ drop len p.held.items → p'.output.items ≡ p.output.items → p'.begun ≡ true → AreCounted rules rules' (length rules) (λ given. fits given.rule session kind paths) → IsDone has_log engine' journal s p' rules' (Ok false)
+pub done_pass : {E : Type 0} (has_log : E → List Entry → Type 0) (engine engine' : E) (journal : List Act) (s : ℕ) (p p' : Passage) (rules rules' : List GivenRule) (e : Entry) (len id : ℕ) (request : WireRequest) (session : ℕ) (kind : RequestKind) (paths : List Path) → StandsBefore has_log engine journal s p rules → HasBody p.held.items len → Asks (body_at p.held.items len) (Request id request) → IsSeen s request session kind paths → ((number : ℕ) (given : GivenRule) → slice_get rules number ≡ Some given → (fits given.rule session kind paths && is_ready given) ≡ false) → IsFed s (take len p.held.items) e → has_log engine' (log_of journal ++ e ∷ []) → p'.held.items ≡ drop len p.held.items → p'.output.items ≡ p.output.items → p'.begun ≡ true → AreCounted rules rules' (length rules) (λ given. fits given.rule session kind paths) → IsDone has_log engine' journal s p' rules' (Ok false)
 done_pass {E} has_log engine engine' journal s p p' rules rules' e len id request session kind paths S B asks I none F has held output begun C =
     let one : Packet = record { session = s; body = body_at p.held.items len; asked = Request id request } in
     let same : (rule : Rule) → fits rule session kind paths ≡ fits_packet rule one = fit_is s request session kind paths I in
@@ -138,7 +139,7 @@ done_pass {E} has_log engine engine' journal s p p' rules rules' e len id reques
     )
 
 -- a request was refused
-pub done_refuse : {E : Type 0} (has_log : E → List LogEntry → Type 0) (engine engine' : E) (journal : List Act) (s : ℕ) (p p' : Passage) (rules rules' : List GivenRule) (e : LogEntry) (u : List ℕ) (len id : ℕ) (request : WireRequest) (session : ℕ) (kind : RequestKind) (paths : List Path) (number : ℕ) (given : GivenRule) (code : StatusCode) → StandsBefore has_log engine journal s p rules → HasBody p.held.items len → p.begun ≡ true → Asks (body_at p.held.items len) (Request id request) → IsSeen s request session kind paths → slice_get rules number ≡ Some given → code ≡ given.rule.code → (fits given.rule session kind paths && is_ready given) ≡ true → ((other : ℕ) (found : GivenRule) → other < number → slice_get rules other ≡ Some found → (fits found.rule session kind paths && is_ready found) ≡ false) → IsSentAll s u e → IsUnsent (log_of journal) s u → has_log engine' (log_of journal ++ e ∷ []) → p'.held.items ≡ drop len p.held.items → p'.output.items ≡ p.output.items ++ u ++ packet (reply_body id (Status code)) → p'.begun ≡ p.begun → AreCounted rules rules' (number + 1) (λ given. fits given.rule session kind paths) → IsDone has_log engine' journal s p' rules' (Ok true)
+pub done_refuse : {E : Type 0} (has_log : E → List Entry → Type 0) (engine engine' : E) (journal : List Act) (s : ℕ) (p p' : Passage) (rules rules' : List GivenRule) (e : Entry) (u : List ℕ) (len id : ℕ) (request : WireRequest) (session : ℕ) (kind : RequestKind) (paths : List Path) (number : ℕ) (given : GivenRule) (code : StatusCode) → StandsBefore has_log engine journal s p rules → HasBody p.held.items len → p.begun ≡ true → Asks (body_at p.held.items len) (Request id request) → IsSeen s request session kind paths → slice_get rules number ≡ Some given → code ≡ given.rule.code → (fits given.rule session kind paths && is_ready given) ≡ true → ((other : ℕ) (found : GivenRule) → other < number → slice_get rules other ≡ Some found → (fits found.rule session kind paths && is_ready found) ≡ false) → e ≡ BytesSent s (length u) → HasUnsent (log_of journal) s u → has_log engine' (log_of journal ++ e ∷ []) → p'.held.items ≡ drop len p.held.items → p'.output.items ≡ p.output.items ++ u ++ packet (reply_body id (Status code)) → p'.begun ≡ p.begun → AreCounted rules rules' (number + 1) (λ given. fits given.rule session kind paths) → IsDone has_log engine' journal s p' rules' (Ok true)
 done_refuse {E} has_log engine engine' journal s p p' rules rules' e u len id request session kind paths number given code S B was_begun asks I here code_is ready first sent unsent has held output begun C =
     let one : Packet = record { session = s; body = body_at p.held.items len; asked = Request id request } in
     let same : (rule : Rule) → fits rule session kind paths ≡ fits_packet rule one = fit_is s request session kind paths I in
@@ -162,7 +163,7 @@ done_refuse {E} has_log engine engine' journal s p p' rules rules' e u len id re
           let got = got_at rules other (omega (arith, lt, slice_get_within rules number given here)) in
           refuses_is journal other got.0 one (S.rules.each other got.0 got.1) ∙ first' other got.0 lt got.1;
       sent = length u;
-      event = sent.event;
+      is = sent;
     } in (
       RefusedBy one id number code e ∷ [],
       (one, id, number, code, e, refl, refl),
@@ -171,7 +172,7 @@ done_refuse {E} has_log engine engine' journal s p p' rules rules' e u len id re
     )
 
 -- nothing was done, since memory ran out
-pub done_err : {E : Type 0} (has_log : E → List LogEntry → Type 0) (engine engine' : E) (journal : List Act) (s : ℕ) (p p' : Passage) (rules : List GivenRule) (r : Result Bool EngineFault) (f : EngineFault) → r ≡ Err f → f ≡ fault.OutOfMemory → engine' ≡ engine → p'.held.items ≡ p.held.items → p'.output.items ≡ p.output.items → p'.begun ≡ p.begun → StandsBefore has_log engine journal s p rules → IsDone has_log engine' journal s p' rules r
+pub done_err : {E : Type 0} (has_log : E → List Entry → Type 0) (engine engine' : E) (journal : List Act) (s : ℕ) (p p' : Passage) (rules : List GivenRule) (r : Result Bool EngineFault) (f : EngineFault) → r ≡ Err f → f ≡ fault.OutOfMemory → engine' ≡ engine → p'.held.items ≡ p.held.items → p'.output.items ≡ p.output.items → p'.begun ≡ p.begun → StandsBefore has_log engine journal s p rules → IsDone has_log engine' journal s p' rules r
 done_err {E} has_log engine engine' journal s p p' rules r f is oom same held output begun S =
     let at : ServesHere journal s p'.held.items p'.output.items p'.begun =
     subst (λ (b : Bool). ServesHere journal s p'.held.items p'.output.items b) (sym begun)

@@ -1,20 +1,18 @@
 -- Journals with one more event: their projections to a session and to a rule.
-use Rattle.std.proofs.Common.{◌≡◌, ℕ, zero, suc, ◌+◌, ◌-◌, ◌<◌, ◌≤◌, List, [], ◌∷◌, ◌++◌, Bool, true, false, Option, Some, None, Result, Ok, length, take, drop, min, refl, ap, sym, ◌∙◌, subst, arith, append-nil, append_assoc, length-append, slice_get}
+use Rattle.std.proofs.Common.{◌≡◌, ℕ, zero, suc, ◌<◌, ◌≤◌, List, [], ◌∷◌, ◌++◌, Bool, true, Option, Some, None, length, take, drop, refl, ap, sym, ◌∙◌, subst, arith, append-nil, append_assoc, length-append, slice_get}
 use Rattle.std.specs.Prelude.{slice_set, nat_eq, nat_lt, if◌then◌else◌, option_map}
-use Rattle.std.specs.List.{AllByRecursion, flat_map, sum_by}
+use Rattle.std.specs.List.{flat_map}
 use Rattle.std.proofs.Math.Seq.{drop-append_seam}
 use Rattle.std.proofs.lemmas.Bool.{eq-eqb, ne_eqb, lt-ltb}
-use Rattle.std.proofs.lemmas.List.{flat_map_more, take-append-drop, length-take-le, take_all, drop_all}
+use Rattle.std.proofs.lemmas.List.{flat_map_more, take-append-drop, length-take-le}
 use Rattle.std.proofs.lemmas.List.Concat.{flat_map-append}
 use Rattle.std.proofs.lemmas.List.Sums.{sum_by_push}
-use Rattle.sf_engine.specs.declared.event.Event.{Event}
-use Rattle.sf_engine.specs.declared.event.Happened.{Happened}
-use Rattle.sf_engine.specs.declared.event.EngineFault.{EngineFault}
 use Rattle.sf_session.specs.Responses.{Response, packet_for, transcript, if_so}
-use Rattle.sf_engine.specs.Promise.{LogEntry, fed_by, written_by, written_in, sent_at, sent_of, IsUnsent}
+use Rattle.sf_engine.specs.Promise.{Entry, of_session}
 use Rattle.sf_refusing.specs.declared.rule.Rule.{Rule}
-use Rattle.sf_refusing.specs.Journal.{Act, Ruled, Received, Delivered, Made, Apart, PassedOn, RefusedBy, Packet, logged, log_of, received_by, received_in, taken_by, taken_in, sent_by, sent_in, delivered_by, delivered_in, rules_in, since_given, counts, count_since, refused_by, refused_in}
-use Rattle.sf_refusing.specs.Refusing.{MayHappen, AllMayHappen, IsOwn, IsNotApart, IsServedHere, ServesHere}
+use Rattle.sf_refusing.specs.Journal.{Act, Ruled, Received, Delivered, Made, Apart, PassedOn, RefusedBy, logged, log_of, fed_by, written_by, sent_at, received_by, taken_by, taken_in, sent_by, delivered_by, rules_in, since_given}
+use Rattle.sf_refusing.specs.Refusing.{MayHappen, AllMayHappen, IsOwn, HasUnsent, IsServedHere}
+use Rattle.sf_refusing.proofs.Entries.{log_adds}
 
 -- ---- lists
 
@@ -26,10 +24,6 @@ own_so s xs = ap (λ (b : Bool). if_so b xs) (eq-eqb s s refl)
 
 pub other_so : {A : Type 0} (s other : ℕ) (xs : List A) → (s ≡ other → ⊥) → if_so (nat_eq s other) xs ≡ []
 other_so s other xs ne = ap (λ (b : Bool). if_so b xs) (ne_eqb s other ne)
-
-pub none_so : {A : Type 0} (b : Bool) → if_so {A = A} b [] ≡ []
-none_so true = refl
-none_so false = refl
 
 pub get_set_same : {A : Type 0} (xs : List A) (i : ℕ) (x v : A) → slice_get xs i ≡ Some x → slice_get (slice_set xs i v) i ≡ Some v
 get_set_same [] i x v h = absurd cc
@@ -52,34 +46,30 @@ pub transcript_on : (xs ys : List Response) → transcript (xs ++ ys) ≡ transc
 unfolding transcript
 transcript_on xs ys = flat_map-append packet_for xs ys
 
-pub sent_of_more : (s : ℕ) (log : List LogEntry) (e : LogEntry) → sent_of s (log ++ e ∷ []) ≡ sent_of s log + sent_at s e.event e.result
-sent_of_more s [] e = omega arith
-sent_of_more s (x ∷ log) e = omega (arith, sent_of_more s log e)
-
 four : (a x y t u : List ℕ) → x ++ y ≡ u → (a ++ u) ++ t ≡ (a ++ x) ++ (y ++ t)
 four a x y t u h =
     ap (λ (b : List ℕ). (a ++ b) ++ t) (sym h) ∙ ap (λ (b : List ℕ). b ++ t) (sym (append_assoc a x y))
     ∙ append_assoc (a ++ x) y t
 
-pub unsent_more : (log : List LogEntry) (e : LogEntry) (s : ℕ) (u : List ℕ) → IsUnsent log s u → sent_at s e.event e.result ≤ length u
-    → IsUnsent (log ++ e ∷ []) s (drop (sent_at s e.event e.result) u ++ transcript (written_by s e.event e.wrote))
+pub unsent_more : (log : List Entry) (e : Entry) (s : ℕ) (u : List ℕ) → HasUnsent log s u → sent_at s e ≤ length u
+    → HasUnsent (log ++ e ∷ []) s (drop (sent_at s e) u ++ transcript (written_by s e))
 unsent_more log e s u U le =
-    let n : ℕ = sent_at s e.event e.result in
-    let W : LogEntry → List Response = λ x. written_by s x.event x.wrote in
-    let t : List ℕ = transcript (W e) in
+    let n : ℕ = sent_at s e in
+    let t : List ℕ = transcript (written_by s e) in
+    let adds = log_adds s log e in
     record {
       sent = U.sent ++ take n u;
-      count = omega (arith, length-append U.sent (take n u), length-take-le n u le, U.count, sent_of_more s log e);
+      count_is = omega (arith, length-append U.sent (take n u), length-take-le n u le, U.count_is, adds.2);
       packets =
-          ap (λ (ws : List Response). transcript ws) (more W log e) ∙ transcript_on (written_in s log) (W e)
+          ap (λ (ws : List Response). transcript ws) adds.1 ∙ transcript_on (of_session s log).wrote (written_by s e)
           ∙ ap (λ (b : List ℕ). b ++ t) U.packets ∙ four U.sent (take n u) (drop n u) t u (take-append-drop n u);
     }
 
 -- the unsent output is unique
-pub same_unsent : (log : List LogEntry) (s : ℕ) (u v : List ℕ) → IsUnsent log s u → IsUnsent log s v → u ≡ v
+pub same_unsent : (log : List Entry) (s : ℕ) (u v : List ℕ) → HasUnsent log s u → HasUnsent log s v → u ≡ v
 same_unsent log s u v U V =
-    let t : List ℕ = transcript (written_in s log) in
-    let same : length U.sent ≡ length V.sent = U.count ∙ sym V.count in
+    let t : List ℕ = transcript (of_session s log).wrote in
+    let same : length U.sent ≡ length V.sent = U.count_is ∙ sym V.count_is in
     sym (drop-append_seam U.sent u) ∙ ap (λ (b : List ℕ). drop (length U.sent) b) (sym U.packets)
     ∙ ap (λ (n : ℕ). drop n t) same ∙ ap (λ (b : List ℕ). drop (length V.sent) b) V.packets ∙ drop-append_seam V.sent v
 
@@ -100,7 +90,7 @@ happened_more front (x ∷ acts) act h may = (
 
 -- ---- a session
 
-pub grown : (journal : List Act) (s : ℕ) (act : Act) (held held' output output' unsent' extra : List ℕ) (S : IsServedHere journal s held output) → held ++ received_by s act ≡ taken_by s act ++ held' → IsUnsent (log_of journal ++ logged act) s unsent' → length extra ≡ delivered_by s act → (output ++ S.unsent) ++ sent_by s act ≡ extra ++ (output' ++ unsent')
+pub grown : (journal : List Act) (s : ℕ) (act : Act) (held held' output output' unsent' extra : List ℕ) (S : IsServedHere journal s held output) → held ++ received_by s act ≡ taken_by s act ++ held' → HasUnsent (log_of journal ++ logged act) s unsent' → length extra ≡ delivered_by s act → (output ++ S.unsent) ++ sent_by s act ≡ extra ++ (output' ++ unsent')
     → IsServedHere (journal ++ act ∷ []) s held' output'
 grown journal s act held held' output output' unsent' extra S c U n w = record {
   received =
@@ -109,7 +99,7 @@ grown journal s act held held' output output' unsent' extra S c U n w = record {
       ∙ sym (append_assoc (taken_in s journal) (taken_by s act) held')
       ∙ ap (λ (b : List ℕ). b ++ held') (sym (more (taken_by s) journal act));
   unsent = unsent';
-  in_engine = subst (λ (l : List LogEntry). IsUnsent l s unsent') (sym (more logged journal act)) U;
+  in_engine = subst (λ (l : List Entry). HasUnsent l s unsent') (sym (more logged journal act)) U;
   gone = S.gone ++ extra;
   count = omega (arith, length-append S.gone extra, S.count, n, sum_by_push (delivered_by s) journal act);
   waits =
@@ -131,17 +121,17 @@ begun_now journal s act some =
     ∙ ap (λ (b : List ℕ). nat_lt 0 (length b)) (sym (more (taken_by s) journal act))
 
 -- an entry that neither feeds the session nor removes its output
-pub entry_served : (journal : List Act) (s : ℕ) (act : Act) (e : LogEntry) (held output : List ℕ) → logged act ≡ e ∷ [] → received_by s act ≡ [] → taken_by s act ≡ [] → delivered_by s act ≡ 0 → sent_by s act ≡ transcript (written_by s e.event e.wrote) → sent_at s e.event e.result ≡ 0 → IsServedHere journal s held output
+pub entry_served : (journal : List Act) (s : ℕ) (act : Act) (e : Entry) (held output : List ℕ) → logged act ≡ e ∷ [] → received_by s act ≡ [] → taken_by s act ≡ [] → delivered_by s act ≡ 0 → sent_by s act ≡ transcript (written_by s e) → sent_at s e ≡ 0 → IsServedHere journal s held output
     → IsServedHere (journal ++ act ∷ []) s held output
 entry_served journal s act e held output is received taken delivered wrote zero_sent S =
-    let t : List ℕ = transcript (written_by s e.event e.wrote) in
-    let le : sent_at s e.event e.result ≤ length S.unsent = omega (arith, zero_sent) in
-    let U : IsUnsent (log_of journal ++ e ∷ []) s (S.unsent ++ t) =
-    subst (λ (n : ℕ). IsUnsent (log_of journal ++ e ∷ []) s (drop n S.unsent ++ t)) zero_sent
+    let t : List ℕ = transcript (written_by s e) in
+    let le : sent_at s e ≤ length S.unsent = omega (arith, zero_sent) in
+    let U : HasUnsent (log_of journal ++ e ∷ []) s (S.unsent ++ t) =
+    subst (λ (n : ℕ). HasUnsent (log_of journal ++ e ∷ []) s (drop n S.unsent ++ t)) zero_sent
     (unsent_more (log_of journal) e s S.unsent S.in_engine le) in
     grown journal s act held held output output (S.unsent ++ t) [] S
     (ap (λ (b : List ℕ). held ++ b) received ∙ append-nil held ∙ ap (λ (b : List ℕ). b ++ held) (sym taken))
-    (subst (λ (l : List LogEntry). IsUnsent (log_of journal ++ l) s (S.unsent ++ t)) (sym is) U)
+    (subst (λ (l : List Entry). HasUnsent (log_of journal ++ l) s (S.unsent ++ t)) (sym is) U)
     (sym delivered)
     (ap (λ (b : List ℕ). (output ++ S.unsent) ++ b) wrote ∙ append_assoc output S.unsent t)
 
@@ -151,7 +141,7 @@ pub other_served : (journal : List Act) (s : ℕ) (act : Act) (held output : Lis
 other_served journal s act held output is received taken delivered wrote S =
     grown journal s act held held output output S.unsent [] S
     (ap (λ (b : List ℕ). held ++ b) received ∙ append-nil held ∙ ap (λ (b : List ℕ). b ++ held) (sym taken))
-    (subst (λ (l : List LogEntry). IsUnsent l s S.unsent) (sym (ap (λ (l : List LogEntry). log_of journal ++ l) is ∙ append-nil (log_of journal))) S.in_engine)
+    (subst (λ (l : List Entry). HasUnsent l s S.unsent) (sym (ap (λ (l : List Entry). log_of journal ++ l) is ∙ append-nil (log_of journal))) S.in_engine)
     (sym delivered)
     (ap (λ (b : List ℕ). (output ++ S.unsent) ++ b) wrote ∙ append-nil (output ++ S.unsent))
 
@@ -161,22 +151,22 @@ pub received_served : (journal : List Act) (s : ℕ) (bytes held output : List �
 received_served journal s bytes held output S =
     grown journal s (Received s bytes) held (held ++ bytes) output output S.unsent [] S
     (ap (λ (b : List ℕ). held ++ b) (own_so s bytes))
-    (subst (λ (l : List LogEntry). IsUnsent l s S.unsent) (sym (append-nil (log_of journal))) S.in_engine)
+    (subst (λ (l : List Entry). HasUnsent l s S.unsent) (sym (append-nil (log_of journal))) S.in_engine)
     refl
     (append-nil (output ++ S.unsent))
 
 -- bytes are fed
-pub fed_served : (journal : List Act) (s : ℕ) (act : Act) (e : LogEntry) (front held output : List ℕ) → logged act ≡ e ∷ [] → received_by s act ≡ [] → taken_by s act ≡ front → delivered_by s act ≡ 0 → sent_by s act ≡ transcript (written_by s e.event e.wrote) → sent_at s e.event e.result ≡ 0 → IsServedHere journal s (front ++ held) output
+pub fed_served : (journal : List Act) (s : ℕ) (act : Act) (e : Entry) (front held output : List ℕ) → logged act ≡ e ∷ [] → received_by s act ≡ [] → taken_by s act ≡ front → delivered_by s act ≡ 0 → sent_by s act ≡ transcript (written_by s e) → sent_at s e ≡ 0 → IsServedHere journal s (front ++ held) output
     → IsServedHere (journal ++ act ∷ []) s held output
 fed_served journal s act e front held output is received taken delivered wrote zero_sent S =
-    let t : List ℕ = transcript (written_by s e.event e.wrote) in
-    let le : sent_at s e.event e.result ≤ length S.unsent = omega (arith, zero_sent) in
-    let U : IsUnsent (log_of journal ++ e ∷ []) s (S.unsent ++ t) =
-    subst (λ (n : ℕ). IsUnsent (log_of journal ++ e ∷ []) s (drop n S.unsent ++ t)) zero_sent
+    let t : List ℕ = transcript (written_by s e) in
+    let le : sent_at s e ≤ length S.unsent = omega (arith, zero_sent) in
+    let U : HasUnsent (log_of journal ++ e ∷ []) s (S.unsent ++ t) =
+    subst (λ (n : ℕ). HasUnsent (log_of journal ++ e ∷ []) s (drop n S.unsent ++ t)) zero_sent
     (unsent_more (log_of journal) e s S.unsent S.in_engine le) in
     grown journal s act (front ++ held) held output output (S.unsent ++ t) [] S
     (ap (λ (b : List ℕ). (front ++ held) ++ b) received ∙ append-nil (front ++ held) ∙ ap (λ (b : List ℕ). b ++ held) (sym taken))
-    (subst (λ (l : List LogEntry). IsUnsent (log_of journal ++ l) s (S.unsent ++ t)) (sym is) U)
+    (subst (λ (l : List Entry). HasUnsent (log_of journal ++ l) s (S.unsent ++ t)) (sym is) U)
     (sym delivered)
     (ap (λ (b : List ℕ). (output ++ S.unsent) ++ b) wrote ∙ append_assoc output S.unsent t)
 
@@ -185,16 +175,16 @@ pub record IsMoved (journal : List Act) (s : ℕ) (held output rest : List ℕ) 
   pub served : IsServedHere journal s held output
   pub unsent_is : served.unsent ≡ rest
 
-pub moved_served : (journal : List Act) (s : ℕ) (e : LogEntry) (held output u : List ℕ) (n : ℕ) → fed_by s e.event e.result ≡ [] → written_by s e.event e.wrote ≡ [] → sent_at s e.event e.result ≡ n → n ≤ length u → IsUnsent (log_of journal) s u → IsServedHere journal s held output
+pub moved_served : (journal : List Act) (s : ℕ) (e : Entry) (held output u : List ℕ) (n : ℕ) → fed_by s e ≡ [] → written_by s e ≡ [] → sent_at s e ≡ n → n ≤ length u → HasUnsent (log_of journal) s u → IsServedHere journal s held output
     → IsMoved (journal ++ Made e ∷ []) s held (output ++ take n u) (drop n u)
 unfolding transcript grown
 moved_served journal s e held output u n fed wrote sent le U S =
     let same : S.unsent ≡ u = same_unsent (log_of journal) s S.unsent u S.in_engine U in
-    let none : transcript (written_by s e.event e.wrote) ≡ [] = ap (λ (ws : List Response). transcript ws) wrote in
-    let at : sent_at s e.event e.result ≤ length u = omega (arith, sent, le) in
-    let V : IsUnsent (log_of journal ++ e ∷ []) s (drop n u) =
-    subst (λ (b : List ℕ). IsUnsent (log_of journal ++ e ∷ []) s b)
-    (ap (λ (b : List ℕ). drop (sent_at s e.event e.result) u ++ b) none ∙ append-nil (drop (sent_at s e.event e.result) u) ∙ ap (λ (k : ℕ). drop k u) sent)
+    let none : transcript (written_by s e) ≡ [] = ap (λ (ws : List Response). transcript ws) wrote in
+    let at : sent_at s e ≤ length u = omega (arith, sent, le) in
+    let V : HasUnsent (log_of journal ++ e ∷ []) s (drop n u) =
+    subst (λ (b : List ℕ). HasUnsent (log_of journal ++ e ∷ []) s b)
+    (ap (λ (b : List ℕ). drop (sent_at s e) u ++ b) none ∙ append-nil (drop (sent_at s e) u) ∙ ap (λ (k : ℕ). drop k u) sent)
     (unsent_more (log_of journal) e s u U at) in
     record {
       served = grown journal s (Made e) held held output (output ++ take n u) (drop n u) [] S
@@ -211,7 +201,7 @@ pub delivered_served : (journal : List Act) (s n : ℕ) (front held output : Lis
 delivered_served journal s n front held output count S =
     grown journal s (Delivered s n) held held (front ++ output) output S.unsent front S
     (append-nil held)
-    (subst (λ (l : List LogEntry). IsUnsent l s S.unsent) (sym (append-nil (log_of journal))) S.in_engine)
+    (subst (λ (l : List Entry). HasUnsent l s S.unsent) (sym (append-nil (log_of journal))) S.in_engine)
     (count ∙ sym (ap (λ (b : Bool). if b then n else 0) (eq-eqb s s refl)))
     (append-nil ((front ++ output) ++ S.unsent) ∙ append_assoc front output S.unsent)
 

@@ -1,4 +1,5 @@
 pub mod Vecs
+pub mod Entries
 pub mod Growing
 pub mod Counts
 pub mod Steps

@@ -1,42 +1,21 @@
 -- Laws of journals: without rules, and with events on the engine directly.
-use Rattle.std.proofs.Common.{◌≡◌, ℕ, ◌+◌, ◌≤◌, List, [], ◌∷◌, ◌++◌, Bool, false, Option, Some, None, Result, Ok, Err, length, map, refl, ap, sym, ◌∙◌, subst, arith, append-nil, append_assoc, length-append}
-use Rattle.std.specs.Prelude.{if◌then◌else◌}
+use Rattle.std.proofs.Common.{◌≡◌, ℕ, ◌+◌, List, [], ◌∷◌, ◌++◌, Bool, false, Some, None, length, map, refl, ap, sym, ◌∙◌, subst, arith, append-nil, append_assoc, length-append}
 use Rattle.std.specs.List.{flat_map}
 use Rattle.std.proofs.lemmas.List.Concat.{flat_map-append}
-use Rattle.sf_engine.specs.declared.event.Event.{Event}
-use Rattle.sf_engine.specs.declared.event.Event.TheVariants as event
-use Rattle.sf_engine.specs.declared.event.Happened.{Happened}
-use Rattle.sf_engine.specs.declared.event.EngineFault.{EngineFault}
-use Rattle.sf_session.specs.Responses.{transcript, if_so}
-use Rattle.sf_engine.specs.Promise.{LogEntry, fed_by, fed_in, written_by, written_in, sent_at}
+use Rattle.sf_session.specs.Responses.{Response, transcript}
+use Rattle.sf_engine.specs.Promise.{Entry}
 use Rattle.sf_refusing.specs.declared.rule.Rule.{Rule}
 use Rattle.sf_refusing.specs.declared.refusals.Refusals.{Refusals}
-use Rattle.sf_refusing.specs.Journal.{Act, Ruled, Received, Delivered, Made, Apart, PassedOn, RefusedBy, ruled, rules_in, log_of, sent_in, taken_in, since_given}
+use Rattle.sf_refusing.specs.Journal.{Act, Ruled, Received, Delivered, Made, Apart, PassedOn, RefusedBy, ruled, rules_in, log_of, fed_by, written_by, sent_in, taken_in}
 use Rattle.sf_refusing.specs.Refusing.{AllMayHappen, moves_bytes, IsOwn, ServesHere, HasJournal}
+use Rattle.sf_refusing.proofs.Entries.{apart_fed, apart_sent}
 use Rattle.sf_refusing.proofs.Growing.{transcript_on, own_front, happened_more, begun_stays, entry_served, since_none}
 use Rattle.sf_refusing.proofs.Counts.{rules_stay}
-
--- an event that neither feeds a session nor removes its output
-apart_fed : (s : ℕ) (ev : Event) (r : Result Happened EngineFault) → moves_bytes s ev ≡ false → fed_by s ev r ≡ []
-apart_fed s event.Open r apart = refl
-apart_fed s (event.Feed t bytes) (Ok h) apart = ap (λ (b : Bool). if_so b bytes.items) apart
-apart_fed s (event.Feed t bytes) (Err f) apart = refl
-apart_fed s (event.Turn t m) r apart = refl
-apart_fed s (event.Close t) r apart = refl
-apart_fed s (event.Sent t n) r apart = refl
-
-apart_sent : (s : ℕ) (ev : Event) (r : Result Happened EngineFault) → moves_bytes s ev ≡ false → sent_at s ev r ≡ 0
-apart_sent s event.Open r apart = refl
-apart_sent s (event.Feed t bytes) r apart = refl
-apart_sent s (event.Turn t m) r apart = refl
-apart_sent s (event.Close t) r apart = refl
-apart_sent s (event.Sent t n) (Ok h) apart = ap (λ (b : Bool). if b then n else 0) apart
-apart_sent s (event.Sent t n) (Err f) apart = refl
 
 no_some : {A : Type 0} (x : A) → None ≡ Some x → ⊥
 no_some x h = cc
 
-own_last : (s : ℕ) (journal : List Act) (e : LogEntry) → IsOwn s (journal ++ Apart e ∷ []) → moves_bytes s e.event ≡ false
+own_last : (s : ℕ) (journal : List Act) (e : Entry) → IsOwn s (journal ++ Apart e ∷ []) → moves_bytes s e ≡ false
 own_last s [] e h = h.0
 own_last s (x ∷ journal) e h = own_last s journal e h.1
 
@@ -48,16 +27,22 @@ none_next front journal act none = ap (λ (j : List Act). length (rules_in j)) (
 none_before : (front journal : List Act) → length (rules_in (front ++ journal)) ≡ 0 → length (rules_in front) ≡ 0
 none_before front journal none = omega (arith, none, ap (λ (rs : List Rule). length rs) (flat_map-append ruled front journal), length-append (rules_in front) (rules_in journal))
 
-abbrev IsPlainlySent : ℕ → List Act → Type 0
+abbrev pub fed_in : ℕ → List Entry → List ℕ
+fed_in s log = flat_map (fed_by s) log
+
+abbrev pub written_in : ℕ → List Entry → List Response
+written_in s log = flat_map (written_by s) log
+
+abbrev pub IsPlainlySent : ℕ → List Act → Type 0
 IsPlainlySent s journal = (sent_in s journal ≡ transcript (written_in s (log_of journal))) × (taken_in s journal ≡ fed_in s (log_of journal))
 
-one_more : (s : ℕ) (e : LogEntry) (journal : List Act) → IsPlainlySent s journal → (transcript (written_by s e.event e.wrote) ++ sent_in s journal ≡ transcript (written_in s (e ∷ log_of journal))) × (fed_by s e.event e.result ++ taken_in s journal ≡ fed_in s (e ∷ log_of journal))
+one_more : (s : ℕ) (e : Entry) (journal : List Act) → IsPlainlySent s journal → (transcript (written_by s e) ++ sent_in s journal ≡ transcript (written_in s (e ∷ log_of journal))) × (fed_by s e ++ taken_in s journal ≡ fed_in s (e ∷ log_of journal))
 one_more s e journal r = (
-  ap (λ (b : List ℕ). transcript (written_by s e.event e.wrote) ++ b) r.0 ∙ sym (transcript_on (written_by s e.event e.wrote) (written_in s (log_of journal))),
-  ap (λ (b : List ℕ). fed_by s e.event e.result ++ b) r.1,
+  ap (λ (b : List ℕ). transcript (written_by s e) ++ b) r.0 ∙ sym (transcript_on (written_by s e) (written_in s (log_of journal))),
+  ap (λ (b : List ℕ). fed_by s e ++ b) r.1,
 )
 
-pub ruleless : (front journal : List Act) → AllMayHappen front journal → length (rules_in (front ++ journal)) ≡ 0 → (s : ℕ) → IsOwn s journal → (sent_in s journal ≡ transcript (written_in s (log_of journal))) × (taken_in s journal ≡ fed_in s (log_of journal))
+pub ruleless : (front journal : List Act) → AllMayHappen front journal → length (rules_in (front ++ journal)) ≡ 0 → (s : ℕ) → IsOwn s journal → IsPlainlySent s journal
 unfolding AllMayHappen transcript
 ruleless front [] h none s own = (refl, refl)
 ruleless front (Ruled rule ∷ journal) h none s own =
@@ -69,7 +54,7 @@ ruleless front (PassedOn p e ∷ journal) h none s own = one_more s e journal (r
 ruleless front (Apart e ∷ journal) h none s own =
     let r = one_more s e journal (ruleless (front ++ Apart e ∷ []) journal h.1 (none_next front journal (Apart e) none) s own.1) in (
       r.0,
-      ap (λ (b : List ℕ). b ++ taken_in s journal) (sym (apart_fed s e.event e.result own.0)) ∙ r.1,
+      ap (λ (b : List ℕ). b ++ taken_in s journal) (sym (apart_fed s e own.0)) ∙ r.1,
     )
 ruleless front (RefusedBy p id number code e ∷ journal) h none s own =
     absurd (no_some (h.0.rule, h.0.since)
@@ -77,7 +62,7 @@ ruleless front (RefusedBy p id number code e ∷ journal) h none s own =
 
 -- ---- events on the engine directly
 
-apart_one : (r : Refusals) (journal : List Act) (e : LogEntry) → HasJournal r journal → HasJournal r (journal ++ Apart e ∷ [])
+apart_one : (r : Refusals) (journal : List Act) (e : Entry) → HasJournal r journal → HasJournal r (journal ++ Apart e ∷ [])
 apart_one r journal e H = record {
   happened = happened_more [] journal (Apart e) H.happened tt;
   each = λ i p at. apart_serves (i + 1) p.held.items p.output.items p.begun (H.each i p at);
@@ -88,10 +73,10 @@ apart_one r journal e H = record {
     apart_serves : (s : ℕ) (held output : List ℕ) (begun : Bool) → ServesHere journal s held output begun → ServesHere (journal ++ Apart e ∷ []) s held output begun
     apart_serves s held output begun S = record {
       begun_is = begun_stays journal s (Apart e) begun refl S.begun_is;
-      served = λ own. entry_served journal s (Apart e) e held output refl refl refl refl refl (apart_sent s e.event e.result (own_last s journal e own)) (S.served (own_front s journal (Apart e) own));
+      served = λ own. entry_served journal s (Apart e) e held output refl refl refl refl refl (apart_sent s e (own_last s journal e own)) (S.served (own_front s journal (Apart e) own));
     }
 
-pub apart_all : (r : Refusals) (entries : List LogEntry) (journal : List Act) → HasJournal r journal → HasJournal r (journal ++ map Apart entries)
+pub apart_all : (r : Refusals) (entries : List Entry) (journal : List Act) → HasJournal r journal → HasJournal r (journal ++ map Apart entries)
 apart_all r [] journal H = subst (λ (j : List Act). HasJournal r j) (sym (append-nil journal)) H
 apart_all r (e ∷ entries) journal H =
     subst (λ (j : List Act). HasJournal r j) (append_assoc journal (Apart e ∷ []) (map Apart entries)) (apart_all r entries (journal ++ Apart e ∷ []) (apart_one r journal e H))

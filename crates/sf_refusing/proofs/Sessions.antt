@@ -1,29 +1,25 @@
 -- The effects and results of the methods of refusals.
-use Rattle.std.proofs.Common.{◌≡◌, ◌≢◌, ℕ, zero, suc, ◌+◌, ◌-◌, ◌<◌, ◌≤◌, ◌⊎◌, List, [], ◌∷◌, ◌++◌, Bool, true, false, Some, Result, Ok, Err, length, take, drop, map, slice_get, refl, ap, sym, ◌∙◌, subst, arith, inl, inr, append-nil, append_assoc, length-append}
+use Rattle.std.proofs.Common.{◌≡◌, ◌≢◌, ℕ, zero, suc, ◌+◌, ◌<◌, ◌≤◌, ◌⊎◌, List, [], ◌∷◌, ◌++◌, Bool, false, Some, Result, Ok, Err, length, take, drop, map, slice_get, refl, ap, sym, ◌∙◌, subst, arith, inl, inr, append-nil, append_assoc, length-append}
 use Rattle.std.specs.Prelude.{OnErr, OnOk, slice_set, nat_eq, if◌then◌else◌}
-use Rattle.std.specs.Global.{Vec}
 use Rattle.std.specs.List.{AllByRecursion}
 use Rattle.std.proofs.lemmas.Bool.{cases_eq, eq-eqb, ne_eqb}
 use Rattle.std.proofs.lemmas.List.{append_cancel_left, length-take-le}
 use Rattle.std.proofs.lemmas.Option.{slice_get_within}
 use Rattle.sf_wire.specs.declared.cutting.Cut.TheVariants as cut
 use Rattle.sf_wire.specs.Packets.{IsCut}
-use Rattle.sf_engine.specs.declared.event.Event.{Event}
-use Rattle.sf_engine.specs.declared.event.Event.TheVariants as event
 use Rattle.sf_engine.specs.declared.event.Happened.{Happened}
-use Rattle.sf_engine.specs.declared.event.Happened.TheVariants as happened
 use Rattle.sf_engine.specs.declared.event.EngineFault.{EngineFault}
-use Rattle.sf_session.specs.Responses.{Response, transcript}
-use Rattle.sf_engine.specs.Promise.{LogEntry, log_entry, fed_by, written_by, written_in, sent_at, sent_of, IsUnsent, IsKnown, WaitsForBytes, MayComeTo, AreTurns}
+use Rattle.sf_engine.specs.Promise.{Entry, BytesSent, IsLawful, WaitsForBytes}
 use Rattle.sf_refusing.specs.declared.given.GivenRule.{GivenRule}
 use Rattle.sf_refusing.specs.declared.passage.Passage.{Passage}
 use Rattle.sf_refusing.specs.declared.refusals.Refusals.{Refusals}
-use Rattle.sf_refusing.specs.Journal.{Act, Received, Delivered, Made, logged, log_of, received_in, taken_in, sent_in, delivered_in}
-use Rattle.sf_refusing.specs.Refusing.{IsFed, IsOwn, IsServedHere, ServesHere, AreGiven, AllMayHappen, HasJournal, Have, NoneIsHeld, PassesOn, MovesFront, IsRefusal, IsTurn, IsNextOutput}
-use Rattle.sf_refusing.specs.Fronts.{IsPassageAt, StandsBefore, HoldsAfter, EngineHoldsAfter}
-use Rattle.sf_refusing.proofs.Growing.{more, own_so, other_so, own_front, happened_more, begun_stays, received_served, other_served, IsMoved, moved_served, delivered_served, same_unsent, entry_served}
+use Rattle.sf_refusing.specs.Journal.{Act, Received, Delivered, Made, logged, log_of, fed_by, written_by, sent_at, received_in, taken_in}
+use Rattle.sf_refusing.specs.Refusing.{IsOwn, HasUnsent, IsServedHere, ServesHere, AreGiven, AllMayHappen, HasJournal, Have, NoneIsHeld, PassesOn, MovesFront, IsTurn, IsNextOutput}
+use Rattle.sf_refusing.specs.Fronts.{IsPassageAt, StandsBefore, EngineHoldsAfter}
+use Rattle.sf_refusing.proofs.Entries.{none_so, IsPlain}
+use Rattle.sf_refusing.proofs.Growing.{more, other_so, own_front, happened_more, begun_stays, received_served, IsMoved, moved_served, delivered_served, same_unsent, entry_served}
 use Rattle.sf_refusing.proofs.Counts.{rules_stay}
-use Rattle.sf_refusing.proofs.Steps.{IsPlain, plain_turn, plain_probe, plain_turns, plain_has, plain_all, log_done, other_serves, changed_has}
+use Rattle.sf_refusing.proofs.Steps.{plain_all, log_done, other_serves, changed_has}
 
 pub on_err : {A B : Type 0} (r : Result A B) (P : Type 0) → P → OnErr r P
 on_err (Ok x) P h = tt
@@ -96,21 +92,21 @@ received_has r r' journal s at p p' bytes H here number set rules held output be
 -- ---- a turn
 
 -- the engine's turns, after the first buffered bytes were passed on
-pub have_turned : {E : Type 0} (has_log : E → List LogEntry → Type 0) (engine : E) (r : Refusals) (journal passed : List Act) (s m : ℕ) (result : Result Happened EngineFault) (entries : List LogEntry) → HasJournal r (journal ++ passed) → AreTurns (event.Turn s m) result entries → has_log engine (log_of (journal ++ passed) ++ entries) → Have has_log engine r (journal ++ (passed ++ map Made entries))
-have_turned {E} has_log engine r journal passed s m result entries H turns has =
+pub have_turned : {E : Type 0} (has_log : E → List Entry → Type 0) (engine : E) (r : Refusals) (journal passed : List Act) (entries : List Entry) → HasJournal r (journal ++ passed) → AllByRecursion IsPlain entries → has_log engine (log_of (journal ++ passed) ++ entries) → Have has_log engine r (journal ++ (passed ++ map Made entries))
+have_turned {E} has_log engine r journal passed entries H plain has =
     let all : (journal ++ passed) ++ map Made entries ≡ journal ++ (passed ++ map Made entries) = append_assoc journal passed (map Made entries) in
     subst (λ (j : List Act). Have has_log engine r j) all (
-      plain_all r entries (journal ++ passed) (plain_turns s m result entries turns) H,
-      subst (λ (l : List LogEntry). has_log engine l) (log_done (journal ++ passed) entries) has,
+      plain_all r entries (journal ++ passed) plain H,
+      subst (λ (l : List Entry). has_log engine l) (log_done (journal ++ passed) entries) has,
     )
 
-pub turned : {E : Type 0} (has_log : E → List LogEntry → Type 0) (engine : E) (r : Refusals) (journal passed : List Act) (s m : ℕ) (result : Result Happened EngineFault) (AreMade : List LogEntry → Type 0) (entries : List LogEntry) → PassesOn journal s passed → HasJournal r (journal ++ passed) → AreMade entries → AreTurns (event.Turn s m) result entries → has_log engine (log_of (journal ++ passed) ++ entries) → (acts : List Act) × IsTurn journal s AreMade result acts × Have has_log engine r (journal ++ acts)
-turned {E} has_log engine r journal passed s m result AreMade entries on H made turns has =
-    (passed ++ map Made entries, inr (inl (passed, entries, on, made, refl)), have_turned has_log engine r journal passed s m result entries H turns has)
+pub turned : {E : Type 0} (has_log : E → List Entry → Type 0) (engine : E) (r : Refusals) (journal passed : List Act) (s : ℕ) (result : Result Happened EngineFault) (AreMade : List Entry → Type 0) (entries : List Entry) → PassesOn journal s passed → HasJournal r (journal ++ passed) → AreMade entries → AllByRecursion IsPlain entries → has_log engine (log_of (journal ++ passed) ++ entries) → (acts : List Act) × IsTurn journal s AreMade result acts × Have has_log engine r (journal ++ acts)
+turned {E} has_log engine r journal passed s result AreMade entries on H made plain has =
+    (passed ++ map Made entries, inr (inl (passed, entries, on, made, refl)), have_turned has_log engine r journal passed entries H plain has)
 
 -- ---- output is sent
 
-pub next_all : (journal : List Act) (s : ℕ) (held output out : List ℕ) → output ≡ [] → IsServedHere journal s held output → IsUnsent (log_of journal) s out → IsNextOutput journal s out
+pub next_all : (journal : List Act) (s : ℕ) (held output out : List ℕ) → output ≡ [] → IsServedHere journal s held output → HasUnsent (log_of journal) s out → IsNextOutput journal s out
 next_all journal s held output out none S U =
     let same : S.unsent ≡ out = same_unsent (log_of journal) s S.unsent out S.in_engine U in
     record {
@@ -152,116 +148,80 @@ delivered_has r r' journal s at n p p' front H here number set rules count outpu
 
 -- ---- the engine's output is sent
 
--- a session's event that removes output
-pub record IsGone (s k : ℕ) (e : LogEntry) : Type 0 where
-  pub event : e.event ≡ event.Sent s k
-  pub happened : Happened
-  pub result : e.result ≡ Ok happened
-
 -- no more is removed than there was
-sent_may : (log : List LogEntry) (s k : ℕ) (h : Happened) → MayComeTo log (event.Sent s k) (Ok h) → sent_of s log + k ≤ length (transcript (written_in s log))
-sent_may log s k happened.Sent may = may.1
-sent_may log s k (happened.Opened n) may = absurd may
-sent_may log s k happened.Fed may = absurd may
-sent_may log s k happened.Moved may = absurd may
-sent_may log s k (happened.Blocked n) may = absurd may
-sent_may log s k happened.Decided may = absurd may
-sent_may log s k happened.Wrote may = absurd may
-sent_may log s k happened.Begun may = absurd may
-sent_may log s k happened.Idle may = absurd may
-sent_may log s k (happened.Ended cause) may = absurd may
-sent_may log s k happened.Closed may = absurd may
+pub were_there : (log : List Entry) (s k : ℕ) → IsLawful log (BytesSent s k) → (u : List ℕ) → HasUnsent log s u → k ≤ length u
+were_there log s k lawful u U = omega (arith, lawful.1, ap (λ (b : List ℕ). length b) U.packets, length-append U.sent u, U.count_is)
 
-pub were_there : (log : List LogEntry) (s k : ℕ) (e : LogEntry) → IsGone s k e → MayComeTo log e.event e.result → (u : List ℕ) → IsUnsent log s u → k ≤ length u
-were_there log s k e G may u U =
-    let at : MayComeTo log (event.Sent s k) (Ok G.happened) =
-    subst (λ (r : Result Happened EngineFault). MayComeTo log (event.Sent s k) r) G.result (subst (λ (ev : Event). MayComeTo log ev e.result) G.event may) in
-    omega (arith, sent_may log s k G.happened at, ap (λ (b : List ℕ). length b) U.packets, length-append U.sent u, U.count)
+-- `k` bytes of the engine's output were removed, and `n` bytes were sent, which were buffered here
+-- before them
+abbrev pub sent_on : List Act → ℕ → ℕ → ℕ → List Act
+sent_on journal s n k = (journal ++ Made (BytesSent s k) ∷ []) ++ Delivered s n ∷ []
 
--- and it has no other result
-sent_so : (log : List LogEntry) (s k : ℕ) (h : Happened) → MayComeTo log (event.Sent s k) (Ok h) → h ≡ happened.Sent
-sent_so log s k happened.Sent may = refl
-sent_so log s k (happened.Opened n) may = absurd may
-sent_so log s k happened.Fed may = absurd may
-sent_so log s k happened.Moved may = absurd may
-sent_so log s k (happened.Blocked n) may = absurd may
-sent_so log s k happened.Decided may = absurd may
-sent_so log s k happened.Wrote may = absurd may
-sent_so log s k happened.Begun may = absurd may
-sent_so log s k happened.Idle may = absurd may
-sent_so log s k (happened.Ended cause) may = absurd may
-sent_so log s k happened.Closed may = absurd may
+sent_fed : (s k other : ℕ) → fed_by other (BytesSent s k) ≡ []
+sent_fed s k other = none_so (nat_eq s other)
 
-pub were_sent : (log : List LogEntry) (s k : ℕ) (h : Happened) → MayComeTo log (event.Sent s k) (Ok h) → let r : Result Happened EngineFault = Ok h in r ≡ Ok happened.Sent
-were_sent log s k h may = ap (λ (x : Happened). let r : Result Happened EngineFault = Ok x in r) (sent_so log s k h may)
-
-sent_is : (s k : ℕ) (e : LogEntry) → IsGone s k e → (other : ℕ) → sent_at other e.event e.result ≡ (if nat_eq s other then k else 0)
-sent_is s k e G other =
-    ap (λ (ev : Event). sent_at other ev e.result) G.event ∙ ap (λ (r : Result Happened EngineFault). sent_at other (event.Sent s k) r) G.result
-
-sent_serves : (journal : List Act) (s n k : ℕ) (e : LogEntry) (held output : List ℕ) (begun : Bool) → IsGone s k e → n ≡ length output + k → ((u : List ℕ) → IsUnsent (log_of journal) s u → k ≤ length u) → ServesHere journal s held output begun → ServesHere ((journal ++ Made e ∷ []) ++ Delivered s n ∷ []) s held [] begun
-sent_serves journal s n k e held output begun G count there S =
-    let fed : fed_by s e.event e.result ≡ [] = ap (λ (ev : Event). fed_by s ev e.result) G.event in
-    let written : written_by s e.event e.wrote ≡ [] = ap (λ (ev : Event). written_by s ev e.wrote) G.event in
-    let sent : sent_at s e.event e.result ≡ k = sent_is s k e G s ∙ ap (λ (b : Bool). if b then k else 0) (eq-eqb s s refl) in
+sent_serves : (journal : List Act) (s n k : ℕ) (held output : List ℕ) (begun : Bool) → n ≡ length output + k → ((u : List ℕ) → HasUnsent (log_of journal) s u → k ≤ length u) → ServesHere journal s held output begun → ServesHere (sent_on journal s n k) s held [] begun
+sent_serves journal s n k held output begun count there S =
+    let e : Entry = BytesSent s k in
+    let written : written_by s e ≡ [] = none_so (nat_eq s s) in
+    let sent : sent_at s e ≡ k = ap (λ (b : Bool). if b then k else 0) (eq-eqb s s refl) in
     let mid : List Act = journal ++ Made e ∷ [] in
     record {
-      begun_is = begun_stays mid s (Delivered s n) begun refl (begun_stays journal s (Made e) begun fed S.begun_is);
+      begun_is = begun_stays mid s (Delivered s n) begun refl (begun_stays journal s (Made e) begun (sent_fed s k s) S.begun_is);
       served = λ own.
           let own_mid : IsOwn s mid = own_front s mid (Delivered s n) own in
           let T : IsServedHere journal s held output = S.served (own_front s journal (Made e) own_mid) in
           let u : List ℕ = T.unsent in
           let le : k ≤ length u = there u T.in_engine in
-          let M : IsMoved mid s held (output ++ take k u) (drop k u) = moved_served journal s e held output u k fed written sent le T.in_engine T in
+          let M : IsMoved mid s held (output ++ take k u) (drop k u) = moved_served journal s e held output u k (sent_fed s k s) written sent le T.in_engine T in
           let gone : length (output ++ take k u) ≡ n = omega (arith, length-append output (take k u), length-take-le k u le, count) in
           delivered_served mid s n (output ++ take k u) held [] gone (subst (λ (o : List ℕ). IsServedHere mid s held o) (sym (append-nil (output ++ take k u))) M.served);
     }
 
-others_sent : (journal : List Act) (s n k : ℕ) (e : LogEntry) → IsGone s k e → (other : ℕ) (held output : List ℕ) (begun : Bool) → other ≢ s → ServesHere journal other held output begun → ServesHere ((journal ++ Made e ∷ []) ++ Delivered s n ∷ []) other held output begun
-others_sent journal s n k e G other held output begun ne serves =
+others_sent : (journal : List Act) (s n k other : ℕ) (held output : List ℕ) (begun : Bool) → other ≢ s → ServesHere journal other held output begun → ServesHere (sent_on journal s n k) other held output begun
+others_sent journal s n k other held output begun ne serves =
+    let e : Entry = BytesSent s k in
     let apart : s ≡ other → ⊥ = λ same. ne (sym same) in
-    let fed : fed_by other e.event e.result ≡ [] = ap (λ (ev : Event). fed_by other ev e.result) G.event in
-    let sent : sent_at other e.event e.result ≡ 0 = sent_is s k e G other ∙ ap (λ (b : Bool). if b then k else 0) (ne_eqb s other apart) in
+    let sent : sent_at other e ≡ 0 = ap (λ (b : Bool). if b then k else 0) (ne_eqb s other apart) in
     other_serves (journal ++ Made e ∷ []) other (Delivered s n) held output begun refl refl refl (ap (λ (b : Bool). if b then n else 0) (ne_eqb s other apart)) refl
     (record {
-      begun_is = begun_stays journal other (Made e) begun fed serves.begun_is;
-      served = λ own. entry_served journal other (Made e) e held output refl refl fed refl refl sent (serves.served (own_front other journal (Made e) own));
+      begun_is = begun_stays journal other (Made e) begun (sent_fed s k other) serves.begun_is;
+      served = λ own. entry_served journal other (Made e) e held output refl refl (sent_fed s k other) refl refl sent (serves.served (own_front other journal (Made e) own));
     })
 
-sent_happened : (journal : List Act) (s n k : ℕ) (e : LogEntry) → IsGone s k e → AllMayHappen [] journal → AllMayHappen [] ((journal ++ Made e ∷ []) ++ Delivered s n ∷ [])
-sent_happened journal s n k e G H =
-    happened_more [] (journal ++ Made e ∷ []) (Delivered s n)
-    (happened_more [] journal (Made e) H (λ other. inl (ap (λ (ev : Event). fed_by other ev e.result) G.event))) tt
+sent_happened : (journal : List Act) (s n k : ℕ) → AllMayHappen [] journal → AllMayHappen [] (sent_on journal s n k)
+sent_happened journal s n k H =
+    happened_more [] (journal ++ Made (BytesSent s k) ∷ []) (Delivered s n) (happened_more [] journal (Made (BytesSent s k)) H (λ other. inl (sent_fed s k other))) tt
 
-sent_rules : (journal : List Act) (s n : ℕ) (e : LogEntry) (rules : List GivenRule) → AreGiven journal rules → AreGiven ((journal ++ Made e ∷ []) ++ Delivered s n ∷ []) rules
-sent_rules journal s n e rules A =
-    rules_stay (journal ++ Made e ∷ []) rules (Delivered s n) (rules_stay journal rules (Made e) A refl (λ number rule. refl) (λ number. refl)) refl (λ number rule. refl) (λ number. refl)
+sent_rules : (journal : List Act) (s n k : ℕ) (rules : List GivenRule) → AreGiven journal rules → AreGiven (sent_on journal s n k) rules
+sent_rules journal s n k rules A =
+    rules_stay (journal ++ Made (BytesSent s k) ∷ []) rules (Delivered s n) (rules_stay journal rules (Made (BytesSent s k)) A refl (λ number rule. refl) (λ number. refl)) refl (λ number rule. refl) (λ number. refl)
 
 -- for a session with a passage, and without one
-pub sent_has : (r r' : Refusals) (journal : List Act) (s at n k : ℕ) (e : LogEntry) (p p' : Passage) → HasJournal r journal → slice_get r.passages.items at ≡ Some p → at + 1 ≡ s → r'.passages.items ≡ slice_set r.passages.items at p' → r'.rules.items ≡ r.rules.items → IsGone s k e → n ≡ length p.output.items + k → ((u : List ℕ) → IsUnsent (log_of journal) s u → k ≤ length u) → p'.output.items ≡ [] → p'.held.items ≡ p.held.items → p'.begun ≡ p.begun → HasJournal r' ((journal ++ Made e ∷ []) ++ Delivered s n ∷ [])
-sent_has r r' journal s at n k e p p' H here number set rules G count there output held begun =
-    let after : List Act = (journal ++ Made e ∷ []) ++ Delivered s n ∷ [] in
+pub sent_has : (r r' : Refusals) (journal : List Act) (s at n k : ℕ) (p p' : Passage) → HasJournal r journal → slice_get r.passages.items at ≡ Some p → at + 1 ≡ s → r'.passages.items ≡ slice_set r.passages.items at p' → r'.rules.items ≡ r.rules.items → n ≡ length p.output.items + k → ((u : List ℕ) → HasUnsent (log_of journal) s u → k ≤ length u) → p'.output.items ≡ [] → p'.held.items ≡ p.held.items → p'.begun ≡ p.begun → HasJournal r' (sent_on journal s n k)
+sent_has r r' journal s at n k p p' H here number set rules count there output held begun =
+    let after : List Act = sent_on journal s n k in
     let S : IsPassageAt journal s p = subst (λ (n : ℕ). IsPassageAt journal n p) number (H.each at p here) in
-    let now : ServesHere after s p.held.items [] p.begun = sent_serves journal s n k e p.held.items p.output.items p.begun G count there S in
+    let now : ServesHere after s p.held.items [] p.begun = sent_serves journal s n k p.held.items p.output.items p.begun count there S in
     changed_has r r' journal after s at p p' H here number set (record {
-      happened = sent_happened journal s n k e G H.happened;
+      happened = sent_happened journal s n k H.happened;
       at = subst (λ (b : Bool). ServesHere after s p'.held.items p'.output.items b) (sym begun)
           (subst (λ (h : List ℕ). ServesHere after s h p'.output.items p.begun) (sym held)
           (subst (λ (o : List ℕ). ServesHere after s p.held.items o p.begun) (sym output) now));
-      rules = subst (λ (rs : List GivenRule). AreGiven after rs) (sym rules) (sent_rules journal s n e r.rules.items H.rules);
-      others = others_sent journal s n k e G;
+      rules = subst (λ (rs : List GivenRule). AreGiven after rs) (sym rules) (sent_rules journal s n k r.rules.items H.rules);
+      others = others_sent journal s n k;
     })
 
-pub sent_none : (r : Refusals) (journal : List Act) (s n : ℕ) (e : LogEntry) → HasJournal r journal → (s ≡ 0) ⊎ (length r.passages.items < s) → IsGone s n e → ((u : List ℕ) → IsUnsent (log_of journal) s u → n ≤ length u) → HasJournal r ((journal ++ Made e ∷ []) ++ Delivered s n ∷ [])
-sent_none r journal s n e H none G there = record {
-  happened = sent_happened journal s n n e G H.happened;
-  each = λ i p at. others_sent journal s n n e G (i + 1) p.held.items p.output.items p.begun
+pub sent_none : (r : Refusals) (journal : List Act) (s n : ℕ) → HasJournal r journal → (s ≡ 0) ⊎ (length r.passages.items < s) → ((u : List ℕ) → HasUnsent (log_of journal) s u → n ≤ length u) → HasJournal r (sent_on journal s n n)
+sent_none r journal s n H none there = record {
+  happened = sent_happened journal s n n H.happened;
+  each = λ i p at. others_sent journal s n n (i + 1) p.held.items p.output.items p.begun
       (λ same. elim none [ inl z ↦ omega (arith, z, same) | inr lt ↦ omega (arith, lt, same, slice_get_within r.passages.items i p at) ]) (H.each i p at);
   others = λ t apart. elim (cases_eq t s) [
-    | inl same ↦ subst (λ (x : ℕ). ServesHere ((journal ++ Made e ∷ []) ++ Delivered s n ∷ []) x [] [] false) (sym same) (sent_serves journal s n n e [] [] false G (omega arith) there (H.others s none))
-    | inr ne ↦ others_sent journal s n n e G t [] [] false ne (H.others t apart)
+    | inl same ↦ subst (λ (x : ℕ). ServesHere (sent_on journal s n n) x [] [] false) (sym same) (sent_serves journal s n n [] [] false (omega arith) there (H.others s none))
+    | inr ne ↦ others_sent journal s n n t [] [] false ne (H.others t apart)
   ];
-  rules = sent_rules journal s n e r.rules.items H.rules;
+  rules = sent_rules journal s n n r.rules.items H.rules;
 }
 
 -- ---- the next packet
@@ -272,10 +232,10 @@ nothing_held journal s S = λ waits own held received.
     let is : [] ≡ held = append_cancel_left (taken_in s journal) [] held (sym (S.served own).received ∙ received) in
     subst (λ (b : List ℕ). IsCut b cut.More) is (inl (omega arith))
 
-pub have_still : {E : Type 0} (has_log : E → List LogEntry → Type 0) (engine : E) (r : Refusals) (journal : List Act) → Have has_log engine r journal → Have has_log engine r (journal ++ [])
+pub have_still : {E : Type 0} (has_log : E → List Entry → Type 0) (engine : E) (r : Refusals) (journal : List Act) → Have has_log engine r journal → Have has_log engine r (journal ++ [])
 have_still {E} has_log engine r journal H = subst (λ (j : List Act). Have has_log engine r j) (sym (append-nil journal)) H
 
-pub stands : {E : Type 0} (has_log : E → List LogEntry → Type 0) (engine : E) (r : Refusals) (journal : List Act) (s at : ℕ) (p : Passage) → Have has_log engine r journal → WaitsForBytes (log_of journal) s → slice_get r.passages.items at ≡ Some p → at + 1 ≡ s → StandsBefore has_log engine journal s p r.rules.items
+pub stands : {E : Type 0} (has_log : E → List Entry → Type 0) (engine : E) (r : Refusals) (journal : List Act) (s at : ℕ) (p : Passage) → Have has_log engine r journal → WaitsForBytes (log_of journal) s → slice_get r.passages.items at ≡ Some p → at + 1 ≡ s → StandsBefore has_log engine journal s p r.rules.items
 stands {E} has_log engine r journal s at p H waits here number = record {
   has = H.1;
   happened = H.0.happened;
@@ -284,7 +244,7 @@ stands {E} has_log engine r journal s at p H waits here number = record {
   waits = waits;
 }
 
-pub moved_on : {E : Type 0} (has_log : E → List LogEntry → Type 0) (engine engine' : E) (r r' : Refusals) (journal : List Act) (s at : ℕ) (p p' : Passage) (result : Result Bool EngineFault) → Have has_log engine r journal → slice_get r.passages.items at ≡ Some p → at + 1 ≡ s → r'.passages.items ≡ slice_set r.passages.items at p' → (acts : List Act) × MovesFront journal s result acts × EngineHoldsAfter has_log engine' journal s p' r'.rules.items (journal ++ acts) → (acts : List Act) × MovesFront journal s result acts × Have has_log engine' r' (journal ++ acts)
+pub moved_on : {E : Type 0} (has_log : E → List Entry → Type 0) (engine engine' : E) (r r' : Refusals) (journal : List Act) (s at : ℕ) (p p' : Passage) (result : Result Bool EngineFault) → Have has_log engine r journal → slice_get r.passages.items at ≡ Some p → at + 1 ≡ s → r'.passages.items ≡ slice_set r.passages.items at p' → (acts : List Act) × MovesFront journal s result acts × EngineHoldsAfter has_log engine' journal s p' r'.rules.items (journal ++ acts) → (acts : List Act) × MovesFront journal s result acts × Have has_log engine' r' (journal ++ acts)
 moved_on {E} has_log engine engine' r r' journal s at p p' result H here number set D =
     (D.0, D.1, (changed_has r r' journal (journal ++ D.0) s at p p' H.0 here number set D.2.1, D.2.0))
 
@@ -292,15 +252,11 @@ pub on_ok_from : {A B : Type 0} (r : Result A B) (P : Type 0) → ((x : A) → r
 on_ok_from (Ok x) P f = f x refl
 on_ok_from (Err e) P f = tt
 
-pub one_turn : (s m : ℕ) (r : Result Happened EngineFault) (e : LogEntry) → e.event ≡ event.Turn s m → e.result ≡ r → AreTurns (event.Turn s m) r (e ∷ [])
-unfolding AreTurns
-one_turn s m r e is received = (is, received)
-
-pub log_delivered : (journal : List Act) (e : LogEntry) (s n : ℕ) → log_of journal ++ e ∷ [] ≡ log_of ((journal ++ Made e ∷ []) ++ Delivered s n ∷ [])
+pub log_delivered : (journal : List Act) (e : Entry) (s n : ℕ) → log_of journal ++ e ∷ [] ≡ log_of ((journal ++ Made e ∷ []) ++ Delivered s n ∷ [])
 log_delivered journal e s n =
     sym (more logged (journal ++ Made e ∷ []) (Delivered s n) ∙ append-nil (log_of (journal ++ Made e ∷ [])) ∙ more logged journal (Made e))
 
-pub log_received : (journal : List Act) (e : LogEntry) (s : ℕ) (bytes : List ℕ) → log_of journal ++ e ∷ [] ≡ log_of ((journal ++ Made e ∷ []) ++ Received s bytes ∷ [])
+pub log_received : (journal : List Act) (e : Entry) (s : ℕ) (bytes : List ℕ) → log_of journal ++ e ∷ [] ≡ log_of ((journal ++ Made e ∷ []) ++ Received s bytes ∷ [])
 log_received journal e s bytes =
     sym (more logged (journal ++ Made e ∷ []) (Received s bytes) ∙ append-nil (log_of (journal ++ Made e ∷ [])) ∙ more logged journal (Made e))
 

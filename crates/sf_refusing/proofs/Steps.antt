@@ -1,76 +1,45 @@
 -- The effects of the events of refusals.
-use Rattle.std.proofs.Common.{◌≡◌, ◌≢◌, ℕ, zero, suc, ◌+◌, ◌<◌, ◌≤◌, ◌⊎◌, List, [], ◌∷◌, ◌++◌, Bool, true, false, Some, Result, Ok, Err, length, take, drop, map, slice_get, refl, ap, sym, ◌∙◌, subst, arith, inl, inr, append-nil, append_assoc, length-append, length-set}
-use Rattle.std.specs.Prelude.{nat_eq, nat_lt, slice_set, if◌then◌else◌}
-use Rattle.std.specs.Global.{Vec}
-use Rattle.std.specs.List.{AllByRecursion, flat_map}
+use Rattle.std.proofs.Common.{◌≡◌, ℕ, ◌+◌, ◌<◌, ◌≤◌, ◌⊎◌, List, [], ◌∷◌, ◌++◌, Bool, true, false, Some, length, drop, map, slice_get, refl, ap, sym, ◌∙◌, subst, arith, inl, inr, append-nil, append_assoc, length-set}
+use Rattle.std.specs.Prelude.{nat_eq, slice_set, if◌then◌else◌}
+use Rattle.std.specs.List.{AllByRecursion}
 use Rattle.std.proofs.lemmas.Bool.{cases_eq, lt-ltb, eq-eqb, ne_eqb}
 use Rattle.std.proofs.lemmas.Grind.{common_steps}
 use Rattle.std.proofs.lemmas.Option.{slice_get_within}
-use Rattle.std.proofs.lemmas.List.{take_all, drop_all}
+use Rattle.std.proofs.lemmas.List.{drop_all}
 use Rattle.std.proofs.lemmas.List.Concat.{flat_map-append}
 use Rattle.sf_field.specs.Fields.{packet}
 use Rattle.sf_reply.specs.declared.reply.StatusCode.{StatusCode}
 use Rattle.sf_reply.specs.declared.reply.Reply.TheVariants.{Status}
 use Rattle.sf_reply.specs.Replies.{reply_body}
-use Rattle.sf_wire.specs.Packets.{IsBody}
-use Rattle.sf_engine.specs.declared.event.Event.{Event}
-use Rattle.sf_engine.specs.declared.event.Event.TheVariants as event
-use Rattle.sf_engine.specs.declared.event.Happened.{Happened}
-use Rattle.sf_engine.specs.declared.event.EngineFault.{EngineFault}
 use Rattle.sf_session.specs.Responses.{Response, transcript, if_so}
-use Rattle.sf_engine.specs.Promise.{LogEntry, fed_by, written_by, sent_at, IsUnsent, WaitsForBytes, AreTurns, goes_on}
-use Rattle.sf_refusing.specs.declared.rule.Rule.{Rule}
+use Rattle.sf_engine.specs.Promise.{Entry, BytesSent}
 use Rattle.sf_refusing.specs.declared.given.GivenRule.{GivenRule}
 use Rattle.sf_refusing.specs.declared.passage.Passage.{Passage}
 use Rattle.sf_refusing.specs.declared.refusals.Refusals.{Refusals}
-use Rattle.sf_refusing.specs.Journal.{Act, Ruled, Received, Delivered, Made, Apart, PassedOn, RefusedBy, Packet, logged, log_of, received_by, taken_by, taken_in, sent_by, delivered_by, ruled, counts, refused_by, fits_packet}
-use Rattle.sf_refusing.specs.Refusing.{IsFed, IsUnruled, MayPass, MayRefusePacket, MayHappen, AllMayHappen, IsOwn, IsServedHere, ServesHere, AreGiven, HasJournal}
+use Rattle.sf_refusing.specs.Journal.{Act, Made, PassedOn, RefusedBy, Packet, logged, log_of, fed_by, written_by, sent_at, received_by, taken_by, taken_in, sent_by, delivered_by}
+use Rattle.sf_refusing.specs.Refusing.{IsFed, IsUnruled, MayPass, MayRefusePacket, HasUnsent, IsServedHere, ServesHere, AreGiven, HasJournal}
 use Rattle.sf_refusing.specs.Fronts.{IsPassageAt, StandsBefore, HoldsAfter, EngineHoldsAfter}
-use Rattle.sf_refusing.proofs.Growing.{more, own_so, other_so, none_so, own_front, happened_more, begun_stays, begun_now, entry_served, other_served, received_served, fed_served, IsMoved, moved_served, delivered_served, same_unsent, unsent_more, grown, get_set_same, get_set_other, some_same}
+use Rattle.sf_refusing.proofs.Entries.{none_so, zero_so, IsPlain, plain_fed, plain_sent}
+use Rattle.sf_refusing.proofs.Growing.{more, own_so, other_so, own_front, happened_more, begun_stays, begun_now, entry_served, other_served, fed_served, same_unsent, unsent_more, grown, get_set_same, get_set_other, some_same}
 use Rattle.sf_refusing.proofs.Counts.{rules_stay}
 
 -- ---- an event that neither feeds nor removes output
 
-pub record IsPlain (e : LogEntry) : Type 0 where
-  pub fed : (s : ℕ) → fed_by s e.event e.result ≡ []
-  pub sent : (s : ℕ) → sent_at s e.event e.result ≡ 0
-
-pub plain_turn : (s m : ℕ) (e : LogEntry) → e.event ≡ event.Turn s m → IsPlain e
-plain_turn s m e h = record {
-  fed = λ other. ap (λ (ev : Event). fed_by other ev e.result) h;
-  sent = λ other. ap (λ (ev : Event). sent_at other ev e.result) h;
-}
-
--- no bytes were fed
-pub plain_probe : (s : ℕ) (e : LogEntry) → IsFed s [] e → IsPlain e
-plain_probe s e F = record {
-  fed = λ other.
-      ap (λ (ev : Event). fed_by other ev e.result) F.event ∙ ap (λ (r : Result Happened EngineFault). fed_by other (event.Feed s F.fed) r) F.result
-      ∙ ap (λ (b : List ℕ). if_so (nat_eq s other) b) F.items ∙ none_so (nat_eq s other);
-  sent = λ other. ap (λ (ev : Event). sent_at other ev e.result) F.event;
-}
-
-pub plain_turns : (s m : ℕ) (r : Result Happened EngineFault) (entries : List LogEntry) → AreTurns (event.Turn s m) r entries → AllByRecursion IsPlain entries
-unfolding AreTurns
-plain_turns s m r [] h = absurd h
-plain_turns s m r (e ∷ []) h = (plain_turn s m e h.0, tt)
-plain_turns s m r (e ∷ x ∷ entries) h = (plain_turn s m e h.0, plain_turns s m r (x ∷ entries) h.2)
-
-plain_serves : (journal : List Act) (s : ℕ) (e : LogEntry) (held output : List ℕ) (begun : Bool) → IsPlain e → ServesHere journal s held output begun → ServesHere (journal ++ Made e ∷ []) s held output begun
+plain_serves : (journal : List Act) (s : ℕ) (e : Entry) (held output : List ℕ) (begun : Bool) → IsPlain e → ServesHere journal s held output begun → ServesHere (journal ++ Made e ∷ []) s held output begun
 plain_serves journal s e held output begun P S = record {
-  begun_is = begun_stays journal s (Made e) begun (P.fed s) S.begun_is;
-  served = λ own. entry_served journal s (Made e) e held output refl refl (P.fed s) refl refl (P.sent s) (S.served (own_front s journal (Made e) own));
+  begun_is = begun_stays journal s (Made e) begun (plain_fed s e P) S.begun_is;
+  served = λ own. entry_served journal s (Made e) e held output refl refl (plain_fed s e P) refl refl (plain_sent s e P) (S.served (own_front s journal (Made e) own));
 }
 
-pub plain_has : (r : Refusals) (journal : List Act) (e : LogEntry) → IsPlain e → HasJournal r journal → HasJournal r (journal ++ Made e ∷ [])
+pub plain_has : (r : Refusals) (journal : List Act) (e : Entry) → IsPlain e → HasJournal r journal → HasJournal r (journal ++ Made e ∷ [])
 plain_has r journal e P H = record {
-  happened = happened_more [] journal (Made e) H.happened (λ s. inl (P.fed s));
+  happened = happened_more [] journal (Made e) H.happened (λ s. inl (plain_fed s e P));
   each = λ i p at. plain_serves journal (i + 1) e p.held.items p.output.items p.begun P (H.each i p at);
   others = λ s none. plain_serves journal s e [] [] false P (H.others s none);
   rules = rules_stay journal r.rules.items (Made e) H.rules refl (λ number rule. refl) (λ number. refl);
 }
 
-pub plain_all : (r : Refusals) (entries : List LogEntry) (journal : List Act) → AllByRecursion IsPlain entries → HasJournal r journal → HasJournal r (journal ++ map Made entries)
+pub plain_all : (r : Refusals) (entries : List Entry) (journal : List Act) → AllByRecursion IsPlain entries → HasJournal r journal → HasJournal r (journal ++ map Made entries)
 plain_all r [] journal P H = subst (λ (j : List Act). HasJournal r j) (sym (append-nil journal)) H
 plain_all r (e ∷ entries) journal P H =
     subst (λ (j : List Act). HasJournal r j) (append_assoc journal (Made e ∷ []) (map Made entries))
@@ -78,34 +47,33 @@ plain_all r (e ∷ entries) journal P H =
 
 -- ---- logs
 
-log_of_did : (entries : List LogEntry) → log_of (map Made entries) ≡ entries
+log_of_did : (entries : List Entry) → log_of (map Made entries) ≡ entries
 log_of_did [] = refl
-log_of_did (e ∷ entries) = ap (λ (l : List LogEntry). e ∷ l) (log_of_did entries)
+log_of_did (e ∷ entries) = ap (λ (l : List Entry). e ∷ l) (log_of_did entries)
 
-pub log_done : (journal : List Act) (entries : List LogEntry) → log_of journal ++ entries ≡ log_of (journal ++ map Made entries)
+pub log_done : (journal : List Act) (entries : List Entry) → log_of journal ++ entries ≡ log_of (journal ++ map Made entries)
 log_done journal entries =
-    ap (λ (l : List LogEntry). log_of journal ++ l) (sym (log_of_did entries)) ∙ sym (flat_map-append logged journal (map Made entries))
+    ap (λ (l : List Entry). log_of journal ++ l) (sym (log_of_did entries)) ∙ sym (flat_map-append logged journal (map Made entries))
 
 -- ---- the first packet is fed
 
 -- the bytes that a session's event fed
-pub fed_is : (s : ℕ) (bytes : List ℕ) (e : LogEntry) → IsFed s bytes e → (other : ℕ) → fed_by other e.event e.result ≡ if_so (nat_eq s other) bytes
+pub fed_is : (s : ℕ) (bytes : List ℕ) (e : Entry) → IsFed s bytes e → (other : ℕ) → fed_by other e ≡ if_so (nat_eq s other) bytes
 fed_is s bytes e F other =
-    ap (λ (ev : Event). fed_by other ev e.result) F.event ∙ ap (λ (r : Result Happened EngineFault). fed_by other (event.Feed s F.fed) r) F.result
-    ∙ ap (λ (b : List ℕ). if_so (nat_eq s other) b) F.items
+    ap (fed_by other) F.is ∙ ap (λ (b : List ℕ). if_so (nat_eq s other) b) F.items
 
-none_sent : (s : ℕ) (bytes : List ℕ) (e : LogEntry) → IsFed s bytes e → (other : ℕ) → sent_at other e.event e.result ≡ 0
-none_sent s bytes e F other = ap (λ (ev : Event). sent_at other ev e.result) F.event
+none_sent : (s : ℕ) (bytes : List ℕ) (e : Entry) → IsFed s bytes e → (other : ℕ) → sent_at other e ≡ 0
+none_sent s bytes e F other = ap (sent_at other) F.is ∙ zero_so (nat_eq s other)
 
 -- an event that feeds the first buffered bytes, for the session and for the others
-fed_serves : (journal : List Act) (s : ℕ) (act : Act) (e : LogEntry) (front held output : List ℕ) (begun : Bool) → logged act ≡ e ∷ [] → received_by s act ≡ [] → taken_by s act ≡ front → delivered_by s act ≡ 0 → sent_by s act ≡ transcript (written_by s e.event e.wrote) → sent_at s e.event e.result ≡ 0 → 0 < length front → ServesHere journal s (front ++ held) output begun
+fed_serves : (journal : List Act) (s : ℕ) (act : Act) (e : Entry) (front held output : List ℕ) (begun : Bool) → logged act ≡ e ∷ [] → received_by s act ≡ [] → taken_by s act ≡ front → delivered_by s act ≡ 0 → sent_by s act ≡ transcript (written_by s e) → sent_at s e ≡ 0 → 0 < length front → ServesHere journal s (front ++ held) output begun
     → ServesHere (journal ++ act ∷ []) s held output true
 fed_serves journal s act e front held output begun is received taken delivered wrote sent some S = record {
   begun_is = begun_now journal s act (omega (arith, some, ap (λ (b : List ℕ). length b) taken));
   served = λ own. fed_served journal s act e front held output is received taken delivered wrote sent (S.served (own_front s journal act own));
 }
 
-entry_serves : (journal : List Act) (s : ℕ) (act : Act) (e : LogEntry) (held output : List ℕ) (begun : Bool) → logged act ≡ e ∷ [] → received_by s act ≡ [] → taken_by s act ≡ [] → delivered_by s act ≡ 0 → sent_by s act ≡ transcript (written_by s e.event e.wrote) → sent_at s e.event e.result ≡ 0 → ServesHere journal s held output begun
+entry_serves : (journal : List Act) (s : ℕ) (act : Act) (e : Entry) (held output : List ℕ) (begun : Bool) → logged act ≡ e ∷ [] → received_by s act ≡ [] → taken_by s act ≡ [] → delivered_by s act ≡ 0 → sent_by s act ≡ transcript (written_by s e) → sent_at s e ≡ 0 → ServesHere journal s held output begun
     → ServesHere (journal ++ act ∷ []) s held output begun
 entry_serves journal s act e held output begun is received taken delivered wrote sent S = record {
   begun_is = begun_stays journal s act begun taken S.begun_is;
@@ -120,24 +88,24 @@ other_serves journal s act held output begun is received taken delivered wrote S
 }
 
 -- no event
-pub nothing_leaves : {E : Type 0} (has_log : E → List LogEntry → Type 0) (engine : E) (journal : List Act) (s : ℕ) (p : Passage) (rules : List GivenRule) → StandsBefore has_log engine journal s p rules → EngineHoldsAfter has_log engine journal s p rules (journal ++ [])
+pub nothing_leaves : {E : Type 0} (has_log : E → List Entry → Type 0) (engine : E) (journal : List Act) (s : ℕ) (p : Passage) (rules : List GivenRule) → StandsBefore has_log engine journal s p rules → EngineHoldsAfter has_log engine journal s p rules (journal ++ [])
 nothing_leaves {E} has_log engine journal s p rules S =
     subst (λ (after : List Act). EngineHoldsAfter has_log engine journal s p rules after) (sym (append-nil journal))
     (S.has, record { happened = S.happened; at = S.at; rules = S.rules; others = λ other held output begun ne serves. serves })
 
 -- bytes to which no rule applies are fed
-pub did_leaves : {E : Type 0} (has_log : E → List LogEntry → Type 0) (engine engine' : E) (journal : List Act) (s : ℕ) (p p' : Passage) (rules : List GivenRule) (e : LogEntry) (front : List ℕ) → StandsBefore has_log engine journal s p rules → IsFed s front e → has_log engine' (log_of journal ++ e ∷ []) → p.held.items ≡ front ++ p'.held.items → p'.output.items ≡ p.output.items → p'.begun ≡ true → 0 < length front → IsUnruled journal s front
+pub did_leaves : {E : Type 0} (has_log : E → List Entry → Type 0) (engine engine' : E) (journal : List Act) (s : ℕ) (p p' : Passage) (rules : List GivenRule) (e : Entry) (front : List ℕ) → StandsBefore has_log engine journal s p rules → IsFed s front e → has_log engine' (log_of journal ++ e ∷ []) → p.held.items ≡ front ++ p'.held.items → p'.output.items ≡ p.output.items → p'.begun ≡ true → 0 < length front → IsUnruled journal s front
     → EngineHoldsAfter has_log engine' journal s p' rules (journal ++ Made e ∷ [])
 did_leaves {E} has_log engine engine' journal s p p' rules e front S F has held output begun some unruled =
-    let fed : (other : ℕ) → fed_by other e.event e.result ≡ if_so (nat_eq s other) front = fed_is s front e F in
+    let fed : (other : ℕ) → fed_by other e ≡ if_so (nat_eq s other) front = fed_is s front e F in
     let at : ServesHere journal s (front ++ p'.held.items) p'.output.items p.begun =
     subst (λ (b : List ℕ). ServesHere journal s (front ++ p'.held.items) b p.begun) (sym output)
     (subst (λ (b : List ℕ). ServesHere journal s b p.output.items p.begun) held S.at) in (
-      subst (λ (l : List LogEntry). has_log engine' l) (sym (more logged journal (Made e))) has,
+      subst (λ (l : List Entry). has_log engine' l) (sym (more logged journal (Made e))) has,
       record {
         happened = happened_more [] journal (Made e) S.happened
             (λ other. elim (cases_eq s other) [
-              | inl same ↦ subst (λ (n : ℕ). IsUnruled journal n (fed_by n e.event e.result)) same (subst (λ (b : List ℕ). IsUnruled journal s b) (sym (fed s ∙ own_so s front)) unruled)
+              | inl same ↦ subst (λ (n : ℕ). IsUnruled journal n (fed_by n e)) same (subst (λ (b : List ℕ). IsUnruled journal s b) (sym (fed s ∙ own_so s front)) unruled)
               | inr ne ↦ inl (fed other ∙ other_so s other front ne)
             ]);
         at = subst (λ (b : Bool). ServesHere (journal ++ Made e ∷ []) s p'.held.items p'.output.items b) (sym begun)
@@ -152,23 +120,23 @@ some_packet : (body : List ℕ) → 0 < length (packet body)
 some_packet body = grind (arith, common_steps)
 
 -- another session's request is refused
-refused_serves : (journal : List Act) (s : ℕ) (act : Act) (e : LogEntry) (held output : List ℕ) (begun : Bool) → logged act ≡ e ∷ [] → received_by s act ≡ [] → taken_by s act ≡ [] → delivered_by s act ≡ 0 → sent_by s act ≡ [] → written_by s e.event e.wrote ≡ [] → sent_at s e.event e.result ≡ 0 → ServesHere journal s held output begun
+refused_serves : (journal : List Act) (s : ℕ) (act : Act) (e : Entry) (held output : List ℕ) (begun : Bool) → logged act ≡ e ∷ [] → received_by s act ≡ [] → taken_by s act ≡ [] → delivered_by s act ≡ 0 → sent_by s act ≡ [] → written_by s e ≡ [] → sent_at s e ≡ 0 → ServesHere journal s held output begun
     → ServesHere (journal ++ act ∷ []) s held output begun
 unfolding transcript
 refused_serves journal s act e held output begun is received taken delivered wrote none sent S =
     entry_serves journal s act e held output begun is received taken delivered (wrote ∙ ap (λ (ws : List Response). transcript ws) (sym none)) sent S
 
 -- a packet is passed on
-pub passed_leaves : {E : Type 0} (has_log : E → List LogEntry → Type 0) (engine engine' : E) (journal : List Act) (p p' : Passage) (rules rules' : List GivenRule) (e : LogEntry) (one : Packet) → StandsBefore has_log engine journal one.session p rules → MayPass journal one e → has_log engine' (log_of journal ++ e ∷ []) → p.held.items ≡ packet one.body ++ p'.held.items → p'.output.items ≡ p.output.items → p'.begun ≡ true → AreGiven (journal ++ PassedOn one e ∷ []) rules'
+pub passed_leaves : {E : Type 0} (has_log : E → List Entry → Type 0) (engine engine' : E) (journal : List Act) (p p' : Passage) (rules rules' : List GivenRule) (e : Entry) (one : Packet) → StandsBefore has_log engine journal one.session p rules → MayPass journal one e → has_log engine' (log_of journal ++ e ∷ []) → p.held.items ≡ packet one.body ++ p'.held.items → p'.output.items ≡ p.output.items → p'.begun ≡ true → AreGiven (journal ++ PassedOn one e ∷ []) rules'
     → EngineHoldsAfter has_log engine' journal one.session p' rules' (journal ++ PassedOn one e ∷ [])
 passed_leaves {E} has_log engine engine' journal p p' rules rules' e one S M has held output begun given =
     let s : ℕ = one.session in
     let front : List ℕ = packet one.body in
-    let fed : (other : ℕ) → fed_by other e.event e.result ≡ if_so (nat_eq s other) front = fed_is s front e M.fed in
+    let fed : (other : ℕ) → fed_by other e ≡ if_so (nat_eq s other) front = fed_is s front e M.fed in
     let at : ServesHere journal s (front ++ p'.held.items) p'.output.items p.begun =
     subst (λ (b : List ℕ). ServesHere journal s (front ++ p'.held.items) b p.begun) (sym output)
     (subst (λ (b : List ℕ). ServesHere journal s b p.output.items p.begun) held S.at) in (
-      subst (λ (l : List LogEntry). has_log engine' l) (sym (more logged journal (PassedOn one e))) has,
+      subst (λ (l : List Entry). has_log engine' l) (sym (more logged journal (PassedOn one e))) has,
       record {
         happened = happened_more [] journal (PassedOn one e) S.happened M;
         at = subst (λ (b : Bool). ServesHere (journal ++ PassedOn one e ∷ []) s p'.held.items p'.output.items b) (sym begun)
@@ -180,22 +148,17 @@ passed_leaves {E} has_log engine engine' journal p p' rules rules' e one S M has
     )
 
 -- a request is refused
-pub record IsSentAll (s : ℕ) (u : List ℕ) (e : LogEntry) : Type 0 where
-  pub event : e.event ≡ event.Sent s (length u)
-  pub happened : Happened
-  pub result : e.result ≡ Ok happened
-
-refused_served : (journal : List Act) (held held' output output' u : List ℕ) (one : Packet) (id number : ℕ) (code : StatusCode) (e : LogEntry) → held ≡ packet one.body ++ held' → output' ≡ output ++ u ++ packet (reply_body id (Status code)) → written_by one.session e.event e.wrote ≡ [] → sent_at one.session e.event e.result ≡ length u → IsUnsent (log_of journal) one.session u → IsServedHere journal one.session held output
+refused_served : (journal : List Act) (held held' output output' u : List ℕ) (one : Packet) (id number : ℕ) (code : StatusCode) (e : Entry) → held ≡ packet one.body ++ held' → output' ≡ output ++ u ++ packet (reply_body id (Status code)) → written_by one.session e ≡ [] → sent_at one.session e ≡ length u → HasUnsent (log_of journal) one.session u → IsServedHere journal one.session held output
     → IsServedHere (journal ++ RefusedBy one id number code e ∷ []) one.session held' output'
 unfolding transcript
 refused_served journal held held' output output' u one id number code e took wrote none sent U S =
     let s : ℕ = one.session in
     let status : List ℕ = packet (reply_body id (Status code)) in
     let same : S.unsent ≡ u = same_unsent (log_of journal) s S.unsent u S.in_engine U in
-    let at : sent_at s e.event e.result ≤ length u = omega (arith, sent) in
-    let V : IsUnsent (log_of journal ++ e ∷ []) s [] =
-    subst (λ (b : List ℕ). IsUnsent (log_of journal ++ e ∷ []) s b)
-    (ap (λ (ws : List Response). drop (sent_at s e.event e.result) u ++ transcript ws) none ∙ append-nil (drop (sent_at s e.event e.result) u) ∙ drop_all (sent_at s e.event e.result) u (omega (arith, sent)))
+    let at : sent_at s e ≤ length u = omega (arith, sent) in
+    let V : HasUnsent (log_of journal ++ e ∷ []) s [] =
+    subst (λ (b : List ℕ). HasUnsent (log_of journal ++ e ∷ []) s b)
+    (ap (λ (ws : List Response). drop (sent_at s e) u ++ transcript ws) none ∙ append-nil (drop (sent_at s e) u) ∙ drop_all (sent_at s e) u (omega (arith, sent)))
     (unsent_more (log_of journal) e s u U at) in
     grown journal s (RefusedBy one id number code e) held held' output output' [] [] S
     (append-nil held ∙ took ∙ ap (λ (b : List ℕ). b ++ held') (sym (own_so s (packet one.body))))
@@ -204,18 +167,17 @@ refused_served journal held held' output output' u one id number code e took wro
     (ap (λ (b : List ℕ). (output ++ b) ++ if_so (nat_eq s s) status) same
     ∙ ap (λ (b : List ℕ). (output ++ u) ++ b) (own_so s status) ∙ sym wrote ∙ sym (append-nil output'))
 
-pub refused_leaves : {E : Type 0} (has_log : E → List LogEntry → Type 0) (engine engine' : E) (journal : List Act) (p p' : Passage) (rules rules' : List GivenRule) (u : List ℕ) (one : Packet) (id number : ℕ) (code : StatusCode) (e : LogEntry) → StandsBefore has_log engine journal one.session p rules → MayRefusePacket journal one id number code e → IsSentAll one.session u e → IsUnsent (log_of journal) one.session u → has_log engine' (log_of journal ++ e ∷ []) → p.held.items ≡ packet one.body ++ p'.held.items → p'.output.items ≡ p.output.items ++ u ++ packet (reply_body id (Status code)) → p'.begun ≡ p.begun → AreGiven (journal ++ RefusedBy one id number code e ∷ []) rules'
+pub refused_leaves : {E : Type 0} (has_log : E → List Entry → Type 0) (engine engine' : E) (journal : List Act) (p p' : Passage) (rules rules' : List GivenRule) (u : List ℕ) (one : Packet) (id number : ℕ) (code : StatusCode) (e : Entry) → StandsBefore has_log engine journal one.session p rules → MayRefusePacket journal one id number code e → e ≡ BytesSent one.session (length u) → HasUnsent (log_of journal) one.session u → has_log engine' (log_of journal ++ e ∷ []) → p.held.items ≡ packet one.body ++ p'.held.items → p'.output.items ≡ p.output.items ++ u ++ packet (reply_body id (Status code)) → p'.begun ≡ p.begun → AreGiven (journal ++ RefusedBy one id number code e ∷ []) rules'
     → EngineHoldsAfter has_log engine' journal one.session p' rules' (journal ++ RefusedBy one id number code e ∷ [])
 refused_leaves {E} has_log engine engine' journal p p' rules rules' u one id number code e S M sent unsent has held output begun given =
     let s : ℕ = one.session in
     let status : List ℕ = packet (reply_body id (Status code)) in
     let act : Act = RefusedBy one id number code e in
-    let none_written : (other : ℕ) → written_by other e.event e.wrote ≡ [] = λ other. ap (λ (ev : Event). written_by other ev e.wrote) sent.event in
-    let sent_is : (other : ℕ) → sent_at other e.event e.result ≡ sent_at other (event.Sent s (length u)) (Ok sent.happened) =
-    λ other. ap (λ (ev : Event). sent_at other ev e.result) sent.event ∙ ap (λ (r : Result Happened EngineFault). sent_at other (event.Sent s (length u)) r) sent.result in
-    let sent_own : sent_at s e.event e.result ≡ length u = sent_is s ∙ ap (λ (b : Bool). if b then length u else 0) (eq-eqb s s refl) in
+    let none_written : (other : ℕ) → written_by other e ≡ [] = λ other. ap (written_by other) sent ∙ none_so (nat_eq s other) in
+    let sent_is : (other : ℕ) → sent_at other e ≡ (if nat_eq s other then length u else 0) = λ other. ap (sent_at other) sent in
+    let sent_own : sent_at s e ≡ length u = sent_is s ∙ ap (λ (b : Bool). if b then length u else 0) (eq-eqb s s refl) in
     let was_begun : p.begun ≡ true = S.at.begun_is ∙ lt-ltb 0 (length (taken_in s journal)) M.begun in (
-      subst (λ (l : List LogEntry). has_log engine' l) (sym (more logged journal act)) has,
+      subst (λ (l : List Entry). has_log engine' l) (sym (more logged journal act)) has,
       record {
         happened = happened_more [] journal act S.happened M;
         at = record {

@@ -1,7 +1,7 @@
 -- No public clause cites this module.
 -- Deciding on the first packet that is buffered for a session.
-use Rattle.std.specs.Prelude.{◌≡◌, ◌≢◌, ℕ, List, [], Bool}
-use Rattle.sf_engine.specs.Promise.{LogEntry, WaitsForBytes}
+use Rattle.std.specs.Prelude.{◌≢◌, ℕ, List, [], Bool}
+use Rattle.sf_engine.specs.Promise.{Entry, WaitsForBytes}
 use Rattle.sf_refusing.specs.declared.given.GivenRule.{GivenRule}
 use Rattle.sf_refusing.specs.declared.passage.Passage.{Passage}
 use Rattle.sf_refusing.specs.Journal.{Act, log_of}
@@ -11,7 +11,7 @@ abbrev pub IsPassageAt : List Act → ℕ → Passage → Type 0
 IsPassageAt journal session p = ServesHere journal session p.held.items p.output.items p.begun
 
 -- a session that waits for bytes, before its next packet is decided
-pub record StandsBefore {E : Type 0} (has_log : E → List LogEntry → Type 0) (engine : E)
+pub record StandsBefore {E : Type 0} (has_log : E → List Entry → Type 0) (engine : E)
     (journal : List Act) (session : ℕ) (p : Passage) (given : List GivenRule) : Type 0 where
   pub has : has_log engine (log_of journal)
   pub happened : AllMayHappen [] journal
@@ -28,7 +28,7 @@ pub record HoldsAfter (journal : List Act) (session : ℕ) (p : Passage) (given 
   pub others : (other : ℕ) (held output : List ℕ) (begun : Bool) → other ≢ session
       → ServesHere journal other held output begun → ServesHere after other held output begun
 
-abbrev pub EngineHoldsAfter : {E : Type 0} → (E → List LogEntry → Type 0) → E → List Act → ℕ
+abbrev pub EngineHoldsAfter : {E : Type 0} → (E → List Entry → Type 0) → E → List Act → ℕ
     → Passage → List GivenRule → List Act → Type 0
 EngineHoldsAfter has_log engine journal session p rules after =
     has_log engine (log_of after) × HoldsAfter journal session p rules after

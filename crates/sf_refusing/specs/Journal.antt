@@ -1,5 +1,5 @@
 -- The journal: all events in order, and its projections.
-use Rattle.std.specs.Prelude.{◌+◌, ℕ, zero, suc, nat_eq, nat_lt, List, [], ◌∷◌, Bool, true, false, not, ◌&&◌, if◌then◌else◌, Option, Some, None}
+use Rattle.std.specs.Prelude.{◌+◌, ℕ, zero, suc, nat_eq, nat_lt, List, [], ◌∷◌, Bool, false, not, ◌&&◌, if◌then◌else◌, Option, Some, None}
 use Rattle.std.specs.List.{flat_map, sum_by}
 use Rattle.sf_field.specs.Fields.{packet}
 use Rattle.sf_request.specs.declared.request.Asked.{Asked}
@@ -7,8 +7,8 @@ use Rattle.sf_request.specs.declared.request.Asked.TheVariants.{Request}
 use Rattle.sf_reply.specs.declared.reply.StatusCode.{StatusCode}
 use Rattle.sf_reply.specs.declared.reply.Reply.TheVariants.{Status}
 use Rattle.sf_reply.specs.Replies.{reply_body}
-use Rattle.sf_session.specs.Responses.{transcript, if_so}
-use Rattle.sf_engine.specs.Promise.{LogEntry, fed_by, written_by}
+use Rattle.sf_session.specs.Responses.{Response, transcript, if_so}
+use Rattle.sf_engine.specs.Promise.{Entry, BytesFed, ReplyWritten, BytesSent, session_of}
 use Rattle.sf_refusing.specs.declared.rule.Rule.{Rule}
 use Rattle.sf_refusing.specs.Rules.{is_for}
 
@@ -27,14 +27,14 @@ pub data Act : Type 0 where
   Ruled : (rule : Rule) → Act
   Received : (session : ℕ) → (bytes : List ℕ) → Act
   Delivered : (session count : ℕ) → Act
-  Made : (entry : LogEntry) → Act
-  Apart : (entry : LogEntry) → Act
-  PassedOn : (packet : Packet) → (entry : LogEntry) → Act
-  RefusedBy : (packet : Packet) → (id number : ℕ) → (code : StatusCode) → (entry : LogEntry) → Act
+  Made : (entry : Entry) → Act
+  Apart : (entry : Entry) → Act
+  PassedOn : (packet : Packet) → (entry : Entry) → Act
+  RefusedBy : (packet : Packet) → (id number : ℕ) → (code : StatusCode) → (entry : Entry) → Act
 
 -- ---- the engine
 
-abbrev pub logged : Act → List LogEntry
+abbrev pub logged : Act → List Entry
 logged (Made e) = e ∷ []
 logged (Apart e) = e ∷ []
 logged (PassedOn p e) = e ∷ []
@@ -42,8 +42,32 @@ logged (RefusedBy p id number code e) = e ∷ []
 logged act = []
 
 -- the engine's log
-abbrev pub log_of : List Act → List LogEntry
+abbrev pub log_of : List Act → List Entry
 log_of journal = flat_map logged journal
+
+-- ---- one entry of the log
+
+abbrev pub bytes_fed : Entry → List ℕ
+bytes_fed (BytesFed s bytes) = bytes.items
+bytes_fed x = []
+
+abbrev pub replies_written : Entry → List Response
+replies_written (ReplyWritten s moment reply leaves) = reply ∷ []
+replies_written x = []
+
+abbrev pub bytes_sent : Entry → ℕ
+bytes_sent (BytesSent s n) = n
+bytes_sent x = 0
+
+-- the same, if the entry is of this session
+abbrev pub fed_by : ℕ → Entry → List ℕ
+fed_by session x = if_so (nat_eq (session_of x) session) (bytes_fed x)
+
+abbrev pub written_by : ℕ → Entry → List Response
+written_by session x = if_so (nat_eq (session_of x) session) (replies_written x)
+
+abbrev pub sent_at : ℕ → Entry → ℕ
+sent_at session x = if nat_eq (session_of x) session then bytes_sent x else 0
 
 -- ---- one session
 
@@ -57,8 +81,8 @@ received_in session journal = flat_map (received_by session) journal
 
 -- the bytes of these that the engine was fed, and the packets that were refused
 abbrev pub taken_by : ℕ → Act → List ℕ
-taken_by session (Made e) = fed_by session e.event e.result
-taken_by session (PassedOn p e) = fed_by session e.event e.result
+taken_by session (Made e) = fed_by session e
+taken_by session (PassedOn p e) = fed_by session e
 taken_by session (RefusedBy p id number code e) = if_so (nat_eq p.session session) (packet p.body)
 taken_by session act = []
 
@@ -67,9 +91,9 @@ taken_in session journal = flat_map (taken_by session) journal
 
 -- its output: the engine's replies, and the statuses of refused requests
 abbrev pub sent_by : ℕ → Act → List ℕ
-sent_by session (Made e) = transcript (written_by session e.event e.wrote)
-sent_by session (Apart e) = transcript (written_by session e.event e.wrote)
-sent_by session (PassedOn p e) = transcript (written_by session e.event e.wrote)
+sent_by session (Made e) = transcript (written_by session e)
+sent_by session (Apart e) = transcript (written_by session e)
+sent_by session (PassedOn p e) = transcript (written_by session e)
 sent_by session (RefusedBy p id number code e) =
     if_so (nat_eq p.session session) (packet (reply_body id (Status code)))
 sent_by session act = []

@@ -1,15 +1,13 @@
 //! The buffers between a client and its session of the engine.
 
-ghost use Rattle.std.specs.Prelude.{◌≡◌, ◌<◌, ◌≤◌, ◌^◌, ◌++◌, ◌∷◌, ℕ, List, [], length, take, drop, true, false, Ok, IfErr, OnOk, OnErr};
+ghost use Rattle.std.specs.Prelude.{◌≡◌, ◌<◌, ◌≤◌, ◌^◌, ◌++◌, ◌∷◌, ℕ, List, [], length, take, drop, true, false, IfErr, OnOk, OnErr};
 ghost use Rattle.std.specs.Global.{Vec};
 ghost use Rattle.sf_field.specs.Fields.{packet};
 ghost use Rattle.sf_reply.specs.declared.reply.Reply.TheVariants.{Status};
 ghost use Rattle.sf_reply.specs.Replies.{reply_body};
-ghost use Rattle.sf_call.specs.declared.record.Record.{Record};
 ghost use Rattle.sf_engine.specs.declared.event.Event.TheVariants as event;
-ghost use Rattle.sf_engine.specs.declared.event.Happened.{Happened};
-ghost use Rattle.sf_engine.specs.Promise.{LogEntry, log_entry, IsKnown, IsUnsent, MayBeRefused};
-ghost use Rattle.sf_session.specs.Responses.{Response};
+ghost use Rattle.sf_engine.specs.Promise.{Entry, BytesFed, BytesSent, IsKnown, MayBeRefused};
+ghost use Rattle.sf_refusing.specs.Refusing.{HasUnsent};
 
 use bytes::BytesMut;
 use sf_engine::{EngineFault, Event, Sftp};
@@ -52,14 +50,12 @@ impl Passage {
             × (self.new.output.items ≡ self.old.output.items) × (self.new.begun ≡ true)) }
         ensures short { length (take len self.old.held.items) < 2 ^ 63 }
         ensures fed { OnOk result ((fed : Vec ℕ) → fed.items ≡ take len self.old.held.items
-            → (log : List LogEntry) → E.has_log engine.old log
-            → (happened : Happened) × (added : List Record) × (wrote : List Response)
-            × E.has_log engine.new (log ++ log_entry (event.Feed session fed) (Ok happened)
-            added wrote ∷ [])) }
+            → (log : List Entry) → E.has_log engine.old log
+            → E.has_log engine.new (log ++ BytesFed session fed ∷ [])) }
         ensures err { OnErr result ((self.new ≡ self.old) × (engine.new ≡ engine.old)) }
         ensures fault { IfErr result (λ fault. (fed : Vec ℕ)
             → fed.items ≡ take len self.old.held.items
-            → (log : List LogEntry) → E.has_log engine.old log
+            → (log : List Entry) → E.has_log engine.old log
             → MayBeRefused log (event.Feed session fed) fault) }
     {
         if let Err(fault) = engine.feed(session, &self.held.as_slice()[..len]) {
@@ -75,15 +71,13 @@ impl Passage {
         ensures held { self.new.held.items ≡ self.old.held.items }
         ensures begun { self.new.begun ≡ self.old.begun }
         ensures ok { OnOk result (MAX_PLAIN_REPLY ≤ self.new.output.spare) }
-        ensures taken { OnOk result ((log : List LogEntry) → E.has_log engine.old log
-            → (unsent : List ℕ) × IsUnsent log session unsent
+        ensures taken { OnOk result ((log : List Entry) → E.has_log engine.old log
+            → (unsent : List ℕ) × HasUnsent log session unsent
             × (self.new.output.items ≡ self.old.output.items ++ unsent)
-            × ((happened : Happened) × (added : List Record) × (wrote : List Response)
-            × E.has_log engine.new (log ++ log_entry (event.Sent session (length unsent))
-            (Ok happened) added wrote ∷ []))) }
+            × E.has_log engine.new (log ++ BytesSent session (length unsent) ∷ [])) }
         ensures err { OnErr result ((self.new.output.items ≡ self.old.output.items)
             × (engine.new ≡ engine.old)) }
-        ensures fault { IfErr result (λ fault. (log : List LogEntry) → E.has_log engine.old log
+        ensures fault { IfErr result (λ fault. (log : List Entry) → E.has_log engine.old log
             → IsKnown log session → fault ≡ EngineFault.OutOfMemory) }
     {
         let Some(output) = engine.output(session) else {
@@ -115,16 +109,14 @@ impl Passage {
         requires { len ≤ length self.old.held.items }
         ensures held { OnOk result (self.new.held.items ≡ drop len self.old.held.items) }
         ensures begun { self.new.begun ≡ self.old.begun }
-        ensures ok { OnOk result ((log : List LogEntry) → E.has_log engine.old log
-            → (unsent : List ℕ) × IsUnsent log session unsent
+        ensures ok { OnOk result ((log : List Entry) → E.has_log engine.old log
+            → (unsent : List ℕ) × HasUnsent log session unsent
             × (self.new.output.items
             ≡ self.old.output.items ++ unsent ++ packet (reply_body id (Status code)))
-            × ((happened : Happened) × (added : List Record) × (wrote : List Response)
-            × E.has_log engine.new (log ++ log_entry (event.Sent session (length unsent))
-            (Ok happened) added wrote ∷ []))) }
+            × E.has_log engine.new (log ++ BytesSent session (length unsent) ∷ [])) }
         ensures err { OnErr result ((self.new.held.items ≡ self.old.held.items)
             × (self.new.output.items ≡ self.old.output.items) × (engine.new ≡ engine.old)) }
-        ensures fault { IfErr result (λ fault. (log : List LogEntry) → E.has_log engine.old log
+        ensures fault { IfErr result (λ fault. (log : List Entry) → E.has_log engine.old log
             → IsKnown log session → fault ≡ EngineFault.OutOfMemory) }
     {
         if let Err(fault) = self.take_output(engine, session) {

@@ -1,12 +1,12 @@
 //! Fault injection in front of an engine.
 
-ghost use Rattle.std.specs.Prelude.{◌≡◌, ◌<◌, ◌≤◌, ◌+◌, ◌^◌, ◌⊎◌, ◌++◌, ◌∷◌, ◌↔◌, ℕ, IsTrue, List, [], length, take, map, drop, nat_lt, ◌&&◌, true, false, slice_get, Some, None, Ok, Err, IfOk, IfErr, IfSome, IfNone, OnOk, OnErr};
+ghost use Rattle.std.specs.Prelude.{◌≡◌, ◌<◌, ◌≤◌, ◌+◌, ◌-◌, ◌^◌, ◌⊎◌, ◌++◌, ◌∷◌, ◌↔◌, ℕ, IsTrue, List, [], length, take, map, drop, nat_lt, ◌&&◌, true, false, slice_get, Some, None, Ok, Err, IfOk, IfErr, IfSome, IfNone, OnOk, OnErr};
 ghost use Rattle.std.specs.Global.{Vec};
 ghost use Rattle.sf_wire.specs.declared.cutting.Cut.TheVariants as cut;
 ghost use Rattle.sf_wire.specs.Packets.{IsCut};
 ghost use Rattle.sf_engine.specs.declared.event.Event.TheVariants as event;
 ghost use Rattle.sf_engine.specs.declared.event.Happened.TheVariants as happened;
-ghost use Rattle.sf_engine.specs.Promise.{LogEntry, IsKnown, AreTurns, WaitsForBytes};
+ghost use Rattle.sf_engine.specs.Promise.{Entry, event_of, result_of, IsKnown, continues, AreTurnsOf, WaitsForBytes};
 ghost use Rattle.sf_refusing.specs.declared.given.GivenRule.{GivenRule};
 ghost use Rattle.sf_refusing.specs.declared.passage.Passage.{Passage};
 ghost use Rattle.sf_refusing.specs.Journal.{Act, Ruled, Received, Delivered, Made, Apart, log_of, received_in, taken_in, since_given, refused_in};
@@ -106,7 +106,7 @@ impl Refusals {
     ) -> Result<Happened, EngineFault>
         ensures ok { OnOk result ((journal : List Act)
             → Have E.has_log engine.old self.old journal
-            → (asked : LogEntry) × IsFed session [] asked × (asked.result ≡ result)
+            → (asked : Entry) × IsFed session [] asked × (result_of asked ≡ result)
             × Have E.has_log engine.new self.new
             (journal ++ Made asked ∷ Received session bytes.now ∷ [])) }
         ensures err { OnErr result ((engine.new ≡ engine.old)
@@ -166,8 +166,8 @@ impl Refusals {
     ) -> Result<Happened, EngineFault>
         ensures { (journal : List Act) → Have E.has_log engine.old self.old journal
             → (acts : List Act)
-            × IsTurn journal session (λ entries. (e : LogEntry) × (entries ≡ e ∷ [])
-            × AreTurns (event.Turn session moment) result entries) result acts
+            × IsTurn journal session (λ entries. (e : Entry) × (entries ≡ e ∷ [])
+            × (event_of e ≡ event.Turn session moment) × (result_of e ≡ result)) result acts
             × Have E.has_log engine.new self.new (journal ++ acts) }
     {
         if self.move_on(engine, session)? {
@@ -176,8 +176,8 @@ impl Refusals {
         engine.apply(&Event::Turn(session, moment))
     }
 
-    /// As `turn`, but the engine takes turns until the session's call is answered or can't
-    /// progress.
+    /// As `turn`, but the engine takes turns until the session's call is answered or blocked, or
+    /// 2^64 - 1 turns were made.
     pub fn turns<E: Sftp>(
         &mut self,
         engine: &mut E,
@@ -186,7 +186,8 @@ impl Refusals {
     ) -> Result<Happened, EngineFault>
         ensures { (journal : List Act) → Have E.has_log engine.old self.old journal
             → (acts : List Act)
-            × IsTurn journal session (AreTurns (event.Turn session moment) result) result acts
+            × IsTurn journal session (λ entries. AreTurnsOf session moment result entries
+            × (continues result ≡ true → 2 ^ 64 - 1 ≤ length entries)) result acts
             × Have E.has_log engine.new self.new (journal ++ acts) }
     {
         if self.move_on(engine, session)? {
@@ -226,9 +227,9 @@ impl Refusals {
     ) -> Result<Happened, EngineFault>
         ensures ok { OnOk result ((journal : List Act)
             → Have E.has_log engine.old self.old journal
-            → (result ≡ Ok happened.Sent) × (told : List LogEntry)
+            → (result ≡ Ok happened.Sent) × (entries : List Entry)
             × Have E.has_log engine.new self.new
-            (journal ++ map Made told ++ Delivered session count ∷ [])) }
+            (journal ++ map Made entries ++ Delivered session count ∷ [])) }
         ensures err { OnErr result ((engine.new ≡ engine.old)
             × ((journal : List Act) → HasJournal self.old journal → HasJournal self.new journal)) }
         ensures fault { IfErr result (λ f. (journal : List Act)

@@ -61,10 +61,19 @@ fields_of (reply.Attrs a) = attrs_text a
 abbrev pub reply_body : ℕ → Reply → List ℕ
 reply_body id r = kind_of_reply r ∷ be32 id ++ fields_of r
 
--- version 3, and two extensions as pairs of strings
+-- the extensions, each of version 1
+abbrev pub extensions : List (List ℕ)
+extensions =
+    codes "posix-rename@openssh.com"
+    ∷ codes "hardlink@openssh.com"
+    ∷ codes "fsync@openssh.com"
+    ∷ codes "lsetstat@openssh.com"
+    ∷ codes "limits@openssh.com"
+    ∷ []
+
+-- version 3, and each extension with its version
 abbrev pub version_body : List ℕ
-version_body = 2 ∷ be32 3 ++ string (codes "posix-rename@openssh.com") ++ string (codes "1")
-    ++ string (codes "hardlink@openssh.com") ++ string (codes "1")
+version_body = 2 ∷ be32 3 ++ flat_map (λ name. string name ++ string (codes "1")) extensions
 
 -- A plain reply contains no list: copying it allocates nothing, and its packet is short.
 abbrev pub IsPlain : Reply → Type 0

@@ -11,7 +11,7 @@ ghost use Rattle.sf_reply.specs.Replies.{version_body};
 ghost use Rattle.sf_reply.specs.Reading.{IsReply, code_of, status_of, status_at, handle_at, whole, entry_at, entries_at, after_entries, names_at, reply_fields_at, reply_at, listed, reply_of, HasCountedNames};
 
 use crate::reply::{Entry, Listing, Reply, StatusCode};
-use crate::replying::{ATTRS, DATA, HANDLE, NAME, STATUS};
+use crate::replying::{ATTRS, DATA, HANDLE, NAME, STATUS, VERSION_BODY};
 use sf_field::{Attrs, ByteString, bytes_at, sent_attrs_of, u32_at, u64_at};
 use std::alloc::{AllocError, Global};
 
@@ -254,7 +254,3 @@ pub fn is_version(body: &[u8]) -> bool
 {
     body == VERSION_BODY
 }
-
-/// The body of VERSION: its type, version 3, and each extension with its version `1`.
-const VERSION_BODY: &[u8] = b"\x02\0\0\0\x03\0\0\0\x18posix-rename@openssh.com\0\0\0\x011\
-    \0\0\0\x14hardlink@openssh.com\0\0\0\x011";

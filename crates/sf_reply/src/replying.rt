@@ -8,12 +8,18 @@ ghost use Rattle.sf_field.specs.Fields.{packet, max_body};
 
 use crate::reply::{Entry, Reply};
 use bytes::BytesMut;
-use sf_field::{attrs_len, put_attrs, put_string, put_u32};
+use sf_field::{attrs_len, put_attrs, put_string, put_u32, write_string};
 use std::alloc::AllocError;
 
-// The types of the packets that the server sends.
-const VERSION: u8 = 2;
+/// The body of `SSH_FXP_VERSION`: its type, version 3, and each extension with its version `1`.
+pub(crate) const VERSION_BODY: &[u8] = b"\x02\0\0\0\x03\
+    \0\0\0\x18posix-rename@openssh.com\0\0\0\x011\
+    \0\0\0\x14hardlink@openssh.com\0\0\0\x011\
+    \0\0\0\x11fsync@openssh.com\0\0\0\x011\
+    \0\0\0\x14lsetstat@openssh.com\0\0\0\x011\
+    \0\0\0\x12limits@openssh.com\0\0\0\x011";
 
+// The types of the packets that the server sends.
 pub(crate) const STATUS: u8 = 101;
 
 pub(crate) const HANDLE: u8 = 102;
@@ -55,24 +61,15 @@ fn put_entry(out: &mut BytesMut, entry: &Entry)
     put_attrs(out, &entry.attrs);
 }
 
-/// Appends the `SSH_FXP_VERSION` packet, or nothing on error: version 3, with the extensions
-/// `posix-rename@openssh.com` and `hardlink@openssh.com`, each of version `1`. It allocates nothing
-/// if the buffer has capacity for the packet.
+/// Appends the `SSH_FXP_VERSION` packet, or nothing on error. It allocates nothing if the buffer
+/// has capacity for the packet.
 pub fn write_version(out: &mut BytesMut) -> Result<(), AllocError>
     ensures ok { OnOk result (out.new.items ≡ out.old.items ++ packet version_body) }
     ensures err { OnErr result (out.new.items ≡ out.old.items) }
     ensures spare { UsesSpare result out.old.spare out.new.spare (length (packet version_body)) }
     ensures enough { length (packet version_body) ≤ out.old.spare → IsOk result }
 {
-    out.reserve(71)?;
-    put_u32(out, 67);
-    out.extend_reserved(&[VERSION]);
-    put_u32(out, 3);
-    put_string(out, b"posix-rename@openssh.com");
-    put_string(out, b"1");
-    put_string(out, b"hardlink@openssh.com");
-    put_string(out, b"1");
-    Ok(())
+    write_string(out, VERSION_BODY)
 }
 
 #[tactic(auto, unfolding(crate::specs::Replies::entry_text))]

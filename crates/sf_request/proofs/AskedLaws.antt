@@ -1,110 +1,147 @@
 -- The decoder finds what a body encodes, and nothing else.
-use Rattle.std.proofs.Common.{◌≡◌, ◌≢◌, ℕ, suc, Bool, true, false, cond, eqb, not, ◌||◌, List, [], ◌∷◌, ◌++◌, Option, Some, None, refl, sym, ap, subst, ◌∙◌, append_assoc, arith, lit<, inl, inr, length, ◌<◌}
+use Rattle.std.proofs.Common.{◌≡◌, ◌≢◌, ℕ, suc, Bool, true, false, cond, eqb, ◌&&◌, List, [], ◌∷◌, ◌++◌, Option, Some, None, refl, sym, ap, subst, ◌∙◌, arith, lit<, length, ◌<◌}
+use Rattle.std.specs.Prelude.{codes}
 use Rattle.std.specs.Str.{bytes_eq}
 use Rattle.std.specs.Int.{w32}
-use Rattle.std.proofs.lemmas.Bool.{eqb-true, eqb-false, ne_eqb}
 use Rattle.std.proofs.lemmas.Slice.Eq.{bytes_eq-Decides}
+use Rattle.std.proofs.lemmas.Bool.{eqb-true, eqb-false, ne_eqb}
 use Rattle.sf_request.specs.declared.request.WireRequest.{WireRequest}
-use Rattle.sf_request.specs.declared.request.WireRequest.TheVariants as request
 use Rattle.sf_request.specs.declared.request.Asked.{Asked}
-use Rattle.sf_request.specs.declared.request.Asked.TheVariants.{Init, Request, BadFields, Unknown, NoVersion, NoId}
-use Rattle.sf_field.specs.Fields.{be32}
-use Rattle.sf_request.specs.Requests.{kind_of, is_request, posix_rename_extension, hardlink, SpellsFields, HasId, HasOtherName, IsUnknown, Asks}
-use Rattle.sf_field.specs.Reading.{number_at, string_at}
-use Rattle.sf_request.specs.Reading.{other_name, is_unknown, request_at, asked_by, asked_under, asked_of}
-use Rattle.sf_field.proofs.Laws.{IsBytes, IsBytes-rest, reads_u32, reads_string, number_none, number_short}
-use Rattle.sf_request.proofs.SpelledFields.{as_string}
-use Rattle.sf_request.proofs.RequestLaws.{request_takes, request_again}
+use Rattle.sf_request.specs.declared.request.Asked.TheVariants.{Init, Request, Limits, BadFields, Unknown, NoVersion, NoId}
+use Rattle.sf_field.specs.Fields.{be32, string}
+use Rattle.sf_field.specs.Reading.{number_at}
+use Rattle.sf_field.proofs.Laws.{IsBytes, IsBytes-rest, some_is, reads_u32, number_none, number_short}
+use Rattle.sf_request.specs.Requests.{Shape, shape_of, HasId, HasName, HasRequest, AsksLimits, IsUnknown, Asks, RequestFits}
+use Rattle.sf_request.specs.Reading.{request_at, name_at, asked_by, asked_as, is_limits, asked_named, asked_under, asked_of}
+use Rattle.sf_request.proofs.RequestLaws.{request_takes, request_again, again_by, name_takes, name_again, request_fits}
 
--- ---- an unknown type, or an unknown extension
+-- ---- the extension that asks for the limits
 
-not_true : (b : Bool) → not b ≡ true → b ≡ false
-not_true true e = absurd cc
-not_true false e = refl
+abbrev limits : List ℕ
+limits = codes "limits@openssh.com"
 
-not_false : (b : Bool) → not b ≡ false → b ≡ true
-not_false true e = refl
-not_false false e = absurd cc
+both_true : (a b : Bool) → (a && b) ≡ true → (a ≡ true) × (b ≡ true)
+both_true true true e = (refl, refl)
+both_true true false e = absurd cc
+both_true false b e = absurd cc
 
-neither : (a b : Bool) → not (a || b) ≡ true → (a ≡ false) × (b ≡ false)
-neither true b e = absurd cc
-neither false true e = absurd cc
-neither false false e = (refl, refl)
+limits_asked : (kind : ℕ) (rest name bytes : List ℕ) → HasName kind rest name bytes → is_limits kind name ≡ true → AsksLimits kind rest
+limits_asked kind rest name bytes h is =
+    let both = both_true (eqb kind 200) (bytes_eq name limits) is in
+    let name_is : name ≡ limits = (bytes_eq-Decides name limits).0 both.1 in
+    (eqb-true kind 200 both.0, bytes, h.parts ∙ ap (λ (b : Bool). cond b (string name) [] ++ bytes) both.0 ∙ ap (λ (n : List ℕ). string n ++ bytes) name_is)
 
-name_found : (o : Option (List ℕ × List ℕ)) (rest : List ℕ) → IsBytes rest → string_at rest ≡ o → other_name o ≡ true → HasOtherName rest
-name_found None rest fits e is = absurd cc
-name_found (Some name) rest fits e is =
-    let t = reads_string.takes rest name.0 name.1 fits e in
-    record {
-      name = name.0;
-      more = name.1;
-      short = t.1;
-      parts = t.0.parts;
-      no_rename = λ same. let yes : bytes_eq name.0 posix_rename_extension ≡ true = (bytes_eq-Decides name.0 posix_rename_extension).1 same in let other = (neither (bytes_eq name.0 posix_rename_extension) (bytes_eq name.0 hardlink) is).0 in absurd cc;
-      no_link = λ same. let yes : bytes_eq name.0 hardlink ≡ true = (bytes_eq-Decides name.0 hardlink).1 same in let other = (neither (bytes_eq name.0 posix_rename_extension) (bytes_eq name.0 hardlink) is).1 in absurd cc;
-    }
+limits_named : (kind : ℕ) (rest name bytes : List ℕ) → HasName kind rest name bytes → AsksLimits kind rest → is_limits kind name ≡ true
+limits_named kind rest name bytes h (kind_is, more, parts) =
+    let is : eqb kind 200 ≡ true = ap (λ (k : ℕ). eqb k 200) kind_is in
+    let one = name_again kind rest name bytes h in
+    let two = name_again kind rest limits more (record {
+      short = lit< tt;
+      none = λ other. absurd (other kind_is);
+      parts = parts ∙ ap (λ (b : Bool). cond b (string limits) [] ++ more) (sym is);
+    }) in
+    let name_is : name ≡ limits = ap (λ (x : List ℕ × List ℕ). x.0) (some_is (name, bytes) (limits, more) (sym one ∙ two)) in
+    rw (is, (bytes_eq-Decides name limits).1 name_is) refl
 
-both_false : (a b : Bool) → (a ≡ true → ⊥) → (b ≡ true → ⊥) → not (a || b) ≡ true
-both_false true b h k = absurd (h refl)
-both_false false true h k = absurd (k refl)
-both_false false false h k = refl
-
-name_only : (rest : List ℕ) → HasOtherName rest → other_name (string_at rest) ≡ true
-name_only rest h =
-    let read : string_at rest ≡ Some (h.name, h.more) = ap string_at h.parts ∙ reads_string.again h.name h.more h.short in
-    ap other_name read ∙ both_false (bytes_eq h.name posix_rename_extension) (bytes_eq h.name hardlink) (λ e. h.no_rename ((bytes_eq-Decides h.name posix_rename_extension).0 e)) (λ e. h.no_link ((bytes_eq-Decides h.name hardlink).0 e))
-
-unknown_by : (extended : Bool) (kind : ℕ) (rest : List ℕ) → eqb kind 200 ≡ extended → IsBytes rest → kind ≢ 1 → cond extended (other_name (string_at rest)) (not (is_request kind)) ≡ true → IsUnknown kind rest
-unknown_by true kind rest p fits no_init e = inr (eqb-true kind 200 p, name_found (string_at rest) rest fits refl e)
-unknown_by false kind rest p fits no_init e = inl (not_true (is_request kind) e, no_init)
-
-unknown_found : (kind : ℕ) (rest : List ℕ) → IsBytes rest → kind ≢ 1 → is_unknown kind rest ≡ true → IsUnknown kind rest
-unfolding is_unknown
-unknown_found kind rest fits no_init e = unknown_by (eqb kind 200) kind rest refl fits no_init e
-
-no_request : (kind : ℕ) → is_request kind ≡ false → eqb kind 200 ≡ false
-no_request kind e = ne_eqb kind 200 (λ is. let f : is_request 200 ≡ false = ap is_request (sym is) ∙ e in cc)
-
-no_kind : (extended known other : Bool) → extended ≡ false → known ≡ false → cond extended other (not known) ≡ true
-no_kind true known other p q = absurd cc
-no_kind false true other p q = absurd cc
-no_kind false false other p q = refl
-
-unknown_only : (kind : ℕ) (rest : List ℕ) → IsUnknown kind rest → is_unknown kind rest ≡ true
-unfolding is_unknown
-unknown_only kind rest (inl h) = no_kind (eqb kind 200) (is_request kind) (other_name (string_at rest)) (no_request kind h.0) h.0
-unknown_only kind rest (inr h) = subst (λ (k : ℕ). cond (eqb k 200) (other_name (string_at rest)) (not (is_request k)) ≡ true) (sym h.0) (name_only rest h.1)
-
-known_by : (extended : Bool) (kind : ℕ) (rest : List ℕ) → eqb kind 200 ≡ extended → cond extended (other_name (string_at rest)) (not (is_request kind)) ≡ false → is_request kind ≡ true
-known_by true kind rest p e = ap is_request (eqb-true kind 200 p)
-known_by false kind rest p e = not_false (is_request kind) e
-
-known : (kind : ℕ) (rest : List ℕ) → is_unknown kind rest ≡ false → is_request kind ≡ true
-unfolding is_unknown
-known kind rest e = known_by (eqb kind 200) kind rest refl e
+row_no_limits : (kind : ℕ) (name : List ℕ) (shape : Shape) → shape_of kind name ≡ Some shape → (b : Bool) → is_limits kind name ≡ b → b ≡ false
+unfolding shape_of
+row_no_limits kind name shape row false e = refl
+row_no_limits kind name shape row true e =
+    let both = both_true (eqb kind 200) (bytes_eq name limits) e in
+    let kind_is = eqb-true kind 200 both.0 in
+    let name_is : name ≡ limits = (bytes_eq-Decides name limits).0 both.1 in
+    let none : None ≡ Some shape = ap (λ (k : ℕ). shape_of k limits) (sym kind_is) ∙ ap (shape_of kind) (sym name_is) ∙ row in
+    absurd cc
 
 -- ---- what is decoded is encoded
 
-answer_found : (body : List ℕ) (kind id : ℕ) (rest : List ℕ) (o : Option WireRequest) → request_at kind rest ≡ o → is_unknown kind rest ≡ false → HasId body kind id rest → IsBytes rest → Asks body (asked_by id o)
-answer_found body kind id rest None e not_unknown has fits = (
+-- A body has an id, and the name of an extension or none.
+record Named (body : List ℕ) (kind id : ℕ) (rest name bytes : List ℕ) : Type 0 where
+  has : HasId body kind id rest
+  no_init : kind ≢ 1
+  named : HasName kind rest name bytes
+  no_limits : is_limits kind name ≡ false
+
+no_limits_asked : {body : List ℕ} {kind id : ℕ} {rest name bytes : List ℕ} → Named body kind id rest name bytes → AsksLimits kind rest → ⊥
+no_limits_asked {kind = kind} {rest = rest} {name = name} {bytes = bytes} n asks =
+    let yes = limits_named kind rest name bytes n.named asks in
+    let not = n.no_limits in
+    absurd cc
+
+same_name : {body : List ℕ} {kind id : ℕ} {rest name bytes : List ℕ} (n : Named body kind id rest name bytes) (other more : List ℕ) → HasName kind rest other more → (name ≡ other) × (bytes ≡ more)
+same_name {kind = kind} {rest = rest} {name = name} {bytes = bytes} n other more h =
+    let same = some_is (name, bytes) (other, more) (sym (name_again kind rest name bytes n.named) ∙ name_again kind rest other more h) in
+    (ap (λ (x : List ℕ × List ℕ). x.0) same, ap (λ (x : List ℕ × List ℕ). x.1) same)
+
+known_row : {body : List ℕ} {kind id : ℕ} {rest name bytes : List ℕ} {shape : Shape} → Named body kind id rest name bytes → shape_of kind name ≡ Some shape → IsUnknown kind rest → ⊥
+known_row {name = name} n row u =
+    let same = (same_name n u.name u.fields u.named).0 in
+    let none = u.no_row in
+    absurd cc
+
+request_found : {body : List ℕ} {kind id : ℕ} {rest name bytes : List ℕ} (shape : Shape) (request : WireRequest) → Named body kind id rest name bytes → IsBytes bytes → shape_of kind name ≡ Some shape
+    → request_at shape bytes ≡ Some request → HasRequest kind rest request
+request_found {kind = kind} {rest = rest} {name = name} {bytes = bytes} shape request n fits row e =
+    let t = request_takes shape bytes request fits e in
+    record {
+      name = name;
+      text = t.text;
+      more = t.more;
+      shape = shape;
+      values = t.values;
+      named = subst (HasName kind rest name) t.parts n.named;
+      row = row;
+      spelled = t.spelled;
+      is = t.is;
+    }
+
+row_found : {body : List ℕ} {kind id : ℕ} {rest name bytes : List ℕ} (shape : Shape) (o : Option WireRequest) → Named body kind id rest name bytes → IsBytes bytes → shape_of kind name ≡ Some shape
+    → request_at shape bytes ≡ o → Asks body (asked_by id o)
+row_found {kind = kind} {rest = rest} {bytes = bytes} shape None n fits row e = (
+  kind,
+  rest,
+  n.has,
+  n.no_init,
+  no_limits_asked n,
+  known_row n row,
+  λ request h.
+      let same = same_name n h.name (h.text ++ h.more) h.named in
+      let name_is = same.0 in
+      let bytes_are = same.1 in
+      let other = h.row in
+      let again = request_again h.shape h.values h.text h.more h.spelled in
+      absurd cc,
+)
+row_found {kind = kind} {rest = rest} shape (Some request) n fits row e = (kind, rest, n.has, request_found shape request n fits row e)
+
+name_found : {body : List ℕ} {kind id : ℕ} {rest name bytes : List ℕ} (o : Option Shape) → Named body kind id rest name bytes → IsBytes bytes → shape_of kind name ≡ o → Asks body (asked_as id o bytes)
+name_found {kind = kind} {rest = rest} {name = name} {bytes = bytes} None n fits row =
+    (kind, rest, n.has, n.no_init, no_limits_asked n, record { name = name; fields = bytes; named = n.named; no_row = row })
+name_found {bytes = bytes} (Some shape) n fits row = row_found shape (request_at shape bytes) n fits row refl
+
+limits_found : {body : List ℕ} {kind id : ℕ} {rest name bytes : List ℕ} (b : Bool) → is_limits kind name ≡ b → HasId body kind id rest → kind ≢ 1 → HasName kind rest name bytes → IsBytes bytes
+    → Asks body (cond b (Limits id) (asked_as id (shape_of kind name) bytes))
+limits_found {kind = kind} {rest = rest} {name = name} {bytes = bytes} true is has ne named fits = (kind, rest, has, limits_asked kind rest name bytes named is)
+limits_found {kind = kind} {name = name} false is has ne named fits = name_found (shape_of kind name) (record { has = has; no_init = ne; named = named; no_limits = is }) fits refl
+
+id_found : {body : List ℕ} {kind id : ℕ} {rest : List ℕ} (one : Bool) (o : Option (List ℕ × List ℕ)) → eqb kind 1 ≡ one → name_at kind rest ≡ o → HasId body kind id rest → IsBytes rest
+    → Asks body (cond one (Init id) (asked_named kind id o))
+id_found {body} {kind} {id} {rest} true o p q has fits = (rest, subst (λ (k : ℕ). HasId body k id rest) (eqb-true kind 1 p) has)
+id_found {kind = kind} {rest = rest} false None p q has fits = (
   kind,
   rest,
   has,
-  known kind rest not_unknown,
-  λ unknown. let yes : is_unknown kind rest ≡ true = unknown_only kind rest unknown in absurd cc,
-  λ request text more k spelled parts.
-      let again : request_at kind rest ≡ Some request = ap (λ (n : ℕ). request_at n rest) (sym k) ∙ ap (request_at (kind_of request)) parts ∙ request_again request text more spelled in
+  eqb-false kind 1 p,
+  λ h.
+      let is : eqb kind 200 ≡ true = ap (λ (k : ℕ). eqb k 200) h.0 in
+      let again = again_by true rest limits h.1 (lit< tt) (λ other. absurd cc) h.2 in
       absurd cc,
+  λ u. let again = name_again kind rest u.name u.fields u.named in absurd cc,
+  λ request h. let again = name_again kind rest h.name (h.text ++ h.more) h.named in absurd cc,
 )
-answer_found body kind id rest (Some request) e not_unknown has fits =
-    let t = request_takes kind rest request fits e in
-    (t.text, t.more, subst (λ (k : ℕ). HasId body k id (t.text ++ t.more)) (sym t.kind_is) (subst (HasId body kind id) t.parts has), t.spelled)
-
-call_found : {body : List ℕ} {kind id : ℕ} {rest : List ℕ} (one unknown : Bool) → eqb kind 1 ≡ one → is_unknown kind rest ≡ unknown → HasId body kind id rest → IsBytes rest
-    → Asks body (cond one (Init id) (cond unknown (Unknown id) (asked_by id (request_at kind rest))))
-call_found {body} {kind} {id} {rest} true unknown p q has fits = (rest, subst (λ (k : ℕ). HasId body k id rest) (eqb-true kind 1 p) has)
-call_found {body} {kind} {id} {rest} false false p q has fits = answer_found body kind id rest (request_at kind rest) refl q has fits
-call_found {kind = kind} {rest = rest} false true p q has fits = (kind, rest, has, unknown_found kind rest fits (eqb-false kind 1 p) q)
+id_found {kind = kind} {rest = rest} false (Some n) p q has fits =
+    let t = name_takes kind rest n.0 n.1 fits q in
+    limits_found (is_limits kind n.0) refl has (eqb-false kind 1 p) t.0 t.1
 
 head_is : (kind n : ℕ) (rest more : List ℕ) → kind ∷ rest ≡ n ∷ more → kind ≡ n
 head_is kind n rest more e = cc
@@ -118,7 +155,7 @@ unfolding asked_under
 number_found kind rest None e fits = short_found kind rest (eqb kind 1) refl (omega (arith, number_none w32 rest e))
 number_found kind rest (Some n) e fits =
     let t = reads_u32.takes rest n.0 n.1 fits e in
-    call_found (eqb kind 1) (is_unknown kind n.1) refl refl (record { fits = t.1; parts = ap (λ (t : List ℕ). kind ∷ t) t.0.parts }) t.0.rest_fits
+    id_found (eqb kind 1) (name_at kind n.1) refl refl (record { fits = t.1; parts = ap (λ (t : List ℕ). kind ∷ t) t.0.parts }) t.0.rest_fits
 
 pub asked_found : (body : List ℕ) → IsBytes body → Asks body (asked_of body)
 unfolding asked_of
@@ -127,92 +164,76 @@ asked_found (kind ∷ rest) fits = number_found kind rest (number_at w32 rest) r
 
 -- ---- what is encoded is decoded
 
-has_call : (body : List ℕ) (kind id : ℕ) (rest : List ℕ) → HasId body kind id rest → asked_of body ≡ asked_under kind (Some (id, rest))
+has_id : (body : List ℕ) (kind id : ℕ) (rest : List ℕ) → HasId body kind id rest → asked_of body ≡ asked_under kind (Some (id, rest))
 unfolding asked_of
-has_call body kind id rest has = ap asked_of has.parts ∙ ap (asked_under kind) (reads_u32.again id rest has.fits)
+has_id body kind id rest has = ap asked_of has.parts ∙ ap (asked_under kind) (reads_u32.again id rest has.fits)
 
-request_kind : (r : WireRequest) → eqb (kind_of r) 1 ≡ false
-request_kind (request.Open filename flags attrs) = refl
-request_kind (request.Close handle) = refl
-request_kind (request.Read handle offset len) = refl
-request_kind (request.Write handle offset bytes) = refl
-request_kind (request.LStat path) = refl
-request_kind (request.FStat handle) = refl
-request_kind (request.SetStat path attrs) = refl
-request_kind (request.FSetStat handle attrs) = refl
-request_kind (request.OpenDir path) = refl
-request_kind (request.ReadDir handle) = refl
-request_kind (request.Remove path) = refl
-request_kind (request.Mkdir path attrs) = refl
-request_kind (request.Rmdir path) = refl
-request_kind (request.RealPath path) = refl
-request_kind (request.Stat path) = refl
-request_kind (request.Rename old new) = refl
-request_kind (request.PosixRename old new) = refl
-request_kind (request.Link old new) = refl
+has_name : (body : List ℕ) (kind id : ℕ) (rest name bytes : List ℕ) → HasId body kind id rest → kind ≢ 1 → HasName kind rest name bytes
+    → asked_of body ≡ cond (is_limits kind name) (Limits id) (asked_as id (shape_of kind name) bytes)
+unfolding asked_under
+has_name body kind id rest name bytes has ne named = has_id body kind id rest has ∙ rw (ne_eqb kind 1 ne, name_again kind rest name bytes named) refl
 
--- A request's type is known, and so is an extension's name.
-request_known : (r : WireRequest) (text more : List ℕ) → SpellsFields text r → is_unknown (kind_of r) (text ++ more) ≡ false
-unfolding is_unknown
-request_known (request.Open filename flags attrs) text more h = refl
-request_known (request.Close handle) text more h = refl
-request_known (request.Read handle offset len) text more h = refl
-request_known (request.Write handle offset bytes) text more h = refl
-request_known (request.LStat path) text more h = refl
-request_known (request.FStat handle) text more h = refl
-request_known (request.SetStat path attrs) text more h = refl
-request_known (request.FSetStat handle attrs) text more h = refl
-request_known (request.OpenDir path) text more h = refl
-request_known (request.ReadDir handle) text more h = refl
-request_known (request.Remove path) text more h = refl
-request_known (request.Mkdir path attrs) text more h = refl
-request_known (request.Rmdir path) text more h = refl
-request_known (request.RealPath path) text more h = refl
-request_known (request.Stat path) text more h = refl
-request_known (request.Rename old new) text more h = refl
-request_known (request.PosixRename old new) text more h =
-    let parts : text ++ more ≡ h.front ++ (h.back ++ more) = ap (λ (t : List ℕ). t ++ more) h.parts ∙ append_assoc h.front h.back more in
-    ap (λ (t : List ℕ). other_name (string_at t)) parts ∙ ap other_name (as_string.again posix_rename_extension h.front (h.back ++ more) h.first)
-request_known (request.Link old new) text more h =
-    let parts : text ++ more ≡ h.front ++ (h.back ++ more) = ap (λ (t : List ℕ). t ++ more) h.parts ∙ append_assoc h.front h.back more in
-    ap (λ (t : List ℕ). other_name (string_at t)) parts ∙ ap other_name (as_string.again hardlink h.front (h.back ++ more) h.first)
+limits_have_name : (kind : ℕ) (rest : List ℕ) (asks : AsksLimits kind rest) → HasName kind rest limits asks.1
+limits_have_name kind rest asks = record {
+  short = lit< tt;
+  none = λ other. absurd (other asks.0);
+  parts = asks.2 ∙ ap (λ (k : ℕ). cond (eqb k 200) (string limits) [] ++ asks.1) (sym asks.0);
+}
 
-no_init : (kind : ℕ) → is_request kind ≡ true → eqb kind 1 ≡ false
-no_init kind known = ne_eqb kind 1 (λ e. let f : is_request 1 ≡ true = ap is_request (sym e) ∙ known in cc)
+other_name : (kind : ℕ) (rest name bytes : List ℕ) → (AsksLimits kind rest → ⊥) → HasName kind rest name bytes → (b : Bool) → is_limits kind name ≡ b → b ≡ false
+other_name kind rest name bytes none named false e = refl
+other_name kind rest name bytes none named true e = absurd (none (limits_asked kind rest name bytes named e))
 
-none_read : (kind id : ℕ) (rest : List ℕ) (o : Option WireRequest) → request_at kind rest ≡ o → IsBytes rest
-    → ((request : WireRequest) (text more : List ℕ) → kind_of request ≡ kind → SpellsFields text request → rest ≡ text ++ more → ⊥) → o ≡ None
-none_read kind id rest None e fits none = refl
-none_read kind id rest (Some request) e fits none =
-    let t = request_takes kind rest request fits e in
-    absurd (none request t.text t.more t.kind_is t.spelled t.parts)
+no_init : (kind : ℕ) (name : List ℕ) (shape : Shape) → shape_of kind name ≡ Some shape → kind ≢ 1
+unfolding shape_of
+no_init kind name shape row is = let none : None ≡ Some shape = ap (λ (k : ℕ). shape_of k name) (sym is) ∙ row in absurd cc
 
-not_unknown : (kind : ℕ) (rest : List ℕ) (unknown : Bool) → is_unknown kind rest ≡ unknown → IsBytes rest → kind ≢ 1 → (IsUnknown kind rest → ⊥) → unknown ≡ false
-not_unknown kind rest true e fits ne h = absurd (h (unknown_found kind rest fits ne e))
-not_unknown kind rest false e fits ne h = refl
+none_by : {body : List ℕ} {kind id : ℕ} {rest name bytes : List ℕ} (shape : Shape) (o : Option WireRequest) → Named body kind id rest name bytes → IsBytes bytes → shape_of kind name ≡ Some shape
+    → request_at shape bytes ≡ o → ((request : WireRequest) → HasRequest kind rest request → ⊥) → asked_by id o ≡ BadFields id
+none_by shape None n fits row e none = refl
+none_by shape (Some request) n fits row e none = absurd (none request (request_found shape request n fits row e))
 
-unknown_no_init : (kind : ℕ) (rest : List ℕ) → IsUnknown kind rest → eqb kind 1 ≡ false
-unknown_no_init kind rest (inl h) = ne_eqb kind 1 h.1
-unknown_no_init kind rest (inr h) = ap (λ (k : ℕ). eqb k 1) h.0
+bad_by : {body : List ℕ} {kind id : ℕ} {rest name bytes : List ℕ} (o : Option Shape) → Named body kind id rest name bytes → IsBytes bytes → shape_of kind name ≡ o → (IsUnknown kind rest → ⊥)
+    → ((request : WireRequest) → HasRequest kind rest request → ⊥) → asked_as id o bytes ≡ BadFields id
+bad_by {name = name} {bytes = bytes} None n fits row no_unknown none = absurd (no_unknown (record { name = name; fields = bytes; named = n.named; no_row = row }))
+bad_by {bytes = bytes} (Some shape) n fits row no_unknown none = none_by shape (request_at shape bytes) n fits row refl none
+
+bad_name : {body : List ℕ} {kind id : ℕ} {rest : List ℕ} (o : Option (List ℕ × List ℕ)) → HasId body kind id rest → kind ≢ 1 → IsBytes rest → name_at kind rest ≡ o → (AsksLimits kind rest → ⊥) → (IsUnknown kind rest → ⊥)
+    → ((request : WireRequest) → HasRequest kind rest request → ⊥) → asked_named kind id o ≡ BadFields id
+bad_name None has ne fits e no_limits no_unknown none = refl
+bad_name {kind = kind} {id = id} {rest = rest} (Some n) has ne fits e no_limits no_unknown none =
+    let t = name_takes kind rest n.0 n.1 fits e in
+    let other = other_name kind rest n.0 n.1 no_limits t.0 (is_limits kind n.0) refl in
+    ap (λ (b : Bool). cond b (Limits id) (asked_as id (shape_of kind n.0) n.1)) other
+    ∙ bad_by (shape_of kind n.0) (record { has = has; no_init = ne; named = t.0; no_limits = other }) t.1 refl no_unknown none
 
 IsBytes-parts : (kind id : ℕ) (rest : List ℕ) → IsBytes (kind ∷ be32 id ++ rest) → IsBytes rest
 IsBytes-parts kind id rest h i = h (suc (suc (suc (suc (suc i)))))
 
 pub asked_only : (body : List ℕ) (other : Asked) → IsBytes body → Asks body other → asked_of body ≡ other
 unfolding asked_of asked_under
-asked_only body (Init version) fits h = has_call body 1 version h.0 h.1
-asked_only body (Request id request) fits h =
-    has_call body (kind_of request) id (h.0 ++ h.1) h.2 ∙ rw (request_kind request, request_known request h.0 h.1 h.3, request_again request h.0 h.1 h.3) refl
-asked_only body (BadFields id) fits h =
-    let rest_fits = IsBytes-parts h.0 id h.1 (subst IsBytes h.2.parts fits) in
-    let ne = no_init h.0 h.3 in
-    has_call body h.0 id h.1 h.2 ∙ rw (ne, not_unknown h.0 h.1 (is_unknown h.0 h.1) refl rest_fits (eqb-false h.0 1 ne) h.4, none_read h.0 id h.1 (request_at h.0 h.1) refl rest_fits h.5) refl
-asked_only body (Unknown id) fits h = has_call body h.0 id h.1 h.2 ∙ rw (unknown_no_init h.0 h.1 h.3, unknown_only h.0 h.1 h.3) refl
+asked_only body (Init version) fits h = has_id body 1 version h.0 h.1
+asked_only body (Request id request) fits (kind, rest, has, h) =
+    has_name body kind id rest h.name (h.text ++ h.more) has (no_init kind h.name h.shape h.row) h.named
+    ∙ rw (row_no_limits kind h.name h.shape h.row _ refl, h.row, request_again h.shape h.values h.text h.more h.spelled) (ap (Request id) (sym h.is))
+asked_only body (Limits id) fits (kind, rest, has, asks) =
+    let is : eqb kind 200 ≡ true = ap (λ (k : ℕ). eqb k 200) asks.0 in
+    let named = limits_have_name kind rest asks in
+    has_name body kind id rest limits asks.1 has (λ one. let two : 1 ≡ 200 = sym one ∙ asks.0 in absurd cc) named ∙ rw (limits_named kind rest limits asks.1 named asks) refl
+asked_only body (BadFields id) fits (kind, rest, has, ne, no_limits, no_unknown, none) =
+    has_id body kind id rest has ∙ rw (ne_eqb kind 1 ne)
+    (bad_name (name_at kind rest) has ne (IsBytes-parts kind id rest (subst IsBytes has.parts fits)) refl no_limits no_unknown none)
+asked_only body (Unknown id) fits (kind, rest, has, ne, no_limits, u) =
+    has_name body kind id rest u.name u.fields has ne u.named ∙ rw (other_name kind rest u.name u.fields no_limits u.named (is_limits kind u.name) refl, u.no_row) refl
 asked_only [] NoVersion fits h = let e : [] ≡ 1 ∷ h.1.0 = h.1.1 in absurd cc
 asked_only (kind ∷ rest) NoVersion fits h =
     let init : eqb kind 1 ≡ true = ap (λ (k : ℕ). eqb k 1) (head_is kind 1 rest h.1.0 h.1.1) in
     ap (asked_under kind) (number_short w32 rest (omega (arith, h.0))) ∙ rw init refl
 asked_only [] NoId fits h = refl
 asked_only (kind ∷ rest) NoId fits h =
-    let no : eqb kind 1 ≡ false = ne_eqb kind 1 (λ is. h.1 (rest, ap (λ (k : ℕ). k ∷ rest) is)) in
-    ap (asked_under kind) (number_short w32 rest (omega (arith, h.0))) ∙ rw no refl
+    let other : eqb kind 1 ≡ false = ne_eqb kind 1 (λ is. h.1 (rest, ap (λ (k : ℕ). k ∷ rest) is)) in
+    ap (asked_under kind) (number_short w32 rest (omega (arith, h.0))) ∙ rw other refl
+
+-- a decoded request has an encoding
+pub asked_fits : (body : List ℕ) (id : ℕ) (request : WireRequest) → Asks body (Request id request) → RequestFits request
+asked_fits body id request (kind, rest, has, h) = request_fits kind rest request h

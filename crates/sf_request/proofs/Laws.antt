@@ -6,6 +6,8 @@ use Rattle.sf_field.proofs.Laws.{IsBytes-of}
 use Rattle.sf_request.specs.declared.request.Asked.{Asked}
 use Rattle.sf_request.specs.Requests.{Asks}
 use Rattle.sf_request.proofs.AskedLaws.{asked_only}
+-- a decoded request has an encoding
+pub use Rattle.sf_request.proofs.AskedLaws.{asked_fits}
 -- a request that is sent decodes to itself, and INIT to version 3
 pub use Rattle.sf_request.proofs.SentRequests.{sent_asks, init_asks}
 

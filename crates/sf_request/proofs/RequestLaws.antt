@@ -1,225 +1,145 @@
--- The fields of a request are decoded by its type.
-use Rattle.std.proofs.Common.{◌≡◌, ℕ, Bool, true, false, cond, eqb, List, [], ◌∷◌, ◌++◌, Option, Some, None, refl, sym, ap, subst, ◌∙◌, append_assoc}
+-- The fields of a request are decoded by its shape.
+use Rattle.std.proofs.Common.{◌≡◌, ℕ, Bool, true, false, cond, eqb, List, [], ◌∷◌, ◌++◌, Option, Some, None, refl, sym, ap, subst, ◌∙◌, length, ◌<◌, ◌^◌, lit<}
 use Rattle.std.specs.Prelude.{option_map}
 use Rattle.std.specs.List.{AllByRecursion}
-use Rattle.std.specs.Str.{bytes_eq}
-use Rattle.std.specs.Int.{w32, w64}
-use Rattle.std.proofs.lemmas.Bool.{eqb-true}
-use Rattle.std.proofs.lemmas.Slice.Eq.{bytes_eq-Decides}
+use Rattle.std.proofs.lemmas.Bool.{eqb-true, eqb-false}
 use Rattle.sf_field.specs.declared.attrs.Attrs.{Attrs}
+use Rattle.sf_field.specs.Attributes.{AttrsFit, no_attrs}
+use Rattle.sf_field.specs.Fields.{string}
+use Rattle.sf_field.specs.Reading.{string_at}
+use Rattle.sf_field.proofs.Laws.{IsBytes, some_is, reads_string}
 use Rattle.sf_request.specs.declared.request.WireRequest.{WireRequest}
 use Rattle.sf_request.specs.declared.request.WireRequest.TheVariants as request
-use Rattle.sf_request.specs.Requests.{kind_of, posix_rename_extension, hardlink, IsU32, IsU64, IsString, IsAttrs, IsFlags, ◌⨾◌, SpellsFields}
-use Rattle.sf_field.specs.Reading.{number_at, string_at, attrs_at, flags_at}
-use Rattle.sf_request.specs.Reading.{both_at, fields, two_strings_at, rename_at, string_request_at, attrs_request_at, extended_by, extended_at, readers, by_kind, request_at}
-use Rattle.sf_field.proofs.Laws.{IsBytes, some_is}
-use Rattle.sf_request.proofs.SpelledFields.{ReadsAs, as_u32, as_u64, as_string, as_attrs, as_flags, Both, as_both, fields_take, fields_again}
+use Rattle.sf_request.specs.Requests.{Shape, Values, SpellsShape, request_with, requests, shape_in, shape_of, HasName, HasRequest, IsShort, RequestFits}
+use Rattle.sf_request.specs.Requests.Shape.{OneText, TextAndAttrs, TwoTexts, OpenFields, ReadFields, WriteFields}
+use Rattle.sf_request.specs.Reading.{fields, values_at, request_at, name_at}
+use Rattle.sf_request.proofs.SpelledFields.{ReadsAs, as_u32, as_u64, as_string, as_attrs, as_flags, as_both, fields_take, fields_again}
 
--- a prefix of the bytes encodes the request
-pub record Found (kind : ℕ) (bytes : List ℕ) (request : WireRequest) : Type 0 where
-  pub text : List ℕ
-  pub more : List ℕ
-  pub parts : bytes ≡ text ++ more
-  pub spelled : SpellsFields text request
-  pub kind_is : kind_of request ≡ kind
-
--- the decoder of a type finds requests of that type
-record IsSound (reader : ℕ × (List ℕ → Option WireRequest)) : Type 0 where
-  pub finds : (bytes : List ℕ) (r : WireRequest) → IsBytes bytes → reader.1 bytes ≡ Some r → Found reader.0 bytes r
+reads : (shape : Shape) → ReadsAs (values_at shape) (SpellsShape shape)
+reads (OneText make) = as_string
+reads (TextAndAttrs make) = as_both as_string as_attrs
+reads (TwoTexts make) = as_both as_string as_string
+reads OpenFields = as_both as_string (as_both as_flags as_attrs)
+reads ReadFields = as_both as_string (as_both as_u64 as_u32)
+reads WriteFields = as_both as_string (as_both as_u64 as_string)
 
 mapped_some : {X Y : Type 0} (f : X → Y) (o : Option X) (y : Y) → option_map f o ≡ Some y → (x : X) × (o ≡ Some x) × (f x ≡ y)
 mapped_some f (Some x) y e = (x, refl, some_is (f x) y e)
 mapped_some f None y e = absurd cc
 
--- Requests of a type are made of the fields that `read` decodes.
-record MadeOf {X : Type 0} (read : List ℕ → Option (X × List ℕ)) (Is : X → List ℕ → Type 0) (make : X → WireRequest) (kind : ℕ) : Type 0 where
-  reads : ReadsAs read Is
-  of_kind : (x : X) → kind_of (make x) ≡ kind
-  spells : (text : List ℕ) (x : X) → Is x text → SpellsFields text (make x)
+-- what is decoded is encoded by a prefix of the bytes, and the converse
+pub record Found (shape : Shape) (bytes : List ℕ) (r : WireRequest) : Type 0 where
+  pub values : Values shape
+  pub text : List ℕ
+  pub more : List ℕ
+  pub parts : bytes ≡ text ++ more
+  pub spelled : SpellsShape shape values text
+  pub is : r ≡ request_with shape values
 
-finds_made : {X : Type 0} {read : List ℕ → Option (X × List ℕ)} {Is : X → List ℕ → Type 0} {make : X → WireRequest} {kind : ℕ} → MadeOf read Is make kind
-    → (bytes : List ℕ) (r : WireRequest) → IsBytes bytes → option_map make (fields read bytes) ≡ Some r → Found kind bytes r
-finds_made {read = read} {Is = Is} {make = make} {kind = kind} m bytes r fits e =
-    let found = mapped_some make (fields read bytes) r e in
-    let t = fields_take read Is m.reads bytes found.0 fits found.1 in
-    subst (Found kind bytes) found.2 (record { text = t.0; more = t.1; parts = t.2; spelled = m.spells t.0 found.0 t.3; kind_is = m.of_kind found.0 })
+pub request_takes : (shape : Shape) (bytes : List ℕ) (r : WireRequest) → IsBytes bytes → request_at shape bytes ≡ Some r → Found shape bytes r
+request_takes shape bytes r fits e =
+    let m = mapped_some (request_with shape) (fields (values_at shape) bytes) r e in
+    let t = fields_take (values_at shape) (SpellsShape shape) (reads shape) bytes m.0 fits m.1 in
+    record { values = m.0; text = t.0; more = t.1; parts = t.2; spelled = t.3; is = sym m.2 }
 
-as_two_strings : ReadsAs (both_at string_at string_at) (Both IsString IsString)
-as_two_strings = as_both as_string as_string
+pub request_again : (shape : Shape) (x : Values shape) (text more : List ℕ) → SpellsShape shape x text → request_at shape (text ++ more) ≡ Some (request_with shape x)
+request_again shape x text more h = ap (option_map (request_with shape)) (fields_again (values_at shape) (SpellsShape shape) (reads shape) x text more h)
 
-as_string_and_attrs : ReadsAs (both_at string_at attrs_at) (Both IsString IsAttrs)
-as_string_and_attrs = as_both as_string as_attrs
+-- ---- the name of an extension
 
-as_open : ReadsAs (both_at string_at (both_at flags_at attrs_at)) (Both IsString (Both IsFlags IsAttrs))
-as_open = as_both as_string (as_both as_flags as_attrs)
+pub again_by : (extended : Bool) (rest name fields : List ℕ) → length name < 2 ^ 32 → (extended ≡ false → name ≡ []) → rest ≡ cond extended (string name) [] ++ fields
+    → cond extended (string_at rest) (Some ([], rest)) ≡ Some (name, fields)
+again_by true rest name fields short none parts = ap string_at parts ∙ reads_string.again name fields short
+again_by false rest name fields short none parts = rw (parts, none refl) refl
 
-as_read : ReadsAs (both_at string_at (both_at (number_at w64) (number_at w32))) (Both IsString (Both IsU64 IsU32))
-as_read = as_both as_string (as_both as_u64 as_u32)
+pub name_again : (kind : ℕ) (rest name fields : List ℕ) → HasName kind rest name fields → name_at kind rest ≡ Some (name, fields)
+name_again kind rest name fields h = again_by (eqb kind 200) rest name fields h.short (λ other. h.none (eqb-false kind 200 other)) h.parts
 
-as_write : ReadsAs (both_at string_at (both_at (number_at w64) string_at)) (Both IsString (Both IsU64 IsString))
-as_write = as_both as_string (as_both as_u64 as_string)
-
-one_string : (make : List ℕ → WireRequest) (kind : ℕ) → ((s : List ℕ) → kind_of (make s) ≡ kind) → ((text s : List ℕ) → IsString s text → SpellsFields text (make s)) → IsSound (kind, string_request_at make)
-one_string make kind of_kind spells = record { finds = finds_made (record { reads = as_string; of_kind = of_kind; spells = spells }) }
-
-string_and_attrs : (make : List ℕ → Attrs → WireRequest) (kind : ℕ) → ((s : List ℕ) (a : Attrs) → kind_of (make s a) ≡ kind)
-    → ((text s : List ℕ) (a : Attrs) → (IsString s ⨾ IsAttrs a) text → SpellsFields text (make s a)) → IsSound (kind, attrs_request_at make)
-string_and_attrs make kind of_kind spells =
-    record { finds = finds_made {make = λ x. make x.0 x.1} (record { reads = as_string_and_attrs; of_kind = λ x. of_kind x.0 x.1; spells = λ text x h. spells text x.0 x.1 h }) }
-
-two_strings : (make : List ℕ → List ℕ → WireRequest) (kind : ℕ) → ((s t : List ℕ) → kind_of (make s t) ≡ kind)
-    → ((text s t : List ℕ) → (IsString s ⨾ IsString t) text → SpellsFields text (make s t)) → IsSound (kind, rename_at make)
-two_strings make kind of_kind spells =
-    record { finds = finds_made {make = λ x. make x.0 x.1} (record { reads = as_two_strings; of_kind = λ x. of_kind x.0 x.1; spells = λ text x h. spells text x.0 x.1 h }) }
-
--- ---- the extensions
-
--- An extension with this name; its requests have two strings.
-record IsExtension (known : List ℕ) (make : List ℕ → List ℕ → WireRequest) : Type 0 where
-  of_kind : (s t : List ℕ) → kind_of (make s t) ≡ 200
-  spells : (text s t : List ℕ) → (IsString known ⨾ IsString s ⨾ IsString t) text → SpellsFields text (make s t)
-
--- The bytes begin with a name.
-record NameRead (bytes name more : List ℕ) : Type 0 where
-  fits : IsBytes bytes
-  read : string_at bytes ≡ Some (name, more)
-
-named : {known : List ℕ} {make : List ℕ → List ℕ → WireRequest} {bytes name more : List ℕ} → IsExtension known make → NameRead bytes name more → (r : WireRequest) → bytes_eq name known ≡ true → rename_at make more ≡ Some r → Found 200 bytes r
-named {known} {make} {bytes} {name} {more} x n r same e =
-    let t = as_string.takes bytes name more n.fits n.read in
-    let m = mapped_some (λ (x : List ℕ × List ℕ). make x.0 x.1) (two_strings_at more) r e in
-    let u = fields_take (both_at string_at string_at) (Both IsString IsString) as_two_strings more m.0 t.1.rest_fits m.1 in
-    let name_is : name ≡ known = (bytes_eq-Decides name known).0 same in
-    subst (Found 200 bytes) m.2 (
-    record {
-      text = t.0 ++ u.0;
-      more = u.1;
-      parts = t.1.parts ∙ ap (λ (x : List ℕ). t.0 ++ x) u.2 ∙ sym (append_assoc t.0 u.0 u.1);
-      spelled = x.spells (t.0 ++ u.0) m.0.0 m.0.1 (record { front = t.0; back = u.0; first = subst (λ (s : List ℕ). IsString s t.0) name_is t.2; second = u.3; parts = refl });
-      kind_is = x.of_kind m.0.0 m.0.1;
-    }
+takes_by : (kind : ℕ) (extended : Bool) (rest name fields : List ℕ) → eqb kind 200 ≡ extended → IsBytes rest → cond extended (string_at rest) (Some ([], rest)) ≡ Some (name, fields)
+    → HasName kind rest name fields × IsBytes fields
+takes_by kind true rest name fields p fits e =
+    let t = reads_string.takes rest name fields fits e in (
+      record {
+        short = t.1;
+        none = λ other. absurd (other (eqb-true kind 200 p));
+        parts = t.0.parts ∙ ap (λ (b : Bool). cond b (string name) [] ++ fields) (sym p);
+      },
+      t.0.rest_fits,
+    )
+takes_by kind false rest name fields p fits e =
+    let same = some_is ([], rest) (name, fields) e in
+    let empty : [] ≡ name = ap (λ (n : List ℕ × List ℕ). n.0) same in
+    let all : rest ≡ fields = ap (λ (n : List ℕ × List ℕ). n.1) same in (
+      record {
+        short = subst (λ (n : List ℕ). length n < 2 ^ 32) empty (lit< tt);
+        none = λ other. sym empty;
+        parts = all ∙ ap (λ (b : Bool). cond b (string name) [] ++ fields) (sym p);
+      },
+      subst IsBytes all fits,
     )
 
-is_posix_rename : IsExtension posix_rename_extension request.PosixRename
-is_posix_rename = record { of_kind = λ s t. refl; spells = λ text s t h. h }
+pub name_takes : (kind : ℕ) (rest name fields : List ℕ) → IsBytes rest → name_at kind rest ≡ Some (name, fields) → HasName kind rest name fields × IsBytes fields
+name_takes kind rest name fields fits e = takes_by kind (eqb kind 200) rest name fields refl fits e
 
-is_hardlink : IsExtension hardlink request.Link
-is_hardlink = record { of_kind = λ s t. refl; spells = λ text s t h. h }
+-- ---- a decoded request has an encoding
 
-by_name : {bytes name more : List ℕ} (posix link : Bool) → NameRead bytes name more → (r : WireRequest) → bytes_eq name posix_rename_extension ≡ posix → bytes_eq name hardlink ≡ link
-    → cond posix (rename_at request.PosixRename more) (cond link (rename_at request.Link more) None) ≡ Some r → Found 200 bytes r
-by_name true link n r is_posix is_link e = named is_posix_rename n r is_posix e
-by_name false true n r is_posix is_link e = named is_hardlink n r is_link e
-by_name false false n r is_posix is_link e = absurd cc
+abbrev ShapeFits : Shape → Type 0
+ShapeFits shape = (x : Values shape) (text : List ℕ) → SpellsShape shape x text → RequestFits (request_with shape x)
 
-extension : (o : Option (List ℕ × List ℕ)) (bytes : List ℕ) (r : WireRequest) → IsBytes bytes → string_at bytes ≡ o → extended_by o ≡ Some r → Found 200 bytes r
-extension None bytes r fits read e = absurd cc
-extension (Some name) bytes r fits read e = by_name (bytes_eq name.0 posix_rename_extension) (bytes_eq name.0 hardlink) (record { fits = fits; read = read }) r refl refl e
+abbrev Row : Type 0
+Row = ℕ × Option (List ℕ) × Shape
 
-all_sound : AllByRecursion IsSound readers
-all_sound = (
-  record { finds = finds_made {make = λ x. request.Open x.0 x.1.0 x.1.1} (record { reads = as_open; of_kind = λ x. refl; spells = λ text x h. h }) },
-  (
-    one_string request.Close 4 (λ s. refl) (λ text s h. h),
-    (
-      record { finds = finds_made {make = λ x. request.Read x.0 x.1.0 x.1.1} (record { reads = as_read; of_kind = λ x. refl; spells = λ text x h. h }) },
-      (
-        record { finds = finds_made {make = λ x. request.Write x.0 x.1.0 x.1.1} (record { reads = as_write; of_kind = λ x. refl; spells = λ text x h. h }) },
-        (
-          one_string request.LStat 7 (λ s. refl) (λ text s h. h),
-          (
-            one_string request.FStat 8 (λ s. refl) (λ text s h. h),
-            (
-              string_and_attrs request.SetStat 9 (λ s a. refl) (λ text s a h. h),
-              (
-                string_and_attrs request.FSetStat 10 (λ s a. refl) (λ text s a h. h),
-                (
-                  one_string request.OpenDir 11 (λ s. refl) (λ text s h. h),
-                  (
-                    one_string request.ReadDir 12 (λ s. refl) (λ text s h. h),
-                    (
-                      one_string request.Remove 13 (λ s. refl) (λ text s h. h),
-                      (
-                        string_and_attrs request.Mkdir 14 (λ s a. refl) (λ text s a h. h),
-                        (
-                          one_string request.Rmdir 15 (λ s. refl) (λ text s h. h),
-                          (
-                            one_string request.RealPath 16 (λ s. refl) (λ text s h. h),
-                            (
-                              one_string request.Stat 17 (λ s. refl) (λ text s h. h),
-                              (
-                                two_strings request.Rename 18 (λ s t. refl) (λ text s t h. h),
-                                (record { finds = λ bytes r fits e. extension (string_at bytes) bytes r fits refl e }, tt),
-                              ),
-                            ),
-                          ),
-                        ),
-                      ),
-                    ),
-                  ),
-                ),
-              ),
-            ),
-          ),
-        ),
-      ),
-    ),
-  ),
-)
+abbrev RowFits : Row → Type 0
+RowFits row = ShapeFits row.2
 
-kept : {kind : ℕ} {reader : ℕ × (List ℕ → Option WireRequest)} {bytes : List ℕ} {r : WireRequest} → IsSound reader → (same : Bool) → eqb kind reader.0 ≡ same → IsBytes bytes → (o : Option WireRequest)
-    → (o ≡ Some r → Found kind bytes r) → cond same (reader.1 bytes) o ≡ Some r → Found kind bytes r
-kept {kind} {reader} {bytes} {r} sound true same fits o later e = subst (λ (k : ℕ). Found k bytes r) (sym (eqb-true kind reader.0 same)) (sound.finds bytes r fits e)
-kept sound false same fits o later e = later e
+text_fits : (make : List ℕ → WireRequest) → ((s : List ℕ) → IsShort s → RequestFits (make s)) → ShapeFits (OneText make)
+text_fits make fits x text h = fits x h.short
 
-picked : (rs : List (ℕ × (List ℕ → Option WireRequest))) → AllByRecursion IsSound rs → (kind : ℕ) (bytes : List ℕ) (r : WireRequest) → IsBytes bytes → by_kind rs kind bytes ≡ Some r → Found kind bytes r
-picked [] all kind bytes r fits e = absurd cc
-picked (reader ∷ rs) all kind bytes r fits e =
-    kept all.0 (eqb kind reader.0) refl fits (by_kind rs kind bytes) (λ later. picked rs all.1 kind bytes r fits later) e
+attrs_fit : (make : List ℕ → Attrs → WireRequest) → ((s : List ℕ) (a : Attrs) → IsShort s → AttrsFit a → RequestFits (make s a)) → ShapeFits (TextAndAttrs make)
+attrs_fit make fits x text h = fits x.0 x.1 h.first.short h.second.fits
 
-pub request_takes : (kind : ℕ) (bytes : List ℕ) (r : WireRequest) → IsBytes bytes → request_at kind bytes ≡ Some r → Found kind bytes r
-unfolding request_at
-request_takes kind bytes r fits e = picked readers all_sound kind bytes r fits e
+texts_fit : (make : List ℕ → List ℕ → WireRequest) → ((s t : List ℕ) → IsShort s → IsShort t → RequestFits (make s t)) → ShapeFits (TwoTexts make)
+texts_fit make fits x text h = fits x.0 x.1 h.first.short h.second.short
 
--- ---- the converse
+infixr 5 ◌▹◌
+abbrev ◌▹◌ : {A B : Type 0} → A → B → A × B
+a ▹ b = (a, b)
 
-string_back : (make : List ℕ → WireRequest) (s text more : List ℕ) → IsString s text → string_request_at make (text ++ more) ≡ Some (make s)
-string_back make s text more h = ap (option_map make) (fields_again string_at IsString as_string s text more h)
+all_fit : AllByRecursion RowFits requests
+all_fit =
+    (λ x text h. (h.first.short, h.second.second.fits))
+    ▹ text_fits request.Close (λ s h. h)
+    ▹ (λ x text h. (h.first.short, h.second.first.fits, h.second.second.fits))
+    ▹ (λ x text h. (h.first.short, h.second.first.fits, h.second.second.short))
+    ▹ text_fits request.LStat (λ s h. h)
+    ▹ text_fits request.FStat (λ s h. h)
+    ▹ attrs_fit request.SetStat (λ s a h k. (h, k))
+    ▹ attrs_fit request.FSetStat (λ s a h k. (h, k))
+    ▹ text_fits request.OpenDir (λ s h. h)
+    ▹ text_fits request.ReadDir (λ s h. h)
+    ▹ text_fits request.Remove (λ s h. h)
+    ▹ attrs_fit request.Mkdir (λ s a h k. (h, k))
+    ▹ text_fits request.Rmdir (λ s h. h)
+    ▹ text_fits request.RealPath (λ s h. h)
+    ▹ text_fits request.Stat (λ s h. h)
+    ▹ texts_fit request.Rename (λ s t h k. (h, k))
+    ▹ texts_fit request.PosixRename (λ s t h k. (h, k))
+    ▹ texts_fit request.Link (λ s t h k. (h, k))
+    ▹ text_fits (λ handle. request.FSetStat handle no_attrs) (λ s h. (h, record { size = tt; owner = tt; permissions = tt; times = tt }))
+    ▹ attrs_fit request.SetStat (λ s a h k. (h, k))
+    ▹ tt
 
-attrs_back : (make : List ℕ → Attrs → WireRequest) (s : List ℕ) (a : Attrs) (text more : List ℕ) → (IsString s ⨾ IsAttrs a) text → attrs_request_at make (text ++ more) ≡ Some (make s a)
-attrs_back make s a text more h =
-    ap (option_map (λ (x : List ℕ × Attrs). make x.0 x.1)) (fields_again (both_at string_at attrs_at) (Both IsString IsAttrs) as_string_and_attrs (s, a) text more h)
+picked_by : (row : Row) (rows : List Row) (kind : ℕ) (name : List ℕ) (shape : Shape) (same : Bool) → RowFits row → (shape_in rows kind name ≡ Some shape → ShapeFits shape)
+    → cond same (Some row.2) (shape_in rows kind name) ≡ Some shape → ShapeFits shape
+picked_by row rows kind name shape true fits later e = subst ShapeFits (some_is row.2 shape e) fits
+picked_by row rows kind name shape false fits later e = later e
 
-strings_back : (make : List ℕ → List ℕ → WireRequest) (s t text more : List ℕ) → (IsString s ⨾ IsString t) text → rename_at make (text ++ more) ≡ Some (make s t)
-strings_back make s t text more h =
-    ap (option_map (λ (x : List ℕ × List ℕ). make x.0 x.1)) (fields_again (both_at string_at string_at) (Both IsString IsString) as_two_strings (s, t) text more h)
+picked : (rows : List Row) → AllByRecursion RowFits rows → (kind : ℕ) (name : List ℕ) (shape : Shape) → shape_in rows kind name ≡ Some shape → ShapeFits shape
+picked [] all kind name shape e = absurd cc
+picked (row ∷ rows) all kind name shape e =
+    picked_by row rows kind name shape _ all.0 (λ later. picked rows all.1 kind name shape later) e
 
-extension_back : (make : List ℕ → List ℕ → WireRequest) (known old new text more : List ℕ) → ((rest : List ℕ) → extended_by (Some (known, rest)) ≡ rename_at make rest)
-    → (IsString known ⨾ IsString old ⨾ IsString new) text → extended_at (text ++ more) ≡ Some (make old new)
-extension_back make known old new text more by h =
-    let parts : text ++ more ≡ h.front ++ (h.back ++ more) = ap (λ (t : List ℕ). t ++ more) h.parts ∙ append_assoc h.front h.back more in
-    ap extended_at parts ∙ ap extended_by (as_string.again known h.front (h.back ++ more) h.first) ∙ by (h.back ++ more) ∙ strings_back make old new h.back more h.second
-
-pub request_again : (r : WireRequest) (text more : List ℕ) → SpellsFields text r → request_at (kind_of r) (text ++ more) ≡ Some r
-unfolding request_at
-request_again (request.Open filename flags attrs) text more h =
-    ap (option_map (λ x. request.Open x.0 x.1.0 x.1.1)) (fields_again (both_at string_at (both_at flags_at attrs_at)) (Both IsString (Both IsFlags IsAttrs)) as_open (filename, (flags, attrs)) text more h)
-request_again (request.Close handle) text more h = string_back request.Close handle text more h
-request_again (request.Read handle offset len) text more h =
-    ap (option_map (λ x. request.Read x.0 x.1.0 x.1.1)) (fields_again (both_at string_at (both_at (number_at w64) (number_at w32))) (Both IsString (Both IsU64 IsU32)) as_read (handle, (offset, len)) text more h)
-request_again (request.Write handle offset bytes) text more h =
-    ap (option_map (λ x. request.Write x.0 x.1.0 x.1.1)) (fields_again (both_at string_at (both_at (number_at w64) string_at)) (Both IsString (Both IsU64 IsString)) as_write (handle, (offset, bytes)) text more h)
-request_again (request.LStat path) text more h = string_back request.LStat path text more h
-request_again (request.FStat handle) text more h = string_back request.FStat handle text more h
-request_again (request.SetStat path attrs) text more h = attrs_back request.SetStat path attrs text more h
-request_again (request.FSetStat handle attrs) text more h = attrs_back request.FSetStat handle attrs text more h
-request_again (request.OpenDir path) text more h = string_back request.OpenDir path text more h
-request_again (request.ReadDir handle) text more h = string_back request.ReadDir handle text more h
-request_again (request.Remove path) text more h = string_back request.Remove path text more h
-request_again (request.Mkdir path attrs) text more h = attrs_back request.Mkdir path attrs text more h
-request_again (request.Rmdir path) text more h = string_back request.Rmdir path text more h
-request_again (request.RealPath path) text more h = string_back request.RealPath path text more h
-request_again (request.Stat path) text more h = string_back request.Stat path text more h
-request_again (request.Rename old new) text more h = strings_back request.Rename old new text more h
-request_again (request.PosixRename old new) text more h = extension_back request.PosixRename posix_rename_extension old new text more (λ rest. refl) h
-request_again (request.Link old new) text more h = extension_back request.Link hardlink old new text more (λ rest. refl) h
+pub request_fits : (kind : ℕ) (rest : List ℕ) (r : WireRequest) → HasRequest kind rest r → RequestFits r
+unfolding shape_of
+request_fits kind rest r h =
+    subst RequestFits (sym h.is) (picked requests all_fit kind h.name h.shape h.row h.values h.text h.spelled)

@@ -1,5 +1,6 @@
 -- The encoding that is sent is in the grammar.
-use Rattle.std.proofs.Common.{ℕ, ◌<◌, ◌^◌, List, [], ◌∷◌, ◌++◌, refl, append_assoc, append-nil, ap, sym, lit<}
+use Rattle.std.proofs.Common.{◌≡◌, ℕ, ◌<◌, ◌^◌, Bool, false, cond, eqb, List, [], ◌∷◌, ◌++◌, length, Some, refl, append_assoc, append-nil, ap, sym, subst, ◌∙◌, lit<}
+use Rattle.std.specs.Prelude.{codes}
 use Rattle.sf_field.specs.declared.open_flags.OpenFlags.{OpenFlags}
 use Rattle.sf_field.specs.Fields.{be32, be64, string}
 use Rattle.sf_field.specs.OpenFlags.{bits_of}
@@ -8,7 +9,8 @@ use Rattle.sf_field.proofs.Laws.{bits_say}
 use Rattle.sf_request.specs.declared.request.WireRequest.{WireRequest}
 use Rattle.sf_request.specs.declared.request.WireRequest.TheVariants as request
 use Rattle.sf_request.specs.declared.request.Asked.TheVariants.{Init, Request}
-use Rattle.sf_request.specs.Requests.{IsU32, IsU64, IsString, IsFlags, ◌⨾◌, SpellsFields, Asks, kind_of, posix_rename_extension, hardlink, fields_text, request_body, init_body, IsShort, RequestFits}
+use Rattle.sf_request.specs.Requests.{IsU32, IsU64, IsString, IsFlags, ◌⨾◌, Shape, Values, SpellsShape, request_with, shape_of, HasRequest, Asks, kind_of, fields_text, request_body, init_body, IsShort, RequestFits}
+use Rattle.sf_request.specs.Requests.Shape.{OneText, TextAndAttrs, TwoTexts, OpenFields, ReadFields, WriteFields}
 
 a_string : (s : List ℕ) → IsShort s → IsString s (string s)
 a_string s short = record { short = short; is = refl }
@@ -28,28 +30,75 @@ then x y p q = record { front = x; back = y; first = p; second = q; parts = refl
 three : {A B C : List ℕ → Type 0} (x y z : List ℕ) → A x → B y → C z → (A ⨾ B ⨾ C) (x ++ y ++ z)
 three x y z p q r = record { front = x; back = y ++ z; first = p; second = then y z q r; parts = append_assoc x y z }
 
-spelled : (r : WireRequest) → RequestFits r → SpellsFields (fields_text r) r
-spelled (request.Open filename flags attrs) fits = three _ _ _ (a_string filename fits.0) (the_flags flags) (sent_is_spelled attrs fits.1)
-spelled (request.Close handle) fits = a_string handle fits
-spelled (request.Read handle offset len) fits = three _ _ _ (a_string handle fits.0) (a_u64 offset fits.1) (a_u32 len fits.2)
-spelled (request.Write handle offset bytes) fits = three _ _ _ (a_string handle fits.0) (a_u64 offset fits.1) (a_string bytes fits.2)
-spelled (request.LStat path) fits = a_string path fits
-spelled (request.FStat handle) fits = a_string handle fits
-spelled (request.SetStat path attrs) fits = then _ _ (a_string path fits.0) (sent_is_spelled attrs fits.1)
-spelled (request.FSetStat handle attrs) fits = then _ _ (a_string handle fits.0) (sent_is_spelled attrs fits.1)
-spelled (request.OpenDir path) fits = a_string path fits
-spelled (request.ReadDir handle) fits = a_string handle fits
-spelled (request.Remove path) fits = a_string path fits
-spelled (request.Mkdir path attrs) fits = then _ _ (a_string path fits.0) (sent_is_spelled attrs fits.1)
-spelled (request.Rmdir path) fits = a_string path fits
-spelled (request.RealPath path) fits = a_string path fits
-spelled (request.Stat path) fits = a_string path fits
-spelled (request.Rename old new) fits = then _ _ (a_string old fits.0) (a_string new fits.1)
-spelled (request.PosixRename old new) fits = three _ _ _ (a_string posix_rename_extension (lit< tt)) (a_string old fits.0) (a_string new fits.1)
-spelled (request.Link old new) fits = three _ _ _ (a_string hardlink (lit< tt)) (a_string old fits.0) (a_string new fits.1)
+plainly : (kind : ℕ) (shape : Shape) (x : Values shape) (text : List ℕ) → eqb kind 200 ≡ false → shape_of kind [] ≡ Some shape → SpellsShape shape x text → HasRequest kind text (request_with shape x)
+plainly kind shape x text other row h = record {
+  name = [];
+  text = text;
+  more = [];
+  shape = shape;
+  values = x;
+  named = record {
+    short = lit< tt;
+    none = λ _. refl;
+    parts = sym (append-nil text) ∙ ap (λ (b : Bool). cond b (string []) [] ++ (text ++ [])) (sym other);
+  };
+  row = row;
+  spelled = h;
+  is = refl;
+}
+
+by_name : (name : List ℕ) (shape : Shape) (x : Values shape) (text : List ℕ) → length name < 2 ^ 32 → shape_of 200 name ≡ Some shape → SpellsShape shape x text → HasRequest 200 (string name ++ text) (request_with shape x)
+by_name name shape x text short row h = record {
+  name = name;
+  text = text;
+  more = [];
+  shape = shape;
+  values = x;
+  named = record {
+    short = short;
+    none = λ other. absurd (other refl);
+    parts = ap (λ (t : List ℕ). string name ++ t) (sym (append-nil text));
+  };
+  row = row;
+  spelled = h;
+  is = refl;
+}
+
+with_paths : (name : List ℕ) (make : List ℕ → List ℕ → WireRequest) (old new : List ℕ) → length name < 2 ^ 32 → shape_of 200 name ≡ Some (TwoTexts make) → IsShort old → IsShort new
+    → HasRequest 200 (string name ++ string old ++ string new) (make old new)
+with_paths name make old new short row p q =
+    subst (λ (t : List ℕ). HasRequest 200 t (make old new)) (sym (append_assoc (string name) (string old) (string new)))
+    (by_name name (TwoTexts make) (old, new) (string old ++ string new) short row (then _ _ (a_string old p) (a_string new q)))
+
+sent : (r : WireRequest) → RequestFits r → HasRequest (kind_of r) (fields_text r) r
+unfolding shape_of
+sent (request.Open filename flags attrs) fits =
+    plainly 3 OpenFields (filename, (flags, attrs)) _ refl refl (three _ _ _ (a_string filename fits.0) (the_flags flags) (sent_is_spelled attrs fits.1))
+sent (request.Close handle) fits = plainly 4 (OneText request.Close) handle _ refl refl (a_string handle fits)
+sent (request.Read handle offset len) fits =
+    plainly 5 ReadFields (handle, (offset, len)) _ refl refl (three _ _ _ (a_string handle fits.0) (a_u64 offset fits.1) (a_u32 len fits.2))
+sent (request.Write handle offset bytes) fits =
+    plainly 6 WriteFields (handle, (offset, bytes)) _ refl refl (three _ _ _ (a_string handle fits.0) (a_u64 offset fits.1) (a_string bytes fits.2))
+sent (request.LStat path) fits = plainly 7 (OneText request.LStat) path _ refl refl (a_string path fits)
+sent (request.FStat handle) fits = plainly 8 (OneText request.FStat) handle _ refl refl (a_string handle fits)
+sent (request.SetStat path attrs) fits =
+    plainly 9 (TextAndAttrs request.SetStat) (path, attrs) _ refl refl (then _ _ (a_string path fits.0) (sent_is_spelled attrs fits.1))
+sent (request.FSetStat handle attrs) fits =
+    plainly 10 (TextAndAttrs request.FSetStat) (handle, attrs) _ refl refl (then _ _ (a_string handle fits.0) (sent_is_spelled attrs fits.1))
+sent (request.OpenDir path) fits = plainly 11 (OneText request.OpenDir) path _ refl refl (a_string path fits)
+sent (request.ReadDir handle) fits = plainly 12 (OneText request.ReadDir) handle _ refl refl (a_string handle fits)
+sent (request.Remove path) fits = plainly 13 (OneText request.Remove) path _ refl refl (a_string path fits)
+sent (request.Mkdir path attrs) fits =
+    plainly 14 (TextAndAttrs request.Mkdir) (path, attrs) _ refl refl (then _ _ (a_string path fits.0) (sent_is_spelled attrs fits.1))
+sent (request.Rmdir path) fits = plainly 15 (OneText request.Rmdir) path _ refl refl (a_string path fits)
+sent (request.RealPath path) fits = plainly 16 (OneText request.RealPath) path _ refl refl (a_string path fits)
+sent (request.Stat path) fits = plainly 17 (OneText request.Stat) path _ refl refl (a_string path fits)
+sent (request.Rename old new) fits = plainly 18 (TwoTexts request.Rename) (old, new) _ refl refl (then _ _ (a_string old fits.0) (a_string new fits.1))
+sent (request.PosixRename old new) fits = with_paths (codes "posix-rename@openssh.com") request.PosixRename old new (lit< tt) refl fits.0 fits.1
+sent (request.Link old new) fits = with_paths (codes "hardlink@openssh.com") request.Link old new (lit< tt) refl fits.0 fits.1
 
 pub sent_asks : (id : ℕ) (r : WireRequest) → id < 2 ^ 32 → RequestFits r → Asks (request_body id r) (Request id r)
-sent_asks id r id_fits fits = (fields_text r, [], record { fits = id_fits; parts = ap (λ (t : List ℕ). kind_of r ∷ be32 id ++ t) (sym (append-nil (fields_text r))) }, spelled r fits)
+sent_asks id r id_fits fits = (kind_of r, fields_text r, record { fits = id_fits; parts = refl }, sent r fits)
 
 pub init_asks : Asks init_body (Init 3)
 init_asks = ([], record { fits = lit< tt; parts = refl })

@@ -1,14 +1,13 @@
 -- No public clause cites this module.
 -- Decoding of a body, from left to right.
-use Rattle.std.specs.Prelude.{ℕ, List, [], ◌∷◌, Bool, false, Option, Some, None, option_map, not, ◌==◌, ◌||◌, if◌then◌else◌}
+use Rattle.std.specs.Prelude.{ℕ, List, [], ◌∷◌, Bool, Option, Some, None, option_map, codes, ◌==◌, ◌&&◌, if◌then◌else◌}
 use Rattle.std.specs.Str.{bytes_eq}
 use Rattle.std.specs.Int.{w32, w64}
-use Rattle.sf_field.specs.declared.attrs.Attrs.{Attrs}
 use Rattle.sf_request.specs.declared.request.WireRequest.{WireRequest}
-use Rattle.sf_request.specs.declared.request.WireRequest.TheVariants as request
 use Rattle.sf_request.specs.declared.request.Asked.{Asked}
-use Rattle.sf_request.specs.declared.request.Asked.TheVariants.{Init, Request, BadFields, Unknown, NoVersion, NoId}
-use Rattle.sf_request.specs.Requests.{is_request, posix_rename_extension, hardlink}
+use Rattle.sf_request.specs.declared.request.Asked.TheVariants.{Init, Request, Limits, BadFields, Unknown, NoVersion, NoId}
+use Rattle.sf_request.specs.Requests.{Shape, Values, request_with, shape_of}
+use Rattle.sf_request.specs.Requests.Shape.{OneText, TextAndAttrs, TwoTexts, OpenFields, ReadFields, WriteFields}
 use Rattle.sf_field.specs.Reading.{◌>>=◌, number_at, string_at, attrs_at, flags_at}
 
 -- two fields in sequence
@@ -23,78 +22,43 @@ both_at first second bytes = do
 unfoldable pub fields : {A : Type 0} → (List ℕ → Option (A × List ℕ)) → List ℕ → Option A
 fields read bytes = read bytes >>= λ x. Some x.0
 
-abbrev pub two_strings_at : List ℕ → Option (List ℕ × List ℕ)
-two_strings_at bytes = fields (both_at string_at string_at) bytes
+-- the values of a shape's fields
+abbrev pub values_at : (shape : Shape) → List ℕ → Option (Values shape × List ℕ)
+values_at (OneText make) = string_at
+values_at (TextAndAttrs make) = both_at string_at attrs_at
+values_at (TwoTexts make) = both_at string_at string_at
+values_at OpenFields = both_at string_at (both_at flags_at attrs_at)
+values_at ReadFields = both_at string_at (both_at (number_at w64) (number_at w32))
+values_at WriteFields = both_at string_at (both_at (number_at w64) string_at)
 
-abbrev pub open_at : List ℕ → Option WireRequest
-open_at bytes = option_map (λ x. request.Open x.0 x.1.0 x.1.1)
-    (fields (both_at string_at (both_at flags_at attrs_at)) bytes)
+abbrev pub request_at : Shape → List ℕ → Option WireRequest
+request_at shape bytes = option_map (request_with shape) (fields (values_at shape) bytes)
 
-abbrev pub read_at : List ℕ → Option WireRequest
-read_at bytes = option_map (λ x. request.Read x.0 x.1.0 x.1.1)
-    (fields (both_at string_at (both_at (number_at w64) (number_at w32))) bytes)
+-- the name of an extension, and the bytes after it; other requests have none
+abbrev pub name_at : ℕ → List ℕ → Option (List ℕ × List ℕ)
+name_at kind bytes = if kind == 200 then string_at bytes else Some ([], bytes)
 
-abbrev pub write_at : List ℕ → Option WireRequest
-write_at bytes = option_map (λ x. request.Write x.0 x.1.0 x.1.1)
-    (fields (both_at string_at (both_at (number_at w64) string_at)) bytes)
-
-abbrev pub string_request_at : (List ℕ → WireRequest) → List ℕ → Option WireRequest
-string_request_at make bytes = option_map make (fields string_at bytes)
-
-abbrev pub attrs_request_at : (List ℕ → Attrs → WireRequest) → List ℕ → Option WireRequest
-attrs_request_at make bytes =
-    option_map (λ x. make x.0 x.1) (fields (both_at string_at attrs_at) bytes)
-
-abbrev pub rename_at : (List ℕ → List ℕ → WireRequest) → List ℕ → Option WireRequest
-rename_at make bytes = option_map (λ x. make x.0 x.1) (two_strings_at bytes)
-
--- an extension by its name
-abbrev pub other_name : Option (List ℕ × List ℕ) → Bool
-other_name None = false
-other_name (Some name) = not (bytes_eq name.0 posix_rename_extension || bytes_eq name.0 hardlink)
-
-abbrev pub extended_by : Option (List ℕ × List ℕ) → Option WireRequest
-extended_by None = None
-extended_by (Some name) =
-    if bytes_eq name.0 posix_rename_extension then rename_at request.PosixRename name.1
-    else if bytes_eq name.0 hardlink then rename_at request.Link name.1 else None
-
-abbrev pub extended_at : List ℕ → Option WireRequest
-extended_at bytes = extended_by (string_at bytes)
-
--- the request types, each with the decoder of its fields
-abbrev pub readers : List (ℕ × (List ℕ → Option WireRequest))
-readers =
-    (3, open_at) ∷ (4, string_request_at request.Close) ∷ (5, read_at) ∷ (6, write_at)
-    ∷ (7, string_request_at request.LStat) ∷ (8, string_request_at request.FStat)
-    ∷ (9, attrs_request_at request.SetStat) ∷ (10, attrs_request_at request.FSetStat)
-    ∷ (11, string_request_at request.OpenDir) ∷ (12, string_request_at request.ReadDir)
-    ∷ (13, string_request_at request.Remove) ∷ (14, attrs_request_at request.Mkdir)
-    ∷ (15, string_request_at request.Rmdir) ∷ (16, string_request_at request.RealPath)
-    ∷ (17, string_request_at request.Stat) ∷ (18, rename_at request.Rename) ∷ (200, extended_at)
-    ∷ []
-
-abbrev pub by_kind : List (ℕ × (List ℕ → Option WireRequest)) → ℕ → List ℕ → Option WireRequest
-by_kind [] kind bytes = None
-by_kind (r ∷ rs) kind bytes = if kind == r.0 then r.1 bytes else by_kind rs kind bytes
-
-unfoldable pub request_at : ℕ → List ℕ → Option WireRequest
-request_at kind bytes = by_kind readers kind bytes
-
--- a request by its decoded fields
 abbrev pub asked_by : ℕ → Option WireRequest → Asked
 asked_by id None = BadFields id
 asked_by id (Some request) = Request id request
 
-unfoldable pub is_unknown : ℕ → List ℕ → Bool
-is_unknown kind bytes = if kind == 200 then other_name (string_at bytes) else not (is_request kind)
+-- by the shape of the request, if it is known
+abbrev pub asked_as : ℕ → Option Shape → List ℕ → Asked
+asked_as id None bytes = Unknown id
+asked_as id (Some shape) bytes = asked_by id (request_at shape bytes)
+
+abbrev pub is_limits : ℕ → List ℕ → Bool
+is_limits kind name = kind == 200 && bytes_eq name (codes "limits@openssh.com")
+
+abbrev pub asked_named : ℕ → ℕ → Option (List ℕ × List ℕ) → Asked
+asked_named kind id None = BadFields id
+asked_named kind id (Some n) =
+    if is_limits kind n.0 then Limits id else asked_as id (shape_of kind n.0) n.1
 
 unfoldable pub asked_under : ℕ → Option (ℕ × List ℕ) → Asked
 asked_under kind None = if kind == 1 then NoVersion else NoId
 asked_under kind (Some n) =
-    if kind == 1 then Init n.0
-    else if is_unknown kind n.1 then Unknown n.0
-    else asked_by n.0 (request_at kind n.1)
+    if kind == 1 then Init n.0 else asked_named kind n.0 (name_at kind n.1)
 
 unfoldable pub asked_of : List ℕ → Asked
 asked_of [] = NoId

@@ -1,16 +1,17 @@
 -- The grammar of requests: what a body encodes.
-use Rattle.std.specs.Prelude.{◌≡◌, ◌≢◌, ℕ, ◌<◌, ◌^◌, ◌⊎◌, List, ◌∷◌, ◌++◌, length, codes, Bool, true, false, nat_lt, ◌==◌, ◌&&◌, ◌||◌}
+use Rattle.std.specs.Prelude.{◌≡◌, ◌≢◌, ℕ, ◌<◌, ◌^◌, List, [], ◌∷◌, ◌++◌, length, codes, Bool, true, Option, Some, None, ◌==◌, ◌&&◌, if◌then◌else◌}
+use Rattle.std.specs.Str.{bytes_eq}
 use Rattle.sf_field.specs.declared.attrs.Attrs.{Attrs}
 use Rattle.sf_field.specs.declared.open_flags.OpenFlags.{OpenFlags}
 use Rattle.sf_request.specs.declared.request.WireRequest.{WireRequest}
 use Rattle.sf_request.specs.declared.request.WireRequest.TheVariants as request
 use Rattle.sf_request.specs.declared.request.Asked.{Asked}
-use Rattle.sf_request.specs.declared.request.Asked.TheVariants.{Init, Request, BadFields, Unknown, NoVersion, NoId}
+use Rattle.sf_request.specs.declared.request.Asked.TheVariants.{Init, Request, Limits, BadFields, Unknown, NoVersion, NoId}
 use Rattle.sf_field.specs.Fields.{be32, be64, string}
-use Rattle.sf_field.specs.Attributes.{SpellsAttrs, AttrsFit, attrs_text}
+use Rattle.sf_field.specs.Attributes.{SpellsAttrs, AttrsFit, attrs_text, no_attrs}
 use Rattle.sf_field.specs.OpenFlags.{open_flags, bits_of}
 
--- the type byte
+-- the type byte of a request as a client sends it
 abbrev pub kind_of : WireRequest → ℕ
 kind_of (request.Open filename flags attrs) = 3
 kind_of (request.Close handle) = 4
@@ -30,16 +31,6 @@ kind_of (request.Stat path) = 17
 kind_of (request.Rename old new) = 18
 kind_of (request.PosixRename old new) = 200
 kind_of (request.Link old new) = 200
-
--- 3 to 18, and extended requests
-abbrev pub is_request : ℕ → Bool
-is_request kind = nat_lt 2 kind && nat_lt kind 19 || kind == 200
-
-abbrev pub posix_rename_extension : List ℕ
-posix_rename_extension = codes "posix-rename@openssh.com"
-
-abbrev pub hardlink : List ℕ
-hardlink = codes "hardlink@openssh.com"
 
 -- the encodings of one field
 pub record IsU32 (n : ℕ) (text : List ℕ) : Type 0 where
@@ -72,62 +63,129 @@ pub record ◌⨾◌ (First Second : List ℕ → Type 0) (text : List ℕ) : Ty
   pub second : Second back
   pub parts : text ≡ front ++ back
 
--- the encoding of the fields after the id
-abbrev pub SpellsFields : List ℕ → WireRequest → Type 0
-SpellsFields text (request.Open filename flags attrs) =
-    (IsString filename ⨾ IsFlags flags ⨾ IsAttrs attrs) text
-SpellsFields text (request.Close handle) = IsString handle text
-SpellsFields text (request.Read handle offset len) =
-    (IsString handle ⨾ IsU64 offset ⨾ IsU32 len) text
-SpellsFields text (request.Write handle offset bytes) =
-    (IsString handle ⨾ IsU64 offset ⨾ IsString bytes) text
-SpellsFields text (request.LStat path) = IsString path text
-SpellsFields text (request.FStat handle) = IsString handle text
-SpellsFields text (request.SetStat path attrs) = (IsString path ⨾ IsAttrs attrs) text
-SpellsFields text (request.FSetStat handle attrs) = (IsString handle ⨾ IsAttrs attrs) text
-SpellsFields text (request.OpenDir path) = IsString path text
-SpellsFields text (request.ReadDir handle) = IsString handle text
-SpellsFields text (request.Remove path) = IsString path text
-SpellsFields text (request.Mkdir path attrs) = (IsString path ⨾ IsAttrs attrs) text
-SpellsFields text (request.Rmdir path) = IsString path text
-SpellsFields text (request.RealPath path) = IsString path text
-SpellsFields text (request.Stat path) = IsString path text
-SpellsFields text (request.Rename old new) = (IsString old ⨾ IsString new) text
-SpellsFields text (request.PosixRename old new) =
-    (IsString posix_rename_extension ⨾ IsString old ⨾ IsString new) text
-SpellsFields text (request.Link old new) = (IsString hardlink ⨾ IsString old ⨾ IsString new) text
+-- The shapes of a request's fields. A text is a path or a handle.
+pub data Shape : Type 0 where
+  OneText : (make : List ℕ → WireRequest) → Shape
+  TextAndAttrs : (make : List ℕ → Attrs → WireRequest) → Shape
+  TwoTexts : (make : List ℕ → List ℕ → WireRequest) → Shape
+  OpenFields : Shape
+  ReadFields : Shape
+  WriteFields : Shape
+
+-- the values of the fields
+abbrev pub Values : Shape → Type 0
+Values (OneText make) = List ℕ
+Values (TextAndAttrs make) = List ℕ × Attrs
+Values (TwoTexts make) = List ℕ × List ℕ
+Values OpenFields = List ℕ × (OpenFlags × Attrs)
+Values ReadFields = List ℕ × (ℕ × ℕ)
+Values WriteFields = List ℕ × (ℕ × List ℕ)
+
+-- the encoding of the values
+abbrev pub SpellsShape : (shape : Shape) → Values shape → List ℕ → Type 0
+SpellsShape (OneText make) x = IsString x
+SpellsShape (TextAndAttrs make) x = IsString x.0 ⨾ IsAttrs x.1
+SpellsShape (TwoTexts make) x = IsString x.0 ⨾ IsString x.1
+SpellsShape OpenFields x = IsString x.0 ⨾ IsFlags x.1.0 ⨾ IsAttrs x.1.1
+SpellsShape ReadFields x = IsString x.0 ⨾ IsU64 x.1.0 ⨾ IsU32 x.1.1
+SpellsShape WriteFields x = IsString x.0 ⨾ IsU64 x.1.0 ⨾ IsString x.1.1
+
+-- the request with these values
+abbrev pub request_with : (shape : Shape) → Values shape → WireRequest
+request_with (OneText make) x = make x
+request_with (TextAndAttrs make) x = make x.0 x.1
+request_with (TwoTexts make) x = make x.0 x.1
+request_with OpenFields x = request.Open x.0 x.1.0 x.1.1
+request_with ReadFields x = request.Read x.0 x.1.0 x.1.1
+request_with WriteFields x = request.Write x.0 x.1.0 x.1.1
+
+-- The table of requests: the type, the name of an extension, and the shape.
+abbrev pub requests : List (ℕ × Option (List ℕ) × Shape)
+requests =
+    (3, None, OpenFields)
+    ∷ (4, None, OneText request.Close)
+    ∷ (5, None, ReadFields)
+    ∷ (6, None, WriteFields)
+    ∷ (7, None, OneText request.LStat)
+    ∷ (8, None, OneText request.FStat)
+    ∷ (9, None, TextAndAttrs request.SetStat)
+    ∷ (10, None, TextAndAttrs request.FSetStat)
+    ∷ (11, None, OneText request.OpenDir)
+    ∷ (12, None, OneText request.ReadDir)
+    ∷ (13, None, OneText request.Remove)
+    ∷ (14, None, TextAndAttrs request.Mkdir)
+    ∷ (15, None, OneText request.Rmdir)
+    ∷ (16, None, OneText request.RealPath)
+    ∷ (17, None, OneText request.Stat)
+    ∷ (18, None, TwoTexts request.Rename)
+    ∷ (200, Some (codes "posix-rename@openssh.com"), TwoTexts request.PosixRename)
+    ∷ (200, Some (codes "hardlink@openssh.com"), TwoTexts request.Link)
+    ∷ (200, Some (codes "fsync@openssh.com"), OneText (λ handle. request.FSetStat handle no_attrs))
+    ∷ (200, Some (codes "lsetstat@openssh.com"), TextAndAttrs request.SetStat)
+    ∷ []
+
+-- the shape of a request of this type; an extension also has this name
+abbrev pub is_named : Option (List ℕ) → List ℕ → Bool
+is_named None name = true
+is_named (Some known) name = bytes_eq name known
+
+abbrev pub shape_in : List (ℕ × Option (List ℕ) × Shape) → ℕ → List ℕ → Option Shape
+shape_in [] kind name = None
+shape_in (row ∷ rows) kind name =
+    if kind == row.0 && is_named row.1 name then Some row.2 else shape_in rows kind name
+
+unfoldable pub shape_of : ℕ → List ℕ → Option Shape
+shape_of kind name = shape_in requests kind name
 
 -- a body: its type, its id, and the remaining bytes
 pub record HasId (body : List ℕ) (kind id : ℕ) (rest : List ℕ) : Type 0 where
   pub fits : id < 2 ^ 32
   pub parts : body ≡ kind ∷ be32 id ++ rest
 
--- an extended request with an unknown name
-pub record HasOtherName (rest : List ℕ) : Type 0 where
-  pub name : List ℕ
-  pub more : List ℕ
+-- The remaining bytes of an extended request begin with its name. Other requests have none.
+pub record HasName (kind : ℕ) (rest name fields : List ℕ) : Type 0 where
   pub short : length name < 2 ^ 32
-  pub parts : rest ≡ string name ++ more
-  pub no_rename : name ≢ posix_rename_extension
-  pub no_link : name ≢ hardlink
+  pub none : kind ≢ 200 → name ≡ []
+  pub parts : rest ≡ (if kind == 200 then string name else []) ++ fields
 
-abbrev pub IsUnknown : ℕ → List ℕ → Type 0
-IsUnknown kind rest = ((is_request kind ≡ false) × (kind ≢ 1)) ⊎ ((kind ≡ 200) × HasOtherName rest)
+-- The bytes after the id encode a request. Bytes after the fields are ignored.
+pub record HasRequest (kind : ℕ) (rest : List ℕ) (request : WireRequest) : Type 0 where
+  pub name : List ℕ
+  pub text : List ℕ
+  pub more : List ℕ
+  pub shape : Shape
+  pub values : Values shape
+  pub named : HasName kind rest name (text ++ more)
+  pub row : shape_of kind name ≡ Some shape
+  pub spelled : SpellsShape shape values text
+  pub is : request ≡ request_with shape values
+
+-- the type, or the name of the extension, is not in the table
+pub record IsUnknown (kind : ℕ) (rest : List ℕ) : Type 0 where
+  pub name : List ℕ
+  pub fields : List ℕ
+  pub named : HasName kind rest name fields
+  pub no_row : shape_of kind name ≡ None
+
+-- the extension that asks for the limits, which has no fields
+abbrev pub AsksLimits : ℕ → List ℕ → Type 0
+AsksLimits kind rest =
+    (kind ≡ 200) × (more : List ℕ) × (rest ≡ string (codes "limits@openssh.com") ++ more)
 
 abbrev pub BeginsInit : List ℕ → Type 0
 BeginsInit body = (rest : List ℕ) × (body ≡ 1 ∷ rest)
 
--- What a body encodes. Bytes after the fields are ignored.
+-- what a body encodes
 abbrev pub Asks : List ℕ → Asked → Type 0
 Asks body (Init version) = (more : List ℕ) × HasId body 1 version more
-Asks body (Request id request) = (text more : List ℕ)
-    × HasId body (kind_of request) id (text ++ more) × SpellsFields text request
-Asks body (BadFields id) = (kind : ℕ) × (rest : List ℕ) × HasId body kind id rest
-    × (is_request kind ≡ true) × (IsUnknown kind rest → ⊥)
-    × ((request : WireRequest) (text more : List ℕ) → kind_of request ≡ kind
-    → SpellsFields text request → rest ≡ text ++ more → ⊥)
-Asks body (Unknown id) =
-    (kind : ℕ) × (rest : List ℕ) × HasId body kind id rest × IsUnknown kind rest
+Asks body (Request id request) =
+    (kind : ℕ) × (rest : List ℕ) × HasId body kind id rest × HasRequest kind rest request
+Asks body (Limits id) =
+    (kind : ℕ) × (rest : List ℕ) × HasId body kind id rest × AsksLimits kind rest
+Asks body (BadFields id) = (kind : ℕ) × (rest : List ℕ) × HasId body kind id rest × (kind ≢ 1)
+    × (AsksLimits kind rest → ⊥) × (IsUnknown kind rest → ⊥) × ((request : WireRequest) → HasRequest kind rest request → ⊥)
+Asks body (Unknown id) = (kind : ℕ) × (rest : List ℕ) × HasId body kind id rest × (kind ≢ 1)
+    × (AsksLimits kind rest → ⊥) × IsUnknown kind rest
 Asks body NoVersion = (length body < 5) × BeginsInit body
 Asks body NoId = (length body < 5) × (BeginsInit body → ⊥)
 
@@ -152,8 +210,8 @@ fields_text (request.RealPath path) = string path
 fields_text (request.Stat path) = string path
 fields_text (request.Rename old new) = string old ++ string new
 fields_text (request.PosixRename old new) =
-    string posix_rename_extension ++ string old ++ string new
-fields_text (request.Link old new) = string hardlink ++ string old ++ string new
+    string (codes "posix-rename@openssh.com") ++ string old ++ string new
+fields_text (request.Link old new) = string (codes "hardlink@openssh.com") ++ string old ++ string new
 
 -- the body of a request: its type, its id, and its fields
 abbrev pub request_body : ℕ → WireRequest → List ℕ

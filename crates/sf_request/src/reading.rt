@@ -1,14 +1,15 @@
 //! Decoding of a request. Its strings are borrowed from the body.
 
-ghost use Rattle.std.specs.Prelude.{◌≡◌, ◌≤◌, Some};
+ghost use Rattle.std.specs.Prelude.{◌≡◌, option_map};
 ghost use Rattle.sf_request.specs.declared.request.Asked.{Asked};
-ghost use Rattle.sf_request.specs.Requests.{Asks};
-ghost use Rattle.sf_field.specs.Reading.{string_at, attrs_at};
-ghost use Rattle.sf_request.specs.Reading.{fields, both_at, two_strings_at, open_at, read_at, write_at, request_at, asked_under, asked_of};
+ghost use Rattle.sf_request.specs.Requests.{Asks, shape_of};
+ghost use Rattle.sf_request.specs.Requests.Shape.{OpenFields, ReadFields, WriteFields};
+ghost use Rattle.sf_field.specs.Reading.{Gives, string_at, attrs_at};
+ghost use Rattle.sf_request.specs.Reading.{fields, both_at, request_at, name_at, asked_named, asked_of};
 
 use crate::byte_str::ByteStr;
 use crate::request::{Asked, WireRequest};
-use sf_field::{Attrs, OpenFlags, attrs_of, bytes_at, u32_at, u64_at};
+use sf_field::{Attrs, NO_ATTRS, OpenFlags, attrs_of, bytes_at, u32_at, u64_at};
 
 // The types of the packets that a client sends. All from OPEN to RENAME are requests.
 pub(crate) const INIT: u8 = 1;
@@ -62,7 +63,7 @@ fn string(bytes: &[u8]) -> Option<ByteStr<'_>>
 
 #[tactic(auto, unfolding(crate::specs::Reading::fields))]
 fn two_strings(bytes: &[u8]) -> Option<(ByteStr<'_>, ByteStr<'_>)>
-    ensures { result ≡ two_strings_at bytes.now }
+    ensures { result ≡ fields (both_at string_at string_at) bytes.now }
 {
     let (first, rest) = bytes_at(bytes)?;
     let (second, _) = bytes_at(rest)?;
@@ -80,7 +81,7 @@ fn string_and_attrs(bytes: &[u8]) -> Option<(ByteStr<'_>, Attrs)>
 
 #[tactic(auto, unfolding(crate::specs::Reading::fields, sf_field::specs::Reading::flags_at))]
 fn open(bytes: &[u8]) -> Option<WireRequest<'_>>
-    ensures { result ≡ open_at bytes.now }
+    ensures { result ≡ request_at OpenFields bytes.now }
 {
     let (filename, rest) = bytes_at(bytes)?;
     let (bits, rest) = u32_at(rest)?;
@@ -94,7 +95,7 @@ fn open(bytes: &[u8]) -> Option<WireRequest<'_>>
 
 #[tactic(auto, unfolding(crate::specs::Reading::fields))]
 fn read(bytes: &[u8]) -> Option<WireRequest<'_>>
-    ensures { result ≡ read_at bytes.now }
+    ensures { result ≡ request_at ReadFields bytes.now }
 {
     let (handle, rest) = bytes_at(bytes)?;
     let (offset, rest) = u64_at(rest)?;
@@ -108,7 +109,7 @@ fn read(bytes: &[u8]) -> Option<WireRequest<'_>>
 
 #[tactic(auto, unfolding(crate::specs::Reading::fields))]
 fn write(bytes: &[u8]) -> Option<WireRequest<'_>>
-    ensures { result ≡ write_at bytes.now }
+    ensures { result ≡ request_at WriteFields bytes.now }
 {
     let (handle, rest) = bytes_at(bytes)?;
     let (offset, rest) = u64_at(rest)?;
@@ -120,84 +121,92 @@ fn write(bytes: &[u8]) -> Option<WireRequest<'_>>
     })
 }
 
-#[tactic(auto, unfolding(crate::specs::Reading::request_at))]
-fn request(kind: u8, bytes: &[u8]) -> Option<WireRequest<'_>>
-    requires from_open { 3 ≤ kind }
-    requires to_rename { kind ≤ 18 }
-    ensures { result ≡ request_at kind bytes.now }
+/// The table of requests: the type, the name of an extension, and the shape of the fields. `None` for
+/// what has no row, and `Some(None)` for incomplete fields.
+#[tactic(auto, unfolding(crate::specs::Requests::shape_of))]
+fn request<'a>(kind: u8, name: &[u8], bytes: &'a [u8]) -> Option<Option<WireRequest<'a>>>
+    ensures { result ≡ option_map (λ shape. request_at shape bytes.now) (shape_of kind name.now) }
 {
     match kind {
-        OPEN => open(bytes),
-        CLOSE => string(bytes).map(|handle| WireRequest::Close { handle }),
-        READ => read(bytes),
-        WRITE => write(bytes),
-        LSTAT => string(bytes).map(|path| WireRequest::LStat { path }),
-        FSTAT => string(bytes).map(|handle| WireRequest::FStat { handle }),
-        SETSTAT => string_and_attrs(bytes).map(|(path, attrs)| WireRequest::SetStat {
+        OPEN => Some(open(bytes)),
+        CLOSE => Some(string(bytes).map(|handle| WireRequest::Close { handle })),
+        READ => Some(read(bytes)),
+        WRITE => Some(write(bytes)),
+        LSTAT => Some(string(bytes).map(|path| WireRequest::LStat { path })),
+        FSTAT => Some(string(bytes).map(|handle| WireRequest::FStat { handle })),
+        SETSTAT => Some(string_and_attrs(bytes).map(|(path, attrs)| WireRequest::SetStat {
             path,
             attrs,
-        }),
-        FSETSTAT => {
-            string_and_attrs(bytes).map(|(handle, attrs)| WireRequest::FSetStat { handle, attrs })
+        })),
+        FSETSTAT => Some(string_and_attrs(bytes).map(|(handle, attrs)| WireRequest::FSetStat {
+            handle,
+            attrs,
+        })),
+        OPENDIR => Some(string(bytes).map(|path| WireRequest::OpenDir { path })),
+        READDIR => Some(string(bytes).map(|handle| WireRequest::ReadDir { handle })),
+        REMOVE => Some(string(bytes).map(|path| WireRequest::Remove { path })),
+        MKDIR => Some(string_and_attrs(bytes).map(|(path, attrs)| WireRequest::Mkdir {
+            path,
+            attrs,
+        })),
+        RMDIR => Some(string(bytes).map(|path| WireRequest::Rmdir { path })),
+        REALPATH => Some(string(bytes).map(|path| WireRequest::RealPath { path })),
+        STAT => Some(string(bytes).map(|path| WireRequest::Stat { path })),
+        RENAME => Some(two_strings(bytes).map(|(old, new)| WireRequest::Rename { old, new })),
+        EXTENDED if name == b"posix-rename@openssh.com".as_slice() => {
+            Some(two_strings(bytes).map(|(old, new)| WireRequest::PosixRename { old, new }))
         }
-        OPENDIR => string(bytes).map(|path| WireRequest::OpenDir { path }),
-        READDIR => string(bytes).map(|handle| WireRequest::ReadDir { handle }),
-        REMOVE => string(bytes).map(|path| WireRequest::Remove { path }),
-        MKDIR => string_and_attrs(bytes).map(|(path, attrs)| WireRequest::Mkdir { path, attrs }),
-        RMDIR => string(bytes).map(|path| WireRequest::Rmdir { path }),
-        REALPATH => string(bytes).map(|path| WireRequest::RealPath { path }),
-        STAT => string(bytes).map(|path| WireRequest::Stat { path }),
-        _ => two_strings(bytes).map(|(old, new)| WireRequest::Rename { old, new }),
+        EXTENDED if name == b"hardlink@openssh.com".as_slice() => {
+            Some(two_strings(bytes).map(|(old, new)| WireRequest::Link { old, new }))
+        }
+        EXTENDED if name == b"fsync@openssh.com".as_slice() => {
+            let attrs = NO_ATTRS;
+            Some(string(bytes).map(|handle| WireRequest::FSetStat { handle, attrs }))
+        }
+        EXTENDED if name == b"lsetstat@openssh.com".as_slice() => Some(string_and_attrs(bytes).map(
+            |(path, attrs)| WireRequest::SetStat { path, attrs },
+        )),
+        _ => None,
     }
 }
 
-/// Decodes the extension's name first. The fields of an unknown extension are not read.
-#[tactic(auto, unfolding(crate::specs::Reading::asked_under, crate::specs::Reading::is_unknown, crate::specs::Reading::request_at))]
-fn extended(id: u32, bytes: &[u8]) -> Asked<'_>
-    ensures { result ≡ asked_under 200 (Some (id, bytes.now)) }
+/// The name of an extension, and the bytes after it. Other requests have no name.
+fn name_of(kind: u8, bytes: &[u8]) -> Option<(&[u8], &[u8])>
+    ensures { Gives (λ x. (x.0.now, x.1.now)) result (name_at kind bytes.now) }
 {
-    let Some((name, rest)) = bytes_at(bytes) else {
+    if kind == EXTENDED {
+        bytes_at(bytes)
+    } else {
+        Some((&[], bytes))
+    }
+}
+
+fn asked_named(kind: u8, id: u32, bytes: &[u8]) -> Asked<'_>
+    ensures { result ≡ asked_named kind id (name_at kind bytes.now) }
+{
+    let Some((name, fields)) = name_of(kind, bytes) else {
         return Asked::BadFields(id);
     };
-    if name == b"posix-rename@openssh.com".as_slice() {
-        match two_strings(rest) {
-            Some((old, new)) => Asked::Request(id, WireRequest::PosixRename { old, new }),
-            None => Asked::BadFields(id),
-        }
-    } else if name == b"hardlink@openssh.com".as_slice() {
-        match two_strings(rest) {
-            Some((old, new)) => Asked::Request(id, WireRequest::Link { old, new }),
-            None => Asked::BadFields(id),
-        }
-    } else {
-        Asked::Unknown(id)
+    if kind == EXTENDED && name == b"limits@openssh.com".as_slice() {
+        return Asked::Limits(id);
     }
-}
-
-#[tactic(auto, unfolding(crate::specs::Reading::asked_under, crate::specs::Reading::is_unknown))]
-fn call(kind: u8, id: u32, bytes: &[u8]) -> Asked<'_>
-    ensures { result ≡ asked_under kind (Some (id, bytes.now)) }
-{
-    match kind {
-        INIT => Asked::Init(id),
-        OPEN..=RENAME => match request(kind, bytes) {
-            Some(request) => Asked::Request(id, request),
-            None => Asked::BadFields(id),
-        },
-        EXTENDED => extended(id, bytes),
-        _ => Asked::Unknown(id),
+    match request(kind, name, fields) {
+        Some(Some(request)) => Asked::Request(id, request),
+        Some(None) => Asked::BadFields(id),
+        None => Asked::Unknown(id),
     }
 }
 
 #[tactic(auto, unfolding(crate::specs::Reading::asked_of, crate::specs::Reading::asked_under))]
-fn asked(body: &[u8]) -> Asked<'_>
+fn asked_of(body: &[u8]) -> Asked<'_>
     ensures { result ≡ asked_of body.now }
 {
     let [kind, rest @ ..] = body else {
         return Asked::NoId;
     };
     match u32_at(rest) {
-        Some((id, fields)) => call(*kind, id, fields),
+        Some((version, _)) if *kind == INIT => Asked::Init(version),
+        Some((id, fields)) => asked_named(*kind, id, fields),
         None if *kind == INIT => Asked::NoVersion,
         None => Asked::NoId,
     }
@@ -209,5 +218,5 @@ pub fn read_request(body: &[u8]) -> Asked<'_>
     // The result is unique.
     ensures only { (other : Asked) → Asks body.now other → result ≡ other }
 {
-    asked(body)
+    asked_of(body)
 }

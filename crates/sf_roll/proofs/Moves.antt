@@ -7,7 +7,7 @@ use Rattle.atomic_table.proofs.Lists.{at_set, set_again}
 use Rattle.sf_roll.specs.declared.rule.Knowledge.{Knowledge}
 use Rattle.sf_roll.specs.Kept.{keeper, nobody, with_entry, new_ticket, with_ticket, without_ticket, its_ticket, changed_to, FitsSeat, AreKept}
 
-off : false ≡ true → ⊥
+pub off : false ≡ true → ⊥
 off e = true≢false (sym e)
 
 -- a function that is x at k, and as before elsewhere
@@ -21,7 +21,7 @@ put_other : (f : ℕ → ℕ) (k x n : ℕ) → n ≢ k → put f k x n ≡ f n
 put_other f k x n apart = ap (λ b. cond b x (f n)) (ne_eqb n k apart)
 
 module _ {A : Type 0} where
-  at_end : (l : List A) (a b : A) (j : ℕ) → get_elem? (l ++ a ∷ []) j ≡ some b → (get_elem? l j ≡ some b) ⊎ ((j ≡ length l) × (a ≡ b))
+  pub at_end : (l : List A) (a b : A) (j : ℕ) → get_elem? (l ++ a ∷ []) j ≡ some b → (get_elem? l j ≡ some b) ⊎ ((j ≡ length l) × (a ≡ b))
   at_end [] a b zero e = inr (refl, some-injective a b e)
   at_end [] a b (suc j) e = absurd (some-ne-none b (sym e))
   at_end (x ∷ xs) a b zero e = inl e

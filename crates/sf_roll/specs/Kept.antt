@@ -1,11 +1,11 @@
--- What a keeper knows, and who has its tickets.
+-- What a keeper and its tickets know, and their rule.
 use Rattle.std.specs.Prelude.{◌≡◌, ℕ, List, [], ◌∷◌, ◌++◌, length, Some, slice_get, slice_set, true, false}
 use mathlib.Core.Option.{some}
 use lib.ListN.{get_elem?}
 use Rattle.atomic_table.specs.Seated.{TableId}
 use Rattle.sf_roll.specs.declared.rule.Knowledge.{Knowledge}
 
--- the name of no table
+-- a name that no table has
 abbrev pub no_table : TableId
 no_table = record {
   words = 0;
@@ -17,7 +17,15 @@ no_table = record {
   slot_names = [];
 }
 
--- what it is to know all entries; one of them; and nothing
+-- the tables of a roll's entries and of its log
+pub record RollTables : Type 0 where
+  pub entries : TableId
+  pub log : TableId
+
+abbrev pub roll_tables : TableId → TableId → RollTables
+roll_tables entries log = record { entries = entries; log = log }
+
+-- what a seat knows: all entries, one of them, or nothing
 abbrev pub keeper : {E : Type 0} → E → List E → Knowledge E
 keeper fresh all = record { keeps = true; all = all; holds = false; place = 0; own = fresh }
 
@@ -36,7 +44,7 @@ with_entry fresh v = keeper fresh (v.all ++ fresh ∷ [])
 abbrev pub new_ticket : {E : Type 0} → E → Knowledge E → Knowledge E
 new_ticket fresh v = ticket (length v.all) fresh
 
--- the keeper with a ticket
+-- the keeper, with the knowledge of a ticket
 abbrev pub with_ticket : {E : Type 0} → Knowledge E → Knowledge E → Knowledge E
 with_ticket v w =
     record { keeps = v.keeps; all = v.all; holds = w.holds; place = w.place; own = w.own }
@@ -47,8 +55,8 @@ without_ticket fresh v = keeper fresh v.all
 abbrev pub its_ticket : {E : Type 0} → Knowledge E → Knowledge E
 its_ticket v = ticket v.place v.own
 
--- The entry of the ticket is the one at its place. A seat is seen as what it knows, and beside it
--- the slots that it holds, of which there are none here.
+-- The ticket's entry is the one at its place. The second part of a seat's view is its slots, of
+-- which it has none.
 abbrev pub compares : {E C : Type 0} → Knowledge E × C → Knowledge E × C → Type 0
 compares m n = (n ≡ m) × (slice_get m.0.all m.0.place ≡ Some m.0.own)
 
@@ -64,14 +72,14 @@ changed_to v e = record {
 abbrev pub changes : {E C : Type 0} → (E → E) → Knowledge E × C → Knowledge E × C → Type 0
 changes becomes m n = n ≡ (changed_to m.0 (becomes m.0.own), m.1)
 
--- What is true of the seat of this number: it knows all only if it is the keeper, and one entry
--- only if it is the owner of that.
+-- What holds for the seat of this number: only the keeper knows all entries, and only its owner
+-- knows an entry.
 abbrev pub FitsSeat : {E : Type 0} → ℕ → List E → (ℕ → ℕ) → ℕ → Knowledge E → Type 0
 FitsSeat seat all owner by v =
     (v.keeps ≡ true → (by ≡ seat) × (v.all ≡ all))
     × (v.holds ≡ true → (by ≡ owner v.place) × (slice_get all v.place ≡ Some v.own))
 
--- there are one keeper, one list of entries and one owner of each, and so each seat fits
+-- there are one keeper, one list of entries and one owner of each, that all seats fit
 abbrev pub AreKept : {E : Type 0} → List (Knowledge E) → Type 0
 AreKept {E = E} views = (seat : ℕ) × (all : List E) × (owner : ℕ → ℕ)
     × ((by : ℕ) (v : Knowledge E) → get_elem? views by ≡ some v → FitsSeat seat all owner by v)

@@ -1,7 +1,8 @@
-//! Who knows all entries, and who knows one of them.
+//! The keeper, which knows all entries, and the tickets, each of which knows one.
 
 ghost use Rattle.std.specs.Prelude.{◌≡◌, [], ◌∷◌, ◌++◌, length, Some, slice_get, slice_set, IfOk};
 
+use crate::log::{Log, NewLog};
 use crate::rule::{
     Becomes, Changes, Compares, EntryChange, Gives, IsKept, Knowledge, Opens, RollEntry, RollName,
     Spares, Takes,
@@ -11,50 +12,52 @@ use std::alloc::{AllocError, Global};
 use std::marker::{Brand, Model, PhantomData};
 use std::mem;
 
-/// A roll with no entry, before it has a name in its type. Contracts see the name that it is to
-/// have.
+/// A roll with no entry and an empty log, without a name. Contracts see the name that it will get.
 #[derive(Drop)]
-pub struct NewRoll<E: RollEntry> {
+pub struct NewRoll<E: RollEntry, T> {
     table: Table<(), Knowledge<E>, (), IsKept, Global>,
     seat: Seat<(), Knowledge<E>>,
+    log: NewLog<T>,
 }
 
-impl<E: RollEntry> Model for NewRoll<E> {
+impl<E: RollEntry, T> Model for NewRoll<E, T> {
     ghost use Rattle.std.specs.Prelude.{◌≡◌, ◌<◌, []};
-    ghost use Rattle.atomic_table.specs.Seated.{TableId};
-    ghost use Rattle.sf_roll.specs.Kept.{keeper};
+    ghost use Rattle.sf_roll.specs.Kept.{RollTables, roll_tables, keeper};
 
-    ghost Value = { TableId };
+    ghost Value = { RollTables };
 
-    ghost view = { λ o. o.table.shared.table_id };
+    ghost view = { λ o. roll_tables o.table.shared.table_id o.log };
 
     ghost invariant = { λ o. (0 < o.table.shared.table_id.words)
         × (o.seat.table_id ≡ o.table.shared.table_id) × (o.seat.me ≡ (keeper E.fresh [], [])) };
 }
 
-impl<E: RollEntry> NewRoll<E> {
-    /// Such a roll.
-    pub fn new(alloc: Global) -> Result<NewRoll<E>, AllocError> {
+impl<E: RollEntry, T> NewRoll<E, T> {
+    /// An empty roll.
+    pub fn new(alloc: Global) -> Result<NewRoll<E, T>, AllocError> {
+        let log = NewLog::new(alloc)?;
         let (table, seat) = Table::of_words(alloc, &[0], &())?;
-        Ok(NewRoll { table, seat })
+        Ok(NewRoll { table, seat, log })
     }
 
-    /// The keeper of the roll, under its name.
-    pub fn named<B: RollName>(self) -> Keeper<E, B>
+    /// Gives the roll its name, and returns its keeper and its log.
+    pub fn named<B: RollName>(self) -> (Keeper<E, B>, Log<T, B>)
         requires { self ≡ B.table }
-        ensures { result ≡ [] }
+        ensures keeper { result.0 ≡ [] }
+        ensures log { result.1 ≡ [] }
     {
-        let NewRoll { table, seat } = self;
-        Keeper {
+        let NewRoll { table, seat, log } = self;
+        let keeper = Keeper {
             table,
             seat,
             of: PhantomData,
-        }
+        };
+        (keeper, log.named::<B>())
     }
 }
 
-/// Who knows all entries of a roll, and lies under the lock where threads share it. Contracts see
-/// it as the entries.
+/// Knows all entries of a roll. Threads that share it keep it under a mutex. Contracts see the list
+/// of entries.
 #[derive(Drop)]
 pub struct Keeper<E: RollEntry, B: RollName> {
     table: Table<(), Knowledge<E>, (), IsKept, Global>,
@@ -70,12 +73,12 @@ impl<E: RollEntry, B: RollName> Model for Keeper<E, B> {
 
     ghost view = { λ k. k.seat.me.0.all };
 
-    ghost invariant = { λ k. (0 < B.table.words) × (k.table.shared.table_id ≡ B.table)
-        × (k.seat.table_id ≡ B.table) × (k.seat.me ≡ (keeper E.fresh k.seat.me.0.all, [])) };
+    ghost invariant = { λ k. (0 < B.table.entries.words) × (k.table.shared.table_id ≡ B.table.entries)
+        × (k.seat.table_id ≡ B.table.entries) × (k.seat.me ≡ (keeper E.fresh k.seat.me.0.all, [])) };
 }
 
-/// Who knows one entry of a roll. There is one ticket of each entry. Contracts see the entry's
-/// place and what it is.
+/// Knows one entry of a roll. Each entry has one ticket. Contracts see the entry and its place in
+/// the list.
 #[derive(Drop)]
 pub struct Ticket<E: RollEntry, B: RollName> {
     seat: Seat<(), Knowledge<E>>,
@@ -90,12 +93,12 @@ impl<E: RollEntry, B: RollName> Model for Ticket<E, B> {
 
     ghost view = { λ t. (t.seat.me.0.place, t.seat.me.0.own) };
 
-    ghost invariant = { λ t. (t.seat.table_id ≡ B.table)
+    ghost invariant = { λ t. (t.seat.table_id ≡ B.table.entries)
         × (t.seat.me ≡ (ticket t.seat.me.0.place t.seat.me.0.own, [])) };
 }
 
 impl<E: RollEntry, B: RollName> Keeper<E, B> {
-    /// A new entry comes behind all others. Here is its ticket.
+    /// Appends a new entry, and returns its ticket.
     pub fn open(&mut self) -> Ticket<E, B>
         ensures all { self.new ≡ self.old ++ E.fresh ∷ [] }
         ensures ticket { result ≡ (length self.old, E.fresh) }
@@ -108,7 +111,7 @@ impl<E: RollEntry, B: RollName> Keeper<E, B> {
         }
     }
 
-    /// A law, for readers: what a ticket knows is the entry at its place.
+    /// Law: a ticket knows the entry at its place.
     pub fn agrees(&mut self, ticket: &mut Ticket<E, B>)
         ensures all { self.new ≡ self.old }
         ensures ticket { ticket.new ≡ ticket.old }
@@ -123,8 +126,7 @@ impl<E: RollEntry, B: RollName> Keeper<E, B> {
         *own = table.shared.split_seat::<Gives>(seat);
     }
 
-    /// The entry of a ticket changes, for both. The change is for proofs alone, and may be of any
-    /// type: of the types that cross threads none knows it.
+    /// Changes the entry of a ticket. The change is for proofs only.
     pub fn change<S: EntryChange<E>>(&mut self, ticket: &mut Ticket<E, B>, said: &S)
         ensures all { self.new ≡ slice_set self.old ticket.old.0 (S.after ticket.old.1 said.now) }
         ensures ticket { ticket.new ≡ (ticket.old.0, S.after ticket.old.1 said.now) }
@@ -132,7 +134,7 @@ impl<E: RollEntry, B: RollName> Keeper<E, B> {
         self.change_to::<Brand, S>(ticket, said)
     }
 
-    /// The entry of a ticket becomes what the name `W` makes of it, which the caller chooses.
+    /// Changes the entry as `W` says. The caller chooses `W`.
     fn change_to<W: Becomes<E>, S>(&mut self, ticket: &mut Ticket<E, B>, _said: &S)
         ensures all { self.new ≡ slice_set self.old ticket.old.0 (W.becomes ticket.old.1) }
         ensures ticket { ticket.new ≡ (ticket.old.0, W.becomes ticket.old.1) }

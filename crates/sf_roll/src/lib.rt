@@ -1,16 +1,21 @@
-//! A roll: entries that one holder knows together, and each of which another holder knows alone.
+//! A registry of ghost tokens: entries that exist in proofs only, and a ghost log beside them.
 //!
-//! Start with `Keeper` in `keeper.rt`: it knows all entries, and a `Ticket` knows one. Neither has
-//! a list when it runs. Both are tokens that take part in one rule (`specs/Kept.antt`), by which
-//! an entry changes only where both are at hand. So whoever has the ticket knows its entry however
-//! often others had the keeper since, as under a lock.
+//! Start with `Keeper` in `keeper.rt`. It knows all entries, and a `Ticket` knows one of them. By
+//! their rule (`specs/Kept.antt`) an entry changes only if both take part. So the holder of a
+//! ticket knows its entry, even while other threads have the keeper, under a mutex.
 //!
-//! What ties them together is the name of their roll, a `RollName` in their types. `NewRoll` makes
-//! a roll, and gives it the name.
+//! `Log` in `log.rt` only grows. A `Seen` is a token for a prefix of it: the log begins with that
+//! list, now and later (`specs/Seen.antt`). Tokens carry an order in time from thread to thread.
+//!
+//! A `RollName` in their types ties these together. `NewRoll` makes a registry and names it.
 #![tactic(auto)]
 
 mod keeper;
+mod log;
+mod log_rule;
 mod rule;
 
 pub use keeper::{Keeper, NewRoll, Ticket};
+pub use log::{Log, Seen};
+pub use log_rule::LogGrowth;
 pub use rule::{EntryChange, RollEntry, RollName};

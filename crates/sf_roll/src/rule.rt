@@ -1,36 +1,37 @@
-//! The rule that a keeper and its tickets keep.
+//! The rule of the table behind a keeper and its tickets.
 
 use atomic_table::{Join, Play, Split, TableRule};
 use std::collections::LinkedList;
 use std::marker::{Brand, PhantomData};
 
-/// Names one roll, in the types of its keeper and tickets. A call at `Brand` chooses the name.
+/// The name of a roll, in the types of its tokens: a table for the entries, and one for the log. A
+/// call at `Brand` chooses the name.
 pub trait RollName {
-    ghost use Rattle.atomic_table.specs.Seated.{TableId};
+    ghost use Rattle.sf_roll.specs.Kept.{RollTables};
 
-    ghost table: { TableId };
+    ghost table: { RollTables };
 }
 
 impl RollName for Brand {
-    ghost use Rattle.sf_roll.specs.Kept.{no_table};
+    ghost use Rattle.sf_roll.specs.Kept.{no_table, roll_tables};
 
-    ghost table = { no_table };
+    ghost table = { roll_tables no_table no_table };
 }
 
-/// An entry of a roll. No value of it is made.
+/// An entry of a roll. No value of this type is made.
 pub trait RollEntry {
-    /// What an entry is at first.
+    /// A new entry.
     ghost fresh: { Self };
 }
 
 /// A change of entries.
 pub trait EntryChange<E> {
-    /// What an entry is after it.
+    /// The entry after the change.
     ghost after: { E → Self → E };
 }
 
-/// What an entry becomes, for the proof alone: a call at `Brand` chooses it. So of all types that
-/// of the call alone knows how entries change.
+/// What an entry becomes, for proofs only. A call at `Brand` chooses it, so types that cross
+/// threads don't mention it.
 pub(crate) trait Becomes<E> {
     ghost becomes: { E → E };
 }
@@ -39,7 +40,7 @@ impl<E> Becomes<E> for Brand {
     ghost becomes = { λ e. e };
 }
 
-/// What a seat of the rule's table knows: all entries, or one. No value of it is made.
+/// What a seat of the table knows: all entries, or one. No value of this type is made.
 pub struct Knowledge<E> {
     pub keeps: bool,
     pub all: LinkedList<E>,
@@ -48,7 +49,7 @@ pub struct Knowledge<E> {
     pub own: E,
 }
 
-/// The rule: one seat at most knows all entries, and one at most knows each of them.
+/// The rule: at most one seat knows all entries, and at most one seat knows each of them.
 pub struct IsKept;
 
 impl<E: RollEntry, S> TableRule<S, Knowledge<E>, ()> for IsKept {
@@ -71,7 +72,7 @@ impl<E: RollEntry> Split<Knowledge<E>> for Opens {
     ghost right = { new_ticket E.fresh };
 }
 
-/// The keeper makes a seat that knows nothing, to lie where a ticket's seat is taken from.
+/// The keeper makes a seat that knows nothing, to put in place of a ticket's seat.
 pub(crate) struct Spares;
 
 impl<E: RollEntry> Split<Knowledge<E>> for Spares {
@@ -82,7 +83,7 @@ impl<E: RollEntry> Split<Knowledge<E>> for Spares {
     ghost right = { no_ticket E.fresh };
 }
 
-/// The keeper takes a ticket in.
+/// The keeper takes the knowledge of a ticket.
 pub(crate) struct Takes;
 
 impl<E: RollEntry> Join<Knowledge<E>> for Takes {
@@ -93,7 +94,7 @@ impl<E: RollEntry> Join<Knowledge<E>> for Takes {
     ghost spent = { nobody E.fresh };
 }
 
-/// The keeper gives its ticket out.
+/// The keeper gives that knowledge back.
 pub(crate) struct Gives;
 
 impl<E: RollEntry> Split<Knowledge<E>> for Gives {
@@ -104,7 +105,7 @@ impl<E: RollEntry> Split<Knowledge<E>> for Gives {
     ghost right = { its_ticket };
 }
 
-/// The keeper compares the entry of the ticket that it took in with what it knows itself.
+/// The keeper compares the ticket's entry with its own list.
 pub(crate) struct Compares;
 
 impl<E, S> Play<S, Knowledge<E>> for Compares {

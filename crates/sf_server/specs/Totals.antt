@@ -9,7 +9,7 @@ use Rattle.sf_core.specs.Cores.{CoreView}
 use Rattle.sf_core.specs.Histories.{IsHistory}
 use Rattle.sf_audit.specs.declared.transcript.Transcript.{Transcript}
 use Rattle.sf_audit.specs.Audits.{AgreesWith}
-use Rattle.sf_workers.specs.Told.{HasTold}
+use Rattle.sf_workers.specs.Sessions.{HasServed}
 use Rattle.sf_server.specs.declared.server.ServerFault.{ServerFault}
 use Rattle.sf_server.specs.declared.server.ServerFault.TheVariants as fault
 
@@ -38,10 +38,10 @@ IsStream _ = ⊥
 
 -- A server has served its sessions on one core. Each received its calls in the core's history, all
 -- transcripts agree with the records, and the totals were written.
-pub record HasToldTotals (keeps : Bool) (sessions : ℕ) (old new : Option (List ℕ)) : Type 0 where
+pub record HasWrittenTotals (keeps : Bool) (sessions : ℕ) (old new : Option (List ℕ)) : Type 0 where
   pub core : CoreView
   pub transcripts : List Transcript
-  pub told : HasTold keeps core transcripts
+  pub told : HasServed keeps core transcripts
   pub agree : AgreesWith core.records core.folded transcripts
   pub wrote : (h : List Record) → IsHistory core h
       → Appends old new (totals_text sessions (count_by is_call h) core.folded)

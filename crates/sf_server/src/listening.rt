@@ -7,7 +7,7 @@ use std::fs::{File, Metadata, TryLockError};
 use std::io::{self, ErrorKind};
 use std::os::unix::fs::{FileTypeExt, MetadataExt};
 use std::os::unix::net::{UnixListener, UnixStream};
-use std::time::Duration;
+use std::time::{Duration, Instant};
 use std::{fs, thread};
 
 /// How long a server waits before it tries again.
@@ -16,7 +16,10 @@ const PAUSE_MILLISECONDS: u64 = 10;
 /// How often a server tries to lock the socket's directory: for some five seconds.
 const TRIES_TO_LOCK: u32 = 500;
 
-fn pause(rt: &HostRuntime) {
+/// After how long without a failure the next one is reported again.
+const QUIET_SECONDS: u64 = 10;
+
+pub(crate) fn pause(rt: &HostRuntime) {
     thread::sleep(rt, Duration::from_millis(PAUSE_MILLISECONDS));
 }
 
@@ -84,6 +87,9 @@ fn is_stale(rt: &HostRuntime, path: &str) -> bool {
 
 /// Listens at the path. Replaces the socket's file of a server that has ended, and no other file.
 pub(crate) fn listen(rt: &HostRuntime, path: &str) -> io::Result<Bound> {
+    if path.is_empty() {
+        return Err(io::Error::from_raw_os_error(libc::ENOENT));
+    }
     let _locked = locked_directory(rt, path)?;
     if is_stale(rt, path) {
         fs::remove_file(rt, path)?;
@@ -99,8 +105,8 @@ pub(crate) struct Connections<'a> {
     rt: &'a HostRuntime,
     listener: &'a UnixListener,
     path: &'a str,
-    /// The last try failed, which was reported.
-    failed: bool,
+    /// When the last try failed.
+    failed: Option<Instant>,
 }
 
 impl<'a> Connections<'a> {
@@ -113,8 +119,22 @@ impl<'a> Connections<'a> {
             rt,
             listener,
             path,
-            failed: false,
+            failed: None,
         }
+    }
+
+    /// Reports a failure, unless one was reported that lasts.
+    fn report_failure(&mut self, error: &io::Error) {
+        let now = Instant::now(self.rt).ok();
+        let lasts = match (self.failed, now) {
+            (Some(last), Some(now)) => now.saturating_duration_since(last).as_secs()
+                < QUIET_SECONDS,
+            (last, _) => last.is_some(),
+        };
+        if !lasts {
+            report(self.rt, "cannot accept", self.path, error);
+        }
+        self.failed = now.or(self.failed);
     }
 
     fn try_accept(&self) -> io::Result<SocketLine> {
@@ -131,15 +151,9 @@ impl Acceptor<SocketLine> for Connections<'_> {
 
     fn accept(&mut self) -> Option<SocketLine> {
         match self.try_accept() {
-            Ok(line) => {
-                self.failed = false;
-                Some(line)
-            }
+            Ok(line) => Some(line),
             Err(error) => {
-                if !self.failed {
-                    self.failed = true;
-                    report(self.rt, "cannot accept", self.path, &error);
-                }
+                self.report_failure(&error);
                 None
             }
         }

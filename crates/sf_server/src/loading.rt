@@ -14,6 +14,7 @@ pub(crate) fn load_by_line<T: Wait>(
     rt: &HostRuntime,
     threads: &T,
     path: &str,
+    is_strict: bool,
     lines: &Sender<SocketLine>,
 ) -> Result<(), NotLoaded> {
     let (ours, theirs) = match UnixStream::pair(rt) {
@@ -30,5 +31,5 @@ pub(crate) fn load_by_line<T: Wait>(
     // If no worker receives it, the stream ends at once, and `load_folder` reports that.
     let _ = lines.send(threads, line);
     let mut server = LineServer::new(rt.alloc(), StreamLine::new(&ours, &ours));
-    load_folder(rt, path, &mut server)
+    load_folder(rt, path, is_strict, &mut server)
 }

@@ -1,32 +1,25 @@
 //! The log of what clients did (`--log`), with the lines of `sf_log`.
 
-use sf_log::{LogLine, write_line};
+use crate::log_output::LogOutput;
+use sf_log::{LogLine, WaitingLines};
 use sf_pool::StepObserver;
-use sf_program::reporting::report;
+use sf_program::reporting::{report, report_lost};
 use sf_serving::{CallObserver, ObservedCall};
 use sf_session::{Cause, ServeFault};
-use std::fs::{File, OpenOptions};
 use std::io;
 use std::sync::{Mutex, Wait};
 
-/// Where lines go.
-#[derive(Drop)]
-enum LogOutput {
-    /// A file, at its end.
-    File(File),
-    /// Standard error.
-    Errors,
-}
-
-/// Where lines go, and whether a failure was reported.
+/// Where lines go, the lines that it did not accept yet, and whether a failure was reported.
 #[derive(Drop)]
 struct LogState {
     output: LogOutput,
+    lines: WaitingLines,
     failed: bool,
 }
 
 /// The log: a line for each client's session that joins or leaves, and for each of its calls, in
-/// the session's order. Each line is written as a whole, under a mutex.
+/// the session's order. Whole lines are written, under a mutex. No session waits for the output:
+/// lines wait for it, and if too many do, further ones are lost and counted.
 #[derive(Drop)]
 pub struct Log<'a, T> {
     rt: &'a HostRuntime,
@@ -53,15 +46,11 @@ pub fn open_log<'a, T: Wait>(
     path: &'a str,
     tree: Option<&str>,
 ) -> Option<Log<'a, T>> {
-    let output = if path == "-" {
-        LogOutput::Errors
-    } else {
-        match OpenOptions::new().append(true).create(true).open(rt, path) {
-            Ok(file) => LogOutput::File(file),
-            Err(error) => {
-                report(rt, FAILED, path, &error);
-                return None;
-            }
+    let output = match LogOutput::open(rt, path) {
+        Ok(output) => output,
+        Err(error) => {
+            report(rt, FAILED, path, &error);
+            return None;
         }
     };
     Some(Log {
@@ -71,6 +60,7 @@ pub fn open_log<'a, T: Wait>(
         first: first_client(tree),
         state: Mutex::new(LogState {
             output,
+            lines: WaitingLines::new(rt.alloc()),
             failed: false,
         }),
     })
@@ -79,27 +69,68 @@ pub fn open_log<'a, T: Wait>(
 /// What is reported if the log can't be opened or written.
 const FAILED: &str = "cannot write the log";
 
-fn write<'a>(rt: &HostRuntime, output: &mut LogOutput, line: &LogLine<'a>) -> io::Result<()> {
-    match output {
-        LogOutput::File(file) => write_line(rt.alloc(), line, file),
-        LogOutput::Errors => write_line(rt.alloc(), line, &mut rt.stderr()),
+/// How long the end of the program waits for the output, if it accepts nothing.
+const PATIENCE_MILLISECONDS: i32 = 1000;
+
+/// Writes what waits, as far as the output accepts it without blocking.
+fn write(state: &mut LogState) -> io::Result<()> {
+    for _ in 0..u64::MAX {
+        if !state.lines.write_some(&mut state.output)? {
+            break;
+        }
     }
+    Ok(())
 }
 
 impl<T: Wait> Log<'_, T> {
-    /// Writes a line of a client's session. The first failure is reported.
+    /// Reports the lines that were lost since the last report.
+    fn report_lost(&self, state: &mut LogState) {
+        let lost = state.lines.take_lost();
+        if lost > 0 {
+            report_lost(self.rt, self.path, lost);
+        }
+    }
+
+    /// Writes what waits. The first failure is reported, and what was lost once all is written.
+    fn write_waiting(&self, state: &mut LogState) {
+        match write(state) {
+            Ok(()) => {
+                if state.lines.is_empty() {
+                    self.report_lost(state);
+                }
+            }
+            Err(error) => {
+                if !state.failed {
+                    state.failed = true;
+                    report(self.rt, FAILED, self.path, &error);
+                }
+            }
+        }
+    }
+
+    /// Writes a line of a client's session.
     fn write(&self, session: u64, line: &LogLine<'_>) {
         if session < self.first {
             return;
         }
         let mut state = self.state.lock(self.threads);
-        let LogState { output, failed } = &mut *state;
-        if let Err(error) = write(self.rt, output, line) {
-            if !*failed {
-                *failed = true;
-                report(self.rt, FAILED, self.path, &error);
+        state.lines.add(line);
+        self.write_waiting(&mut *state);
+    }
+
+    /// Writes what waits, at the end of the program. An output that accepts nothing is given up
+    /// after a second. Reports what was lost.
+    pub fn finish(&self) {
+        let mut state = self.state.lock(self.threads);
+        let state = &mut *state;
+        for _ in 0..u64::MAX {
+            if state.lines.is_empty() || !state.output.is_ready(PATIENCE_MILLISECONDS) {
+                break;
             }
+            self.write_waiting(state);
         }
+        state.lines.give_up();
+        self.report_lost(state);
     }
 }
 

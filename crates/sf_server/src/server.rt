@@ -2,11 +2,11 @@
 
 ghost use Rattle.std.specs.Prelude.{◌≡◌, ◌<◌, ◌-◌, ◌^◌, [], is_some, unwrap_or, vec_len, IfOk, OnOk};
 ghost use Rattle.sf_core.specs.Histories.{IsHistory};
-ghost use Rattle.sf_workers.specs.Told.{HasTold};
-ghost use Rattle.sf_server.specs.Totals.{HasToldTotals};
+ghost use Rattle.sf_workers.specs.Sessions.{HasServed};
+ghost use Rattle.sf_server.specs.Totals.{HasWrittenTotals};
 
 use crate::accepting::{Taker, accept_all};
-use crate::listening::{Connections, listen};
+use crate::listening::{Connections, listen, pause};
 use crate::loading::load_by_line;
 use crate::socket_line::SocketLine;
 use crate::totals::tell;
@@ -19,6 +19,7 @@ use sf_program::reporting::report;
 use sf_words::Serving;
 use sf_workers::{Ended, serve_on_core};
 use std::alloc::{AllocError, Global};
+use std::fs;
 use std::io::Write;
 use std::os::unix::net::UnixListener;
 use std::sync::Wait;
@@ -83,8 +84,8 @@ impl<T: Wait> Taker<SocketLine> for Workers<'_, T> {
     }
 }
 
-/// Accepts connections, and sends them to the workers, until `serving.sessions` were accepted or all
-/// workers have ended.
+/// Accepts connections, and sends them to the workers, until `serving.sessions` were accepted or
+/// all workers have ended.
 fn accept<T: Wait>(
     rt: &HostRuntime,
     threads: &T,
@@ -96,6 +97,35 @@ fn accept<T: Wait>(
     let mut workers = Workers { threads, lines };
     let most = serving.sessions.unwrap_or(u64::MAX);
     accept_all(threads, &mut connections, &mut workers, most);
+}
+
+/// The threads of a server besides its workers: the one that accepts.
+const OTHER_THREADS: u64 = 1;
+
+/// How often a server looks whether its workers have begun: for about a second.
+const LOOKS: u32 = 100;
+
+/// The number of workers that have begun, if the system reports it.
+fn begun_workers(rt: &HostRuntime) -> Option<u64> {
+    let threads = fs::read_dir(rt, "/proc/self/task").ok()?.count() as u64;
+    threads.checked_sub(OTHER_THREADS)
+}
+
+/// Reports that there are fewer workers than requested.
+fn report_fewer_workers(rt: &HostRuntime, workers: u32) {
+    let wanted = u64::from(workers);
+    let mut begun = wanted;
+    for _ in 0..LOOKS {
+        begun = begun_workers(rt).unwrap_or(wanted);
+        if begun >= wanted {
+            return;
+        }
+        pause(rt);
+    }
+    let _ = writeln!(
+        rt.stderr(),
+        "sftpd: only {begun} of {wanted} workers: no more threads"
+    );
 }
 
 /// Listens, prints the socket's path on standard error, and accepts. Removes the socket's file at
@@ -115,6 +145,7 @@ fn listen_and_accept<T: Wait>(
         }
     };
     let _ = writeln!(rt.stderr(), "sftpd: listening at {path}");
+    report_fewer_workers(rt, serving.workers);
     accept(rt, threads, &bound.listener, lines, serving);
     bound.remove_file(rt, path);
     Ok(())
@@ -128,7 +159,7 @@ fn load_and_accept<T: Wait>(
     lines: Sender<SocketLine>,
 ) -> Result<(), ServerFault> {
     if let Some(tree) = serving.tree {
-        load_by_line(rt, threads, tree, &lines)?;
+        load_by_line(rt, threads, tree, serving.tree_strict, &lines)?;
     }
     listen_and_accept(rt, threads, &lines, serving)
 }
@@ -155,7 +186,7 @@ fn serve_core<T: Threads + Wait + Sync, G: StepObserver + Sync>(
 ) -> Result<Ended, ServerFault>
     requires new { IsHistory core [] }
     requires none { (core.joins ≡ 0) × (core.drawn ≡ 0) }
-    ensures { IfOk result (λ ended. HasTold (is_some serving.entry.sessions) ended.core
+    ensures { IfOk result (λ ended. HasServed (is_some serving.entry.sessions) ended.core
         ended.transcripts.items) }
 {
     let alloc = rt.alloc();
@@ -169,7 +200,7 @@ fn serve_core<T: Threads + Wait + Sync, G: StepObserver + Sync>(
             requires new { IsHistory core [] }
             requires none { (core.joins ≡ 0) × (core.drawn ≡ 0) }
             requires few { vec_len clocks < 2 ^ 32 }
-            ensures { IfOk result (λ ended. HasTold keeps ended.core ended.transcripts.items) }
+            ensures { IfOk result (λ ended. HasServed keeps ended.core ended.transcripts.items) }
         {
             let accepting = scope.spawn(move || load_and_accept(rt, threads, serving, sender));
             let Ok(accepting) = accepting else {
@@ -195,7 +226,7 @@ fn serve_to_end<T: Threads + Wait + Sync, G: StepObserver + Sync>(
     requires new { IsHistory core [] }
     requires none { (core.joins ≡ 0) × (core.drawn ≡ 0) }
     requires few { vec_len clocks < 2 ^ 32 }
-    ensures { IfOk result (λ ended. HasTold keeps ended.core ended.transcripts.items) }
+    ensures { IfOk result (λ ended. HasServed keeps ended.core ended.transcripts.items) }
 {
     Ok(serve_on_core(threads, alloc, core, &lines, clocks, observer, keeps)?)
 }
@@ -212,7 +243,7 @@ pub fn serve<T: Threads + Wait + Sync, G: StepObserver + Sync, W: Write>(
     output: &mut W,
 ) -> Result<(), ServerFault>
     requires { 0 < serving.keep }
-    ensures { OnOk result (HasToldTotals (is_some serving.entry.sessions)
+    ensures { OnOk result (HasWrittenTotals (is_some serving.entry.sessions)
         (unwrap_or serving.entry.sessions (2 ^ 64 - 1))
         (W.contents output.old) (W.contents output.new)) }
 {

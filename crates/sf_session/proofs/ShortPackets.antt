@@ -13,7 +13,6 @@ use Rattle.sf_request.specs.declared.request.WireRequest.{WireRequest}
 use Rattle.sf_request.specs.declared.request.WireRequest.TheVariants as wire
 use Rattle.sf_request.specs.declared.request.Asked.{Asked}
 use Rattle.sf_request.specs.declared.request.Asked.TheVariants as asked
-use Rattle.sf_reply.specs.declared.reply.Reply.{Reply}
 use Rattle.sf_reply.specs.declared.reply.Reply.TheVariants as reply
 use Rattle.sf_reply.specs.declared.reply.StatusCode.{StatusCode}
 use Rattle.sf_reply.specs.declared.reply.StatusCode.TheVariants.{Failure, BadMessage, OpUnsupported}
@@ -29,6 +28,8 @@ use Rattle.sf_session.specs.declared.cause.Cause.TheVariants.{OldVersion}
 use Rattle.sf_session.specs.declared.front.Front.TheVariants.{Asks}
 use Rattle.sf_session.specs.declared.session.Next.{Next}
 use Rattle.sf_session.specs.declared.session.Next.TheVariants as next
+use Rattle.sf_session.specs.declared.local_reply.LocalReply.{LocalReply}
+use Rattle.sf_session.specs.Limits.{local_body}
 use Rattle.sf_session.specs.Asking.{AsksFor, path_unless, call_of, call_ask, real_path_at, request_ask, later_ask, first_ask, ask_in}
 use Rattle.sf_session.specs.Sessions.{SessionView, Fronts, AnswersLocally, LocalPacket, NextGives, refusal_of}
 
@@ -48,7 +49,7 @@ refusal_short id fault.Stranger = status_short id Failure
 
 -- the packet of a local reply is short
 abbrev IsShortAsk : Ask → Type 0
-IsShortAsk (ask.Local id given) = length (packet (reply_body id given)) ≤ longest_packet
+IsShortAsk (ask.Local id given) = length (packet (local_body id given)) ≤ longest_packet
 IsShortAsk _ = Unit {0}
 
 -- a text without a fault is short, and so is its normal form
@@ -80,6 +81,7 @@ later_short asked.NoId = tt
 later_short (asked.Unknown id) = status_short id OpUnsupported
 later_short (asked.BadFields id) = status_short id BadMessage
 later_short (asked.Request id request) = request_short id request
+later_short (asked.Limits id) = omega arith
 
 first_short : (a : Asked) → IsShortAsk (first_ask a)
 first_short (asked.Init version) = elim (nat_lt version 3) as (λ b. IsShortAsk (if b then ask.End OldVersion else ask.Version)) [ true ↦ tt | false ↦ tt ]
@@ -88,6 +90,7 @@ first_short asked.NoId = tt
 first_short (asked.Unknown id) = tt
 first_short (asked.BadFields id) = tt
 first_short (asked.Request id request) = tt
+first_short (asked.Limits id) = tt
 
 ask_short : (begun : Bool) (a : Asked) → IsShortAsk (ask_in begun a)
 ask_short true a = later_short a
@@ -97,11 +100,11 @@ asked_short : (begun : Bool) (body : List ℕ) (a : Ask) → AsksFor begun body 
 asked_short begun body a asks = subst IsShortAsk (sym asks.2) (ask_short begun asks.0)
 
 -- the packet of a reply without a call is short
-pub local_short : (begun : Bool) (body : List ℕ) (id : ℕ) (given : Reply) → AsksFor begun body (ask.Local id given) → length (packet (reply_body id given)) ≤ longest_packet
+pub local_short : (begun : Bool) (body : List ℕ) (id : ℕ) (given : LocalReply) → AsksFor begun body (ask.Local id given) → length (packet (local_body id given)) ≤ longest_packet
 local_short begun body id given asks = asked_short begun body (ask.Local id given) asks
 
 -- also for the first packet of the unread bytes
-pub front_short : (begun : Bool) (bytes : List ℕ) (id len : ℕ) (given : Reply) → Fronts begun bytes (Asks (ask.Local id given) len) → length (packet (reply_body id given)) ≤ longest_packet
+pub front_short : (begun : Bool) (bytes : List ℕ) (id len : ℕ) (given : LocalReply) → Fronts begun bytes (Asks (ask.Local id given) len) → length (packet (local_body id given)) ≤ longest_packet
 front_short begun bytes id len given (body, begins, asks, within) = local_short begun body id given asks
 
 -- ---- what a session's next packet adds to its output

@@ -17,6 +17,7 @@ use Rattle.sf_call.specs.declared.request.Request.{Request}
 use Rattle.sf_call.specs.declared.request.Request.TheVariants as call
 use Rattle.sf_session.specs.declared.asking.Ask.{Ask}
 use Rattle.sf_session.specs.declared.asking.Ask.TheVariants as ask
+use Rattle.sf_session.specs.declared.local_reply.LocalReply.TheVariants.{Plain, Limits}
 use Rattle.sf_session.specs.declared.cause.Cause.TheVariants.{NotInit, OldVersion, SecondInit, NoId}
 
 -- the first body must be INIT with a version of at least 3
@@ -81,12 +82,12 @@ call_of request = handle_call request
 
 -- an invalid path or handle is answered FAILURE
 abbrev pub call_ask : ℕ → Option Request → Ask
-call_ask id None = ask.Local id (reply.Status Failure)
+call_ask id None = ask.Local id (Plain (reply.Status Failure))
 call_ask id (Some request) = ask.Call id request
 
 abbrev pub real_path_at : ℕ → Option Path → Ask
-real_path_at id None = ask.Local id (reply.Status Failure)
-real_path_at id (Some path) = ask.Local id (real_path_reply path)
+real_path_at id None = ask.Local id (Plain (reply.Status Failure))
+real_path_at id (Some path) = ask.Local id (Plain (real_path_reply path))
 
 abbrev pub real_path_ask : ℕ → List ℕ → Ask
 real_path_ask id text = real_path_at id (path_at text)
@@ -100,8 +101,9 @@ abbrev pub later_ask : Asked → Ask
 later_ask (asked.Init version) = ask.End SecondInit
 later_ask asked.NoVersion = ask.End SecondInit
 later_ask asked.NoId = ask.End NoId
-later_ask (asked.Unknown id) = ask.Local id (reply.Status OpUnsupported)
-later_ask (asked.BadFields id) = ask.Local id (reply.Status BadMessage)
+later_ask (asked.Unknown id) = ask.Local id (Plain (reply.Status OpUnsupported))
+later_ask (asked.BadFields id) = ask.Local id (Plain (reply.Status BadMessage))
+later_ask (asked.Limits id) = ask.Local id Limits
 later_ask (asked.Request id request) = request_ask id request
 
 abbrev pub ask_in : Bool → Asked → Ask

@@ -1,4 +1,5 @@
 pub mod Causes
+pub mod Limits
 pub mod Asking
 pub mod Sessions
 pub mod Responses

@@ -10,6 +10,8 @@ use Rattle.sf_call.specs.declared.record.Record.TheVariants.{Did, Left}
 use Rattle.sf_call.specs.declared.fault.CoreFault.{CoreFault}
 use Rattle.sf_session.specs.declared.asking.Ask.{Ask}
 use Rattle.sf_session.specs.declared.asking.Ask.TheVariants as ask
+use Rattle.sf_session.specs.declared.local_reply.LocalReply.{LocalReply}
+use Rattle.sf_session.specs.Limits.{local_body}
 use Rattle.sf_session.specs.Asking.{AsksFor}
 use Rattle.sf_session.specs.Sessions.{refusal_of}
 
@@ -21,7 +23,7 @@ most_calls = 2 ^ 63 - 1
 -- this number, or a refusal because the call could not start.
 pub data Response : Type 0 where
   Version : Response
-  Locally : (id : ℕ) → (reply : Reply) → Response
+  Locally : (id : ℕ) → (reply : LocalReply) → Response
   ByCall : (id number : ℕ) → (request : Request) → (reply : Reply) → Response
   Refused : (id : ℕ) → (request : Request) → (fault : CoreFault) → Response
 
@@ -35,7 +37,7 @@ ask_behind (Refused id request fault) = ask.Call id request
 -- the packet that is sent as the answer
 abbrev pub packet_for : Response → List ℕ
 packet_for Version = packet version_body
-packet_for (Locally id reply) = packet (reply_body id reply)
+packet_for (Locally id reply) = packet (local_body id reply)
 packet_for (ByCall id number request reply) = packet (reply_body id reply)
 packet_for (Refused id request fault) = packet (reply_body id (refusal_of fault))
 

@@ -4,7 +4,7 @@ use Rattle.sf_wire.specs.declared.cutting.Cut.TheVariants as cut
 use Rattle.sf_wire.specs.declared.cutting.BadCut.TheVariants as bad
 use Rattle.sf_field.specs.Fields.{packet}
 use Rattle.sf_wire.specs.Packets.{IsBody, IsCut}
-use Rattle.sf_reply.specs.Replies.{reply_body, version_body}
+use Rattle.sf_reply.specs.Replies.{version_body}
 use Rattle.sf_reply.specs.declared.reply.Reply.{Reply}
 use Rattle.sf_reply.specs.declared.reply.Reply.TheVariants as reply
 use Rattle.sf_reply.specs.declared.reply.StatusCode.TheVariants.{Failure}
@@ -19,6 +19,7 @@ use Rattle.sf_session.specs.declared.front.Front.{Front}
 use Rattle.sf_session.specs.declared.front.Front.TheVariants as front
 use Rattle.sf_session.specs.declared.session.Next.{Next}
 use Rattle.sf_session.specs.declared.session.Next.TheVariants as next
+use Rattle.sf_session.specs.Limits.{local_body}
 use Rattle.sf_session.specs.Asking.{AsksFor}
 
 -- The observable state of a session:
@@ -61,7 +62,7 @@ Fronts begun bytes (front.Asks a len) = (body : List ℕ) × Begins bytes body (
 -- the packet that answers a body without a call
 abbrev pub LocalPacket : Ask → List ℕ → Type 0
 LocalPacket ask.Version text = text ≡ packet version_body
-LocalPacket (ask.Local id reply) text = text ≡ packet (reply_body id reply)
+LocalPacket (ask.Local id reply) text = text ≡ packet (local_body id reply)
 LocalPacket _ text = ⊥
 
 -- a body was answered without a call

@@ -5,6 +5,7 @@ ghost use Rattle.sf_session.specs.Asking.{AsksFor, first_ask, later_ask, request
 
 use crate::calling::{call_of, path_of};
 use crate::cause::Cause;
+use crate::local_reply::LocalReply;
 use sf_call::Request;
 use sf_field::{Attrs, ByteString};
 use sf_path::Path;
@@ -18,7 +19,7 @@ pub enum Ask {
     /// Reply to INIT with VERSION.
     Version,
     /// Send a reply that needs no file-system call, with the request's id.
-    Local(u32, Reply),
+    Local(u32, LocalReply),
     /// Execute a file-system call and reply with the request's id.
     Call(u32, Request),
     /// End the session without a reply.
@@ -59,6 +60,7 @@ fn later_ask(alloc: Global, asked: Asked<'_>) -> Result<Ask, AllocError>
         Asked::NoId => Ok(Ask::End(Cause::NoId)),
         Asked::Unknown(id) => Ok(status(id, StatusCode::OpUnsupported)),
         Asked::BadFields(id) => Ok(status(id, StatusCode::BadMessage)),
+        Asked::Limits(id) => Ok(Ask::Local(id, LocalReply::Limits)),
         Asked::Request(id, request) => request_ask(alloc, id, request),
     }
 }
@@ -84,9 +86,9 @@ fn call_ask(id: u32, call: Option<Request>) -> Ask
 
 /// A status reply without a file-system call.
 fn status(id: u32, code: StatusCode) -> Ask
-    ensures { result ≡ Ask.Local id (Reply.Status code) }
+    ensures { result ≡ Ask.Local id (LocalReply.Plain (Reply.Status code)) }
 {
-    Ask::Local(id, Reply::Status(code))
+    Ask::Local(id, LocalReply::Plain(Reply::Status(code)))
 }
 
 /// REALPATH: normalizes the path without a file-system call.
@@ -94,7 +96,10 @@ fn real_path(alloc: Global, id: u32, text: &[u8]) -> Result<Ask, AllocError>
     ensures { IfOk result (λ ask. ask ≡ real_path_ask id text.now) }
 {
     match path_of(alloc, text)? {
-        Some(path) => Ok(Ask::Local(id, real_path_reply(alloc, &path)?)),
+        Some(path) => {
+            let reply = real_path_reply(alloc, &path)?;
+            Ok(Ask::Local(id, LocalReply::Plain(reply)))
+        }
         None => Ok(status(id, StatusCode::Failure)),
     }
 }

@@ -18,6 +18,8 @@ mod cause;
 mod clock;
 mod fault;
 mod front;
+mod limit_laws;
+mod local_reply;
 mod session;
 mod unread;
 
@@ -25,4 +27,6 @@ pub use asking::Ask;
 pub use cause::Cause;
 pub use clock::Clock;
 pub use fault::ServeFault;
+pub use limit_laws::sent_limits;
+pub use local_reply::LocalReply;
 pub use session::{Next, Session, SessionFault};

@@ -6,11 +6,13 @@ ghost use Rattle.sf_wire.specs.Packets.{IsCut};
 ghost use Rattle.sf_reply.specs.Replies.{reply_body, version_body};
 ghost use Rattle.sf_field.specs.Fields.{packet};
 ghost use Rattle.sf_call.specs.ReplyKinds.{longest_packet};
+ghost use Rattle.sf_session.specs.Limits.{local_body};
 ghost use Rattle.sf_session.specs.Sessions.{Fronts, new_session, NextGives, refusal_of, reply_room};
 
 use crate::asking::Ask;
 use crate::cause::Cause;
 use crate::front::{Front, front_of};
+use crate::local_reply::{LocalReply, write_local};
 use crate::unread::Unread;
 use bytes::BytesMut;
 use sf_call::{Answer, CoreFault, Request};
@@ -206,14 +208,14 @@ impl Session {
         Ok(Next::Local)
     }
 
-    fn local(&mut self, id: u32, reply: Reply, len: usize) -> Result<Next, SessionFault>
+    fn local(&mut self, id: u32, reply: LocalReply, len: usize) -> Result<Next, SessionFault>
         requires len { len ≤ length self.old.unread }
         requires free { self.old.waiting ≡ None }
-        requires short { length (packet (reply_body id reply)) ≤ longest_packet }
+        requires short { length (packet (local_body id reply)) ≤ longest_packet }
         ensures ok { OnOk result (self.new
             ≡ record self.old {
               unread = drop len self.old.unread;
-              output = self.old.output ++ packet (reply_body id reply);
+              output = self.old.output ++ packet (local_body id reply);
               begun = true;
             }) }
         ensures next { IfOk result (λ next. next ≡ Next.Local) }
@@ -221,7 +223,7 @@ impl Session {
         ensures short { length self.new.output ≤ length self.old.output + longest_packet }
         ensures fault { result ≢ Err SessionFault.Ended }
     {
-        if write_reply(id, &reply, &mut self.output).is_err() {
+        if write_local(id, &reply, &mut self.output).is_err() {
             return Err(SessionFault::OutOfMemory);
         }
         self.pass(len);

@@ -15,6 +15,8 @@ pub struct Stdio<'a> {
     pub keep: usize,
     /// The local folder that is copied into the file system at the start; empty without one.
     pub tree: Option<&'a str>,
+    /// Whether a change of the folder while it is read is an error.
+    pub tree_strict: bool,
     /// The log file, or `-` for standard error; no log without one.
     pub log: Option<&'a str>,
 }
@@ -32,6 +34,8 @@ pub struct Serving<'a> {
     pub keep: usize,
     /// The local folder that is copied into the file system at the start; empty without one.
     pub tree: Option<&'a str>,
+    /// Whether a change of the folder while it is read is an error.
+    pub tree_strict: bool,
     /// The log file, or `-` for standard error; no log without one.
     pub log: Option<&'a str>,
 }
@@ -92,6 +96,14 @@ fn tree_word<'a>(alloc: Global) -> Arg<'a> {
     )
 }
 
+fn tree_strict_word<'a>(alloc: Global) -> Result<Arg<'a>, AllocError> {
+    Arg::new(alloc, "tree-strict")
+        .long("tree-strict")
+        .action(ArgAction::SetTrue)
+        .help("A file that changes while the folder is read is an error")
+        .requires_arg("tree")
+}
+
 fn log_word<'a>(alloc: Global) -> Arg<'a> {
     Arg::new(alloc, "log").long("log").value_name("PATH").help(
         "Where a line is written for each session and each call; - is standard error",
@@ -104,6 +116,7 @@ fn stdio_words<'a>(alloc: Global) -> Result<Command<'a>, AllocError> {
         .about("Serves one session on standard input and output, to the end of the input")
         .arg(keep_word(alloc))?
         .arg(tree_word(alloc))?
+        .arg(tree_strict_word(alloc)?)?
         .arg(log_word(alloc))
 }
 
@@ -142,6 +155,7 @@ fn serve_words<'a>(alloc: Global) -> Result<Command<'a>, AllocError> {
         .arg(sessions)?
         .arg(keep_word(alloc))?
         .arg(tree_word(alloc))?
+        .arg(tree_strict_word(alloc)?)?
         .arg(log_word(alloc))
 }
 
@@ -208,6 +222,7 @@ fn stdio_action<'a>(matches: &ArgMatches<'a>) -> Stdio<'a>
     Stdio {
         keep: matches.get_one::<usize>("keep").unwrap_or(KEEP).max(1),
         tree: matches.get_str("tree"),
+        tree_strict: matches.get_flag("tree-strict"),
         log: matches.get_str("log"),
     }
 }
@@ -222,6 +237,7 @@ fn serve_action<'a>(matches: &ArgMatches<'a>) -> Serving<'a>
         sessions: matches.get_one::<u64>("sessions"),
         keep: matches.get_one::<usize>("keep").unwrap_or(KEEP).max(1),
         tree: matches.get_str("tree"),
+        tree_strict: matches.get_flag("tree-strict"),
         log: matches.get_str("log"),
     }
 }

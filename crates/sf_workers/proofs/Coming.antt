@@ -1,5 +1,6 @@
 -- What a line came to, by how the lane of its session ended.
-use Rattle.std.proofs.Common.{◌≡◌, ◌⊎◌, ℕ, Result, Ok, Err, OnOk, IfErr, ap, sym, ◌∙◌, subst, inl, inr}
+use Rattle.std.proofs.Common.{◌≡◌, ◌⊎◌, ℕ, List, Result, Ok, Err, OnOk, IfOk, IfErr, ap, sym, ◌∙◌, subst, inl, inr}
+use Rattle.sf_call.specs.declared.record.Record.{Record}
 use Rattle.sf_call.specs.declared.fault.CoreFault.{CoreFault}
 use Rattle.sf_core.specs.Cores.{LaneState}
 use Rattle.sf_core.specs.Cores.LaneState.{NoLane, Busy}
@@ -9,9 +10,11 @@ use Rattle.sf_noted.specs.Pages.{BegunCall, begun_call, Page}
 use Rattle.sf_session.specs.SessionStates.{SessionState}
 use Rattle.sf_serving.specs.Serving.{LineView, Progress}
 use Rattle.sf_pool.specs.SessionLanes.{SessionLaneState, JoinRefused, Joined, SessionLaneView}
-use Rattle.sf_pool.specs.Scenes.{LaneScene, IsInCall, ServesLane, NeverJoins, HasLeftLane, LeavesFor, StopsLane, IsLaneFault}
+use Rattle.sf_audit.specs.Audits.{call_records}
+use Rattle.sf_roll.specs.Seen.{IsPrefixOf}
+use Rattle.sf_pool.specs.Scenes.{LaneScene, IsInCall, IsSessionBetween, ServesLane, NeverJoins, HasLeftLane, LeavesFor, StopsLane, IsLaneFault}
 use Rattle.sf_pool.specs.OnCores.{IsPageOf, IsVisitOf}
-use Rattle.sf_workers.specs.Told.{IsSpentBy, EndsServing, IsOutcomeOf}
+use Rattle.sf_workers.specs.Sessions.{IsSpentBy, EndsServing, IsOutcomeOf, IsVisitBetween}
 
 pub same_state : (a b : LaneState BegunCall) → Joined a ≡ Joined b → a ≡ b
 same_state a b e = cc
@@ -57,20 +60,20 @@ served_to : (visit : Result (ℕ × Page) CoreFault) (start now : LaneScene) (fr
     → IsOutcomeOf visit from line (EndsServing (Ok tt) line.incoming failed failed' steps)
 served_to (Err refusal) start now from line failed failed' steps old new visit (p, notes, served, (ends, left, shared)) = absurd (refused_not_joined now.lane.place refusal visit (NoLane, left))
 served_to (Ok x) start now from line failed failed' steps old new visit (p, notes, served, (ends, left, shared)) =
-    record { progress = p; served = served; told = visit.told ∙ notes.noted; stands = inl (same_state x.1.state NoLane (visit.place ∙ left)); ends = ends }
+    record { progress = p; served = served; calls = visit.told ∙ notes.noted; stands = inl (same_state x.1.state NoLane (visit.place ∙ left)); ends = ends }
 
 stopped_at : (visit : Result (ℕ × Page) CoreFault) (f : ServeFault) (start now : LaneScene) (from line : LineView) (failed failed' steps old new : ℕ) → IsVisitOf now.lane visit → steps ≡ now.lane.steps
     → IsLaneFault f failed failed' → StopsLane f start now from line failed failed' old new → IsOutcomeOf visit from line (EndsServing (Err f) line.incoming failed failed' steps)
-stopped_at (Err refusal) f start now from line failed failed' steps old new visit same_steps why (inl (never, begins, told, same, share)) = same
+stopped_at (Err refusal) f start now from line failed failed' steps old new visit same_steps why (inl (never, begins, told, same, share, seen)) = same
 stopped_at (Err refusal) f start now from line failed failed' steps old new visit same_steps why (inr (p, notes, served, (wrote, leaves))) =
     absurd (refused_not_joined now.lane.place refusal visit (left_joined now.lane p.state old new (left_for f now.lane p old new leaves)))
-stopped_at (Ok x) f start now from line failed failed' steps old new visit same_steps why (inl (never, begins, told, same, share)) =
+stopped_at (Ok x) f start now from line failed failed' steps old new visit same_steps why (inl (never, begins, told, same, share, seen)) =
     absurd (never_joined start.lane now.lane f never (x.1.state, sym visit.place))
 stopped_at (Ok x) f start now from line failed failed' steps old new visit same_steps why (inr (p, notes, served, (wrote, leaves))) =
     record {
       progress = p;
       served = served;
-      told = visit.told ∙ notes.noted;
+      calls = visit.told ∙ notes.noted;
       stands = stands x now.lane p.state old new visit (left_for f now.lane p old new leaves);
       ends = (wrote, why, subst (λ (n : ℕ). IsSpentBy f n p) (sym same_steps) (spent_by f now.lane p old new leaves));
     }
@@ -80,3 +83,22 @@ pub served_or_stopped : (visit : Result (ℕ × Page) CoreFault) (r : Result Uni
     → IsOutcomeOf visit from line (EndsServing r line.incoming failed failed' steps)
 served_or_stopped visit (Ok tt) start now from line failed failed' steps old new is same_steps serves stops why = served_to visit start now from line failed failed' steps old new is serves
 served_or_stopped visit (Err f) start now from line failed failed' steps old new is same_steps serves stops why = stopped_at visit f start now from line failed failed' steps old new is same_steps why stops
+
+-- ---- where its calls stand
+
+lane_stands : (lane : SessionLaneView) (x : ℕ × Page) (before after : List Record) → IsPageOf lane x → IsSessionBetween before after lane → IsVisitBetween before after x
+lane_stands lane x before after page stands = record {
+  behind = ap (λ (n : ℕ). call_records n before) page.session ∙ stands.behind;
+  within = ap (λ (n : ℕ). call_records n after) page.session ∙ stands.within ∙ sym page.told;
+}
+
+-- what was seen, and where the session's calls stand
+pub seen_through : (visit : Result (ℕ × Page) CoreFault) (r : Result Unit ServeFault) (start now : LaneScene) (from line : LineView) (failed failed' old new : ℕ) → IsVisitOf now.lane visit
+    → OnOk r (ServesLane start now from line old new) → IfErr r (λ f. StopsLane f start now from line failed failed' old new)
+    → IsPrefixOf start.seen now.seen × IfOk visit (IsVisitBetween start.seen now.seen)
+seen_through (Err refusal) (Ok tt) start now from line failed failed' old new visit (p, notes, served, ends) stops = (notes.stands.further, tt)
+seen_through (Err refusal) (Err f) start now from line failed failed' old new visit serves (inl (never, begins, told, same, share, seen)) = (seen, tt)
+seen_through (Err refusal) (Err f) start now from line failed failed' old new visit serves (inr (p, notes, served, ends)) = (notes.stands.further, tt)
+seen_through (Ok x) (Ok tt) start now from line failed failed' old new visit (p, notes, served, ends) stops = (notes.stands.further, lane_stands now.lane x start.seen now.seen visit notes.stands)
+seen_through (Ok x) (Err f) start now from line failed failed' old new visit serves (inl (never, begins, told, same, share, seen)) = absurd (never_joined start.lane now.lane f never (x.1.state, sym visit.place))
+seen_through (Ok x) (Err f) start now from line failed failed' old new visit serves (inr (p, notes, served, ends)) = (notes.stands.further, lane_stands now.lane x start.seen now.seen visit notes.stands)

@@ -19,7 +19,7 @@ use Rattle.sf_noted.specs.Visits.{MayWait, IsVisitIn}
 use Rattle.sf_serving.specs.Serving.{LineView, Progress}
 use Rattle.sf_pool.specs.SessionLanes.{Joined}
 use Rattle.sf_pool.specs.Scenes.{response_calls, phase_calls, IsInCall}
-use Rattle.sf_workers.specs.Told.{WasServed, IsOutcomeOf}
+use Rattle.sf_workers.specs.Sessions.{WasServed, IsOutcomeOf}
 use Rattle.sf_workers.specs.Conversations.{ConversesIn}
 use Rattle.sf_workers.proofs.Coming.{same_state}
 
@@ -50,7 +50,7 @@ answered_are (Refused id request fault ∷ answers) = answered_are answers
 
 -- ---- what is due
 
--- what is due to a session that is so far, where these calls wait to be told
+-- what is due to a session with these pending calls
 record DueFor (phase : Phase) (waits : List CallRecord) : Type 0 where
   due : Due
   asked : pending phase ≡ asked_due due
@@ -94,7 +94,7 @@ conversing x from line history serves visit =
     let d = due_of x.1.state t.phase waits serves.stands visit.2 in
     let calls = flat_map response_calls t.answers in
     let more = phase_calls t.phase ++ waits in
-    let all : call_records x.0 history ≡ calls ++ more = visit.1 ∙ ap (λ (l : List CallRecord). l ++ waits) serves.told ∙ append_assoc calls (phase_calls t.phase) waits in (
+    let all : call_records x.0 history ≡ calls ++ more = visit.1 ∙ ap (λ (l : List CallRecord). l ++ waits) serves.calls ∙ append_assoc calls (phase_calls t.phase) waits in (
       t.stream ++ p.unfed,
       p.written,
       served.read,

@@ -1,5 +1,5 @@
 mod Coming
 mod Conversing
 mod Kept
-mod Lists
+mod Receiving
 mod OnePromise

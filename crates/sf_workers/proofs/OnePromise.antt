@@ -1,17 +1,17 @@
 -- The promises of an engine and of a session alone, as conversations in a history.
 use Rattle.std.proofs.Common.{ℕ, List, [], append-nil, sym}
-use Rattle.sf_engine.specs.Promise.{LogEntry, linearization, fed_in, written_in, IsKnown, IsUnsent, IsKept}
+use Rattle.sf_engine.specs.Promise.{Entry, linearization, of_session, IsKnown, IsUnsent, IsKept}
 use Rattle.sf_session.specs.Conversation.{IsConversation}
 use Rattle.sf_workers.specs.Conversations.{IsConversationIn}
 
-pub of_engine : (log : List LogEntry) → IsKept log → (session : ℕ) → IsKnown log session
-    → (output : List ℕ) → (unsent : IsUnsent log session output) → IsConversationIn (linearization log) session (fed_in session log) unsent.sent
+pub of_engine : (log : List Entry) → IsKept log → (session : ℕ) → IsKnown log session
+    → (output : List ℕ) → (unsent : IsUnsent (of_session session log).wrote (of_session session log).sent output) → IsConversationIn (linearization log) session (of_session session log).fed unsent.sent
 of_engine log kept session known output unsent =
-    let a = kept.answered log [] (sym (append-nil log)) session known in
+    let a = kept.linearizable.answered log [] (sym (append-nil log)) session known in
     record {
       bodies = a.bodies;
       rest = a.rest;
-      answers = written_in session log;
+      answers = (of_session session log).wrote;
       due = a.due;
       unsent = output;
       are_bodies = a.are_bodies;

@@ -1,2 +1,3 @@
-pub mod Told
+pub mod Sessions
+pub mod Streams
 pub mod Conversations

@@ -1,21 +1,26 @@
-//! Threads that take lines from a channel, and serve each to its end.
+//! Worker threads, which receive streams and serve each to its end.
 
-ghost use Rattle.std.specs.Prelude.{◌≡◌, ◌≤◌, ◌⊎◌, ◌*◌, List, true, vec_len, All, IfOk};
+ghost use Rattle.std.specs.Prelude.{◌≡◌, ◌≤◌, ◌⊎◌, ◌*◌, List, [], true, vec_len, All, IfOk};
 ghost use Rattle.std.specs.Vec.{vec_capacity};
 ghost use Rattle.sf_call.specs.declared.record.Record.{Record};
 ghost use Rattle.sf_noted.specs.Visits.{IsVisitIn};
+ghost use Rattle.sf_roll.specs.Seen.{IsPrefixOf};
 ghost use Rattle.sf_serving.specs.Serving.{line_view};
 ghost use Rattle.sf_pool.specs.OnCores.{calls_begun_by};
 ghost use Rattle.sf_workers.specs.Conversations.{ConversesIn};
-ghost use Rattle.sf_workers.specs.Told.{told_on, told_in, visit_calls, EndsServing, IsOutcomeOf, AttendsLine};
+ghost use Rattle.sf_noted.specs.Visits.{visit_calls};
+ghost use Rattle.sf_workers.specs.Sessions.{calls_on_page, calls_in_transcript, EndsServing, IsOutcomeOf, IsVisitBetween, AttendsLine};
+ghost use Rattle.sf_workers.specs.Streams.{stream_state, ServesStreams};
 
-use crate::told::Told;
+use crate::sessions::Sessions;
+use crate::streams::{ChannelStreams, StreamSource};
 use crossbeam_channel::Receiver;
+use sf_call::Record;
 use sf_core::Share;
 use sf_line::Line;
 use sf_noted::NotedCore;
 use sf_pool::{EndedLane, NotJoined, SharedLane, StepObserver, WaitQueue, serve};
-use sf_roll::RollName;
+use sf_roll::{RollName, Seen};
 use sf_serving::new_piece;
 use sf_session::{Clock, ServeFault};
 use std::alloc::{AllocError, Global};
@@ -24,19 +29,25 @@ use std::sync::{Mutex, Wait};
 use std::thread;
 use std::thread::Threads;
 
-/// What a worker begins with: room for what a read gives, a part of the count for all its
-/// sessions, and one that it lends to each.
+/// What a worker begins with: a clock, a read buffer, a share of the count for its sessions, and a
+/// token for a prefix of the history.
 #[derive(Drop)]
 pub(crate) struct Job<B: RollName + Ledger, C> {
     clock: C,
     piece: Vec<u8>,
     share: ledger::Share<B>,
+    seen: Seen<Record, B>,
     ghost room: { vec_len piece ≡ 65536 },
     ghost two_parts: { share.parts ≡ 2 },
     ghost none_yet: { share.amount ≡ 0 },
 }
 
-fn job_of<B: RollName + Ledger, C>(clock: C, piece: Vec<u8>, share: ledger::Share<B>) -> Job<B, C>
+fn job_of<B: RollName + Ledger, C>(
+    clock: C,
+    piece: Vec<u8>,
+    share: ledger::Share<B>,
+    seen: Seen<Record, B>,
+) -> Job<B, C>
     requires room { vec_len piece ≡ 65536 }
     requires two_parts { share.parts ≡ 2 }
     requires none_yet { share.amount ≡ 0 }
@@ -45,6 +56,7 @@ fn job_of<B: RollName + Ledger, C>(clock: C, piece: Vec<u8>, share: ledger::Shar
         clock,
         piece,
         share,
+        seen,
     }
 }
 
@@ -53,6 +65,7 @@ pub(crate) fn jobs<B: RollName + Ledger, C: Drop>(
     alloc: Global,
     clocks: Vec<C>,
     all: &mut ledger::Share<B>,
+    core: &mut NotedCore<B>,
 ) -> Result<Vec<Job<B, C>>, AllocError>
     requires parts { all.old.parts ≡ 2 * vec_len clocks }
     requires none { all.old.amount ≡ 0 }
@@ -63,22 +76,23 @@ pub(crate) fn jobs<B: RollName + Ledger, C: Drop>(
     let mut jobs = Vec::new(alloc);
     while let Some(clock) = clocks.pop() {
         let piece = new_piece(alloc)?;
-        jobs.push(job_of(clock, piece, all.split_off(2, 0)))?;
+        let share = all.split_off(2, 0);
+        jobs.push(job_of(clock, piece, share, core.token()))?;
     }
     Ok(jobs)
 }
 
-/// What one worker's sessions came to: what they were told, and a share of as many calls as they
-/// began.
+/// The sessions of one worker, with the count of their calls and the worker's token.
 #[derive(Drop)]
 pub(crate) struct Served<B: RollName + Ledger> {
-    pub(crate) told: Told<B>,
+    pub(crate) sessions: Sessions<B>,
     pub(crate) share: ledger::Share<B>,
+    pub(crate) seen: Seen<Record, B>,
     ghost two_parts: { share.parts ≡ 2 },
-    ghost counted: { share.amount ≡ visit_calls told.visits.items },
+    ghost counted: { share.amount ≡ visit_calls sessions.visits.items },
 }
 
-/// Where sessions are served: a core that threads share, and the queue of those that wait for it.
+/// Where sessions are served: a shared core, and the queue of threads that wait for it.
 #[derive(Drop)]
 pub struct Place<'a, R, B: RollName + Ledger> {
     pub rt: &'a R,
@@ -87,46 +101,53 @@ pub struct Place<'a, R, B: RollName + Ledger> {
     pub wait_queue: &'a WaitQueue,
 }
 
-/// What came of a line.
+/// The outcome of a stream.
 #[derive(Drop)]
 pub(crate) enum Attended {
     /// A session was served over it, to its end or to a fault.
     Served(Result<(), ServeFault>),
     /// Its session was refused.
     NotJoined(NotJoined),
-    /// There was no room to note one more.
+    /// Memory ran out before the session.
     NoRoom(AllocError),
 }
 
-/// Serves a session over a line to its end: what its lane came to, and why it ended. Its calls are
-/// counted in the part that is lent. What it was told is kept, or its last call alone.
+/// Serves a session over a stream to its end. Returns the result of its lane, the token, and how
+/// the session ended. Its calls are counted in the lent share. The transcript is kept, or only the
+/// last call.
 ///
-/// A session that ends by a fault ends nothing else.
+/// The session's calls are after the prefix of the token that is passed in, and within the prefix
+/// of the one that is returned. So the token carries real-time order to whoever gets it.
+///
+/// A fault ends only this session.
 pub fn serve_line<B: RollName + Ledger, R: Wait, L: Line, C: Clock, G: StepObserver>(
     place: &Place<'_, R, B>,
     lent: ledger::Share<B>,
+    seen: Seen<Record, B>,
     keeps: bool,
     line: &mut L,
     clock: &mut C,
     observer: &G,
     piece: &mut Vec<u8>,
-) -> (EndedLane<B>, Result<(), ServeFault>)
+) -> (EndedLane<B>, Seen<Record, B>, Result<(), ServeFault>)
     requires part { lent.parts ≡ 1 }
     requires none { lent.amount ≡ 0 }
     requires room { vec_len piece.old ≡ 65536 }
     ensures part { result.0.share.parts ≡ 1 }
     ensures calls { result.0.share.amount ≡ calls_begun_by result.0.visit }
-    ensures told { keeps ≡ true → IfOk result.0.visit (λ visit. told_in result.0.transcript
-        ≡ told_on visit) }
+    ensures transcript { keeps ≡ true → IfOk result.0.visit (λ visit.
+        calls_in_transcript result.0.transcript ≡ calls_on_page visit) }
     ensures line { IsOutcomeOf result.0.visit
         (line_view (L.incoming line.old) (L.outgoing line.old) (L.calls line.old))
         (line_view (L.incoming line.new) (L.outgoing line.new) (L.calls line.new))
-        (EndsServing result.1 (L.incoming line.new) (L.failed line.old) (L.failed line.new)
+        (EndsServing result.2 (L.incoming line.new) (L.failed line.old) (L.failed line.new)
         result.0.steps) }
     ensures talk { (history : List Record) → IfOk result.0.visit (λ visit. IsVisitIn history visit
         → ConversesIn history visit.0
         (line_view (L.incoming line.old) (L.outgoing line.old) (L.calls line.old))
         (line_view (L.incoming line.new) (L.outgoing line.new) (L.calls line.new))) }
+    ensures seen { IsPrefixOf seen result.1 }
+    ensures between { IfOk result.0.visit (IsVisitBetween seen result.1) }
     ensures len { vec_len piece.new ≡ vec_len piece.old }
 {
     let mut lane = SharedLane::new(
@@ -136,6 +157,7 @@ pub fn serve_line<B: RollName + Ledger, R: Wait, L: Line, C: Clock, G: StepObser
         place.wait_queue,
         keeps,
         lent,
+        seen,
     );
     let mut share = Share::zero();
     let outcome = serve(
@@ -147,24 +169,27 @@ pub fn serve_line<B: RollName + Ledger, R: Wait, L: Line, C: Clock, G: StepObser
         piece,
         &mut share,
     );
-    (lane.end(), outcome)
+    let (ended, seen) = lane.end();
+    (ended, seen, outcome)
 }
 
 impl<B: RollName + Ledger> Served<B> {
-    /// No session was served.
-    fn none(alloc: Global, keeps: bool, share: ledger::Share<B>) -> Served<B>
+    /// No sessions.
+    fn none(alloc: Global, keeps: bool, share: ledger::Share<B>, seen: Seen<Record, B>) -> Served<B>
         requires two_parts { share.parts ≡ 2 }
         requires none { share.amount ≡ 0 }
-        ensures { result.told.keeps ≡ keeps }
+        ensures keeps { result.sessions.keeps ≡ keeps }
+        ensures visits { result.sessions.visits.items ≡ [] }
     {
         Served {
-            told: Told::nothing(alloc, keeps),
+            sessions: Sessions::none(alloc, keeps),
             share,
+            seen,
         }
     }
 
-    /// Serves a session over a line, too, and tells what came of it. Without room to note that the
-    /// line isn't served.
+    /// Serves one more session, over a stream, and returns the outcome. If memory runs out before
+    /// it, the stream is not used.
     fn serve<R: Wait, L: Line, C: Clock, G: StepObserver>(
         self,
         place: &Place<'_, R, B>,
@@ -174,24 +199,41 @@ impl<B: RollName + Ledger> Served<B> {
         piece: &mut Vec<u8>,
     ) -> (Served<B>, Attended)
         requires room { vec_len piece.old ≡ 65536 }
-        ensures keeps { result.0.told.keeps ≡ self.told.keeps }
-        ensures line { AttendsLine result.1 self.told.visits.items result.0.told.visits.items
-            ((vec_capacity self.told.visits ≤ vec_len self.told.visits)
-            ⊎ (vec_capacity self.told.transcripts ≤ vec_len self.told.transcripts))
+        ensures keeps { result.0.sessions.keeps ≡ self.sessions.keeps }
+        ensures seen { IsPrefixOf self.seen result.0.seen }
+        ensures line { AttendsLine result.1 self.sessions.visits.items
+            result.0.sessions.visits.items
+            ((vec_capacity self.sessions.visits ≤ vec_len self.sessions.visits)
+            ⊎ (vec_capacity self.sessions.transcripts ≤ vec_len self.sessions.transcripts))
             (line_view (L.incoming line.old) (L.outgoing line.old) (L.calls line.old))
             (line_view (L.incoming line.new) (L.outgoing line.new) (L.calls line.new))
             (L.failed line.old) (L.failed line.new) }
         ensures len { vec_len piece.new ≡ vec_len piece.old }
     {
         let Served {
-            mut told,
+            mut sessions,
             mut share,
+            seen,
         } = self;
-        if let Err(error) = told.reserve() {
-            return (Served { told, share }, Attended::NoRoom(error));
+        if let Err(error) = sessions.reserve() {
+            let served = Served {
+                sessions,
+                share,
+                seen,
+            };
+            return (served, Attended::NoRoom(error));
         }
         let lent = share.split_off(1, 0);
-        let (ended, outcome) = serve_line(place, lent, told.keeps, line, clock, observer, piece);
+        let (ended, seen, outcome) = serve_line(
+            place,
+            lent,
+            seen,
+            sessions.keeps,
+            line,
+            clock,
+            observer,
+            piece,
+        );
         let EndedLane {
             visit,
             transcript,
@@ -201,43 +243,54 @@ impl<B: RollName + Ledger> Served<B> {
         share.merge(own);
         let attended = match visit {
             Ok(visit) => {
-                told.note(visit, transcript);
+                sessions.add(visit, transcript);
                 Attended::Served(outcome)
             }
             Err(refusal) => Attended::NotJoined(refusal),
         };
-        (Served { told, share }, attended)
+        let served = Served {
+            sessions,
+            share,
+            seen,
+        };
+        (served, attended)
     }
 }
 
-/// Serves lines until the channel is closed and empty.
-fn work<B: RollName + Ledger, R: Wait, L: Line + Drop, C: Clock + Drop, G: StepObserver>(
-    place: &Place<'_, R, B>,
-    lines: &Receiver<L>,
-    job: Job<B, C>,
-    observer: &G,
-    keeps: bool,
-) -> Served<B>
-    ensures { result.told.keeps ≡ keeps }
+/// Serves one session over each stream that the source has.
+fn work<
+    B: RollName + Ledger,
+    R: Wait,
+    L: Line + Drop,
+    S: StreamSource<L>,
+    C: Clock + Drop,
+    G: StepObserver,
+>(place: &Place<'_, R, B>, source: &mut S, job: Job<B, C>, observer: &G, keeps: bool) -> Served<B>
+    ensures keeps { result.sessions.keeps ≡ keeps }
+    ensures streams { ServesStreams
+        (λ l. stream_state (line_view (L.incoming l) (L.outgoing l) (L.calls l)) (L.failed l))
+        (S.received source.old) (S.received source.new)
+        (S.returned source.old) (S.returned source.new) result.sessions.visits.items }
 {
     let Job {
         mut clock,
         mut piece,
         share,
+        seen,
     } = job;
-    let mut served = Served::none(place.alloc, keeps, share);
+    let mut served = Served::none(place.alloc, keeps, share, seen);
     for _ in place.rt.forever() {
-        let Ok(mut line) = lines.recv(place.rt) else {
+        let Some(mut stream) = source.receive() else {
             break;
         };
-        let (more, _attended) = served.serve(place, &mut line, &mut clock, observer, &mut piece);
+        let (more, _attended) = served.serve(place, &mut stream, &mut clock, observer, &mut piece);
+        source.give_back(stream);
         served = more;
     }
     served
 }
 
-/// Does all jobs, each in a thread of its own where one can be made, until the channel is closed
-/// and empty.
+/// Runs all jobs, each in a thread if one can be started, until the channel is closed and empty.
 pub(crate) fn work_all<
     B: RollName + Ledger + Send + Sync,
     R: Threads + Wait + Sync,
@@ -252,11 +305,17 @@ pub(crate) fn work_all<
     keeps: bool,
 ) -> Result<Vec<Served<B>>, AllocError>
     ensures workers { IfOk result (λ all. vec_len all ≡ vec_len jobs) }
-    ensures keeps { IfOk result (λ all. All (λ s. s.told.keeps ≡ keeps) all.items) }
+    ensures keeps { IfOk result (λ all. All (λ s. s.sessions.keeps ≡ keeps) all.items) }
 {
     thread::map_vec(
         place.rt,
         jobs,
-        &|job| { work(place, lines, job, observer, keeps) },
+        &|job| {
+            let mut source = ChannelStreams {
+                rt: place.rt,
+                channel: lines,
+            };
+            work(place, &mut source, job, observer, keeps)
+        },
     )
 }

@@ -70,7 +70,11 @@ fn stdio<T: Wait>(rt: &HostRuntime, threads: &T, words: Stdio<'_>) -> u8
         return serve_stdio(rt, words, &NoObserver);
     };
     match open_log(rt, threads, path, words.tree) {
-        Some(log) => serve_stdio(rt, words, &log),
+        Some(log) => {
+            let status = serve_stdio(rt, words, &log);
+            log.finish();
+            status
+        }
         None => 1,
     }
 }
@@ -93,7 +97,7 @@ fn serve_stdio<G: CallObserver>(rt: &HostRuntime, words: Stdio<'_>, observer: &G
             &mut errors,
         );
     };
-    let Ok(mut engine) = engine_of_folder(rt, words.keep, tree) else {
+    let Ok(mut engine) = engine_of_folder(rt, words.keep, tree, words.tree_strict) else {
         return 1;
     };
     run_stdio_on(
@@ -118,7 +122,11 @@ fn serve_sessions<T: Threads + Wait + Sync>(
         return serve_socket(rt, threads, serving, &NoObserver);
     };
     match open_log(rt, threads, path, serving.tree) {
-        Some(log) => serve_socket(rt, threads, serving, &log),
+        Some(log) => {
+            let status = serve_socket(rt, threads, serving, &log);
+            log.finish();
+            status
+        }
         None => 1,
     }
 }

@@ -1,10 +1,12 @@
-use Rattle.std.proofs.Common.{ℤ, Option, Some, None, IfSome, sym, subst, rules}
+use Rattle.std.proofs.Common.{◌≡◌, ◌∙◌, ◌++◌, ℕ, ℤ, List, Option, Some, None, IfSome, take, drop, ap, sym, subst, rules}
+use Rattle.std.proofs.lemmas.List.{take-append-drop}
+use Rattle.sf_call.specs.declared.record.Record.{Record}
 use mir.Syntax.{w64}
 use mir.Val.{SFits, to_z, of_z}
 use Rattle.std.proofs.lemmas.Int.{to_z-of_z}
 use Rattle.sf_engine.specs.Views.{EngineView}
-use Rattle.sf_engine.proofs.Laws.{has_records}
-use Rattle.sf_c.specs.Records.{TellsRecord, KeepsLastRecords}
+use Rattle.sf_c.specs.Numbers.{KeepsLastRecords}
+use Rattle.sf_c.specs.Records.{TellsRecord}
 use Rattle.sf_c.proofs.lucernetick_call.Goals as goal
 
 pub returns-clause-tells : goal.returns-clause-tells
@@ -20,8 +22,11 @@ returns-clause-tells c =
     (subst (λ (m : ℤ). TellsRecord c.take-engine.result.value c.args.at before old m parts new) (sym (to_z-of_z w64 n fits))
     (subst (λ (e : EngineView). TellsRecord e c.args.at before old n parts new) c.deref.ensures c.copy_record-number.ensures))
 
+last_of : (n : ℕ) (h rs : List Record) → rs ≡ drop n h → (gone : List Record) × (h ≡ gone ++ rs)
+last_of n h rs is = (take n h, sym (take-append-drop n h) ∙ ap (λ (xs : List Record). take n h ++ xs) (sym is))
+
 last : (o : Option EngineView) → IfSome o KeepsLastRecords
-last (Some engine) = λ log has. has_records engine log has
+last (Some engine) = λ log has. last_of _ _ engine.core.records has.0.history.records
 last None = tt
 
 pub returns-clause-last : goal.returns-clause-last

@@ -3,7 +3,7 @@ use Rattle.std.specs.Global.{Vec}
 use Rattle.sf_engine.specs.declared.event.Event.TheVariants as event
 use Rattle.sf_engine.specs.declared.event.Happened.{Happened}
 use Rattle.sf_engine.specs.declared.event.EngineFault.{EngineFault}
-use Rattle.sf_engine.specs.Fits.{GoesOnTrace}
+use Rattle.sf_engine.specs.HasLog.{AppendsEntry}
 use Rattle.sf_serving.proofs.Laws.{some_ok}
 use Rattle.sf_alone.proofs.on_engine.feed.Goals as goal
 
@@ -23,5 +23,5 @@ pub returns-clause-fed : goal.returns-clause-fed
 returns-clause-fed c =
     let fed = front c.args.piece.now c.args.n c.requires in
     let k = some_ok c.feed.result (sym c.is_err.ensures.value ∙ c.if-is_err.false) in
-    let P : Result Happened EngineFault → Type 0 = λ r. GoesOnTrace c.args.engine.now (event.Feed c.args.session fed) r c.feed.new.self in
-    (fed, refl, k.0, subst P k.1 (c.feed.ensures.fits fed (ap (λ (items : List ℕ). take c.args.n items) (sym c.deref.ensures.value))))
+    let P : Result Happened EngineFault → Type 0 = λ r. AppendsEntry c.args.engine.now (event.Feed c.args.session fed) r c.feed.new.self in
+    (fed, refl, k.0, subst P k.1 (c.feed.ensures.log fed (ap (λ (items : List ℕ). take c.args.n items) (sym c.deref.ensures.value))))

@@ -2,7 +2,7 @@ use Rattle.std.proofs.Common.{ℤ, sym, subst, rules}
 use mir.Syntax.{w64}
 use mir.Val.{SFits}
 use Rattle.std.proofs.lemmas.Int.{to_z-of_z}
-use Rattle.sf_asking.proofs.Laws.{event_leads}
+use Rattle.sf_engine.proofs.Laws.{promised}
 use Rattle.sf_c.specs.Numbers.{IsNumber}
 use Rattle.sf_c.proofs.turns.apply.Goals as goal
 
@@ -11,6 +11,7 @@ returns c =
     let n = c.number_of.result in
     let fits : SFits w64 n = search rules in (
       c.apply.result,
-      event_leads c.args.engine.now c.apply.new.self c.args.event.now c.apply.result c.apply.ensures.fits c.apply.ensures.err,
+      ((λ log has. let it = c.apply.ensures.log log has.0 in (it.0, it.1, it.2, promised it.3)), c.apply.ensures.err),
+      c.apply.ensures.log,
       subst (λ (m : ℤ). IsNumber c.apply.result m) (sym (to_z-of_z w64 n fits)) c.number_of.ensures,
     )

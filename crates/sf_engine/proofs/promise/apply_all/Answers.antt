@@ -4,8 +4,8 @@ use Rattle.std.proofs.lemmas.List.{take_more, take_all}
 use Rattle.sf_engine.specs.declared.event.Event.{Event}
 use Rattle.sf_engine.specs.declared.event.Happened.{Happened}
 use Rattle.sf_engine.specs.declared.event.EngineFault.{EngineFault}
-use Rattle.sf_engine.specs.Promise.{log_entry, IsUnsent}
-use Rattle.sf_engine.proofs.Telling.{IsLogOf, no_log, log_push, last_got}
+use Rattle.sf_engine.specs.Promise.{of_session, IsUnsent}
+use Rattle.sf_engine.proofs.Outcomes.{IsLogOf, no_log, log_push, last_got}
 use Rattle.sf_engine.proofs.promise.apply_all.Goals as goal
 
 pub events-init : goal.events-init
@@ -21,14 +21,14 @@ events-preserved g c =
     let on = c.apply-outcome.ensures.on inv.0 inv.2 in
     let more : take (c.events.event-index + 1) c.args.events.now ≡ take c.events.event-index c.args.events.now ++ item ∷ [] =
     take_more c.args.events.now c.events.event-index item (omega arith) ∙ ap (λ (z : Event). take c.events.event-index c.args.events.now ++ z ∷ []) (sym c.event-item.is) in
-    let push = log_push (take c.events.event-index c.args.events.now) c.events.results.items c.events.sessions c.opened.result inv.0 item c.apply-outcome.result on.0 on.1 inv.1 c.opened.ensures.is in
+    let push = log_push (take c.events.event-index c.args.events.now) c.events.results.items c.events.sessions c.opened.result inv.0 on.0 item c.apply-outcome.result on.1 on.2 inv.1 c.opened.ensures.is in
     record {
       few = omega (arith, c.events.invariant.few, c.opened.ensures.few);
       log = (
-        inv.0 ++ log_entry item c.apply-outcome.result on.0 on.1 ∷ [],
-        subst (λ (xs : List Event). IsLogOf xs c.push.new.self.items (c.events.sessions + c.opened.result) (inv.0 ++ log_entry item c.apply-outcome.result on.0 on.1 ∷ [])) (sym more)
-            (subst (λ (xs : List (Result Happened EngineFault)). IsLogOf (take c.events.event-index c.args.events.now ++ item ∷ []) xs (c.events.sessions + c.opened.result) (inv.0 ++ log_entry item c.apply-outcome.result on.0 on.1 ∷ [])) (sym c.in_ok-push.ensures.items) push),
-        on.2,
+        inv.0 ++ on.0 ∷ [],
+        subst (λ (xs : List Event). IsLogOf xs c.push.new.self.items (c.events.sessions + c.opened.result) (inv.0 ++ on.0 ∷ [])) (sym more)
+            (subst (λ (xs : List (Result Happened EngineFault)). IsLogOf (take c.events.event-index c.args.events.now ++ item ∷ []) xs (c.events.sessions + c.opened.result) (inv.0 ++ on.0 ∷ [])) (sym c.in_ok-push.ensures.items) push),
+        on.3,
       );
     }
 
@@ -67,8 +67,8 @@ sessions-preserved g c =
               | inl old ↦ inv.log.3 i output old
               | inr new ↦
                   let index : c.sessions.session ≡ i = sym inv.count ∙ sym new.0 in
-                  let own : IsUnsent log (c.sessions.session + 1) v.items = subst (λ (bs : List ℕ). IsUnsent log (c.sessions.session + 1) bs) (sym copied) unsent in
-                  subst (λ (n : ℕ). IsUnsent log (n + 1) output.items) index (subst (λ (z : Vec ℕ). IsUnsent log (c.sessions.session + 1) z.items) new.1 own)
+                  let own : IsUnsent (of_session (c.sessions.session + 1) log).wrote (of_session (c.sessions.session + 1) log).sent v.items = subst (λ (bs : List ℕ). IsUnsent (of_session (c.sessions.session + 1) log).wrote (of_session (c.sessions.session + 1) log).sent bs) (sym copied) unsent in
+                  subst (λ (n : ℕ). IsUnsent (of_session (n + 1) log).wrote (of_session (n + 1) log).sent output.items) index (subst (λ (z : Vec ℕ). IsUnsent (of_session (c.sessions.session + 1) log).wrote (of_session (c.sessions.session + 1) log).sent z.items) new.1 own)
             ],
       );
     }

@@ -1,13 +1,11 @@
-use Rattle.std.proofs.Common.{◌≡◌, ◌+◌, ◌<◌, ℕ, List, [], ◌∷◌, ◌++◌, Some, None, Ok, false, length, take, slice_get, refl, ap, sym, ◌∙◌, subst, arith}
+use Rattle.std.proofs.Common.{◌≡◌, ◌<◌, ℕ, List, Some, false, length, take, slice_get, refl, ap, sym, ◌∙◌, subst, arith}
 use Rattle.std.specs.Global.{Vec}
 use Rattle.std.specs.Prelude.{slice_range}
 use Rattle.std.proofs.lemmas.Result.{err_from_is_err_and}
 use Rattle.std.proofs.lemmas.Option.{slice_get_within, slice_get_read}
-use Rattle.sf_request.specs.declared.request.Asked.{Asked}
 use Rattle.sf_request.specs.declared.request.Asked.TheVariants.{Request}
 use Rattle.sf_request.specs.Requests.{Asks}
-use Rattle.sf_engine.specs.declared.event.Event.TheVariants as event
-use Rattle.sf_engine.specs.Promise.{LogEntry, log_entry}
+use Rattle.sf_engine.specs.Promise.{Entry, BytesFed, BytesSent}
 use Rattle.sf_refusing.specs.declared.given.GivenRule.{GivenRule}
 use Rattle.sf_refusing.specs.declared.passage.Passage.{Passage}
 use Rattle.sf_refusing.specs.Rules.{fits}
@@ -17,8 +15,7 @@ use Rattle.sf_refusing.proofs.Counts.{AreCounted}
 use Rattle.sf_refusing.specs.Journal.{log_of}
 use Rattle.sf_refusing.proofs.Vecs.{vec_of}
 use Rattle.sf_refusing.proofs.Faults.{feed_fault}
-use Rattle.sf_refusing.specs.Refusing.{IsFed}
-use Rattle.sf_refusing.proofs.Deciding.{IsDone, body_at, seen_body, IsSeen, done_err, done_other, done_pass, done_refuse}
+use Rattle.sf_refusing.proofs.Deciding.{body_at, seen_body, done_err, done_other, done_pass, done_refuse}
 use Rattle.sf_refusing.proofs.front.decide.Goals as goal
 
 pub returns-in_err-pass : goal.returns-in_err-pass
@@ -41,7 +38,7 @@ pub returns-in_err-refuse : goal.returns-in_err-refuse
 returns-in_err-refuse g c = λ journal S.
     let p = err_from_is_err_and c.from_residual-in_err-refuse.result c.from_residual-in_err-refuse.ensures.1 in
     let err = c.in_err-refuse.ensures.err in
-    let oom = p.2 ∙ c.in_err-refuse.ensures.fault (log_of journal) S.has S.waits.here.0 in
+    let oom = p.2 ∙ c.in_err-refuse.ensures.fault (log_of journal) S.has S.waits.at.0 in
     done_err g.E.Sftp.has_log c.args.engine.now c.refuse.new.engine journal c.args.session c.args.passage.now c.refuse.new.self c.args.rules.now.items c.from_residual-in_err-refuse.result p.0 p.1 oom err.2 err.0 err.1 c.in_err-refuse.ensures.begun S
 
 pub returns-in_default-found : goal.returns-in_default-found
@@ -52,11 +49,11 @@ returns-in_default-found g c = λ journal S.
     let body : slice_range c.as_slice.result.now 4 len ≡ body_at held len = seen_body c.as_slice.result.now held len c.as_slice.ensures c.requires.whole in
     let fed : Vec ℕ = vec_of c.args.rules.now (take len held) c.in_ok-pass.ensures.short in
     let on = c.in_ok-pass.ensures.fed fed refl (log_of journal) S.has in
-    let e : LogEntry = log_entry (event.Feed c.args.session fed) (Ok on.0) on.1 on.2 in
+    let e : Entry = BytesFed c.args.session fed in
     let ok = c.in_ok-pass.ensures.ok in
     done_other g.E.Sftp.has_log c.args.engine.now c.pass.new.engine journal c.args.session c.args.passage.now c.pass.new.self c.args.rules.now.items e len none.0 S c.requires.whole
     (subst (λ (b : List ℕ). Asks b none.0) body none.1) none.2
-    (record { fed = fed; items = refl; event = refl; happened = on.0; result = refl }) on.3 ok.0 ok.1 ok.2
+    (record { fed = fed; items = refl; is = refl }) on ok.0 ok.1 ok.2
 
 pub returns-in_default-first_refusing : goal.returns-in_default-first_refusing
 returns-in_default-first_refusing g c = λ journal S.
@@ -68,7 +65,7 @@ returns-in_default-first_refusing g c = λ journal S.
     let body : slice_range c.as_slice.result.now 4 len ≡ body_at held len = seen_body c.as_slice.result.now held len c.as_slice.ensures c.requires.whole in
     let fed : Vec ℕ = vec_of c.args.rules.now (take len held) c.in_ok-pass-2.ensures.short in
     let on = c.in_ok-pass-2.ensures.fed fed refl (log_of journal) S.has in
-    let e : LogEntry = log_entry (event.Feed c.args.session fed) (Ok on.0) on.1 on.2 in
+    let e : Entry = BytesFed c.args.session fed in
     let ok = c.in_ok-pass-2.ensures.ok in
     let none : (number : ℕ) (given : GivenRule) → slice_get rules number ≡ Some given → refuses_now given seen.session seen.kind seen.paths.items ≡ false =
     subst (λ (rs : List GivenRule). (number : ℕ) (given : GivenRule) → slice_get rs number ≡ Some given → refuses_now given seen.session seen.kind seen.paths.items ≡ false) c.deref.ensures.value c.in_default-first_refusing.ensures.none in
@@ -76,7 +73,7 @@ returns-in_default-first_refusing g c = λ journal S.
     let counted = subst (λ (n : ℕ). AreCounted rules c.count_with.new.rules.items n (λ given. fits given.rule seen.session seen.kind seen.paths.items)) count (c.count_with.ensures.length, c.count_with.ensures.each) in
     done_pass g.E.Sftp.has_log c.args.engine.now c.pass-in_default-first_refusing.new.engine journal c.args.session c.args.passage.now c.pass-in_default-first_refusing.new.self rules c.count_with.new.rules.items e len c.in-Some.id some.0 seen.session seen.kind seen.paths.items S c.requires.whole
     (subst (λ (b : List ℕ). Asks b (Request c.in-Some.id some.0)) body some.1) (record { session_is = some.2; kind_is = some.3; paths_are = some.4 }) none
-    (record { fed = fed; items = refl; event = refl; happened = on.0; result = refl }) on.3 ok.0 ok.1 ok.2 counted
+    (record { fed = fed; items = refl; is = refl }) on ok.0 ok.1 ok.2 counted
 
 pub index-requires : goal.index-requires
 index-requires g c =
@@ -110,7 +107,7 @@ returns g c = λ journal S.
     let code : item.rule.code ≡ found.0.rule.code = ap (λ (given : GivenRule). given.rule.code) (some_same item found.0 (sym at ∙ here)) in
     let first : (other : ℕ) (given : GivenRule) → other < number → slice_get rules other ≡ Some given → refuses_now given seen.session seen.kind seen.paths.items ≡ false =
     subst (λ (rs : List GivenRule). (other : ℕ) (given : GivenRule) → other < number → slice_get rs other ≡ Some given → refuses_now given seen.session seen.kind seen.paths.items ≡ false) c.deref.ensures.value c.in-Some-first_refusing.ensures.first in
-    let e : LogEntry = log_entry (event.Sent c.args.session (length ok.0)) (Ok ok.3.0) ok.3.1 ok.3.2 in
+    let e : Entry = BytesSent c.args.session (length ok.0) in
     done_refuse g.E.Sftp.has_log c.args.engine.now c.refuse.new.engine journal c.args.session c.args.passage.now c.refuse.new.self rules c.count_with-2.new.rules.items e ok.0 len c.in-Some.id some.0 seen.session seen.kind seen.paths.items number found.0 item.rule.code S c.requires.whole c.requires.begun
     (subst (λ (b : List ℕ). Asks b (Request c.in-Some.id some.0)) body some.1) (record { session_is = some.2; kind_is = some.3; paths_are = some.4 }) here code found.2 first
-    (record { event = refl; happened = ok.3.0; result = refl }) ok.1 ok.3.3 c.in_ok-refuse.ensures.held ok.2 c.in_ok-refuse.ensures.begun (c.count_with-2.ensures.length, c.count_with-2.ensures.each)
+    refl ok.1 ok.3 c.in_ok-refuse.ensures.held ok.2 c.in_ok-refuse.ensures.begun (c.count_with-2.ensures.length, c.count_with-2.ensures.each)

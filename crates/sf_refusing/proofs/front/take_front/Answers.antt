@@ -1,12 +1,7 @@
-use Rattle.std.proofs.Common.{◌≡◌, ◌+◌, ◌<◌, ◌⊎◌, ℕ, List, [], ◌∷◌, ◌++◌, Some, None, Ok, false, length, take, refl, ap, sym, ◌∙◌, subst, arith}
+use Rattle.std.proofs.Common.{◌≡◌, ◌<◌, ◌⊎◌, ℕ, List, [], Ok, false, length, take, refl, ap, sym, ◌∙◌, subst}
 use Rattle.std.specs.Global.{Vec}
-use Rattle.std.specs.Prelude.{slice_range}
 use Rattle.std.proofs.lemmas.Result.{err_from_is_err_and}
-use Rattle.std.proofs.lemmas.Option.{slice_get_within}
-use Rattle.sf_request.specs.declared.request.Asked.{Asked}
-use Rattle.sf_request.specs.Requests.{Asks}
-use Rattle.sf_engine.specs.declared.event.Event.TheVariants as event
-use Rattle.sf_engine.specs.Promise.{LogEntry, log_entry}
+use Rattle.sf_engine.specs.Promise.{Entry, BytesFed}
 use Rattle.sf_refusing.specs.declared.given.GivenRule.{GivenRule}
 use Rattle.sf_refusing.specs.declared.passage.Passage.{Passage}
 use Rattle.sf_refusing.specs.Journal.{log_of}
@@ -16,7 +11,7 @@ use Rattle.sf_wire.specs.declared.cutting.Cut.TheVariants as cut
 use Rattle.sf_wire.specs.Packets.{IsCut}
 use Rattle.sf_wire.specs.Streams.{HasBody}
 use Rattle.sf_refusing.specs.Refusing.{IsFed, IsUnruled}
-use Rattle.sf_refusing.proofs.Deciding.{IsDone, none_held, done_err, done_did, done_nothing, bad_goes, unruled_goes}
+use Rattle.sf_refusing.proofs.Deciding.{none_held, done_err, done_did, done_nothing, bad_goes, unruled_goes}
 use Rattle.sf_refusing.proofs.front.take_front.Goals as goal
 use Rattle.sf_refusing.proofs.front.take_front.Goals.{in-Bad, in-Whole+else-is_ruled}
 
@@ -41,8 +36,8 @@ returns g c = λ journal S.
     let len : ℕ = c.match-cut.len in
     let fed : Vec ℕ = vec_of c.args.rules.now (take len held) c.in_ok-pass.ensures.short in
     let on = c.in_ok-pass.ensures.fed fed refl (log_of journal) S.has in
-    let e : LogEntry = log_entry (event.Feed c.args.session fed) (Ok on.0) on.1 on.2 in
-    let F : IsFed c.args.session (take len held) e = record { fed = fed; items = refl; event = refl; happened = on.0; result = refl } in
+    let e : Entry = BytesFed c.args.session fed in
+    let F : IsFed c.args.session (take len held) e = record { fed = fed; items = refl; is = refl } in
     let ok = c.in_ok-pass.ensures.ok in
     let goes : (0 < length (take len held)) × IsUnruled journal c.args.session (take len held) =
     elim c.match-cut.branch [
@@ -54,4 +49,4 @@ returns g c = λ journal S.
           unruled_goes journal c.args.session p c.args.rules.now.items len S.at S.rules free
           (subst (λ (n : ℕ). HasBody held n) (sym w.len-is) (subst (λ (b : List ℕ). HasBody b w.in-Whole.len) c.as_slice.ensures w.in-Whole.ensures.whole))
     ] in
-    done_did g.E.Sftp.has_log c.args.engine.now c.pass.new.engine journal c.args.session p c.pass.new.self c.args.rules.now.items e len S F on.3 ok.0 ok.1 ok.2 goes.0 goes.1
+    done_did g.E.Sftp.has_log c.args.engine.now c.pass.new.engine journal c.args.session p c.pass.new.self c.args.rules.now.items e len S F on ok.0 ok.1 ok.2 goes.0 goes.1

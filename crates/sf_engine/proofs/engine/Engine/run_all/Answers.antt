@@ -1,41 +1,40 @@
-use Rattle.std.proofs.Common.{◌<◌, ◌^◌, ℕ, [], sym, subst, arith, add-one}
+use Rattle.std.proofs.Common.{◌<◌, ◌^◌, ℕ, Bool, true, false, [], sym, subst, arith}
 use Rattle.sf_engine.specs.Views.{EngineView}
-use Rattle.sf_engine.specs.Rounds.{AreUnderWay, HasRounds, left_to}
-use Rattle.sf_engine.proofs.Rounds.{rounds_nil, rounds_push, within_bounds, few_left}
-use Rattle.sf_engine.proofs.HostedChanges.{engine}
+use Rattle.sf_engine.specs.HasLog.{AppendsRound, AppendsRounds, left_to}
+use Rattle.sf_engine.proofs.Base.{engine}
+use Rattle.sf_engine.proofs.Rounds.{rounds_start, rounds_more, all_decided}
+use Rattle.sf_engine.proofs.StepsLeft.{few_left_log}
+use Rattle.sf_engine.proofs.Bounds.{within_bounds}
 use Rattle.sf_engine.proofs.engine.Engine.run_all.Goals as goal
 
 pub rounds-init : goal.rounds-init
 rounds-init c = record {
-  rounds = rounds_nil c.args.self.now;
+  log = rounds_start c.args.self.now;
   left = omega arith;
-  few = subst (λ (v : EngineView). left_to v < 2 ^ 64) c.self.view_is (few_left (engine c.self.inside.core c.self.inside.hosted.items) c.self.invariant);
+  few = subst (λ (v : EngineView). left_to v < 2 ^ 64) c.self.view_is (few_left_log (engine c.self.inside.core c.self.inside.hosted.items) c.self.invariant.0 c.self.invariant.1);
 }
 
 pub rounds-preserved : goal.rounds-preserved
 rounds-preserved c =
     let k = c.rounds.invariant in
-    let n = c.rounds.rounds in
-    let round = c.round.ensures.some c.rounds-test.true in
+    let less = c.round.ensures.some c.rounds-test.true in
     record {
-      rounds = subst (λ (m : ℕ). HasRounds m c.args.self.now c.round.new.self) (sym (add-one n)) (rounds_push n c.args.self.now c.rounds.self c.round.new.self k.rounds round.0);
-      left = omega (arith, k.left, round.1);
+      log = rounds_more c.rounds.rounds c.args.self.now c.rounds.self c.round.new.self k.log (subst (λ (b : Bool). AppendsRound c.rounds.self b c.round.new.self) c.rounds-test.true c.round.ensures.log);
+      left = omega (arith, k.left, less);
       few = k.few;
     }
 
 pub overflow_add-rounds : goal.overflow_add-rounds
 overflow_add-rounds c =
     let k = c.rounds.invariant in
-    let round = c.round.ensures.some c.rounds-test.true in
-    omega (arith, k.left, k.few, round.1)
+    let less = c.round.ensures.some c.rounds-test.true in
+    omega (arith, k.left, k.few, less)
 
-pub returns-clause-rounds : goal.returns-clause-rounds
-returns-clause-rounds c = subst (λ (v : EngineView). HasRounds c.rounds.rounds c.args.self.now v) (sym (c.round.ensures.none c.rounds-test.false).0) c.rounds.invariant.rounds
+pub returns-clause-log : goal.returns-clause-log
+returns-clause-log c = subst (λ (v : EngineView). AppendsRounds c.args.self.now c.rounds.rounds v) (sym (c.round.ensures.none c.rounds-test.false)) c.rounds.invariant.log
+
+pub returns-clause-decided : goal.returns-clause-decided
+returns-clause-decided c = all_decided c.rounds.self c.round.new.self (c.round.ensures.none c.rounds-test.false) (subst (λ (b : Bool). AppendsRound c.rounds.self b c.round.new.self) c.rounds-test.false c.round.ensures.log)
 
 pub returns-clause-few : goal.returns-clause-few
 returns-clause-few c = let left = c.rounds.invariant.left in within_bounds c.rounds.rounds c.args.self.now (omega (arith, left))
-
-pub returns-clause-done : goal.returns-clause-done
-returns-clause-done c =
-    let none = c.round.ensures.none c.rounds-test.false in
-    subst (λ (v : EngineView). AreUnderWay [] v) (sym none.0) none.1

@@ -1,5 +1,5 @@
-use Rattle.sf_engine.proofs.Having.{goes_on_log}
+use Rattle.sf_engine.proofs.StepsLeft.{promised}
 use Rattle.sf_engine.proofs.promise.EngineSftp.apply.Goals as goal
 
 pub returns-clause-on : goal.returns-clause-on
-returns-clause-on c = λ log has. goes_on_log c.args.self.now c.apply.new.self c.args.event.now c.apply.result log c.apply.ensures.fits has
+returns-clause-on c = λ log has. let it = c.apply.ensures.log log has.0 in (it.0, it.1, it.2, promised it.3)

@@ -1,6 +1,5 @@
-use Rattle.sf_engine.specs.declared.event.Event.TheVariants as event
-use Rattle.sf_engine.proofs.Having.{goes_on_log}
+use Rattle.sf_engine.proofs.StepsLeft.{promised}
 use Rattle.sf_engine.proofs.promise.EngineSftp.feed.Goals as goal
 
 pub returns-clause-on : goal.returns-clause-on
-returns-clause-on c = λ fed same log has. goes_on_log c.args.self.now c.feed.new.self (event.Feed c.args.session fed) c.feed.result log (c.feed.ensures.fits fed same) has
+returns-clause-on c = λ fed same log has. let it = c.feed.ensures.log fed same log has.0 in (it.0, it.1, it.2, promised it.3)

@@ -1,15 +1,26 @@
-use Rattle.std.proofs.Common.{Option, Some, None}
-use Rattle.std.specs.Prelude.{IfNone}
-use Rattle.std.proofs.lemmas.Option.{IfSome_then}
-use Rattle.sf_engine.proofs.Having.{has_unsent, has_no_session}
+use Rattle.std.proofs.Common.{◌≡◌, List, Option, Some, None}
+use Rattle.std.specs.Option.{IfSome, IfNone}
+use Rattle.sf_engine.specs.Promise.{Entry, of_session, IsKnown, IsUnsent}
+use Rattle.sf_engine.specs.HasLog.{HasPromise, ShowsOutput, IsNoSession}
 use Rattle.sf_engine.proofs.promise.EngineSftp.output.Goals as goal
 
-none_then : {X : Type 0} {P Q : Type 0} (r : Option X) → IfNone r P → (P → Q) → IfNone r Q
-none_then None p f = f p
-none_then (Some x) p f = tt
+some_weaker : {X : Type 0} (o : Option X) (P Q : X → Type 0) → ((x : X) → P x → Q x) → IfSome o P → IfSome o Q
+some_weaker None P Q so h = tt
+some_weaker (Some x) P Q so h = so x h
+
+none_weaker : {X : Type 0} (o : Option X) (P Q : Type 0) → (P → Q) → IfNone o P → IfNone o Q
+none_weaker None P Q so h = so h
+none_weaker (Some x) P Q so h = tt
 
 pub returns-clause-some : goal.returns-clause-some
-returns-clause-some c = IfSome_then c.output.result c.output.ensures.sent (λ output sent. λ log has. has_unsent c.args.self.now log c.args.session output.now sent has)
+returns-clause-some c =
+    let e = c.args.self.now in
+    let s = c.args.session in
+    some_weaker c.output.result (λ output. ShowsOutput e s output.now) (λ output. (log : List Entry) → HasPromise e log → IsKnown log s × IsUnsent (of_session s log).wrote (of_session s log).sent output.now)
+    (λ x h log has. h log has.0) c.output.ensures.log
 
 pub returns-clause-none : goal.returns-clause-none
-returns-clause-none c = none_then c.output.result c.output.ensures.unknown (λ unknown. λ log has known. has_no_session c.args.self.now log c.args.session unknown has known)
+returns-clause-none c =
+    let e = c.args.self.now in
+    let s = c.args.session in
+    none_weaker c.output.result (IsNoSession e s) ((log : List Entry) → HasPromise e log → IsKnown log s → ⊥) (λ h log has. h log has.0) c.output.ensures.none

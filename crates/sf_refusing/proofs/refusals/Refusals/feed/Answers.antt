@@ -1,4 +1,4 @@
-use Rattle.std.proofs.Common.{◌≡◌, ◌<◌, ◌≤◌, ◌+◌, ◌-◌, ◌⊎◌, ◌++◌, ◌∷◌, ℕ, List, [], length, take, drop, map, Bool, true, false, slice_get, Some, None, Result, Ok, Err, refl, ap, sym, ◌∙◌, subst, arith, inl, inr, append-nil, append_assoc}
+use Rattle.std.proofs.Common.{◌≡◌, ◌++◌, ◌∷◌, ℕ, List, [], length, slice_get, Some, Result, refl, ap, sym, ◌∙◌, subst, arith, append_assoc}
 use Rattle.std.specs.Vec.{with_item}
 use Rattle.std.proofs.lemmas.Option.{slice_get_read}
 use Rattle.sf_refusing.specs.declared.passage.Passage.{Passage}
@@ -9,12 +9,13 @@ use Rattle.std.proofs.lemmas.Result.{err_from_is_err_and}
 use Rattle.sf_engine.specs.declared.event.Happened.{Happened}
 use Rattle.sf_engine.specs.declared.event.EngineFault.{EngineFault}
 use Rattle.sf_engine.specs.declared.event.Event.TheVariants as event
-use Rattle.sf_engine.specs.Promise.{LogEntry, log_entry}
+use Rattle.sf_engine.specs.Promise.{Entry}
 use Rattle.sf_refusing.specs.Journal.{Act, Made, Received, log_of}
 use Rattle.sf_refusing.specs.Refusing.{IsFed, HasJournal, Have, MayRefuseFeed}
 use Rattle.sf_refusing.proofs.Vecs.{vec_of}
 use Rattle.sf_refusing.proofs.Faults.{feed_refused}
-use Rattle.sf_refusing.proofs.Steps.{plain_probe, plain_has}
+use Rattle.sf_refusing.proofs.Entries.{fed_entry, refused_entry, plain_probe}
+use Rattle.sf_refusing.proofs.Steps.{plain_has}
 use Rattle.sf_refusing.proofs.Sessions.{on_err, kept_has, received_has, log_received}
 use Rattle.sf_refusing.proofs.refusals.Refusals.feed.Goals as goal
 
@@ -50,13 +51,13 @@ returns-clause-ok g c = λ journal H.
     let now : Refusals = record { alloc = c.passage_of.new.self.alloc; passages = with_item c.passage_of.new.self.passages c.in-Ok.at p'; rules = c.passage_of.new.self.rules } in
     let fed : Vec ℕ = vec_of c.args.self.now.passages [] (omega arith) in
     let on = c.in_ok-fed.ensures.on fed refl (log_of journal) H.1 in
-    let e : LogEntry = log_entry (event.Feed s fed) (Ok c.in_ok-fed.fed) on.0 on.1 in
-    let F : IsFed s [] e = record { fed = fed; items = refl; event = refl; happened = c.in_ok-fed.fed; result = refl } in
+    let e : Entry = on.0 in
+    let F : IsFed s [] e = record { fed = fed; items = refl; is = fed_entry e s fed c.in_ok-fed.fed on.1 on.2 } in
     let asked : HasJournal c.passage_of.new.self (journal ++ Made e ∷ []) = plain_has c.passage_of.new.self journal e (plain_probe s e F) (c.in-Ok.ensures.has journal H.0) in
     let both : HasJournal now ((journal ++ Made e ∷ []) ++ Received s bytes ∷ []) =
     received_has c.passage_of.new.self now (journal ++ Made e ∷ []) s c.in-Ok.at p p' bytes asked here c.in-Ok.ensures.at.0 refl refl (c.extend_reserved.ensures.items ∙ ap (λ (b : List ℕ). b ++ bytes) c.reserve.ensures.items) refl refl in
-    let has = subst (λ (l : List LogEntry). g.E.Sftp.has_log c.feed.new.self l) (log_received journal e s bytes) on.2 in
-    (e, F, refl, subst (λ (j : List Act). Have g.E.Sftp.has_log c.feed.new.self now j) (append_assoc journal (Made e ∷ []) (Received s bytes ∷ [])) (both, has))
+    let has = subst (λ (l : List Entry). g.E.Sftp.has_log c.feed.new.self l) (log_received journal e s bytes) on.3 in
+    (e, F, on.2, subst (λ (j : List Act). Have g.E.Sftp.has_log c.feed.new.self now j) (append_assoc journal (Made e ∷ []) (Received s bytes ∷ [])) (both, has))
 
 pub returns-in_err-fed-clause-fault : goal.returns-in_err-fed-clause-fault
 returns-in_err-fed-clause-fault g c =
@@ -65,6 +66,6 @@ returns-in_err-fed-clause-fault g c =
     subst (λ (r : Result Happened EngineFault). IfErr r P) (sym p.1) (subst P (sym p.2) (λ journal H.
     let fed : Vec ℕ = vec_of c.args.self.now.passages [] (omega arith) in
     let on = c.in_err-fed.ensures.on fed refl (log_of journal) H.1 in
-    let e : LogEntry = log_entry (event.Feed c.args.session fed) (Err c.in_err-fed.field-0.0) on.0 on.1 in
-    let lawful = (g.met.E.Sftp.kept c.feed.new.self (log_of journal ++ e ∷ []) on.2).lawful (log_of journal) [] e refl in
-    feed_refused (log_of journal) c.args.session fed c.in_err-fed.field-0.0 (c.in-Some.ensures.some (log_of journal) H.1).0 lawful.comes))
+    let lawful = (g.met.E.Sftp.kept c.feed.new.self (log_of journal ++ on.0 ∷ []) on.3).lawful (log_of journal) [] on.0 refl in
+    feed_refused (log_of journal) c.args.session fed c.in_err-fed.field-0.0 (c.in-Some.ensures.some (log_of journal) H.1).0
+    (refused_entry (log_of journal) on.0 (event.Feed c.args.session fed) c.in_err-fed.field-0.0 on.1 on.2 lawful)))

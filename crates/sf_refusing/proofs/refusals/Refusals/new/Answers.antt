@@ -1,8 +1,8 @@
-use Rattle.std.proofs.Common.{false, ◌≡◌, ℕ, List, [], Some, refl, sym, ap, ◌∙◌, length, arith, slice_get, subst}
+use Rattle.std.proofs.Common.{false, ◌≡◌, ℕ, List, [], Some, refl, sym, ap, ◌∙◌, length, slice_get}
 use Rattle.sf_session.specs.Responses.{transcript}
 use Rattle.sf_refusing.specs.declared.given.GivenRule.{GivenRule}
 use Rattle.sf_refusing.specs.declared.passage.Passage.{Passage}
-use Rattle.sf_refusing.specs.Refusing.{AllMayHappen, ServesHere, AreGiven}
+use Rattle.sf_refusing.specs.Refusing.{AllMayHappen, ServesHere}
 use Rattle.sf_refusing.proofs.refusals.Refusals.new.Goals as goal
 
 nothing_got : {A : Type 0} (i : ℕ) (x : A) → slice_get {X = A} [] i ≡ Some x → ⊥
@@ -15,7 +15,7 @@ none_serves s = record {
   served = λ own. record {
     received = refl;
     unsent = [];
-    in_engine = record { sent = []; count = refl; packets = refl };
+    in_engine = record { sent = []; count_is = refl; packets = refl };
     gone = [];
     count = refl;
     waits = refl;

@@ -1,4 +1,4 @@
-use Rattle.std.proofs.Common.{◌≡◌, ◌≤◌, ◌-◌, ℕ, List, length}
+use Rattle.std.proofs.Common.{◌-◌, List, length}
 use Rattle.sf_refusing.specs.Journal.{Act}
 use Rattle.sf_refusing.specs.Refusing.{HasJournal}
 use Rattle.sf_refusing.proofs.refusals.Refusals.passage_of.Given as goal

@@ -21,4 +21,4 @@ returns-clause-some c = λ journal H.
     let there : slice_get c.deref.result.now c.args.number ≡ Some given =
     slice_get_read c.deref.result.now (length c.deref.result.now) c.args.number given refl (ltb-true c.args.number (length c.deref.result.now) (sym c.in_ok-get.ensures.lookup.0)) c.in_ok-get.ensures.lookup.1 in
     let G = H.rules.each c.args.number given (ap (λ (rs : List GivenRule). slice_get rs c.args.number) (sym c.deref.ensures.value) ∙ there) in
-    (given.rule, G.since, G.is, G.told)
+    (given.rule, G.since, G.is, G.counted)

@@ -1,7 +1,6 @@
-use Rattle.std.proofs.Common.{◌≡◌, ℕ, List, [], ◌∷◌, ◌++◌, ◌+◌, false, Some, refl, sym, ap, ◌∙◌, subst, length, arith}
-use Rattle.sf_refusing.specs.declared.rule.Rule.{Rule}
+use Rattle.std.proofs.Common.{◌≡◌, ℕ, List, [], ◌∷◌, ◌++◌, ◌+◌, false, Some, refl, sym, subst, arith}
 use Rattle.sf_refusing.specs.declared.given.GivenRule.{GivenRule}
-use Rattle.sf_refusing.specs.Journal.{Act, Ruled, rules_in, since_given}
+use Rattle.sf_refusing.specs.Journal.{Act, Ruled, since_given}
 use Rattle.sf_refusing.specs.Refusing.{AreGiven}
 use Rattle.sf_refusing.proofs.Growing.{happened_more, since_new}
 use Rattle.sf_refusing.proofs.Counts.{new_rules}

@@ -1,4 +1,4 @@
-use Rattle.std.proofs.Common.{◌≡◌, ◌<◌, ◌≤◌, ◌+◌, ◌-◌, ◌⊎◌, ◌++◌, ◌∷◌, ℕ, List, [], length, take, drop, map, Bool, true, false, slice_get, Some, None, Result, Ok, Err, refl, ap, sym, ◌∙◌, subst, arith, inl, inr, append-nil, append_assoc}
+use Rattle.std.proofs.Common.{◌≡◌, ◌<◌, ◌≤◌, ◌-◌, ◌⊎◌, ◌++◌, ◌∷◌, ℕ, List, [], length, take, false, slice_get, Some, Result, refl, ap, sym, ◌∙◌, subst, arith, inl, inr}
 use Rattle.std.specs.Vec.{with_item}
 use Rattle.std.proofs.lemmas.Option.{slice_get_read}
 use Rattle.sf_refusing.specs.declared.passage.Passage.{Passage}
@@ -9,12 +9,13 @@ use Rattle.std.proofs.lemmas.Result.{err_from_is_err_and}
 use Rattle.sf_engine.specs.declared.event.Happened.{Happened}
 use Rattle.sf_engine.specs.declared.event.EngineFault.{EngineFault}
 use Rattle.sf_engine.specs.declared.event.Event.TheVariants as event
-use Rattle.sf_engine.specs.Promise.{LogEntry, log_entry, MayComeTo}
-use Rattle.sf_refusing.specs.Journal.{Act, Delivered, log_of}
+use Rattle.sf_engine.specs.Promise.{Entry, BytesSent, result_of}
+use Rattle.sf_refusing.specs.Journal.{Act, log_of}
 use Rattle.sf_refusing.specs.Refusing.{Have, MayRefuseSent}
 use Rattle.sf_refusing.specs.Fronts.{IsPassageAt}
+use Rattle.sf_refusing.proofs.Entries.{sent_entry, refused_entry}
 use Rattle.sf_refusing.proofs.Faults.{on_err_from, sent_refused}
-use Rattle.sf_refusing.proofs.Sessions.{on_err, on_ok_from, kept_has, have_still, delivered_has, IsGone, were_there, sent_has, sent_none, were_sent, log_delivered, log_delivered_alone}
+use Rattle.sf_refusing.proofs.Sessions.{on_err, on_ok_from, kept_has, have_still, delivered_has, were_there, sent_has, sent_none, log_delivered, log_delivered_alone}
 use Rattle.sf_refusing.proofs.refusals.Refusals.sent.Goals as goal
 
 pub returns-in_default-clause-ok : goal.returns-in_default-clause-ok
@@ -23,14 +24,15 @@ returns-in_default-clause-ok g c = on_ok_from c.apply.result _ (λ h is journal 
     let n : ℕ = c.args.count in
     let none : (c.args.session ≡ 0) ⊎ (length c.args.self.now.passages.items < c.args.session) = elim c.in_default.ensures.none [ inl z ↦ inl z | inr lt ↦ inr (omega (arith, lt, c.len.ensures, c.args.self.now.passages.ok.0)) ] in
     let on = c.apply.ensures.on (log_of journal) H.1 in
-    let e : LogEntry = log_entry (event.Sent s n) c.apply.result on.0 on.1 in
-    let G : IsGone s n e = record { event = refl; happened = h; result = is } in
-    let lawful = (g.met.E.Sftp.kept c.apply.new.self (log_of journal ++ e ∷ []) on.2).lawful (log_of journal) [] e refl in (
-      is ∙ were_sent (log_of journal) s n h (subst (λ (r : Result Happened EngineFault). MayComeTo (log_of journal) (event.Sent s n) r) is lawful.comes),
+    let e : Entry = BytesSent s n in
+    let same : on.0 ≡ e = sent_entry on.0 s n h on.1 (on.2 ∙ is) in
+    let has : g.E.Sftp.has_log c.apply.new.self (log_of journal ++ e ∷ []) = subst (λ (x : Entry). g.E.Sftp.has_log c.apply.new.self (log_of journal ++ x ∷ [])) same on.3 in
+    let lawful = (g.met.E.Sftp.kept c.apply.new.self (log_of journal ++ e ∷ []) has).lawful (log_of journal) [] e refl in (
+      sym on.2 ∙ ap result_of same,
       e ∷ [],
       (
-        sent_none c.args.self.now journal s n e H.0 none G (λ u U. were_there (log_of journal) s n e G lawful.comes u U),
-        subst (λ (l : List LogEntry). g.E.Sftp.has_log c.apply.new.self l) (log_delivered journal e s n) on.2,
+        sent_none c.args.self.now journal s n H.0 none (were_there (log_of journal) s n lawful),
+        subst (λ (l : List Entry). g.E.Sftp.has_log c.apply.new.self l) (log_delivered journal e s n) has,
       ),
     ))
 
@@ -49,7 +51,7 @@ returns-then-count-waiting-clause-ok g c = λ journal H.
       (
         delivered_has c.args.self.now now (journal ++ []) s c.in-Some.at n p p' (take n p.output.items) still.0 here c.in-Some.ensures.some.0 refl refl (length-take-le n p.output.items le)
             (sym (take-append-drop n p.output.items) ∙ ap (λ (b : List ℕ). take n p.output.items ++ b) (sym c.advance.ensures.items)) refl refl,
-        subst (λ (l : List LogEntry). g.E.Sftp.has_log c.args.engine.now l) (log_delivered_alone (journal ++ []) s n) still.1,
+        subst (λ (l : List Entry). g.E.Sftp.has_log c.args.engine.now l) (log_delivered_alone (journal ++ []) s n) still.1,
       ),
     )
 
@@ -73,14 +75,15 @@ returns-clause-ok g c = λ journal H.
     let now : Refusals = record { alloc = c.args.self.now.alloc; passages = with_item c.args.self.now.passages c.in-Some.at p'; rules = c.args.self.now.rules } in
     let on = c.in_ok-sent.ensures.on (log_of journal) H.1 in
     let k : ℕ = n - c.len-waiting.result in
-    let e : LogEntry = log_entry (event.Sent s k) (Ok c.in_ok-sent.sent) on.0 on.1 in
-    let G : IsGone s k e = record { event = refl; happened = c.in_ok-sent.sent; result = refl } in
-    let lawful = (g.met.E.Sftp.kept c.apply-2.new.self (log_of journal ++ e ∷ []) on.2).lawful (log_of journal) [] e refl in (
-      were_sent (log_of journal) s k c.in_ok-sent.sent lawful.comes,
+    let e : Entry = BytesSent s k in
+    let same : on.0 ≡ e = sent_entry on.0 s k c.in_ok-sent.sent on.1 on.2 in
+    let has : g.E.Sftp.has_log c.apply-2.new.self (log_of journal ++ e ∷ []) = subst (λ (x : Entry). g.E.Sftp.has_log c.apply-2.new.self (log_of journal ++ x ∷ [])) same on.3 in
+    let lawful = (g.met.E.Sftp.kept c.apply-2.new.self (log_of journal ++ e ∷ []) has).lawful (log_of journal) [] e refl in (
+      sym on.2 ∙ ap result_of same,
       e ∷ [],
       (
-        sent_has c.args.self.now now journal s c.in-Some.at n k e p p' H.0 here c.in-Some.ensures.some.0 refl refl G (omega (arith, c.len-waiting.ensures.value, c.if-count-waiting.false)) (λ u U. were_there (log_of journal) s k e G lawful.comes u U) c.clear.ensures.items refl refl,
-        subst (λ (l : List LogEntry). g.E.Sftp.has_log c.apply-2.new.self l) (log_delivered journal e s n) on.2,
+        sent_has c.args.self.now now journal s c.in-Some.at n k p p' H.0 here c.in-Some.ensures.some.0 refl refl (omega (arith, c.len-waiting.ensures.value, c.if-count-waiting.false)) (were_there (log_of journal) s k lawful) c.clear.ensures.items refl refl,
+        subst (λ (l : List Entry). g.E.Sftp.has_log c.apply-2.new.self l) (log_delivered journal e s n) has,
       ),
     )
 
@@ -90,10 +93,8 @@ returns-in_default-clause-fault g c = on_err_from c.apply.result _ (λ f is jour
     let n : ℕ = c.args.count in
     let none : (c.args.session ≡ 0) ⊎ (length c.args.self.now.passages.items < c.args.session) = elim c.in_default.ensures.none [ inl z ↦ inl z | inr lt ↦ inr (omega (arith, lt, c.len.ensures, c.args.self.now.passages.ok.0)) ] in
     let on = c.apply.ensures.on (log_of journal) H.1 in
-    let e : LogEntry = log_entry (event.Sent s n) c.apply.result on.0 on.1 in
-    let lawful = (g.met.E.Sftp.kept c.apply.new.self (log_of journal ++ e ∷ []) on.2).lawful (log_of journal) [] e refl in
-    sent_refused journal s n n [] [] false f (omega arith) (H.0.others s none)
-    (subst (λ (r : Result Happened EngineFault). MayComeTo (log_of journal) (event.Sent s n) r) is lawful.comes))
+    let lawful = (g.met.E.Sftp.kept c.apply.new.self (log_of journal ++ on.0 ∷ []) on.3).lawful (log_of journal) [] on.0 refl in
+    sent_refused journal s n n [] [] false f (omega arith) (H.0.others s none) (refused_entry (log_of journal) on.0 (event.Sent s n) f on.1 (on.2 ∙ is) lawful))
 
 pub returns-in_err-sent-clause-fault : goal.returns-in_err-sent-clause-fault
 returns-in_err-sent-clause-fault g c =
@@ -106,6 +107,6 @@ returns-in_err-sent-clause-fault g c =
     let at : IsPassageAt journal s p = subst (λ (n : ℕ). IsPassageAt journal n p) c.in-Some.ensures.some.0 (H.0.each c.in-Some.at p here) in
     let k : ℕ = c.args.count - c.len-waiting.result in
     let on = c.in_err-sent.ensures.on (log_of journal) H.1 in
-    let e : LogEntry = log_entry (event.Sent s k) (Err c.in_err-sent.field-0.0) on.0 on.1 in
-    let lawful = (g.met.E.Sftp.kept c.apply-2.new.self (log_of journal ++ e ∷ []) on.2).lawful (log_of journal) [] e refl in
-    sent_refused journal s c.args.count k p.held.items p.output.items p.begun c.in_err-sent.field-0.0 (omega (arith, c.len-waiting.ensures.value, c.if-count-waiting.false)) at lawful.comes))
+    let lawful = (g.met.E.Sftp.kept c.apply-2.new.self (log_of journal ++ on.0 ∷ []) on.3).lawful (log_of journal) [] on.0 refl in
+    sent_refused journal s c.args.count k p.held.items p.output.items p.begun c.in_err-sent.field-0.0 (omega (arith, c.len-waiting.ensures.value, c.if-count-waiting.false)) at
+    (refused_entry (log_of journal) on.0 (event.Sent s k) c.in_err-sent.field-0.0 on.1 on.2 lawful)))

@@ -1,11 +1,11 @@
-use Rattle.std.proofs.Common.{◌≡◌, ◌<◌, ◌≤◌, ◌+◌, ◌-◌, ◌⊎◌, ◌++◌, ◌∷◌, ℕ, List, [], length, take, drop, map, Bool, true, false, slice_get, Some, None, Result, Ok, Err, refl, ap, sym, ◌∙◌, subst, arith, inl, inr, append-nil, append_assoc}
+use Rattle.std.proofs.Common.{◌≡◌, ◌≤◌, ◌-◌, ◌^◌, ◌++◌, length, Bool, true, false, Result, Ok, Err, ap, ◌∙◌, subst, inr}
 use Rattle.std.proofs.lemmas.Result.{err_from_is_err_and}
 use Rattle.sf_engine.specs.declared.event.Happened.{Happened}
 use Rattle.sf_engine.specs.declared.event.EngineFault.{EngineFault}
-use Rattle.sf_engine.specs.declared.event.Event.TheVariants as event
-use Rattle.sf_engine.specs.Promise.{LogEntry, log_entry, AreTurns}
+use Rattle.sf_engine.specs.Promise.{continues, AreTurnsOf}
 use Rattle.sf_refusing.specs.Journal.{log_of}
 use Rattle.sf_refusing.specs.Refusing.{MovesFront}
+use Rattle.sf_refusing.proofs.Entries.{plain_turns}
 use Rattle.sf_refusing.proofs.Sessions.{turned}
 use Rattle.sf_refusing.proofs.refusals.Refusals.turns.Goals as goal
 
@@ -14,8 +14,9 @@ returns g c = λ journal H.
     let on = c.in_ok-move_on.ensures journal H in
     let passes : MovesFront journal c.args.session (Ok false) on.0 = subst (λ (b : Bool). MovesFront journal c.args.session (Ok b) on.0) c.if-branch.false on.1 in
     let did = c.turns.ensures (log_of (journal ++ on.0)) on.2.1 in
-    turned g.E.Sftp.has_log c.turns.new.self c.move_on.new.self journal on.0 c.args.session c.args.moment c.turns.result
-    (AreTurns (event.Turn c.args.session c.args.moment) c.turns.result) did.0 passes on.2.0 did.1 did.1 did.2
+    turned g.E.Sftp.has_log c.turns.new.self c.move_on.new.self journal on.0 c.args.session c.turns.result
+    (λ entries. AreTurnsOf c.args.session c.args.moment c.turns.result entries × (continues c.turns.result ≡ true → 2 ^ 64 - 1 ≤ length entries))
+    did.0 passes on.2.0 (did.1, did.3) (plain_turns c.args.session c.args.moment c.turns.result did.0 did.1) did.2
 
 pub returns-in_err-move_on : goal.returns-in_err-move_on
 returns-in_err-move_on g c = λ journal H.
