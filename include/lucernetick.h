@@ -17,7 +17,7 @@
  *
  * `make library` builds it, and `cc -Iinclude program.c out/liblucernetick.a` builds a program.
  * After `make install`, `pkg-config --cflags --libs lucernetick` prints the options.
- * tests/c/serve.c is a complete program, a server for many clients.
+ * tests/c/serve.c is a complete program, a server for many clients, and sftpd-over-ssh adds SSH.
  *
  * Functions return numbers. Negative ones are errors, with the text lt_message.
  *
@@ -244,7 +244,8 @@ typedef struct lt_call {
 
 /* The retained records, in the order in which the calls took effect, the oldest at 0. Returns their
  * number. If `at` is less, `*call` is set to the record at this index. Its bytes belong to the
- * engine, until the next call of any function on it. */
+ * engine, until the next call of any function on it. If all are retained, an index never changes:
+ * to watch calls, read those from the last known number on after each lt_turn or lt_settle. */
 int64_t lt_calls(lt_engine *engine, uint64_t at, lt_call *call);
 
 /* A rule injects errors: the requests that it rejects get a status in their place, never reach the

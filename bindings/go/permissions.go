@@ -257,39 +257,17 @@ func (rule *GivenRule) denies(request Request) (bool, error) {
 }
 
 // rewrite returns the packet of a request that no rule rejects. The user owns what it creates.
-func (rule *GivenRule) rewrite(request Request, packet []byte) ([]byte, error) {
-	given := request.Attributes
-	isOf := rule.owner != nil && rule.isOf(request)
-	switch {
-	case isOf && (request.Kind == KindOpen || request.Kind == KindMkdir):
-		return withIDs(packet, *rule.owner), nil
-	case !isOf || given.Given&givenOwner == 0 || given.UID != keptID && given.GID != keptID:
-		return packet, nil
+func (rule *GivenRule) rewrite(request Request, packet []byte) []byte {
+	isNew := request.Kind == KindOpen || request.Kind == KindMkdir
+	if rule.owner == nil || !isNew || !rule.isOf(request) {
+		return packet
 	}
-	tree, err := rule.engine.treeNow()
-	if err != nil {
-		return packet, err
-	}
-	found, err := tree.object(namesOf(request.Path))
-	if found == nil {
-		return packet, err
-	}
-	ids := owner{given.UID, given.GID}
-	if ids.uid == keptID {
-		ids.uid = found.uid
-	}
-	if ids.gid == keptID {
-		ids.gid = found.gid
-	}
-	return withIDs(packet, ids), nil
+	return withIDs(packet, *rule.owner)
 }
 
-// withIDs returns a packet with these ids in its attributes. Its fields are valid.
+// withIDs returns an OPEN or MKDIR with these ids in its attributes. Its fields are valid.
 func withIDs(packet []byte, ids owner) []byte {
 	rest := fields{rest: packet[headBytes:]}
-	if packet[lengthBytes] == extended {
-		rest.text()
-	}
 	rest.text()
 	if Kind(packet[lengthBytes]) == KindOpen {
 		rest.uint32()

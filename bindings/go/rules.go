@@ -293,11 +293,7 @@ func (engine *Engine) ruled(session uint64, packet []byte) ([]byte, error) {
 		}
 	}
 	for _, rule := range engine.rules {
-		rewritten, err := rule.rewrite(request, packet)
-		if err != nil {
-			return packet, err
-		}
-		packet = rewritten
+		packet = rule.rewrite(request, packet)
 	}
 	return packet, nil
 }

@@ -337,6 +337,17 @@ func TestRulesThatCannotMatch(t *testing.T) {
 	}
 }
 
+// The empty path is any path, as the zero value of other fields. The root is "/".
+func TestTheEmptyPath(t *testing.T) {
+	for path, wanted := range map[string]uint64{"": 1, "/": 0, "/a": 1, "/a/..": 0} {
+		engine := newEngine(t)
+		rule := refuse(t, engine, Rule{Path: path})
+		_, err := open(t, engine, makes).Settle(at(100), 1000)
+		must(t, err)
+		same(t, rule.Refused(), wanted)
+	}
+}
+
 // A rule is for a connection, by its session.
 func TestARuleForAConnection(t *testing.T) {
 	engine := NewT(t)

@@ -76,11 +76,20 @@ def begun_by(first):
     return found
 
 
-class Front:
-    """`sftpd-over-ssh` in front of the server that listens at a path, at a port that is free."""
+def write_users(folder, lines):
+    """A file of users that anybody may read. Returns its path."""
+    path = os.path.join(folder, "users")
+    with open(path, "w", encoding="utf-8") as file:
+        file.write("".join(line + "\n" for line in lines))
+    return path
 
-    def __init__(self, room, path):
-        here = os.path.join(room, "front")
+
+class Front:
+    """`sftpd-over-ssh` in front of the server that listens at a path, at a port that is free, with
+    the users of a file, if there are any."""
+
+    def __init__(self, room, path, name="front", users=None):
+        here = os.path.join(room, name)
         os.mkdir(here)
         shutil.copy(PROGRAM, os.path.join(here, "sftpd"))
         shutil.copy(SCRIPT, here)
@@ -88,7 +97,10 @@ class Front:
         self.folder = os.path.join(here, "folder")
         other = without_root(here)
         self.user = USER if other else pwd.getpwuid(os.getuid()).pw_name
-        words = [*other, os.path.join(here, "sftpd-over-ssh"), path, "0", self.folder]
+        words = [*other, os.path.join(here, "sftpd-over-ssh")]
+        if users is not None:
+            words += ["--password-file", write_users(here, users)]
+        words += [path, "0", self.folder]
         streams = {"stdout": subprocess.PIPE, "stderr": subprocess.PIPE}
         self.process = subprocess.Popen(words, text=True, umask=0, **streams)
 

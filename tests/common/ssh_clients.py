@@ -26,7 +26,10 @@ COMMANDS = ["ssh", "sftp", "ssh-keygen", "rclone", "go"]
 SIZE = 100_000_000
 ENDLESS = 2**33
 """More bytes than any client puts before it is cut."""
-MANY = 50
+MANY = 64
+"""As many as the program serves at once."""
+TRANSFERS = 32
+"""Those of rclone, which has a connection for each, and some more."""
 
 
 def find(name):
@@ -359,7 +362,7 @@ class Rclone:
         os.mkdir(here)
         for path in place.small:
             shutil.copy(path, here)
-        at_once = ["--transfers", str(MANY), "--checkers", str(MANY)]
+        at_once = ["--transfers", str(TRANSFERS), "--checkers", str(TRANSFERS)]
         self.run(place, "copy", *at_once, here, "tree:/many")
         self.run(place, "copy", *at_once, "tree:/many", back)
         same_trees(here, back)

@@ -30,6 +30,7 @@ KEEP = 1024
 """How many records of calls are kept without --control."""
 KEEP_CONTROLLED = 100_000
 """How many with it."""
+KEEP_MOST = 1_000_000
 
 
 def login(words: str) -> User:
@@ -58,6 +59,12 @@ def password_file(name: str) -> list[User]:
 def port_number(word: str) -> int:
     if not word.isdigit() or int(word) > 65535:
         raise argparse.ArgumentTypeError(f"it must be from 0 to 65535, not {word!r}")
+    return int(word)
+
+
+def keep_number(word: str) -> int:
+    if not word.isdigit() or not 1 <= int(word) <= KEEP_MOST:
+        raise argparse.ArgumentTypeError(f"it must be from 1 to {KEEP_MOST}, not {word!r}")
     return int(word)
 
 
@@ -116,6 +123,13 @@ def read_words(words: Optional[Sequence[str]]) -> argparse.Namespace:
         type=not_empty,
         help="a folder, empty or new, for the tree at the end",
     )
+    add(
+        "--keep",
+        metavar="N",
+        type=keep_number,
+        help=f"how many records of calls are kept, by default {KEEP}, or with --control "
+        f"{KEEP_CONTROLLED}",
+    )
     add("--read-only", action="store_true", help="clients can't change the tree")
     add("--log", metavar="FILE", help="a line for each session and each call; - is standard output")
     add(
@@ -147,7 +161,7 @@ def warn(text: str) -> None:
 
 
 def make_engine(words: argparse.Namespace) -> Engine:
-    keep = KEEP if words.control is None else KEEP_CONTROLLED
+    keep = words.keep or (KEEP if words.control is None else KEEP_CONTROLLED)
     if not words.tree:
         return Engine(keep)
 

@@ -182,10 +182,8 @@ def refused_packet(packet: bytes, path: bytes) -> bytes:
 
 
 def with_ids(packet: bytes, uid: int, gid: int) -> bytes:
-    """A packet with these ids in its attributes. It has valid fields."""
+    """An OPEN or MKDIR with these ids in its attributes. It has valid fields."""
     fields = Fields(packet)
-    if packet[4] == EXTENDED:
-        fields.string()
     fields.string()
     if packet[4] == Kind.OPEN:
         fields.number(4)

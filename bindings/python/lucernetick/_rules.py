@@ -13,7 +13,7 @@ from ._flags import OpenFlag
 from ._library import library
 from ._permissions import GUARDED, KEPT, Owner, Permissions, names_of
 from ._reaching import Reaches
-from ._requests import WITH_ATTRIBUTES, Request, with_ids
+from ._requests import Request, with_ids
 
 if TYPE_CHECKING:
     from ._engine import Engine, Session
@@ -130,19 +130,9 @@ class PermissionRule(Rule):
         return Permissions(self._owner, find, top).deny(request)
 
     def _rewrite(self, request: Request, packet: bytes) -> bytes:
-        if not self._applies(request) or request.kind not in WITH_ATTRIBUTES:
-            return packet
-        if request.kind in (Kind.OPEN, Kind.MKDIR):
+        if self._applies(request) and request.kind in (Kind.OPEN, Kind.MKDIR):
             return with_ids(packet, self._owner.uid, self._owner.gid)
-        uid, gid = request.attributes.uid, request.attributes.gid
-        if uid is None or gid is None or KEPT not in (uid, gid) or request.path is None:
-            return packet
-        found = self._engine._tree_now().find(names_of(request.path))
-        if found is None:
-            return packet
-        return with_ids(
-            packet, found.uid if uid == KEPT else uid, found.gid if gid == KEPT else gid
-        )
+        return packet
 
     def _ends_with(self, session: int) -> bool:
         return session == self._session

@@ -16,12 +16,12 @@ from typing import Iterator
 
 import paramiko
 import pytest
+from garbage import garbage
 
 from lucernetick import Server, SshServer
 
 LIMIT = 120
 ENDED = (OSError, EOFError, paramiko.SSHException)
-VERSION = b"SSH-2.0-x\r\n"
 
 
 def log_in(port: int, password: str) -> paramiko.SSHClient:
@@ -37,28 +37,6 @@ def is_well(ssh: SshServer) -> bool:
     """Whether another client is served."""
     with log_in(ssh.port, ssh.password) as client:
         return client.open_sftp().stat("/").st_mode is not None
-
-
-def packet(body: bytes, padding: int = 4) -> bytes:
-    """As before keys are exchanged."""
-    return (len(body) + 1 + padding).to_bytes(4, "big") + bytes([padding]) + body + bytes(padding)
-
-
-def garbage(draw: random.Random) -> bytes:
-    """What a connection sends."""
-    noise = draw.randbytes(draw.choice((1, 10, 1000, 100_000)))
-    return draw.choice(
-        (
-            noise,
-            b"GET / HTTP/1.0\r\n\r\n",
-            b"x" * 100_000,
-            VERSION + noise,
-            VERSION + b"\xff\xff\xff\xff" + noise,
-            VERSION + bytes(4) + noise,
-            VERSION + packet(bytes([draw.choice((2, 4, 20, 21, 30, 50, 90, 98))]) + noise[:1000]),
-            VERSION + packet(bytes([20]) + bytes(16 + 40 + 5)) + packet(bytes([30]) + noise[:100]),
-        )
-    )
 
 
 @pytest.fixture

@@ -129,6 +129,7 @@ def test_a_tree_at_the_start_and_at_the_end(tmp_path: Path) -> None:
         (["--port", "99999"], 2, "argument --port: it must be from 0 to 65535, not '99999'"),
         (["--control", "99999"], 2, "argument --control: it must be from 0 to 65535"),
         (["--control", ""], 2, "argument --control: it must not be empty"),
+        (["--keep", "0"], 2, "argument --keep: it must be from 1 to 1000000, not '0'"),
         (["--save", ""], 2, "argument --save: it must not be empty"),
         (["--tree", ""], 2, "argument --tree: it must not be empty"),
         (["--password-file", "/none"], 2, "--password-file: /none: No such file or directory"),
@@ -293,8 +294,9 @@ class Control:
 
 
 @contextlib.contextmanager
-def controlled(address: str) -> Iterator[tuple[Control, dict[str, Any]]]:
-    begins = [sys.executable, "-m", "lucernetick", "--port", "0", "--json", "--control", address]
+def controlled(address: str, *more: str) -> Iterator[tuple[Control, dict[str, Any]]]:
+    words = ["--port", "0", "--json", "--control", address, *more]
+    begins = [sys.executable, "-m", "lucernetick", *words]
     with subprocess.Popen(begins, stdout=subprocess.PIPE, text=True) as process:
         try:
             assert process.stdout is not None
@@ -303,6 +305,17 @@ def controlled(address: str) -> Iterator[tuple[Control, dict[str, Any]]]:
         finally:
             process.terminate()
             process.communicate(timeout=LIMIT)
+
+
+def test_a_limit_of_calls() -> None:
+    """As with `sftpd --keep`. The number of those that are gone is not hidden."""
+    with controlled("0", "--keep", "2") as (control, reached), log_in(reached) as client:
+        files = client.open_sftp()
+        for path in ("/a", "/b", "/c"):
+            files.mkdir(path)
+        found = control.ask("GET", "/calls")
+        assert [call["path"] for call in found["calls"]] == ["/b", "/c"]
+        assert found["dropped"] == 1
 
 
 def test_control_at_a_port() -> None:

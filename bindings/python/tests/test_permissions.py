@@ -143,23 +143,6 @@ def test_what_a_client_creates_is_its_own() -> None:
                 assert code(client.ask(remove, string(b"/pub/new"))) == 0
 
 
-def test_an_id_that_stays() -> None:
-    """Each of both, of root too."""
-    with tree() as engine:
-        client = Client(engine)
-        for uid, gid, given, wanted in (
-            (1000, 100, "ids=-1:100", (1000, 100)),
-            (1000, 100, "ids=1000:-1", (1000, 100)),
-            (0, 0, "ids=7:-1,mode=0600", (7, 100)),
-            (0, 0, "ids=-1:8", (7, 8)),
-        ):
-            with engine.enforce_permissions(uid=uid, gid=gid):
-                assert client.request("SETSTAT", "/home/ann/f", given) == 0
-            entry = engine.snapshot()["/home/ann/f"]
-            assert (entry.uid, entry.gid) == wanted
-        assert entry.permissions == 0o600
-
-
 def test_a_handle_keeps_its_permissions() -> None:
     with tree() as engine:
         client = Client(engine)

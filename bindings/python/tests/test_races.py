@@ -4,6 +4,8 @@ from __future__ import annotations
 
 import collections
 import functools
+import gc
+import os
 import random
 import socket
 import threading
@@ -333,6 +335,15 @@ def test_a_client_that_never_connects_is_passed_over() -> None:
             sends.start()
             sends.join()
             assert list(races.snapshot()) == ["/", "/a"]
+
+
+@pytest.mark.filterwarnings("error")
+def test_a_race_that_is_rejected_leaves_nothing_open(recwarn: pytest.WarningsRecorder) -> None:
+    before = os.listdir("/proc/self/fd")
+    with pytest.raises(ValueError, match="clients must be from 1 to 256, not 1000"):
+        Races(1, 1000)
+    gc.collect()
+    assert len(os.listdir("/proc/self/fd")) == len(before) and not recwarn.list
 
 
 def test_more_clients_than_were_said() -> None:

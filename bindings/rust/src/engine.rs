@@ -2,7 +2,7 @@
 
 use crate::arguments::seconds;
 use crate::hooks::Hooks;
-use crate::permissions::{Owner, Permissions, KEPT};
+use crate::permissions::{Owner, Permissions};
 use crate::records::Records;
 use crate::requests::{below_root, read_request, realpath, with_ids, Request};
 use crate::rules::{ActiveRule, Status};
@@ -309,11 +309,10 @@ impl Engine {
                 return Ok(realpath(&packet, &path));
             }
         }
+        // A user owns what it creates.
         let owner = self.rules.iter().find_map(|rule| rule.owner_of(&request));
-        Ok(match owner {
-            Some(owner) => self.owned(owner, &request, &packet)?.unwrap_or(packet),
-            None => packet,
-        })
+        let owner = owner.filter(|_| matches!(request.kind, Kind::Open | Kind::Mkdir));
+        Ok(owner.and_then(|owner| with_ids(&packet, owner)).unwrap_or(packet))
     }
 
     /// Takes a snapshot, unless there is one with the names and attributes of now.
@@ -334,27 +333,6 @@ impl Engine {
             }
             _ => Ok(false),
         }
-    }
-
-    /// A packet with other ids, if it needs them. A user owns what it creates.
-    fn owned(
-        &self,
-        owner: Owner,
-        request: &Request,
-        packet: &[u8],
-    ) -> Result<Option<Vec<u8>>, Refusal> {
-        if matches!(request.kind, Kind::Open | Kind::Mkdir) {
-            return Ok(with_ids(packet, owner));
-        }
-        let (uid, gid) = match (request.attributes.uid, request.attributes.gid) {
-            (Some(uid), Some(gid)) if uid == KEPT || gid == KEPT => (uid, gid),
-            _ => return Ok(None),
-        };
-        let of = |given, found| if given == KEPT { found } else { given };
-        let found = self.modes.as_ref().map(|tree| tree.object(&request.path)).transpose()?;
-        Ok(found.flatten().and_then(|found| {
-            with_ids(packet, Owner { uid: of(uid, found.uid), gid: of(gid, found.gid) })
-        }))
     }
 
     /// The path for which the library replies to REALPATH with this status.

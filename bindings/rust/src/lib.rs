@@ -50,6 +50,8 @@ mod taken;
 mod timeline;
 mod tree;
 mod turn;
+#[cfg(feature = "ssh")]
+mod users;
 mod wire;
 
 pub use arguments::unix_time;
@@ -68,9 +70,11 @@ pub use requests::Request;
 pub use rules::{GivenRule, Rule, Status};
 pub use server::Server;
 #[cfg(feature = "ssh")]
-pub use ssh::{SshOptions, SshServer};
+pub use ssh::SshServer;
 pub use tree::{Entry, Piece, Snapshot};
 pub use turn::{Ending, Turn};
+#[cfg(feature = "ssh")]
+pub use users::{SshOptions, User};
 
 use lucernetick_sys as sys;
 use std::ffi::CStr;

@@ -11,6 +11,10 @@ use crate::{Call, Engine, Error, GivenRule, Rule, Snapshot, Turn, VirtualTime};
 use std::fmt;
 use std::fs;
 use std::io::{self, ErrorKind, Read, Write};
+#[cfg(feature = "ssh")]
+use std::net::Shutdown;
+#[cfg(feature = "ssh")]
+use std::os::unix::net::UnixStream;
 use std::panic::{catch_unwind, AssertUnwindSafe};
 use std::path::Path;
 use std::sync::Arc;
@@ -211,6 +215,37 @@ impl RaceStream {
         state.racers[self.number].thread = Some(thread::current().id());
         Ok(state)
     }
+
+    /// Its client sends no more.
+    fn leave(&self) {
+        let mut state = self.shared.state.lock();
+        state.racers[self.number].is_dropped = true;
+        state.leave(self.number);
+        self.shared.advance(&mut state);
+    }
+}
+
+#[cfg(feature = "ssh")]
+impl RaceStream {
+    /// Connects it with a socket: bytes are forwarded in both directions, by two threads.
+    pub(crate) fn forward(self, line: UnixStream) -> io::Result<()> {
+        let (mut from, mut to) = (line.try_clone()?, line);
+        let requests = Arc::new(self);
+        let replies = Arc::clone(&requests);
+        let name = |what| format!("lucernetick client {} {}", requests.number + 1, what);
+        let (first, second) = (name("requests"), name("replies"));
+        thread::Builder::new().name(second).spawn(move || {
+            // If the client does not read, it leaves.
+            let _ = io::copy(&mut &*replies, &mut to);
+            replies.leave();
+            let _ = to.shutdown(Shutdown::Both);
+        })?;
+        let work = move || {
+            let _ = io::copy(&mut from, &mut &*requests);
+            requests.leave();
+        };
+        thread::Builder::new().name(first).spawn(work).map(drop)
+    }
 }
 
 impl Read for &RaceStream {
@@ -267,10 +302,7 @@ impl Write for RaceStream {
 
 impl Drop for RaceStream {
     fn drop(&mut self) {
-        let mut state = self.shared.state.lock();
-        state.racers[self.number].is_dropped = true;
-        state.leave(self.number);
-        self.shared.advance(&mut state);
+        self.leave();
     }
 }
 

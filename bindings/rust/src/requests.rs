@@ -133,12 +133,9 @@ pub(crate) fn realpath(packet: &[u8], path: &[u8]) -> Vec<u8> {
     string(&[&[REALPATH], &packet[5..HEAD], &string(path)].concat())
 }
 
-/// A packet with these ids in its attributes. None if its fields are not valid.
+/// An OPEN or MKDIR with these ids in its attributes. None if its fields are not valid.
 pub(crate) fn with_ids(packet: &[u8], owner: Owner) -> Option<Vec<u8>> {
     let mut fields = Fields::of(packet.get(HEAD..)?);
-    if packet[4] == EXTENDED {
-        fields.string()?;
-    }
     fields.string()?;
     if packet[4] == OPEN {
         fields.take(4)?;

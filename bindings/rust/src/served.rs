@@ -4,6 +4,8 @@ use crate::line::Line;
 use crate::lock::Guard;
 use crate::permissions::Owner;
 use crate::server::{Shared, State, LONG};
+#[cfg(feature = "ssh")]
+use crate::RaceStream;
 use crate::{arguments, Error, Faults, Refusal, Rule, Session, Turn};
 use std::any::Any;
 use std::fs;
@@ -27,6 +29,14 @@ const PAUSE: Duration = Duration::from_millis(10);
 pub(crate) struct View {
     pub(crate) root: Vec<u8>,
     pub(crate) owner: Option<Owner>,
+}
+
+impl View {
+    /// Whether it is the whole tree, without permissions.
+    #[cfg(feature = "ssh")]
+    pub(crate) fn is_whole(&self) -> bool {
+        arguments::normal(&self.root) == b"/" && self.owner.is_none()
+    }
 }
 
 /// Opens a session, and serves it over this socket in its own thread.
@@ -180,11 +190,45 @@ pub(crate) struct Listener {
 }
 
 impl Listener {
+    /// Each connection is a session of a server.
     pub(crate) fn new(shared: &Arc<Shared>, path: &Path, terms: Arc<Terms>) -> io::Result<Self> {
+        let shared = Arc::clone(shared);
+        Self::calling(path, move |line| {
+            let faults = *terms.faults();
+            // The connection is closed if it cannot be served.
+            let _ = serve(&shared, line, &terms.view, faults, Arc::default());
+        })
+    }
+
+    /// The first connection is that of a client in a race. Further ones are closed.
+    #[cfg(feature = "ssh")]
+    pub(crate) fn of_racer(path: &Path, stream: RaceStream) -> io::Result<Self> {
+        let mut waiting = Some(stream);
+        Self::calling(path, move |line| {
+            if let Some(stream) = waiting.take() {
+                // Without a thread, it is closed.
+                let _ = stream.forward(line);
+            }
+        })
+    }
+
+    /// Calls a function with each connection.
+    fn calling(
+        path: &Path,
+        mut serve: impl FnMut(UnixStream) + Send + 'static,
+    ) -> io::Result<Self> {
         let listener = UnixListener::bind(path)?;
         let socket = UnixStream::from(OwnedFd::from(listener.try_clone()?));
-        let shared = Arc::clone(shared);
-        let work = move || accept(&shared, &listener, &terms);
+        let work = move || {
+            for line in listener.incoming() {
+                match line {
+                    Ok(line) => serve(line),
+                    // It was dropped.
+                    Err(fault) if fault.kind() == ErrorKind::InvalidInput => return,
+                    Err(_) => thread::sleep(PAUSE),
+                }
+            }
+        };
         let thread = thread::Builder::new().name("lucernetick listener".to_string()).spawn(work)?;
         Ok(Self { path: path.to_path_buf(), socket, thread: Some(thread) })
     }
@@ -198,22 +242,6 @@ impl Drop for Listener {
         let _ = self.socket.shutdown(Shutdown::Both);
         if let Some(thread) = self.thread.take() {
             let _ = thread.join();
-        }
-    }
-}
-
-/// Accepts connections until the listener or the server is dropped. Closes those that it cannot
-/// serve.
-fn accept(shared: &Arc<Shared>, listener: &UnixListener, terms: &Terms) {
-    for line in listener.incoming() {
-        if shared.state.lock().left {
-            return;
-        }
-        let faults = *terms.faults();
-        match line.and_then(|line| serve(shared, line, &terms.view, faults, Arc::default())) {
-            Err(fault) if fault.kind() == ErrorKind::InvalidInput => return,
-            Err(_) => thread::sleep(PAUSE),
-            Ok(_) => {}
         }
     }
 }

@@ -1,11 +1,10 @@
 //! A server behind SSH.
 
-use crate::permissions::Owner;
-use crate::served::{Listener, Terms, View};
-use crate::{linux, Faults, Server};
+use crate::served::{Listener, Terms};
+use crate::{linux, Error, Faults, Races, Server, SshOptions, User};
 use std::env;
-use std::fmt;
-use std::fs::{self, DirBuilder, OpenOptions};
+use std::fmt::{self, Write as _};
+use std::fs::{self, DirBuilder, File, OpenOptions};
 use std::io::{self, BufRead, BufReader, ErrorKind, Read, Write};
 use std::os::raw::c_int;
 use std::os::unix::fs::{DirBuilderExt, OpenOptionsExt};
@@ -27,8 +26,8 @@ const HOST: &str = "127.0.0.1";
 /// openssh-server and openssh-client. The script is the file `SFTPD_OVER_SSH`, or that of the
 /// release archive or the repository, or in PATH.
 ///
-/// It has one user, this process's, and one key. For several users with a root directory each,
-/// start several of them in front of one `Server`. `sshd` without root knows no passwords.
+/// By default it has one user, this process's, and one key. `SshOptions::users` are others, with
+/// passwords and root directories. For these it needs Debian's libnss-wrapper too.
 ///
 /// Dropping it ends its connections.
 ///
@@ -43,67 +42,12 @@ const HOST: &str = "127.0.0.1";
 pub struct SshServer {
     // They are dropped in this order.
     _script: Script,
-    _listener: Listener,
+    _listeners: Vec<Listener>,
     folder: Folder,
     port: u16,
     user: String,
-    terms: Arc<Terms>,
-}
-
-/// The options of an `SshServer`.
-///
-/// ```no_run
-/// use lucernetick::{wall_clock, Engine, Faults, Server, SshOptions, SshServer};
-///
-/// let server = Server::new(Engine::new()?, wall_clock);
-/// let ann = SshServer::with_options(&server, SshOptions::default().root("/ann"))?;
-/// let bad = SshOptions::default().root("/bob").faults(Faults::default().cut_after(1000));
-/// let bob = SshServer::with_options(&server, bad)?;
-/// # Ok::<(), std::io::Error>(())
-/// ```
-#[derive(Clone, Debug)]
-#[must_use]
-pub struct SshOptions {
-    root: Vec<u8>,
-    uid: u32,
-    gid: u32,
-    host_key: Option<PathBuf>,
-    faults: Faults,
-}
-
-impl Default for SshOptions {
-    fn default() -> Self {
-        let (root, faults) = (b"/".to_vec(), Faults::default());
-        Self { root, uid: 0, gid: 0, host_key: None, faults }
-    }
-}
-
-impl SshOptions {
-    /// The directory of the tree that clients see as `/`. It is made if it is missing.
-    pub fn root(self, root: impl AsRef<[u8]>) -> Self {
-        Self { root: root.as_ref().to_vec(), ..self }
-    }
-
-    /// The user that clients are. Unless it is 0, permissions are enforced, as by
-    /// `Rule::enforce_permissions`. A root that is made belongs to the user.
-    pub fn uid(self, uid: u32) -> Self {
-        Self { uid, ..self }
-    }
-
-    /// The group of that user.
-    pub fn gid(self, gid: u32) -> Self {
-        Self { gid, ..self }
-    }
-
-    /// A file with the server's private key, without a passphrase; by default a new one.
-    pub fn host_key(self, path: impl Into<PathBuf>) -> Self {
-        Self { host_key: Some(path.into()), ..self }
-    }
-
-    /// The faults of each session.
-    pub fn faults(self, faults: Faults) -> Self {
-        Self { faults, ..self }
-    }
+    password: Option<String>,
+    terms: Vec<Arc<Terms>>,
 }
 
 impl SshServer {
@@ -119,24 +63,68 @@ impl SshServer {
 
     /// As `new`, with these options.
     pub fn with_options(server: &Server, options: SshOptions) -> io::Result<Self> {
-        options.faults.check()?;
-        let program = find_script()?;
+        options.check()?;
         let folder = Folder::new()?;
-        let keys = folder.0.join("keys");
+        let (mut listeners, mut terms) = (Vec::new(), Vec::new());
+        for (number, user) in options.everybody().iter().enumerate() {
+            let view = user.view();
+            server.make_root(&view.root, view.owner)?;
+            terms.push(Terms::new(view, options.faults));
+            listeners.push(server.listener(&folder.socket(number), Arc::clone(&terms[number]))?);
+        }
+        Self::start(folder, listeners, terms, &options)
+    }
+
+    /// An SSH server for clients that race: each user is one of them, in their order, and opens one
+    /// session. Users see the whole tree, without faults.
+    pub fn for_races(races: &Races, options: SshOptions) -> io::Result<Self> {
+        options.check()?;
+        let users = options.everybody();
+        if options.faults != Faults::default() || users.iter().any(|user| !user.view().is_whole()) {
+            let why = "users of races have no root, no uid and no faults";
+            return Err(Error::Argument(why.to_string()).into());
+        }
+        let folder = Folder::new()?;
+        let streams = users.iter().map(|_| races.connect()).collect::<io::Result<Vec<_>>>()?;
+        if races.connect().is_ok() {
+            let why = format!("the races have more clients than the {} users", users.len());
+            return Err(Error::Argument(why).into());
+        }
+        let streams = streams.into_iter().enumerate();
+        let listen = streams.map(|(number, one)| Listener::of_racer(&folder.socket(number), one));
+        let listeners = listen.collect::<io::Result<Vec<_>>>()?;
+        Self::start(folder, listeners, Vec::new(), &options)
+    }
+
+    /// Starts `sshd` in front of these listeners, one for each user.
+    fn start(
+        folder: Folder,
+        listeners: Vec<Listener>,
+        terms: Vec<Arc<Terms>>,
+        options: &SshOptions,
+    ) -> io::Result<Self> {
+        let program = find_script()?;
+        let keys = folder.keys();
+        DirBuilder::new().mode(0o700).create(&keys)?;
         if let Some(host_key) = &options.host_key {
             copy_key(host_key, &keys)?;
         }
-        let owner = Some(Owner { uid: options.uid, gid: options.gid });
-        let owner = owner.filter(|owner| owner.uid != 0);
-        server.make_root(&options.root, owner)?;
-        let socket = folder.0.join("socket");
-        let terms = Terms::new(View { root: options.root, owner }, options.faults);
-        let listener = server.listener(&socket, Arc::clone(&terms))?;
-        let script = Script::start(&program, &socket, &keys)?;
+        let mut authorized = create(&keys.join("authorized_keys"))?;
+        for path in &options.public_keys {
+            authorized.write_all(&read("public_keys", path)?)?;
+            authorized.write_all(b"\n")?;
+        }
+        let mut command = Command::new(program);
+        let users = options.with_passwords();
+        if !users.is_empty() {
+            command.arg("--password-file").arg(write_users(users, &folder)?);
+        }
+        let script = Script::start(command.arg(folder.socket(0)).arg("0").arg(&keys))?;
         let config = fs::read_to_string(keys.join("ssh_config"))?;
         let port = option(&config, "Port")?.parse().map_err(|_| malformed(&config))?;
         let user = option(&config, "User")?.to_string();
-        Ok(Self { _script: script, _listener: listener, folder, port, user, terms })
+        let password = users.first().map(|user| user.password.clone());
+        Ok(Self { _script: script, _listeners: listeners, folder, port, user, password, terms })
     }
 
     pub fn host(&self) -> &str {
@@ -147,24 +135,30 @@ impl SshServer {
         self.port
     }
 
-    /// The user who may log in, with `client_key`. It is the user of this process.
+    /// The first user who may log in: that of this process, unless there are others.
     pub fn user(&self) -> &str {
         &self.user
     }
 
-    /// The path of the private key that may log in. It is removed with the server.
+    /// The password of that user. None for the user of this process, who needs `client_key`.
+    pub fn password(&self) -> Option<&str> {
+        self.password.as_deref()
+    }
+
+    /// The path of the private key by which every user may log in. It is removed with the server.
     pub fn client_key(&self) -> PathBuf {
-        self.folder.0.join("keys/client_key")
+        self.folder.keys().join("client_key")
     }
 
     /// The path of a file with the host's public key, in the format of OpenSSH's `known_hosts`.
     pub fn known_hosts(&self) -> PathBuf {
-        self.folder.0.join("keys/known_hosts")
+        self.folder.keys().join("known_hosts")
     }
 
-    /// The path of a configuration for OpenSSH's clients, in which the host is named `tree`.
+    /// The path of a configuration for OpenSSH's clients, in which the host is named `tree`, and
+    /// the user is the first one.
     pub fn ssh_config(&self) -> PathBuf {
-        self.folder.0.join("keys/ssh_config")
+        self.folder.keys().join("ssh_config")
     }
 
     /// The command that connects OpenSSH's `sftp`, with further options.
@@ -174,10 +168,13 @@ impl SshServer {
         sftp
     }
 
-    /// Sets the faults of the sessions that open from now on.
+    /// Sets the faults of the sessions that open from now on. Those of races have none.
     pub fn set_faults(&self, faults: Faults) -> io::Result<()> {
         faults.check()?;
-        *self.terms.faults() = faults;
+        if self.terms.is_empty() {
+            return Err(Error::Argument("clients of races have no faults".to_string()).into());
+        }
+        self.terms.iter().for_each(|terms| *terms.faults() = faults);
         Ok(())
     }
 }
@@ -205,6 +202,16 @@ impl Folder {
             }
         }
     }
+
+    /// The folder of the script.
+    fn keys(&self) -> PathBuf {
+        self.0.join("keys")
+    }
+
+    /// The socket of a user.
+    fn socket(&self, number: usize) -> PathBuf {
+        self.0.join(number.to_string())
+    }
 }
 
 impl Drop for Folder {
@@ -213,16 +220,41 @@ impl Drop for Folder {
     }
 }
 
+/// Writes the users for the script, one in each line, with their sockets. Returns the file's path.
+fn write_users(users: &[User], folder: &Folder) -> io::Result<PathBuf> {
+    let mut lines = String::new();
+    for (number, user) in users.iter().enumerate() {
+        let socket = folder.socket(number);
+        match socket.to_str().filter(|text| !text.contains([':', '\n'])) {
+            // This cannot fail.
+            Some(text) => _ = writeln!(lines, "{}:{}:{}", user.name, user.password, text),
+            None => {
+                let why = format!("{}: its path has a colon, or is not UTF-8", socket.display());
+                return Err(io::Error::new(ErrorKind::InvalidInput, why));
+            }
+        }
+    }
+    let path = folder.0.join("users");
+    create(&path)?.write_all(lines.as_bytes())?;
+    Ok(path)
+}
+
+/// A new file that only its owner can read.
+fn create(path: &Path) -> io::Result<File> {
+    OpenOptions::new().write(true).create_new(true).mode(0o600).open(path)
+}
+
+/// Reads a file that an option names.
+fn read(option: &str, path: &Path) -> io::Result<Vec<u8>> {
+    fs::read(path).map_err(|fault| {
+        io::Error::new(fault.kind(), format!("{}: {}: {}", option, path.display(), fault))
+    })
+}
+
 /// Copies the host's key to where the script looks for it, with the public key beside it.
 fn copy_key(from: &Path, keys: &Path) -> io::Result<()> {
-    DirBuilder::new().mode(0o700).create(keys)?;
     let to = keys.join("host_key");
-    let create =
-        |path: &Path| OpenOptions::new().write(true).create_new(true).mode(0o600).open(path);
-    let key = fs::read(from).map_err(|fault| {
-        io::Error::new(fault.kind(), format!("host_key: {}: {}", from.display(), fault))
-    })?;
-    create(&to)?.write_all(&key)?;
+    create(&to)?.write_all(&read("host_key", from)?)?;
     let public = Command::new("ssh-keygen").args(["-y", "-P", "", "-f"]).arg(&to).output()?;
     if !public.status.success() {
         let why = String::from_utf8_lossy(&public.stderr).trim_end().to_string();
@@ -236,17 +268,12 @@ struct Script(Child);
 
 impl Script {
     /// Starts it, and waits until it listens. If it ends instead, the error is what it printed.
-    fn start(program: &Path, socket: &Path, keys: &Path) -> io::Result<Self> {
-        let child = Command::new(program)
-            .arg(socket)
-            .arg("0")
-            .arg(keys)
-            .stdin(Stdio::null())
-            .stdout(Stdio::piped())
-            .stderr(Stdio::piped())
-            .spawn();
+    fn start(command: &mut Command) -> io::Result<Self> {
+        let (output, errors) = (Stdio::piped(), Stdio::piped());
+        let child = command.stdin(Stdio::null()).stdout(output).stderr(errors).spawn();
         let failed = |fault: io::Error| {
-            io::Error::new(fault.kind(), format!("{}: {}", program.display(), fault))
+            let program = Path::new(command.get_program()).display();
+            io::Error::new(fault.kind(), format!("{}: {}", program, fault))
         };
         let mut script = Self(child.map_err(failed)?);
         let mut line = String::new();

@@ -1,7 +1,7 @@
 //! OpenSSH's `sftp` over SSH.
 
 use lucernetick::unix_time as at;
-use lucernetick::{Engine, Faults, Kind, Server, SshOptions, SshServer};
+use lucernetick::{Engine, Faults, Kind, Races, Server, SshOptions, SshServer, User};
 use std::env;
 use std::fs::{self, File};
 use std::io::{BufRead, BufReader, ErrorKind, Read, Write};
@@ -16,7 +16,7 @@ const LIMIT: Duration = Duration::from_secs(120);
 const LARGE: usize = 100_000_000;
 /// More bytes than a client stores before its connection is dropped.
 const ENDLESS: u64 = 1 << 33;
-const MANY: usize = 50;
+const MANY: usize = 64;
 /// The maximum number of sessions of an engine.
 const ROOM: usize = 256;
 
@@ -81,9 +81,38 @@ struct Client {
 
 impl Client {
     fn new(folder: &Path, config: &Path) -> Self {
-        let mut child = Command::new("setsid")
-            .args(["sftp", "-q", "-b", "-", "-F"])
-            .arg(config)
+        Self::start(
+            Command::new("setsid").args(["sftp", "-q", "-b", "-", "-F"]).arg(config),
+            folder,
+        )
+    }
+
+    /// By the key of all users.
+    fn of_user(folder: &Path, config: &Path, user: &str) -> Self {
+        let mut sftp = Command::new("setsid");
+        sftp.args(["sftp", "-q", "-b", "-", "-o"]).arg(format!("User={}", user));
+        Self::start(sftp.arg("-F").arg(config), folder)
+    }
+
+    /// Without the key.
+    fn by_password(folder: &Path, config: &Path, user: &str, password: &str) -> Self {
+        let program =
+            "test -e ask || { echo 'echo \"$PASSWORD\"' >new && mv new ask; }; chmod +x ask";
+        assert!(Command::new("sh")
+            .args(["-c", program])
+            .current_dir(folder)
+            .status()
+            .unwrap()
+            .success());
+        let mut sftp = Command::new("setsid");
+        sftp.env("SSH_ASKPASS", folder.join("ask")).env("SSH_ASKPASS_REQUIRE", "force");
+        sftp.env("PASSWORD", password).args(["sftp", "-q", "-o", "BatchMode=no", "-b", "-"]);
+        sftp.args(["-o", "PubkeyAuthentication=no", "-o"]).arg(format!("User={}", user));
+        Self::start(sftp.arg("-F").arg(config), folder)
+    }
+
+    fn start(sftp: &mut Command, folder: &Path) -> Self {
+        let mut child = sftp
             .arg("tree")
             .current_dir(folder)
             .stdin(Stdio::piped())
@@ -140,8 +169,8 @@ fn put_and_get_100_mb() {
 
 /// Each client stores a file, and then reads the file of the next one.
 #[test]
-fn fifty_connections_at_once() {
-    let over = OverSsh::new("fifty");
+fn many_connections_at_once() {
+    let over = OverSsh::new("many");
     let file = |number: usize| contents(number, 100_000 + number);
     let mut clients: Vec<_> = (0..MANY).map(|_| over.client()).collect();
     for (number, client) in clients.iter_mut().enumerate() {
@@ -175,6 +204,16 @@ fn a_wrong_key() {
     assert!(!Client::new(&over.folder, &other_config).ends());
     assert!(over.server.calls().unwrap().is_empty());
     assert!(over.client().ends());
+    let options = SshOptions::default().public_keys([over.folder.join("other_key.pub")]);
+    let ssh = SshServer::with_options(&over.server, options).unwrap();
+    let config = fs::read_to_string(ssh.ssh_config()).unwrap();
+    let key = ssh.client_key().display().to_string();
+    fs::write(&other_config, config.replace(&key, &other)).unwrap();
+    assert!(Client::new(&over.folder, &other_config).ends());
+    assert!(Client::new(&over.folder, &ssh.ssh_config()).ends());
+    let options = SshOptions::default().public_keys([over.folder.join("none")]);
+    let refused = SshServer::with_options(&over.server, options).unwrap_err().to_string();
+    assert!(refused.contains("public_keys: ") && refused.contains("none"), "{}", refused);
 }
 
 /// The data received so far stays, and other clients continue.
@@ -263,6 +302,152 @@ fn roots_and_host_keys() {
     let refused = SshServer::with_options(&over.server, SshOptions::default().host_key(&missing));
     let why = refused.unwrap_err().to_string();
     assert!(why.contains("host_key: ") && why.contains("none"), "{}", why);
+}
+
+/// They log in by the password or by the key.
+#[test]
+fn users_with_passwords() {
+    let over = OverSsh::new("passwords");
+    let ann = User::new("ann", "se:cr/et").root("/home/ann");
+    let bob = User::new("bob.2", "\u{e9} \"'$x").root("/home/bob").uid(1000).gid(100);
+    let options = SshOptions::default().users([ann, bob]);
+    let ssh = SshServer::with_options(&over.server, options).unwrap();
+    assert_eq!((ssh.user(), ssh.password()), ("ann", Some("se:cr/et")));
+    for (name, password, commands, is_well) in [
+        ("ann", "se:cr/et", "mkdir /a\n", true),
+        ("bob.2", "\u{e9} \"'$x", "mkdir /b\n", true),
+        ("bob.2", "\u{e9} \"'$x", "mkdir /..\n", false),
+        ("ann", "se", "", false),
+        ("ann", "\u{e9} \"'$x", "", false),
+        ("bob.2", "", "", false),
+        ("carl", "se:cr/et", "", false),
+        (over.ssh.user(), "se:cr/et", "", false),
+    ] {
+        let mut client = Client::by_password(&over.folder, &ssh.ssh_config(), name, password);
+        let _ = client.commands.write_all(commands.as_bytes());
+        assert_eq!(client.ends(), is_well, "{} {}", name, password);
+    }
+    for (name, is_well) in [("ann", true), ("bob.2", true), (over.ssh.user(), false)] {
+        assert_eq!(Client::of_user(&over.folder, &ssh.ssh_config(), name).ends(), is_well);
+    }
+    let tree = over.server.snapshot().unwrap();
+    let paths = ["/", "/home", "/home/ann", "/home/ann/a", "/home/bob", "/home/bob/b"];
+    assert!(tree.paths().eq(paths));
+    let uids = ["/home/ann/a", "/home/bob", "/home/bob/b"].map(|path| tree[path].uid);
+    assert_eq!(uids, [0, 1000, 1000]);
+}
+
+/// Clients of four users, each with a root, by the key or the password.
+#[test]
+fn many_users_at_once() {
+    let over = OverSsh::new("users");
+    let names = ["a", "b", "c", "d"];
+    let users = names.map(|name| User::new(name, name).root(format!("/home/{}", name)));
+    let options = SshOptions::default().users(users);
+    let ssh = SshServer::with_options(&over.server, options).unwrap();
+    let (folder, config) = (&over.folder, ssh.ssh_config());
+    over.write("sent", &contents(0, 100_000));
+    let mut clients: Vec<_> = (0..MANY)
+        .map(|number| match (names[number % 4], number % 3) {
+            (name, 0) => Client::by_password(folder, &config, name, name),
+            (name, _) => Client::of_user(folder, &config, name),
+        })
+        .collect();
+    for (number, client) in clients.iter_mut().enumerate() {
+        client.asks(&format!("put sent /{}\n", number));
+    }
+    clients.iter_mut().for_each(Client::is_done);
+    assert!(clients.into_iter().all(Client::ends));
+    let tree = over.server.snapshot().unwrap();
+    for number in 0..MANY {
+        let path = format!("/home/{}/{}", names[number % 4], number);
+        assert_eq!(tree[&path].size, 100_000);
+    }
+    over.has_no_session();
+}
+
+/// The first of two clients that make one directory, by turns that the seed draws.
+#[test]
+fn clients_that_race() {
+    let over = OverSsh::new("races");
+    let first_of = |seed| {
+        let races = Races::new(seed, 2).unwrap();
+        let users = ["ann", "bob"].map(|name| User::new(name, name));
+        let ssh = SshServer::for_races(&races, SshOptions::default().users(users)).unwrap();
+        let clients = ["ann", "bob"].map(|name| {
+            let mut client = Client::of_user(&over.folder, &ssh.ssh_config(), name);
+            client.asks("mkdir /a\n");
+            thread::spawn(|| client.ends())
+        });
+        let are_well = clients.map(|client| client.join().unwrap());
+        assert_eq!(races.stray(), None);
+        assert!(races.snapshot().unwrap().contains("/a"));
+        assert!(ssh.set_faults(Faults::default()).is_err());
+        are_well
+    };
+    let found: Vec<_> = (0..8).map(first_of).collect();
+    assert!(found.contains(&[true, false]) && found.contains(&[false, true]), "{:?}", found);
+    assert_eq!(found[..2], [first_of(0), first_of(1)]);
+}
+
+/// A client of a race that never connects leaves with the server, and one that connects twice is
+/// served once.
+#[test]
+fn a_client_of_a_race_that_is_missing() {
+    let over = OverSsh::new("missing");
+    let races = Races::new(0, 1).unwrap();
+    let ssh = SshServer::for_races(&races, SshOptions::default()).unwrap();
+    let mut client = Client::new(&over.folder, &ssh.ssh_config());
+    client.is_done();
+    assert!(!Client::new(&over.folder, &ssh.ssh_config()).ends());
+    client.asks("mkdir /a\n");
+    assert!(client.ends());
+    assert!(races.snapshot().unwrap().contains("/a"));
+    let two = Races::new(0, 2).unwrap();
+    let users = ["ann", "bob"].map(|name| User::new(name, name));
+    let options = SshOptions::default().users(users);
+    let ssh = SshServer::for_races(&two, options.clone()).unwrap();
+    let mut client = Client::new(&over.folder, &ssh.ssh_config());
+    client.asks("mkdir /b\n");
+    drop(ssh);
+    assert!(!client.ends());
+    let three = Races::new(0, 3).unwrap();
+    for (races, options, wanted) in [
+        (&three, options.clone(), "the races have more clients than the 2 users"),
+        (&races, options, "all 1 clients of the race are connected"),
+        (&races, SshOptions::default().root("/a"), "users of races have no root, no uid and no"),
+        (&races, SshOptions::default().faults(Faults::default().cut_after(1)), "and no faults"),
+    ] {
+        let refused = SshServer::for_races(races, options).unwrap_err().to_string();
+        assert!(refused.contains(wanted), "{}", refused);
+    }
+}
+
+#[test]
+fn users_that_are_rejected() {
+    let server = Server::new(Engine::new().unwrap(), || at(0));
+    let name = "a user's name must begin with a letter, and have letters, digits, '.', '_' and '-'";
+    let password = "the password of ann must be one line of 1 to 1024 bytes";
+    for (user, wanted) in [
+        (User::new("", "1"), name),
+        (User::new("1a", "1"), name),
+        (User::new("a b", "1"), name),
+        (User::new("a:b", "1"), name),
+        (User::new("*", "1"), name),
+        (User::new("ann", ""), password),
+        (User::new("ann", "1\nbob:2"), password),
+        (User::new("ann", "1".repeat(1025)), password),
+        (User::new("bob", "1"), "bob is a user already"),
+        (User::new("ann", "1").root("/a\0b"), "root must not have a byte 0"),
+    ] {
+        let options = SshOptions::default().users([User::new("bob", "1"), user]);
+        let refused = SshServer::with_options(&server, options).unwrap_err().to_string();
+        assert!(refused.contains(wanted), "{}", refused);
+    }
+    let options = SshOptions::default().users([User::new("bob", "1")]).root("/a");
+    let refused = SshServer::with_options(&server, options).unwrap_err().to_string();
+    assert!(refused.contains("root, uid and gid are those of a User"), "{}", refused);
+    assert!(server.snapshot().unwrap().paths().eq(["/"]));
 }
 
 /// Ann owns the root that is made for her. Others see her files by their modes.

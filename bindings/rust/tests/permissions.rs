@@ -206,25 +206,6 @@ fn what_a_client_creates_is_its_own() {
     }
 }
 
-/// Each of both, of root too.
-#[test]
-fn an_id_that_stays() {
-    let mut engine = tree();
-    let session = client(&mut engine, "/");
-    for (uid, gid, given, wanted) in [
-        (1000, 100, "ids=-1:100", (1000, 100)),
-        (1000, 100, "ids=1000:-1", (1000, 100)),
-        (0, 0, "ids=7:-1,mode=0600", (7, 100)),
-        (0, 0, "ids=-1:8", (7, 8)),
-    ] {
-        let rule = engine.refuse(Rule::enforce_permissions(uid, gid)).unwrap();
-        assert_eq!(request(&mut engine, session, &["SETSTAT", "/home/ann/f", given]), 0);
-        rule.end();
-        let found = entry(&engine, "/home/ann/f");
-        assert_eq!((found.uid, found.gid), wanted);
-    }
-}
-
 #[test]
 fn a_handle_keeps_its_permissions() {
     let mut engine = tree();
