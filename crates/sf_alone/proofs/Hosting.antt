@@ -3,6 +3,9 @@ use Rattle.std.proofs.Common.{◌≡◌, ◌<◌, ◌≤◌, ℕ, ◌+◌, ◌-�
 use Rattle.std.specs.Global.{Vec}
 use Rattle.std.specs.Prelude.{if◌then◌else◌}
 use Rattle.std.proofs.KnownBytes.{Appends-nil}
+use Rattle.sf_call.specs.declared.fault.JoinFault.{JoinFault}
+use Rattle.sf_call.specs.declared.fault.JoinFault.TheVariants as join
+use Rattle.sf_session.specs.Sessions.{join_refusal}
 use Rattle.sf_session.specs.declared.fault.ServeFault.{ServeFault}
 use Rattle.sf_session.specs.declared.fault.ServeFault.TheVariants as serve
 use Rattle.sf_session.specs.Responses.{Response, transcript, answered_in}
@@ -15,12 +18,12 @@ use Rattle.sf_engine.specs.declared.event.EngineFault.{EngineFault}
 use Rattle.sf_engine.specs.declared.event.EngineFault.TheVariants as fault
 use Rattle.sf_engine.specs.Views.{EngineView}
 use Rattle.sf_engine.specs.Promise.{Entry, SessionOpened, BytesFed, SessionClosed, BytesSent, EventRefused, event_of, result_of, is_opening, opened_in, SessionLog, new_log, with_own, of_session, SessionPhase, WithoutCall, phase_at, phase, IsKnown, IsLawful, MayBeRefused}
-use Rattle.sf_engine.specs.HasLog.{HasLog, AppendsEntry}
+use Rattle.sf_engine.specs.HasLog.{HasLog, engine_fault, AppendsEntry}
 use Rattle.sf_engine.proofs.Laws.{own_push, count_push}
 use Rattle.sf_serving.specs.Hosts.{IsFront, with_sent, ended}
 use Rattle.sf_serving.specs.Serving.{LineView, Progress, ServedSoFar, Serves, IsStopped, IsStop}
 use Rattle.sf_serving.proofs.Laws.{none_written, ended_same}
-use Rattle.sf_alone.specs.OnEngine.{HasCall, IsOf, moment_of, AreTimed, IsLowAt, AreLow, has_left, IsStateOf, Since, since_at, IoState, IsTold, IsToldBy, Feeds, Applies, HasOutput, HasStoppedAt, open_refusal, MayNotOpen, IsOpenFault, IsServeFault}
+use Rattle.sf_alone.specs.OnEngine.{HasCall, IsOf, moment_of, AreTimed, IsLowAt, AreLow, has_left, IsStateOf, Since, since_at, IoState, IsTold, IsToldBy, Feeds, Applies, HasOutput, HasStoppedAt, MayNotOpen, IsServeFault}
 use Rattle.sf_alone.proofs.Entries.{Added, extended}
 
 -- the event of an entry that is no turn
@@ -76,32 +79,19 @@ opened start e' s goes =
       omega arith,
     )
 
--- an event that opens a session has the result `Opened`
-opened_only : (x : Entry) (k : Happened) → event_of x ≡ event.Open → result_of x ≡ Ok k → ((session : ℕ) → k ≡ happened.Opened session → ⊥) → ⊥
-opened_only (SessionOpened s) k e is other = other s cc
-opened_only x k e is other = absurd cc
-
-pub none_opened : (e e' : EngineView) (k : Happened) → ((session : ℕ) → k ≡ happened.Opened session → ⊥) → AppendsEntry e event.Open (Ok k) e' → (log : List Entry) → HasLog e log → ⊥
-none_opened e e' k other goes log has = let g = goes log has in opened_only g.0 k g.1 g.2 other
-
 -- why none opened
-refused_open : (e e' : EngineView) (f : EngineFault) → AppendsEntry e event.Open (Err f) e' → (log : List Entry) → HasLog e log → MayBeRefused log event.Open f
-refused_open e e' f goes log has = let g = goes log has in refused_by log g.0 event.Open f g.1 g.2 (g.3.kept.lawful log [] g.0 refl)
+may_not_open : (log : List Entry) (f : JoinFault) → MayBeRefused log event.Open (engine_fault f) → MayNotOpen log (join_refusal f)
+may_not_open log join.OutOfMemory may = tt
+may_not_open log join.Sessions may = may
+may_not_open log join.NumbersSpent may = may.1
 
-pub fault_open : (e e' : EngineView) (f : EngineFault) → AppendsEntry e event.Open (Err f) e' → IsOpenFault e (open_refusal f)
-fault_open e e' fault.Sessions goes = refused_open e e' fault.Sessions goes
-fault_open e e' fault.NumbersSpent goes = λ log has. (refused_open e e' fault.NumbersSpent goes log has).1
-fault_open e e' f goes = λ log has. tt
+pub not_opened : (e e' : EngineView) (f : JoinFault) → AppendsEntry e event.Open (Err (engine_fault f)) e' → (log : List Entry) → HasLog e log → MayNotOpen log (join_refusal f)
+not_opened e e' f goes log has = let g = goes log has in may_not_open log f (refused_by log g.0 event.Open (engine_fault f) g.1 g.2 (g.3.kept.lawful log [] g.0 refl))
 
-pub not_opened : (e : EngineView) (f : ServeFault) → IsOpenFault e f → (log : List Entry) → HasLog e log → MayNotOpen log f
-not_opened e serve.Line h = absurd h
-not_opened e serve.Stranger h = absurd h
-not_opened e f h = h
-
-pub open_fault : (e : EngineView) (f : ServeFault) (old new : ℕ) → IsOpenFault e f → IsServeFault f old new
-open_fault e serve.Line old new h = absurd h
-open_fault e serve.Stranger old new h = absurd h
-open_fault e f old new h = tt
+pub open_fault : (f : JoinFault) (old new : ℕ) → IsServeFault (join_refusal f) old new
+open_fault join.OutOfMemory old new = tt
+open_fault join.Sessions old new = tt
+open_fault join.NumbersSpent old new = tt
 
 -- ---- one event that is no turn
 
@@ -259,18 +249,17 @@ sent_on {s = s} {n = n} {t = t} output T waits count applies =
 pub told_alone : {held : ℕ} {turns : ℕ} {start : Since} {s : ℕ} {e : EngineView} {tl : Option (List ℕ)} {from now : LineView} {P : Progress → Type 0} → Serves held (IsToldBy turns start s e tl) from now P → Serves held (IsTold start s e tl) from now P
 told_alone serves = (serves.0, serves.1.0, serves.2, serves.3)
 
-stopped_at : (f : ServeFault) (failed failed' turns : ℕ) (p : Progress) (entries : List Entry) → turns ≤ length entries → IsStop f failed failed' ⊥ → IsStopped f failed failed' turns p → HasStoppedAt f entries p
+stopped_at : (f : ServeFault) (failed failed' turns : ℕ) (p : Progress) (entries : List Entry) → turns ≤ length entries → IsStop f failed failed' → IsStopped f turns p → HasStoppedAt f entries p
 stopped_at serve.Line failed failed' turns p entries few why h = h.closed
-stopped_at serve.OutOfMemory failed failed' turns p entries few why h = (h.written, h.closed)
-stopped_at serve.NumbersSpent failed failed' turns p entries few why h = ((h.written, h.closed), elim h.spent [ inl most ↦ inl most | inr most ↦ inr (omega (arith, most, few)) ])
+stopped_at serve.OutOfMemory failed failed' turns p entries few why h = (h.written (λ e. cc), h.closed)
+stopped_at serve.NumbersSpent failed failed' turns p entries few why h = ((h.written (λ e. cc), h.closed), elim h.spent [ inl most ↦ inl most | inr most ↦ inr (omega (arith, most, few)) ])
 stopped_at f failed failed' turns p entries few why h = absurd why
 
-pub stops_so : {held : ℕ} (start now : IoState) {log : List Entry} {has : HasLog start.engine log} {f : ServeFault} {failed failed' turns s : ℕ} → IsStop f failed failed' ⊥ → Serves held (IsToldBy turns (since_at start log has) s now.engine now.told) start.line now.line (IsStopped f failed failed' turns)
+pub stops_so : {held : ℕ} (start now : IoState) {log : List Entry} {has : HasLog start.engine log} {f : ServeFault} (failed failed' : ℕ) {turns s : ℕ} → IsStop f failed failed' → Serves held (IsToldBy turns (since_at start log has) s now.engine now.told) start.line now.line (IsStopped f turns)
     → (session : ℕ) × (p : Progress) × (tells : IsTold (since_at start log has) session now.engine now.told p.state) × ServedSoFar held start.line now.line p × HasStoppedAt f tells.later.entries p
-stops_so start now {f = f} {failed = failed} {failed' = failed'} {turns = turns} {s = s} why serves =
+stops_so start now {f = f} failed failed' {turns = turns} {s = s} why serves =
     (s, serves.0, serves.1.0, serves.2, stopped_at f failed failed' turns serves.0 serves.1.0.later.entries serves.1.1 why serves.3)
 
-pub serve_fault : (f : ServeFault) (failed failed' : ℕ) → IsStop f failed failed' ⊥ → IsServeFault f failed failed'
+pub serve_fault : (f : ServeFault) (failed failed' : ℕ) → IsStop f failed failed' → IsServeFault f failed failed'
 serve_fault serve.Line failed failed' h = h
-serve_fault serve.Stranger failed failed' h = h
 serve_fault f failed failed' h = tt

@@ -8,7 +8,7 @@ use Rattle.std.proofs.lemmas.Grind.{flat_map-append}
 use Rattle.std.proofs.lemmas.List.Sums.{sum_by-append}
 use Rattle.sf_field.specs.Fields.{packet}
 use Rattle.sf_wire.specs.Packets.{IsBody}
-use Rattle.sf_call.specs.declared.fault.CoreFault.TheVariants as core
+use Rattle.sf_call.specs.declared.fault.BeginFault.TheVariants as begin
 use Rattle.sf_call.specs.declared.record.Record.{Record}
 use Rattle.sf_call.specs.declared.record.Record.TheVariants.{Did, Left}
 use Rattle.sf_call.specs.Histories.{IsLegal, IsLegalAfter}
@@ -126,9 +126,7 @@ got_behind (x ∷ xs) ys m = got_behind xs ys m
 
 -- a refusal is fair, if the number of calls that had begun is at most `n`
 fair_of : (front : List Entry) (s n : ℕ) (a : Response) → begun_in front ≤ n → MayWrite front s a → IsFair n a
-fair_of front s n (Refused id q core.NumbersSpent) le may = omega (arith, le, may)
-fair_of front s n (Refused id q core.Sessions) le may = absurd may
-fair_of front s n (Refused id q core.Stranger) le may = absurd may
+fair_of front s n (Refused id q begin.NumbersSpent) le may = omega (arith, le, may)
 fair_of front s n a le may = tt
 
 module _ (s : ℕ) (pos : 0 < s) (whole : List Entry) (kept : IsKept whole) where

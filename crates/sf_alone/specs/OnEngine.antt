@@ -14,7 +14,6 @@ use Rattle.sf_engine.specs.declared.event.Event.TheVariants as event
 use Rattle.sf_engine.specs.declared.event.Happened.{Happened}
 use Rattle.sf_engine.specs.declared.event.Happened.TheVariants as happened
 use Rattle.sf_engine.specs.declared.event.EngineFault.{EngineFault}
-use Rattle.sf_engine.specs.declared.event.EngineFault.TheVariants as refused
 use Rattle.sf_engine.specs.Views.{EngineView}
 use Rattle.sf_engine.specs.Promise.{Entry, event_of, result_of, opened_in, left_in, CallLog, SessionLog, of_session, IsKnown, IsUnsent}
 use Rattle.sf_engine.specs.HasLog.{HasLog, AppendsEntry, AppendsTurns}
@@ -164,7 +163,6 @@ abbrev pub MayNotOpen : List Entry → ServeFault → Type 0
 MayNotOpen log fault.Line = ⊥
 MayNotOpen log fault.OutOfMemory = Unit {0}
 MayNotOpen log fault.Sessions = left_in log + 256 ≤ opened_in log
-MayNotOpen log fault.Stranger = ⊥
 MayNotOpen log fault.NumbersSpent = opened_in log ≡ most_calls
 
 -- Serving has stopped and the session is closed. Unless the transport failed, all replies were
@@ -173,7 +171,6 @@ abbrev pub HasStoppedAt : ServeFault → List Entry → Progress → Type 0
 HasStoppedAt fault.Line entries p = TakesNone p.state
 HasStoppedAt fault.OutOfMemory entries p = HasWritten p × TakesNone p.state
 HasStoppedAt fault.Sessions entries p = ⊥
-HasStoppedAt fault.Stranger entries p = ⊥
 HasStoppedAt fault.NumbersSpent entries p = (HasWritten p × TakesNone p.state)
     × ((most_counted ≤ length p.state.stream) ⊎ (most_counted ≤ length entries))
 
@@ -186,28 +183,11 @@ StopsEarly start now f = (log : List Entry) → (has : HasLog start.engine log)
     × (tells : IsTold (since_at start log has) session now.engine now.told p.state)
     × ServedSoFar engine_held start.line now.line p × HasStoppedAt f tells.later.entries p)
 
--- unchanged, whatever log the engine has
-abbrev pub IsUnchanged : EngineView → EngineView → Type 0
-IsUnchanged e e' = (log : List Entry) → HasLog e log → e' ≡ e
-
--- the serving error for each engine error
-abbrev pub open_refusal : EngineFault → ServeFault
-open_refusal refused.Sessions = fault.Sessions
-open_refusal refused.NumbersSpent = fault.NumbersSpent
-open_refusal _ = fault.OutOfMemory
-
--- whatever log the engine has, it may not open a session
-abbrev pub IsOpenFault : EngineView → ServeFault → Type 0
-IsOpenFault e fault.Line = ⊥
-IsOpenFault e fault.Stranger = ⊥
-IsOpenFault e f = (log : List Entry) → HasLog e log → MayNotOpen log f
-
 -- why serving stops early; on `Line` the transport's error count rose
 abbrev pub IsServeFault : ServeFault → ℕ → ℕ → Type 0
 IsServeFault fault.Line failed failed' = Rose failed failed'
 IsServeFault fault.OutOfMemory failed failed' = Unit {0}
 IsServeFault fault.Sessions failed failed' = Unit {0}
-IsServeFault fault.Stranger failed failed' = ⊥
 IsServeFault fault.NumbersSpent failed failed' = Unit {0}
 
 -- the session was fed these bytes

@@ -3,14 +3,11 @@
 ghost use Rattle.std.specs.Prelude.{◌≡◌, ◌<◌, ◌≤◌, ◌∷◌, ℕ, List, [], length, take, Bool, Option, Result, Ok, IfOk, IfErr, OnOk, OnErr, vec_len};
 ghost use Rattle.std.specs.Io.KnownBytes.{Appends};
 ghost use Rattle.sf_session.specs.declared.fault.ServeFault.{ServeFault};
-ghost use Rattle.sf_engine.specs.declared.event.Event.TheVariants.{Open};
-ghost use Rattle.sf_engine.specs.declared.event.Happened.TheVariants.{Opened};
 ghost use Rattle.sf_session.specs.SessionStates.{SessionState, fed, IsRead};
 ghost use Rattle.sf_session.specs.Responses.{transcript};
-ghost use Rattle.sf_engine.specs.HasLog.{AppendsEntry};
 ghost use Rattle.sf_serving.specs.Hosts.{IsOpen, HasSent, IsFurther, IsSessionStep, with_sent, ended, IsHostFault};
 ghost use Rattle.sf_serving.specs.Serving.{line_view};
-ghost use Rattle.sf_alone.specs.OnEngine.{Since, IsToldBy, io_state, may_begin_after, Turns, Feeds, Applies, HasOutput, ServesLine, StopsEarly, IsUnchanged, open_refusal, IsOpenFault, IsServeFault};
+ghost use Rattle.sf_alone.specs.OnEngine.{Since, IsToldBy, io_state, may_begin_after, Turns, Feeds, Applies, HasOutput, ServesLine, StopsEarly, IsServeFault};
 
 use sf_call::Record;
 use sf_engine::{Engine, EngineFault, Event, Happened};
@@ -21,34 +18,6 @@ use std::alloc::{AllocError, Global};
 
 /// The unsent output, in bytes, at which a batch ends although complete packets are unread.
 const BATCH: usize = 65536;
-
-/// The error of serving for an engine's refusal to open a session.
-fn open_refusal(fault: EngineFault) -> ServeFault
-    ensures { result ≡ open_refusal fault }
-{
-    match fault {
-        EngineFault::Sessions => ServeFault::Sessions,
-        EngineFault::NumbersSpent => ServeFault::NumbersSpent,
-        _ => ServeFault::OutOfMemory,
-    }
-}
-
-/// Opens a session.
-fn open(engine: &mut Engine) -> Result<u64, ServeFault>
-    ensures opened { IfOk result (λ session. AppendsEntry engine.old Open
-        (Ok (Opened session)) engine.new) }
-    ensures unchanged { OnErr result (IsUnchanged engine.old engine.new) }
-    ensures fault { IfErr result (λ fault. IsOpenFault engine.old fault) }
-{
-    let happened = match engine.apply(&Event::Open) {
-        Ok(happened) => happened,
-        Err(fault) => return Err(open_refusal(fault)),
-    };
-    match happened {
-        Happened::Opened(session) => Ok(session),
-        _ => Err(ServeFault::OutOfMemory),
-    }
-}
 
 /// Feeds the first `n` bytes of `piece` to the session.
 fn feed(engine: &mut Engine, session: u64, piece: &Vec<u8>, n: usize) -> Result<(), AllocError>
@@ -183,9 +152,7 @@ impl<G: CallObserver> Host<Engine> for EngineHost<'_, G> {
 
     ghost work = { λ h engine. h.turns };
 
-    ghost strange = { λ h engine. ⊥ };
-
-    ghost left = { λ h engine fault. Unit {0} };
+    ghost left = { λ h engine. Unit {0} };
 
     fn feed(&mut self, engine: &mut Engine, piece: &Vec<u8>, n: usize) -> Result<(), AllocError> {
         feed(engine, self.session, piece, n)
@@ -234,9 +201,8 @@ impl<G: CallObserver> Host<Engine> for EngineHost<'_, G> {
         tell_sent(engine, self.session, n);
     }
 
-    fn end(&mut self, engine: &mut Engine) -> Result<(), ServeFault> {
+    fn end(&mut self, engine: &mut Engine) {
         close(engine, self.session);
-        Ok(())
     }
 }
 
@@ -263,7 +229,7 @@ pub fn serve_one<L: Line, C: Clock, G: CallObserver>(
         (L.failed line.new)) }
 {
     let mut piece = new_piece(alloc)?;
-    let session = open(engine)?;
+    let session = engine.open()?;
     observer.joined(session);
     let mut host = EngineHost {
         session,

@@ -29,17 +29,9 @@ fault_for engine.NotSent = fault.Reply
 
 -- why turns with this result wrote no reply
 abbrev pub stuck_by : Result Happened EngineFault → Option TreeFault
-stuck_by (Ok (happened.Opened session)) = Some fault.Reply
-stuck_by (Ok happened.Fed) = Some fault.Reply
-stuck_by (Ok happened.Moved) = Some fault.Reply
-stuck_by (Ok (happened.Blocked call)) = Some fault.Blocked
-stuck_by (Ok happened.Decided) = Some fault.Reply
 stuck_by (Ok happened.Wrote) = None
-stuck_by (Ok happened.Begun) = Some fault.Reply
-stuck_by (Ok happened.Idle) = Some fault.Reply
-stuck_by (Ok (happened.Ended cause)) = Some fault.Reply
-stuck_by (Ok happened.Closed) = Some fault.Reply
-stuck_by (Ok happened.Sent) = Some fault.Reply
+stuck_by (Ok (happened.Blocked call)) = Some fault.Blocked
+stuck_by (Ok other) = Some fault.Reply
 stuck_by (Err f) = Some (fault_for f)
 
 -- memory to read the output ran out, or the output isn't a reply's packet

@@ -70,33 +70,16 @@ AnswersNumber before event n after = (old : EngineView) × (new : EngineView) ×
 
 -- whether a turn with this result made progress, so that another one follows
 abbrev pub leads_on : Result Happened EngineFault → Bool
-leads_on (Ok (happened.Opened session)) = false
-leads_on (Ok happened.Fed) = false
-leads_on (Ok happened.Idle) = false
 leads_on (Ok happened.Wrote) = true
 leads_on (Ok happened.Begun) = true
 leads_on (Ok happened.Moved) = true
-leads_on (Ok (happened.Blocked call)) = false
 leads_on (Ok happened.Decided) = true
-leads_on (Ok (happened.Ended why)) = false
-leads_on (Ok happened.Closed) = false
-leads_on (Ok happened.Sent) = false
-leads_on (Err fault) = false
+leads_on _ = false
 
 -- the number of replies that it wrote
 abbrev pub replies_of : Result Happened EngineFault → ℕ
-replies_of (Ok (happened.Opened session)) = 0
-replies_of (Ok happened.Fed) = 0
-replies_of (Ok happened.Idle) = 0
 replies_of (Ok happened.Wrote) = 1
-replies_of (Ok happened.Begun) = 0
-replies_of (Ok happened.Moved) = 0
-replies_of (Ok (happened.Blocked call)) = 0
-replies_of (Ok happened.Decided) = 0
-replies_of (Ok (happened.Ended why)) = 0
-replies_of (Ok happened.Closed) = 0
-replies_of (Ok happened.Sent) = 0
-replies_of (Err fault) = 0
+replies_of _ = 0
 
 -- An engine took this many rounds, at most as many as its calls have steps, and then no call is
 -- running.

@@ -27,14 +27,12 @@ use Rattle.sf_call.specs.declared.request.Request.TheVariants.{Stat, SetStat, Mk
 use Rattle.sf_call.specs.Attributes.{Object, made_at, modified_at, new_id, new_owner, with_parts, attrs_of}
 use Rattle.sf_call.specs.Attributes.Object.{Directory, File}
 use Rattle.sf_block.specs.Contents.{resized, written}
-use Rattle.sf_call.specs.Tree.{Tree, Handle, FoundObject, label_at, object_of, links, directory_metadata, directory_at, look_up, found_object, found_place, found_at, after_front, only_name, is_nil, is_empty}
-use Rattle.sf_call.specs.Tree.FoundObject.{Nowhere, Nothing, DirectoryAt, FileAt}
-use Rattle.sf_call.specs.Handles.{Opened, handle_in, opened_object, opened_by, opened}
-use Rattle.sf_call.specs.Handles.Opened.{NotOpen, OpenDirectory, OpenFile}
+use Rattle.sf_call.specs.Tree.{Tree, Handle, label_at, object_of, links, directory_metadata, directory_at, look_up, found_place, found_at, after_front, only_name, is_nil, is_empty}
+use Rattle.sf_call.specs.Handles.{handle_in, opened_by, opened}
 use Rattle.sf_call.specs.Listings.{path_of, is_past, name_past, entry_of, listed_entry, listing_of}
 use Rattle.sf_call.specs.Changes.{touch, touched}
 use Rattle.sf_call.specs.Values.{IsRequest, IsCall}
-use Rattle.sf_call.specs.Calls.{Outcome, answer_to, stat, refuses_size, with_size, sets, set_stat, make_directory, remove_directory, remove_file, has_all_handles, open_directory, open_present, open_file, close, stat_opened, set_opened, read, start_of, write, lists, read_directory, unless_root, moves, opening, stamp}
+use Rattle.sf_call.specs.Calls.{Outcome, answer_to, stat, refuses_size, with_size, sets, set_stat, make_directory, remove_directory, remove_file, has_all_handles, open_directory, open_present, open_file, close, stat_opened, set_opened, read, start_of, write, lists, read_directory, unless_root, moves}
 use Rattle.sf_call.proofs.RenameCases.{rename_cases, posix_rename_cases, link_cases, link_to_cases}
 use Rattle.sf_call.proofs.FittingTrees.{MetadataFits, ObjectFits, TreeFits, ChangeFits, all_made, found_value, rest_names}
 
@@ -59,16 +57,15 @@ IsShort (reply.Attrs attrs) = AttrsFit attrs
 abbrev pub AnswerFits : Outcome → Type 0
 AnswerFits answer = IsShort answer.reply × AllByRecursion ChangeFits answer.changes
 
-abbrev FoundFits : FoundObject → Type 0
-FoundFits Nowhere = Unit {0}
-FoundFits Nothing = Unit {0}
-FoundFits (DirectoryAt label m) = ObjectFits (Directory m)
-FoundFits (FileAt label m contents) = ObjectFits (File m contents)
+abbrev FoundFits : Option (ℕ × Object) → Type 0
+FoundFits None = Unit {0}
+FoundFits (Some (label, Directory m)) = ObjectFits (Directory m)
+FoundFits (Some (label, File m contents)) = ObjectFits (File m contents)
 
-abbrev OpenedFits : Opened → Type 0
-OpenedFits NotOpen = Unit {0}
-OpenedFits (OpenDirectory h m) = ObjectFits (Directory m)
-OpenedFits (OpenFile h m contents) = ObjectFits (File m contents)
+abbrev OpenedFits : Option (Handle × Object) → Type 0
+OpenedFits None = Unit {0}
+OpenedFits (Some (h, Directory m)) = ObjectFits (Directory m)
+OpenedFits (Some (h, File m contents)) = ObjectFits (File m contents)
 
 -- ---- values
 
@@ -156,7 +153,7 @@ module _ (tree : Tree) (fits : TreeFits tree) (few : (label : ℕ) → links tre
 
   -- ---- the objects of paths and handles
 
-  object_found : (label : ℕ) (o : Option Object) → IfSome o ObjectFits → FoundFits (found_object label o)
+  object_found : (label : ℕ) (o : Option Object) → IfSome o ObjectFits → FoundFits (option_map (λ (object : Object). (label, object)) o)
   object_found label None f = tt
   object_found label (Some (Directory m)) f = f
   object_found label (Some (File m contents)) f = f
@@ -169,12 +166,12 @@ module _ (tree : Tree) (fits : TreeFits tree) (few : (label : ℕ) → links tre
   path_found : (path : Path) → FoundFits (found_at tree path)
   path_found path = place_found (look_up tree path)
 
-  object_opened : (h : Handle) (o : Option Object) → IfSome o ObjectFits → OpenedFits (opened_object h o)
+  object_opened : (h : Handle) (o : Option Object) → IfSome o ObjectFits → OpenedFits (option_map (λ (object : Object). (h, object)) o)
   object_opened h None f = tt
   object_opened h (Some (Directory m)) f = f
   object_opened h (Some (File m contents)) f = f
 
-  handle_opened : (o : Option Handle) → OpenedFits (opened_by tree o)
+  handle_opened : (o : Option Handle) → OpenedFits (option_and_then (opened_by tree) o)
   handle_opened None = tt
   handle_opened (Some h) = object_opened h (object_of tree.objects h.label) (there h.label)
 
@@ -221,11 +218,10 @@ module _ (tree : Tree) (fits : TreeFits tree) (few : (label : ℕ) → links tre
     touched_fits : (path : Path) → AllByRecursion ChangeFits (touched tree moment path)
     touched_fits path = touch_fits (directory_at tree path) (directory_fits path)
 
-    told : (found : FoundObject) → FoundFits found → AnswerFits (stat found)
-    told Nowhere f = (tt, tt)
-    told Nothing f = (tt, tt)
-    told (DirectoryAt label m) f = (attrs_fit (Directory m) f, tt)
-    told (FileAt label m contents) f = (attrs_fit (File m contents) f, tt)
+    told : (found : Option (ℕ × Object)) → FoundFits found → AnswerFits (stat found)
+    told None f = (tt, tt)
+    told (Some (label, Directory m)) f = (attrs_fit (Directory m) f, tt)
+    told (Some (label, File m contents)) f = (attrs_fit (File m contents) f, tt)
 
     size_set : (attrs : Attrs) (size : Option ℕ) (m : Metadata) (contents : List ℕ) → AttrsFit attrs → ObjectFits (File m contents) → refuses_size (File m contents) size ≡ false
         → ObjectFits (with_size moment attrs size m contents)
@@ -238,48 +234,43 @@ module _ (tree : Tree) (fits : TreeFits tree) (few : (label : ℕ) → links tre
     parts_set label attrs (File m contents) a f =
         if_not (refuses_size (File m contents) attrs.size) _ _ (tt, tt) (λ small. (tt, (size_set attrs attrs.size m contents a f small, tt)))
 
-    set_found : (attrs : Attrs) (found : FoundObject) → AttrsFit attrs → FoundFits found → AnswerFits (set_stat moment attrs found)
-    set_found attrs Nowhere a f = (tt, tt)
-    set_found attrs Nothing a f = (tt, tt)
-    set_found attrs (DirectoryAt label m) a f = parts_set label attrs (Directory m) a f
-    set_found attrs (FileAt label m contents) a f = parts_set label attrs (File m contents) a f
+    set_found : (attrs : Attrs) (found : Option (ℕ × Object)) → AttrsFit attrs → FoundFits found → AnswerFits (set_stat moment attrs found)
+    set_found attrs None a f = (tt, tt)
+    set_found attrs (Some (label, Directory m)) a f = parts_set label attrs (Directory m) a f
+    set_found attrs (Some (label, File m contents)) a f = parts_set label attrs (File m contents) a f
 
-    made : (path : Path) (attrs : Attrs) (place : Lookup) → IsPath path → AttrsFit attrs → AnswerFits (make_directory tree (stamp number moment) path attrs place)
+    made : (path : Path) (attrs : Attrs) (place : Lookup) → IsPath path → AttrsFit attrs → AnswerFits (make_directory tree number moment path attrs place)
     made path attrs NoWay p a = (tt, tt)
     made path attrs (At label) p a = (tt, tt)
     made path attrs Absent p a = (tt, ((p, made_fits 0o755 attrs a), touched_fits (parent path)))
 
-    directory_removed : (path : Path) (found : FoundObject) → AnswerFits (remove_directory tree moment path found)
-    directory_removed path Nowhere = (tt, tt)
-    directory_removed path Nothing = (tt, tt)
-    directory_removed path (FileAt label m contents) = (tt, tt)
-    directory_removed path (DirectoryAt label m) = either (is_empty tree.names path) _ _ (tt, (tt, touched_fits (parent path))) (tt, tt)
+    directory_removed : (path : Path) (found : Option (ℕ × Object)) → AnswerFits (remove_directory tree moment path found)
+    directory_removed path None = (tt, tt)
+    directory_removed path (Some (label, File m contents)) = (tt, tt)
+    directory_removed path (Some (label, Directory m)) = either (is_empty tree.names path) _ _ (tt, (tt, touched_fits (parent path))) (tt, tt)
 
-    file_removed : (path : Path) (found : FoundObject) → AnswerFits (remove_file tree moment path found)
-    file_removed path Nowhere = (tt, tt)
-    file_removed path Nothing = (tt, tt)
-    file_removed path (DirectoryAt label m) = (tt, tt)
-    file_removed path (FileAt label m contents) = (tt, (tt, touched_fits (parent path)))
+    file_removed : (path : Path) (found : Option (ℕ × Object)) → AnswerFits (remove_file tree moment path found)
+    file_removed path None = (tt, tt)
+    file_removed path (Some (label, Directory m)) = (tt, tt)
+    file_removed path (Some (label, File m contents)) = (tt, (tt, touched_fits (parent path)))
 
-    directory_opened : (found : FoundObject) → AnswerFits (open_directory tree session number found)
-    directory_opened Nowhere = (tt, tt)
-    directory_opened Nothing = (tt, tt)
-    directory_opened (FileAt label m contents) = (tt, tt)
-    directory_opened (DirectoryAt label m) = either (has_all_handles tree session) _ _ (tt, tt) (number_fits, (tt, tt))
+    directory_opened : (found : Option (ℕ × Object)) → AnswerFits (open_directory tree session number found)
+    directory_opened None = (tt, tt)
+    directory_opened (Some (label, File m contents)) = (tt, tt)
+    directory_opened (Some (label, Directory m)) = either (has_all_handles tree session) _ _ (tt, tt) (number_fits, (tt, tt))
 
-    present_opened : (flags : OpenFlags) (found : FoundObject) → FoundFits found → AnswerFits (open_present tree session (stamp number moment) flags found)
-    present_opened flags Nowhere f = (tt, tt)
-    present_opened flags Nothing f = (tt, tt)
-    present_opened flags (DirectoryAt label m) f = (tt, tt)
-    present_opened flags (FileAt label m contents) f =
+    present_opened : (flags : OpenFlags) (found : Option (ℕ × Object)) → FoundFits found → AnswerFits (open_present tree session number moment flags found)
+    present_opened flags None f = (tt, tt)
+    present_opened flags (Some (label, Directory m)) f = (tt, tt)
+    present_opened flags (Some (label, File m contents)) f =
         either (has_all_handles tree session) _ _ (tt, tt)
         (either (flags.truncate && flags.write) _ _ (number_fits, (tt, ((modified_fits m f.0, omega arith), tt))) (number_fits, (tt, tt)))
 
-    file_opened : (path : Path) (flags : OpenFlags) (attrs : Attrs) (place : Lookup) → IsPath path → AttrsFit attrs → AnswerFits (open_file tree session (stamp number moment) (opening path flags attrs) place)
+    file_opened : (path : Path) (flags : OpenFlags) (attrs : Attrs) (place : Lookup) → IsPath path → AttrsFit attrs → AnswerFits (open_file tree session number moment path flags attrs place)
     file_opened path flags attrs NoWay p a = (tt, tt)
     file_opened path flags attrs (At label) p a =
         either (flags.create && flags.exclusive) _ _ (tt, tt)
-        (present_opened flags (found_object label (object_of tree.objects label)) (object_found label (object_of tree.objects label) (there label)))
+        (present_opened flags (option_map (λ (object : Object). (label, object)) (object_of tree.objects label)) (object_found label (object_of tree.objects label) (there label)))
     file_opened path flags attrs Absent p a =
         either (not flags.create) _ _ (tt, tt) (either (has_all_handles tree session) _ _ (tt, tt)
         (number_fits, (tt, ((p, (made_fits 0o644 attrs a, omega arith)), touched_fits (parent path)))))
@@ -288,26 +279,26 @@ module _ (tree : Tree) (fits : TreeFits tree) (few : (label : ℕ) → links tre
     closed handle None = (tt, tt)
     closed handle (Some h) = (tt, (tt, tt))
 
-    told_opened : (o : Opened) → OpenedFits o → AnswerFits (stat_opened o)
-    told_opened NotOpen f = (tt, tt)
-    told_opened (OpenDirectory h m) f = (attrs_fit (Directory m) f, tt)
-    told_opened (OpenFile h m contents) f = (attrs_fit (File m contents) f, tt)
+    told_opened : (o : Option (Handle × Object)) → OpenedFits o → AnswerFits (stat_opened o)
+    told_opened None f = (tt, tt)
+    told_opened (Some (h, Directory m)) f = (attrs_fit (Directory m) f, tt)
+    told_opened (Some (h, File m contents)) f = (attrs_fit (File m contents) f, tt)
 
-    set_by_handle : (attrs : Attrs) (o : Opened) → AttrsFit attrs → OpenedFits o → AnswerFits (set_opened moment attrs o)
-    set_by_handle attrs NotOpen a f = (tt, tt)
-    set_by_handle attrs (OpenDirectory h m) a f = either (nat_eq h.label 0) _ _ (tt, tt) (parts_set h.label attrs (Directory m) a f)
-    set_by_handle attrs (OpenFile h m contents) a f = either (is_some attrs.size && not h.write) _ _ (tt, tt) (parts_set h.label attrs (File m contents) a f)
+    set_by_handle : (attrs : Attrs) (o : Option (Handle × Object)) → AttrsFit attrs → OpenedFits o → AnswerFits (set_opened moment attrs o)
+    set_by_handle attrs None a f = (tt, tt)
+    set_by_handle attrs (Some (h, Directory m)) a f = either (nat_eq h.label 0) _ _ (tt, tt) (parts_set h.label attrs (Directory m) a f)
+    set_by_handle attrs (Some (h, File m contents)) a f = either (is_some attrs.size && not h.write) _ _ (tt, tt) (parts_set h.label attrs (File m contents) a f)
 
-    was_read : (offset len : ℕ) (o : Opened) → AnswerFits (read offset len o)
-    was_read offset len NotOpen = (tt, tt)
-    was_read offset len (OpenDirectory h m) = (tt, tt)
-    was_read offset len (OpenFile h m contents) =
+    was_read : (offset len : ℕ) (o : Option (Handle × Object)) → AnswerFits (read offset len o)
+    was_read offset len None = (tt, tt)
+    was_read offset len (Some (h, Directory m)) = (tt, tt)
+    was_read offset len (Some (h, File m contents)) =
         either (not h.read) _ _ (tt, tt) (either (nat_le (length contents) offset) _ _ (tt, tt) (simp length-take (omega arith), tt))
 
-    was_written : (offset : ℕ) (bytes : List ℕ) (o : Opened) → OpenedFits o → AnswerFits (write moment offset bytes o)
-    was_written offset bytes NotOpen f = (tt, tt)
-    was_written offset bytes (OpenDirectory h m) f = (tt, tt)
-    was_written offset bytes (OpenFile h m contents) f =
+    was_written : (offset : ℕ) (bytes : List ℕ) (o : Option (Handle × Object)) → OpenedFits o → AnswerFits (write moment offset bytes o)
+    was_written offset bytes None f = (tt, tt)
+    was_written offset bytes (Some (h, Directory m)) f = (tt, tt)
+    was_written offset bytes (Some (h, File m contents)) f =
         either (not h.write) _ _ (tt, tt) (either (is_nil bytes) _ _ (tt, tt)
         (if_not (nat_lt MAX_FILE_SIZE (start_of h contents offset + length bytes)) _ _ (tt, tt)
         (λ small. (tt, ((modified_fits m f.0, length-written contents (start_of h contents offset) bytes f.1 (ltb-false MAX_FILE_SIZE (start_of h contents offset + length bytes) small)), tt)))))
@@ -316,10 +307,10 @@ module _ (tree : Tree) (fits : TreeFits tree) (few : (label : ℕ) → links tre
     listed handle h [] short = (tt, tt)
     listed handle h (e ∷ es) short = (short, (tt, tt))
 
-    directory_read : (handle : ℕ) (o : Opened) → AnswerFits (read_directory tree handle o)
-    directory_read handle NotOpen = (tt, tt)
-    directory_read handle (OpenFile h m contents) = (tt, tt)
-    directory_read handle (OpenDirectory h m) = listed handle h (listing_of tree h.listed (path_of tree.names h.label)) (listing_short h.listed (path_of tree.names h.label))
+    directory_read : (handle : ℕ) (o : Option (Handle × Object)) → AnswerFits (read_directory tree handle o)
+    directory_read handle None = (tt, tt)
+    directory_read handle (Some (h, File m contents)) = (tt, tt)
+    directory_read handle (Some (h, Directory m)) = listed handle h (listing_of tree h.listed (path_of tree.names h.label)) (listing_short h.listed (path_of tree.names h.label))
 
     moved_fits : (old new : Path) → IsPath new → AnswerFits (moves tree moment old new)
     moved_fits old new p = (tt, (p, all_both ChangeFits (touched tree moment (parent old)) (touched tree moment (parent new)) (touched_fits (parent old)) (touched_fits (parent new))))

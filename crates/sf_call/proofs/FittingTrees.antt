@@ -14,7 +14,7 @@ use Rattle.sf_call.specs.declared.limits.TheConstants.{MAX_FILE_SIZE}
 use Rattle.sf_call.specs.declared.metadata.Metadata.{Metadata}
 use Rattle.sf_call.specs.Attributes.{Object}
 use Rattle.sf_call.specs.Attributes.Object.{Directory, File}
-use Rattle.sf_call.specs.Tree.{Tree, label_at, is_used, kept, with_names, with_handles, after_front, empty_tree}
+use Rattle.sf_call.specs.Tree.{Tree, label_at, is_used, kept, after_front, empty_tree}
 use Rattle.sf_call.specs.Moves.{is_outside, carried, with_entries, moved}
 use Rattle.sf_call.specs.Changes.{Change, changed, done}
 use Rattle.sf_call.specs.Changes.Change.{SetObject, NewPath, NewName, GonePath, Move, OpenHandle, SetHandle, CloseHandle}
@@ -146,24 +146,24 @@ fits_changed tree (NewName path label) new_fits fits = record {
   objects = fits.objects;
 }
 fits_changed tree (GonePath path) _ fits =
-    fits_kept (with_names tree (remove_entry (is_at (path_cmp path)) tree.names)) (record {
+    fits_kept (record tree { names = remove_entry (is_at (path_cmp path)) tree.names }) (record {
       names = all_removed (λ e. IsPath e.0) (is_at (path_cmp path)) tree.names fits.names;
       objects = fits.objects;
     })
 fits_changed tree (Move old new) new_names fits =
-    fits_kept (with_names tree (moved tree.names old new)) (record { names = moved_names tree.names old new new_names fits.names; objects = fits.objects })
+    fits_kept (record tree { names = moved tree.names old new }) (record { names = moved_names tree.names old new new_names fits.names; objects = fits.objects })
 fits_changed tree (OpenHandle number handle) _ fits = record { names = fits.names; objects = fits.objects }
 fits_changed tree (SetHandle number handle) _ fits = record { names = fits.names; objects = fits.objects }
 fits_changed tree (CloseHandle number) _ fits =
-    fits_kept (with_handles tree (remove_entry (is_at (nat_cmp number)) tree.handles)) (record { names = fits.names; objects = fits.objects })
+    fits_kept (record tree { handles = remove_entry (is_at (nat_cmp number)) tree.handles }) (record { names = fits.names; objects = fits.objects })
 
 pub fits_done : (tree : Tree) (changes : List Change) → AllByRecursion ChangeFits changes → TreeFits tree → TreeFits (done tree changes)
 fits_done tree [] all fits = fits
 fits_done tree (c ∷ cs) all fits = fits_done (changed tree c) cs all.1 (fits_changed tree c all.0 fits)
 
-pub fits_left : (tree : Tree) (session : ℕ) → TreeFits tree → TreeFits (kept (with_handles tree (filter (λ e. not (nat_eq e.1.session session)) tree.handles)))
+pub fits_left : (tree : Tree) (session : ℕ) → TreeFits tree → TreeFits (kept (record tree { handles = filter (λ e. not (nat_eq e.1.session session)) tree.handles }))
 fits_left tree session fits =
-    fits_kept (with_handles tree (filter (λ e. not (nat_eq e.1.session session)) tree.handles)) (record { names = fits.names; objects = fits.objects })
+    fits_kept (record tree { handles = filter (λ e. not (nat_eq e.1.session session)) tree.handles }) (record { names = fits.names; objects = fits.objects })
 
 pub fits_empty : TreeFits empty_tree
 fits_empty = record {

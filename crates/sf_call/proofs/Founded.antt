@@ -15,7 +15,7 @@ use Rattle.sf_path.specs.Order.{path_cmp, same_path}
 use Rattle.sf_call.specs.declared.metadata.Metadata.{Metadata}
 use Rattle.sf_call.specs.Attributes.{Object}
 use Rattle.sf_call.specs.Attributes.Object.{Directory, File}
-use Rattle.sf_call.specs.Tree.{Tree, IsOrderedTree, label_at, object_of, directory_metadata, is_directory_object, is_directory, is_faulty_way, after_front, is_used, kept, with_names, with_handles, empty_tree}
+use Rattle.sf_call.specs.Tree.{Tree, IsOrderedTree, label_at, object_of, directory_metadata, is_directory_object, is_directory, is_faulty_way, after_front, is_used, kept, empty_tree}
 use Rattle.sf_call.specs.Changes.{Change, changed}
 use Rattle.sf_call.specs.Changes.Change.{SetObject, NewPath, NewName, GonePath, Move, OpenHandle, SetHandle, CloseHandle}
 use Rattle.sf_call.specs.declared.metadata.FileType.TheVariants as file_type
@@ -265,9 +265,9 @@ set_founded tree label object may f = record {
 }
 
 -- ---- a removed path
-front_stays : (tree : Tree) (gone q : Path) → q ≢ gone → is_directory tree q ≡ true → is_directory (with_names tree (remove_entry (is_at (path_cmp gone)) tree.names)) q ≡ true
+front_stays : (tree : Tree) (gone q : Path) → q ≢ gone → is_directory tree q ≡ true → is_directory (record tree { names = remove_entry (is_at (path_cmp gone)) tree.names }) q ≡ true
 front_stays tree gone q other h =
-    is_directory_is (with_names tree (remove_entry (is_at (path_cmp gone)) tree.names)) q
+    is_directory_is (record tree { names = remove_entry (is_at (path_cmp gone)) tree.names }) q
     ∙ ap (is_directory_label tree.objects) (other_removed path_cmp exact_paths gone q tree.names other)
     ∙ sym (is_directory_is tree q) ∙ h
 
@@ -281,12 +281,12 @@ proper_rest (name ∷ path) (suc n) lt =
     (more.0, more.1, ap (λ (p : Path). name ∷ p) more.2)
 
 gone_founded : (tree : Tree) (gone : Path) → ((name : Name) (rest : Path) → label_at tree.names (gone ++ name ∷ rest) ≡ None) → IsOrderedTree tree → IsFounded tree
-    → IsFounded (with_names tree (remove_entry (is_at (path_cmp gone)) tree.names))
+    → IsFounded (record tree { names = remove_entry (is_at (path_cmp gone)) tree.names })
 gone_founded tree gone none o f = record {
   object = λ q label e. f.object q label (found_removed path_cmp exact_paths (is_at (path_cmp gone)) tree.names q label o.names e);
   way = λ q label e.
       let was = found_removed path_cmp exact_paths (is_at (path_cmp gone)) tree.names q label o.names e in
-      (open_way (with_names tree (remove_entry (is_at (path_cmp gone)) tree.names)) q).1
+      (open_way (record tree { names = remove_entry (is_at (path_cmp gone)) tree.names }) q).1
       (λ n lt. front_stays tree gone (take n q)
       (λ same. let more = proper_rest q n lt in
       let below : label_at tree.names q ≡ None = ap (label_at tree.names) (more.2 ∙ ap (λ (p : Path). p ++ more.0 ∷ more.1) same) ∙ none more.0 more.1 in
@@ -297,7 +297,7 @@ gone_founded tree gone none o f = record {
 -- ---- a move
 module _ (tree : Tree) (old new : Path) (may : IsMove tree old new) where
   abbrev renamed : Tree
-  renamed = with_names tree (moved tree.names old new)
+  renamed = record tree { names = moved tree.names old new }
 
   -- a path with another's inode number is a directory if the other is one
   directory_moved : (p q : Path) → label_at (moved tree.names old new) q ≡ label_at tree.names p → is_directory tree p ≡ true → is_directory renamed q ≡ true
@@ -338,7 +338,7 @@ founded_changed number tree (OpenHandle handle opened) may o f = record { object
 founded_changed number tree (SetHandle handle opened) may o f = record { object = f.object; way = f.way }
 founded_changed number tree (CloseHandle handle) may o f = kept_founded _ (record { object = f.object; way = f.way })
 
-pub founded_left : (tree : Tree) (session : ℕ) → IsFounded tree → IsFounded (kept (with_handles tree (filter (λ e. not (nat_eq e.1.session session)) tree.handles)))
+pub founded_left : (tree : Tree) (session : ℕ) → IsFounded tree → IsFounded (kept (record tree { handles = filter (λ e. not (nat_eq e.1.session session)) tree.handles }))
 founded_left tree session f = kept_founded _ (record { object = f.object; way = f.way })
 
 pub founded_empty : IsFounded empty_tree

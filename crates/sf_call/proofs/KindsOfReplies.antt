@@ -1,5 +1,5 @@
 -- The kinds of reply to each request.
-use Rattle.std.proofs.Common.{◌≡◌, ℕ, nat_eq, nat_lt, nat_le, ◌+◌, ◌&&◌, not, Bool, true, false, cond, List, [], ◌∷◌, length, Option, Some, None, refl}
+use Rattle.std.proofs.Common.{option_map, ◌≡◌, ℕ, nat_eq, nat_lt, nat_le, ◌+◌, ◌&&◌, not, Bool, true, false, cond, List, [], ◌∷◌, length, Option, Some, None, refl}
 use Rattle.std.specs.Option.{is_some}
 use Rattle.sf_path.specs.Names.{Path}
 use Rattle.sf_field.specs.declared.attrs.Attrs.{Attrs}
@@ -15,12 +15,10 @@ use Rattle.sf_call.specs.declared.lookup.Lookup.{Lookup}
 use Rattle.sf_call.specs.declared.lookup.Lookup.TheVariants.{NoWay, Absent, At}
 use Rattle.sf_call.specs.Attributes.{Object}
 use Rattle.sf_call.specs.Attributes.Object.{Directory, File}
-use Rattle.sf_call.specs.Tree.{Tree, Handle, FoundObject, look_up, found_at, found_object, object_of, is_empty, is_nil}
-use Rattle.sf_call.specs.Tree.FoundObject.{Nowhere, Nothing, DirectoryAt, FileAt}
-use Rattle.sf_call.specs.Handles.{Opened, handle_in, opened}
-use Rattle.sf_call.specs.Handles.Opened.{NotOpen, OpenDirectory, OpenFile}
+use Rattle.sf_call.specs.Tree.{Tree, Handle, look_up, found_at, object_of, is_empty, is_nil}
+use Rattle.sf_call.specs.Handles.{handle_in, opened}
 use Rattle.sf_call.specs.Listings.{path_of, listing_of}
-use Rattle.sf_call.specs.Calls.{Outcome, apply, stat, refuses_size, sets, set_stat, make_directory, remove_directory, remove_file, has_all_handles, open_directory, open_present, open_file, close, stat_opened, set_opened, read, start_of, write, lists, read_directory, unless_root, opening, stamp}
+use Rattle.sf_call.specs.Calls.{Outcome, apply, stat, refuses_size, sets, set_stat, make_directory, remove_directory, remove_file, has_all_handles, open_directory, open_present, open_file, close, stat_opened, set_opened, read, start_of, write, lists, read_directory, unless_root}
 use Rattle.sf_call.specs.ReplyKinds.{IsStatus, IsStatusOrAttrs, IsStatusOrHandle, IsStatusOrData, IsStatusOrNames, IsReplyTo}
 use Rattle.sf_call.proofs.RenameCases.{rename_cases, posix_rename_cases, link_cases, link_to_cases}
 
@@ -33,65 +31,59 @@ rooted : (Kind : Reply → Type 0) (path : Path) (answer : Outcome) → Kind (un
 rooted Kind [] answer p q = p
 rooted Kind (n ∷ path) answer p q = q
 
-told : (found : FoundObject) → IsStatusOrAttrs (stat found).reply
-told Nowhere = tt
-told Nothing = tt
-told (DirectoryAt label m) = record { size = refl; owner = refl; permissions = refl; times = refl }
-told (FileAt label m contents) = record { size = refl; owner = refl; permissions = refl; times = refl }
+told : (found : Option (ℕ × Object)) → IsStatusOrAttrs (stat found).reply
+told None = tt
+told (Some (label, Directory m)) = record { size = refl; owner = refl; permissions = refl; times = refl }
+told (Some (label, File m contents)) = record { size = refl; owner = refl; permissions = refl; times = refl }
 
-told_opened : (o : Opened) → IsStatusOrAttrs (stat_opened o).reply
-told_opened NotOpen = tt
-told_opened (OpenDirectory h m) = record { size = refl; owner = refl; permissions = refl; times = refl }
-told_opened (OpenFile h m contents) = record { size = refl; owner = refl; permissions = refl; times = refl }
+told_opened : (o : Option (Handle × Object)) → IsStatusOrAttrs (stat_opened o).reply
+told_opened None = tt
+told_opened (Some (h, Directory m)) = record { size = refl; owner = refl; permissions = refl; times = refl }
+told_opened (Some (h, File m contents)) = record { size = refl; owner = refl; permissions = refl; times = refl }
 
 parts_set : (moment label : ℕ) (attrs : Attrs) (object : Object) → IsStatus (sets moment label attrs object).reply
 parts_set moment label attrs object = choice IsStatus (refuses_size object attrs.size) _ _ tt tt
 
-set_found : (moment : ℕ) (attrs : Attrs) (found : FoundObject) → IsStatus (set_stat moment attrs found).reply
-set_found moment attrs Nowhere = tt
-set_found moment attrs Nothing = tt
-set_found moment attrs (DirectoryAt label m) = parts_set moment label attrs (Directory m)
-set_found moment attrs (FileAt label m contents) = parts_set moment label attrs (File m contents)
+set_found : (moment : ℕ) (attrs : Attrs) (found : Option (ℕ × Object)) → IsStatus (set_stat moment attrs found).reply
+set_found moment attrs None = tt
+set_found moment attrs (Some (label, Directory m)) = parts_set moment label attrs (Directory m)
+set_found moment attrs (Some (label, File m contents)) = parts_set moment label attrs (File m contents)
 
-set_by_handle : (moment : ℕ) (attrs : Attrs) (o : Opened) → IsStatus (set_opened moment attrs o).reply
-set_by_handle moment attrs NotOpen = tt
-set_by_handle moment attrs (OpenDirectory h m) = choice IsStatus (nat_eq h.label 0) _ _ tt (parts_set moment h.label attrs (Directory m))
-set_by_handle moment attrs (OpenFile h m contents) = choice IsStatus (is_some attrs.size && not h.write) _ _ tt (parts_set moment h.label attrs (File m contents))
+set_by_handle : (moment : ℕ) (attrs : Attrs) (o : Option (Handle × Object)) → IsStatus (set_opened moment attrs o).reply
+set_by_handle moment attrs None = tt
+set_by_handle moment attrs (Some (h, Directory m)) = choice IsStatus (nat_eq h.label 0) _ _ tt (parts_set moment h.label attrs (Directory m))
+set_by_handle moment attrs (Some (h, File m contents)) = choice IsStatus (is_some attrs.size && not h.write) _ _ tt (parts_set moment h.label attrs (File m contents))
 
-made : (tree : Tree) (number moment : ℕ) (path : Path) (attrs : Attrs) (place : Lookup) → IsStatus (make_directory tree (stamp number moment) path attrs place).reply
+made : (tree : Tree) (number moment : ℕ) (path : Path) (attrs : Attrs) (place : Lookup) → IsStatus (make_directory tree number moment path attrs place).reply
 made tree number moment path attrs NoWay = tt
 made tree number moment path attrs (At label) = tt
 made tree number moment path attrs Absent = tt
 
-directory_removed : (tree : Tree) (moment : ℕ) (path : Path) (found : FoundObject) → IsStatus (remove_directory tree moment path found).reply
-directory_removed tree moment path Nowhere = tt
-directory_removed tree moment path Nothing = tt
-directory_removed tree moment path (FileAt label m contents) = tt
-directory_removed tree moment path (DirectoryAt label m) = choice IsStatus (is_empty tree.names path) _ _ tt tt
+directory_removed : (tree : Tree) (moment : ℕ) (path : Path) (found : Option (ℕ × Object)) → IsStatus (remove_directory tree moment path found).reply
+directory_removed tree moment path None = tt
+directory_removed tree moment path (Some (label, File m contents)) = tt
+directory_removed tree moment path (Some (label, Directory m)) = choice IsStatus (is_empty tree.names path) _ _ tt tt
 
-file_removed : (tree : Tree) (moment : ℕ) (path : Path) (found : FoundObject) → IsStatus (remove_file tree moment path found).reply
-file_removed tree moment path Nowhere = tt
-file_removed tree moment path Nothing = tt
-file_removed tree moment path (DirectoryAt label m) = tt
-file_removed tree moment path (FileAt label m contents) = tt
+file_removed : (tree : Tree) (moment : ℕ) (path : Path) (found : Option (ℕ × Object)) → IsStatus (remove_file tree moment path found).reply
+file_removed tree moment path None = tt
+file_removed tree moment path (Some (label, Directory m)) = tt
+file_removed tree moment path (Some (label, File m contents)) = tt
 
-directory_opened : (tree : Tree) (session number : ℕ) (found : FoundObject) → IsStatusOrHandle number (open_directory tree session number found).reply
-directory_opened tree session number Nowhere = tt
-directory_opened tree session number Nothing = tt
-directory_opened tree session number (FileAt label m contents) = tt
-directory_opened tree session number (DirectoryAt label m) = choice (IsStatusOrHandle number) (has_all_handles tree session) _ _ tt refl
+directory_opened : (tree : Tree) (session number : ℕ) (found : Option (ℕ × Object)) → IsStatusOrHandle number (open_directory tree session number found).reply
+directory_opened tree session number None = tt
+directory_opened tree session number (Some (label, File m contents)) = tt
+directory_opened tree session number (Some (label, Directory m)) = choice (IsStatusOrHandle number) (has_all_handles tree session) _ _ tt refl
 
-present_opened : (tree : Tree) (session number moment : ℕ) (flags : OpenFlags) (found : FoundObject) → IsStatusOrHandle number (open_present tree session (stamp number moment) flags found).reply
-present_opened tree session number moment flags Nowhere = tt
-present_opened tree session number moment flags Nothing = tt
-present_opened tree session number moment flags (DirectoryAt label m) = tt
-present_opened tree session number moment flags (FileAt label m contents) =
+present_opened : (tree : Tree) (session number moment : ℕ) (flags : OpenFlags) (found : Option (ℕ × Object)) → IsStatusOrHandle number (open_present tree session number moment flags found).reply
+present_opened tree session number moment flags None = tt
+present_opened tree session number moment flags (Some (label, Directory m)) = tt
+present_opened tree session number moment flags (Some (label, File m contents)) =
     choice (IsStatusOrHandle number) (has_all_handles tree session) _ _ tt (choice (IsStatusOrHandle number) (flags.truncate && flags.write) _ _ refl refl)
 
-file_opened : (tree : Tree) (session number moment : ℕ) (path : Path) (flags : OpenFlags) (attrs : Attrs) (place : Lookup) → IsStatusOrHandle number (open_file tree session (stamp number moment) (opening path flags attrs) place).reply
+file_opened : (tree : Tree) (session number moment : ℕ) (path : Path) (flags : OpenFlags) (attrs : Attrs) (place : Lookup) → IsStatusOrHandle number (open_file tree session number moment path flags attrs place).reply
 file_opened tree session number moment path flags attrs NoWay = tt
 file_opened tree session number moment path flags attrs (At label) =
-    choice (IsStatusOrHandle number) (flags.create && flags.exclusive) _ _ tt (present_opened tree session number moment flags (found_object label (object_of tree.objects label)))
+    choice (IsStatusOrHandle number) (flags.create && flags.exclusive) _ _ tt (present_opened tree session number moment flags (option_map (λ (object : Object). (label, object)) (object_of tree.objects label)))
 file_opened tree session number moment path flags attrs Absent =
     choice (IsStatusOrHandle number) (not flags.create) _ _ tt (choice (IsStatusOrHandle number) (has_all_handles tree session) _ _ tt refl)
 
@@ -99,15 +91,15 @@ closed : (number : ℕ) (handle : Option Handle) → IsStatus (close number hand
 closed number None = tt
 closed number (Some handle) = tt
 
-was_read : (offset len : ℕ) (o : Opened) → IsStatusOrData (read offset len o).reply
-was_read offset len NotOpen = tt
-was_read offset len (OpenDirectory h m) = tt
-was_read offset len (OpenFile h m contents) = choice IsStatusOrData (not h.read) _ _ tt (choice IsStatusOrData (nat_le (length contents) offset) _ _ tt tt)
+was_read : (offset len : ℕ) (o : Option (Handle × Object)) → IsStatusOrData (read offset len o).reply
+was_read offset len None = tt
+was_read offset len (Some (h, Directory m)) = tt
+was_read offset len (Some (h, File m contents)) = choice IsStatusOrData (not h.read) _ _ tt (choice IsStatusOrData (nat_le (length contents) offset) _ _ tt tt)
 
-was_written : (moment offset : ℕ) (bytes : List ℕ) (o : Opened) → IsStatus (write moment offset bytes o).reply
-was_written moment offset bytes NotOpen = tt
-was_written moment offset bytes (OpenDirectory h m) = tt
-was_written moment offset bytes (OpenFile h m contents) =
+was_written : (moment offset : ℕ) (bytes : List ℕ) (o : Option (Handle × Object)) → IsStatus (write moment offset bytes o).reply
+was_written moment offset bytes None = tt
+was_written moment offset bytes (Some (h, Directory m)) = tt
+was_written moment offset bytes (Some (h, File m contents)) =
     choice IsStatus (not h.write) _ _ tt (choice IsStatus (is_nil bytes) _ _ tt
     (choice IsStatus (nat_lt MAX_FILE_SIZE (start_of h contents offset + length bytes)) _ _ tt tt))
 
@@ -115,10 +107,10 @@ listed : (number : ℕ) (h : Handle) (entries : List Entry) → IsStatusOrNames 
 listed number h [] = tt
 listed number h (e ∷ es) = tt
 
-directory_read : (tree : Tree) (number : ℕ) (o : Opened) → IsStatusOrNames (read_directory tree number o).reply
-directory_read tree number NotOpen = tt
-directory_read tree number (OpenFile h m contents) = tt
-directory_read tree number (OpenDirectory h m) = listed number h (listing_of tree h.listed (path_of tree.names h.label))
+directory_read : (tree : Tree) (number : ℕ) (o : Option (Handle × Object)) → IsStatusOrNames (read_directory tree number o).reply
+directory_read tree number None = tt
+directory_read tree number (Some (h, File m contents)) = tt
+directory_read tree number (Some (h, Directory m)) = listed number h (listing_of tree h.listed (path_of tree.names h.label))
 
 pub applied : (tree : Tree) (session number moment : ℕ) (request : Request) → IsReplyTo number request (apply tree session number moment request).reply
 applied tree session number moment (Stat path) = told (found_at tree path)

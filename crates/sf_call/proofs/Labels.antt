@@ -14,7 +14,7 @@ use Rattle.sf_path.specs.Order.{path_cmp, same_path}
 use Rattle.sf_call.specs.declared.limits.TheConstants.{MAX_LINKS}
 use Rattle.sf_call.specs.Attributes.{Object, made_at}
 use Rattle.sf_call.specs.Attributes.Object.{Directory}
-use Rattle.sf_call.specs.Tree.{Tree, IsOrderedTree, label_at, object_of, handle_of, links, is_directory_object, is_used, kept, after_front, with_handles, empty_tree}
+use Rattle.sf_call.specs.Tree.{Tree, IsOrderedTree, label_at, object_of, handle_of, links, is_directory_object, is_used, kept, after_front, empty_tree}
 use Rattle.sf_call.specs.Changes.{Change, changed}
 use Rattle.sf_call.specs.Changes.Change.{SetObject, NewPath, NewName, GonePath, Move, OpenHandle, SetHandle, CloseHandle}
 use Rattle.sf_call.specs.Moves.{moved}
@@ -198,7 +198,7 @@ labelled_changed Free number taken tree (CloseHandle handle) may o h = record {
 }
 
 pub labelled_left : (Free : ℕ → Type 0) (tree : Tree) (session : ℕ) → IsLabelled Free tree
-    → IsLabelled Free (kept (with_handles tree (filter (λ e. not (nat_eq e.1.session session)) tree.handles)))
+    → IsLabelled Free (kept (record tree { handles = filter (λ e. not (nat_eq e.1.session session)) tree.handles }))
 labelled_left Free tree session h = record {
   unused = h.unused;
   no_object = λ n free. none_filtered (is_at (nat_cmp n)) (λ e. is_used tree.names (filter (λ o. not (nat_eq o.1.session session)) tree.handles) e.0) tree.objects (h.no_object n free);

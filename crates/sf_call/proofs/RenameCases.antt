@@ -1,6 +1,6 @@
 -- A rename fails, does nothing, or moves a path; then neither path begins with the other. A link
 -- fails or adds a name.
-use Rattle.std.proofs.Common.{◌≡◌, ℕ, Bool, true, false, cond, ◌&&◌, ◌||◌, nat_eq, nat_le, List, [], ◌∷◌, Some, None, is_some, refl}
+use Rattle.std.proofs.Common.{Option, ◌≡◌, ℕ, Bool, true, false, cond, ◌&&◌, ◌||◌, nat_eq, nat_le, List, [], ◌∷◌, Some, None, is_some, refl}
 use Rattle.sf_path.specs.Names.{Path}
 use Rattle.sf_path.specs.Order.{same_path, parent}
 use Rattle.sf_reply.specs.declared.reply.StatusCode.{StatusCode}
@@ -10,11 +10,12 @@ use Rattle.sf_call.specs.declared.lookup.Lookup.{Lookup}
 use Rattle.sf_call.specs.declared.lookup.Lookup.TheVariants.{NoWay, Absent, At}
 use Rattle.sf_call.specs.declared.request.Request.TheVariants.{Rename, PosixRename, Link}
 use Rattle.sf_call.specs.declared.metadata.Metadata.{Metadata}
-use Rattle.sf_call.specs.Tree.{Tree, FoundObject, after_front, links, look_up, found_at, is_directory, is_empty}
-use Rattle.sf_call.specs.Tree.FoundObject.{Nowhere, Nothing, DirectoryAt, FileAt}
+use Rattle.sf_call.specs.Tree.{Tree, after_front, links, look_up, found_at, is_directory, is_faulty_way, is_empty}
 use Rattle.sf_call.specs.Changes.{touched}
 use Rattle.sf_call.specs.Changes.Change.{NewName}
 use Rattle.sf_call.specs.Calls.{Outcome, answer_to, refuses, succeeds, moves, unless_nested, unless_root, rename_to, rename, replace_by, posix_rename, link_to, link}
+use Rattle.sf_call.specs.Attributes.{Object}
+use Rattle.sf_call.specs.Attributes.Object.{File, Directory}
 
 -- properties of an answer that fails if one path begins with the other
 pub apart : (P : Outcome → Type 0) (old new : Path) (answer : Outcome) → P (refuses Failure)
@@ -48,11 +49,10 @@ module _ (P : Outcome → Type 0) (refused : (code : StatusCode) → P (refuses 
   renamed Absent = refused NoSuchFile
   renamed (At label) = apart P old new _ (refused Failure) (λ not_inside not_around. moved_to (look_up tree new) (moved not_inside not_around))
 
-  replaced : (label : ℕ) (found : FoundObject) → P (moves tree moment old new) → P (replace_by tree moment old new label found)
-  replaced label Nowhere p = refused NoSuchFile
-  replaced label Nothing p = p
-  replaced label (DirectoryAt at m) p = either (is_directory tree old && is_empty tree.names new) _ _ p (refused Failure)
-  replaced label (FileAt at m contents) p = either (nat_eq label at) _ _ idle (either (is_directory tree old) _ _ (refused Failure) p)
+  replaced : (label : ℕ) (found : Option (ℕ × Object)) → P (moves tree moment old new) → P (replace_by tree moment old new label found)
+  replaced label None p = either (is_faulty_way tree new) _ _ (refused NoSuchFile) p
+  replaced label (Some (at, Directory m)) p = either (is_directory tree old && is_empty tree.names new) _ _ p (refused Failure)
+  replaced label (Some (at, File m contents)) p = either (nat_eq label at) _ _ idle (either (is_directory tree old) _ _ (refused Failure) p)
 
   posix_renamed : (place : Lookup) → P (posix_rename tree moment old new place)
   posix_renamed NoWay = refused NoSuchFile
@@ -68,12 +68,11 @@ module _ (P : Outcome → Type 0) (refused : (code : StatusCode) → P (refuses 
   posix_rename_cases session number = rooted old _ (rooted new _ (posix_renamed (look_up tree old)))
 
 module _ (P : Outcome → Type 0) (refused : (code : StatusCode) → P (refuses code)) (tree : Tree) (moment : ℕ) (old new : Path)
-    (linked : (label : ℕ) (m : Metadata) (contents : List ℕ) → found_at tree old ≡ FileAt label m contents → P (link_to tree moment new label (look_up tree new))) where
-  link_found : (found : FoundObject) → found_at tree old ≡ found → P (link tree moment new found)
-  link_found Nowhere e = refused NoSuchFile
-  link_found Nothing e = refused NoSuchFile
-  link_found (DirectoryAt label m) e = refused Failure
-  link_found (FileAt label m contents) e = linked label m contents e
+    (linked : (label : ℕ) (m : Metadata) (contents : List ℕ) → found_at tree old ≡ Some (label, File m contents) → P (link_to tree moment new label (look_up tree new))) where
+  link_found : (found : Option (ℕ × Object)) → found_at tree old ≡ found → P (link tree moment new found)
+  link_found None e = refused NoSuchFile
+  link_found (Some (label, Directory m)) e = refused Failure
+  link_found (Some (label, File m contents)) e = linked label m contents e
 
   if_rooted : (path : Path) (answer : Outcome) → P answer → P (unless_root path answer)
   if_rooted [] answer p = refused Failure

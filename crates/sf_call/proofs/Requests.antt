@@ -24,16 +24,14 @@ use Rattle.sf_call.specs.declared.request.Request.{Request}
 use Rattle.sf_call.specs.declared.request.Request.TheVariants.{Stat, SetStat, Mkdir, Rmdir, Remove, OpenDir, Open, Close, FStat, FSetStat, Read, Write, ReadDir, Rename, PosixRename, Link}
 use Rattle.sf_call.specs.Attributes.{Object, modified_at}
 use Rattle.sf_call.specs.Attributes.Object.{Directory, File}
-use Rattle.sf_call.specs.Tree.{Tree, Handle, FoundObject, label_at, object_of, handle_of, with_names, directory_metadata, directory_at, links, is_directory_object, is_directory, is_faulty_way, lookup_of, look_up, found_object, found_place, found_at, after_front, only_name, children, is_nil, is_empty}
-use Rattle.sf_call.specs.Tree.FoundObject.{Nowhere, Nothing, DirectoryAt, FileAt}
-use Rattle.sf_call.specs.Handles.{Opened, if_of, handle_in, opened_object, opened_by, opened}
-use Rattle.sf_call.specs.Handles.Opened.{NotOpen, OpenDirectory, OpenFile}
+use Rattle.sf_call.specs.Tree.{Tree, Handle, label_at, object_of, handle_of, directory_metadata, directory_at, links, is_directory_object, is_directory, is_faulty_way, lookup_of, look_up, found_place, found_at, after_front, only_name, children, is_nil, is_empty}
+use Rattle.sf_call.specs.Handles.{if_of, handle_in, opened_by, opened}
 use Rattle.sf_call.specs.Listings.{path_of, listing_of}
 use Rattle.sf_call.specs.Moves.{moved}
 use Rattle.sf_call.specs.Changes.{touch, touched, changed}
 use Rattle.sf_call.specs.Changes.Change.{SetObject, Move}
 use Rattle.sf_call.specs.Allowed.{file_type_of, IsSetRightly, IsNewHandle, AreAllowed, IsMove}
-use Rattle.sf_call.specs.Calls.{Outcome, answer_to, stat, refuses_size, with_size, sets, set_stat, make_directory, goes, remove_directory, remove_file, has_all_handles, open_directory, open_present, open_file, close, stat_opened, set_opened, read, start_of, write, lists, read_directory, unless_root, moves, rename_to, rename, replace_by, posix_rename, link_to, link, opening, stamp}
+use Rattle.sf_call.specs.Calls.{Outcome, answer_to, stat, refuses_size, with_size, sets, set_stat, make_directory, goes, remove_directory, remove_file, has_all_handles, open_directory, open_present, open_file, close, stat_opened, set_opened, read, start_of, write, lists, read_directory, unless_root, moves, rename_to, rename, replace_by, posix_rename, link_to, link}
 use Rattle.sf_call.proofs.Ways.{open_way}
 use Rattle.sf_call.proofs.ObjectKinds.{kinds_set}
 use Rattle.sf_call.proofs.MovedNames.{same_path_is, same_name_itself, after_front-append, no_front, no_proper_front, moved_outside}
@@ -57,6 +55,15 @@ place_free tree path e =
       | true ↦ λ k. cc
       | false ↦ λ k. (refl, elim (label_at tree.names path) as (λ o. lookup_of o ≡ Absent → o ≡ None) [ None ↦ λ _. refl | Some l ↦ λ j. cc ] k)
     ] e
+
+way_open : (tree : Tree) (path : Path) → look_up tree path ≡ NoWay → is_faulty_way tree path ≡ false → ⊥
+way_open tree path e clear =
+    let place : lookup_of (label_at tree.names path) ≡ NoWay = sym (ap (λ (b : Bool). cond b NoWay (lookup_of (label_at tree.names path))) clear) ∙ e in
+    no_way (label_at tree.names path) place
+  where
+    no_way : (o : Option ℕ) → lookup_of o ≡ NoWay → ⊥
+    no_way None k = cc
+    no_way (Some l) k = cc
 
 -- the name of an entry is among the children
 is_nil-cons_option : (o : Option Name) (names : List Name) → is_nil names ≡ false → is_nil (cons_option o names) ≡ false
@@ -187,11 +194,10 @@ module _ (tree : Tree) (number moment : ℕ) (unused : (q : Path) → label_at t
   new_leaves : (path : Path) (object : Object) (label : ℕ) → label_at tree.names path ≡ Some label → object_of (insert_entry nat_cmp tree.objects number object) label ≡ object_of tree.objects label
   new_leaves path object label e = other_put nat_cmp nat_cmp-IsAntisymmetric nat_cmp_total tree.objects number object label (λ same. unused path (e ∙ ap Some same))
 
-  found_stat : (found : FoundObject) → IsRight (stat found)
-  found_stat Nowhere = tt
-  found_stat Nothing = tt
-  found_stat (DirectoryAt label m) = tt
-  found_stat (FileAt label m contents) = tt
+  found_stat : (found : Option (ℕ × Object)) → IsRight (stat found)
+  found_stat None = tt
+  found_stat (Some (label, Directory m)) = tt
+  found_stat (Some (label, File m contents)) = tt
 
   sized : (label : ℕ) (attrs : Attrs) (size : Option ℕ) (m : Metadata) (contents : List ℕ) → object_of tree.objects label ≡ Some (File m contents) → IsSetRightly tree label (with_size moment attrs size m contents)
   sized label attrs None m contents e = ap (option_map file_type_of) e
@@ -201,7 +207,7 @@ module _ (tree : Tree) (number moment : ℕ) (unused : (q : Path) → label_at t
   parts_set label attrs (Directory m) e = either (refuses_size (Directory m) attrs.size) _ _ tt (ap (option_map file_type_of) e, tt)
   parts_set label attrs (File m contents) e = either (refuses_size (File m contents) attrs.size) _ _ tt (sized label attrs attrs.size m contents e, tt)
 
-  set_object : (attrs : Attrs) (label : ℕ) (o : Option Object) → object_of tree.objects label ≡ o → IsRight (set_stat moment attrs (found_object label o))
+  set_object : (attrs : Attrs) (label : ℕ) (o : Option Object) → object_of tree.objects label ≡ o → IsRight (set_stat moment attrs (option_map (λ (object : Object). (label, object)) o))
   set_object attrs label None e = tt
   set_object attrs label (Some (Directory m)) e = parts_set label attrs (Directory m) e
   set_object attrs label (Some (File m contents)) e = parts_set label attrs (File m contents) e
@@ -211,7 +217,7 @@ module _ (tree : Tree) (number moment : ℕ) (unused : (q : Path) → label_at t
   set_place attrs Absent = tt
   set_place attrs (At label) = set_object attrs label (object_of tree.objects label) refl
 
-  made : (path : Path) (attrs : Attrs) (place : Lookup) → look_up tree path ≡ place → IsRight (make_directory tree (stamp number moment) path attrs place)
+  made : (path : Path) (attrs : Attrs) (place : Lookup) → look_up tree path ≡ place → IsRight (make_directory tree number moment path attrs place)
   made path attrs NoWay e = tt
   made path attrs (At label) e = tt
   made path attrs Absent e =
@@ -222,7 +228,7 @@ module _ (tree : Tree) (number moment : ℕ) (unused : (q : Path) → label_at t
   gone path not_root none = (
     none,
     allowed_touch _ (parent path) (directory_at tree (parent path)) refl
-        (λ label e. kept_object (with_names tree (remove_entry (is_at (path_cmp path)) tree.names)) (parent path) label
+        (λ label e. kept_object (record tree { names = remove_entry (is_at (path_cmp path)) tree.names }) (parent path) label
         (other_removed path_cmp exact_paths path (parent path) tree.names (other_parent path not_root) ∙ e)),
   )
 
@@ -243,7 +249,7 @@ module _ (tree : Tree) (number moment : ℕ) (unused : (q : Path) → label_at t
   directory_removed path not_root NoWay e = tt
   directory_removed path not_root Absent e = tt
   directory_removed path not_root (At label) e = removed_object (object_of tree.objects label) where
-    removed_object : (o : Option Object) → IsRight (remove_directory tree moment path (found_object label o))
+    removed_object : (o : Option Object) → IsRight (remove_directory tree moment path (option_map (λ (object : Object). (label, object)) o))
     removed_object None = tt
     removed_object (Some (File m contents)) = tt
     removed_object (Some (Directory m)) =
@@ -255,7 +261,7 @@ module _ (tree : Tree) (number moment : ℕ) (unused : (q : Path) → label_at t
   file_removed path not_root NoWay e = tt
   file_removed path not_root Absent e = tt
   file_removed path not_root (At label) e = removed_object (object_of tree.objects label) refl where
-    removed_object : (o : Option Object) → object_of tree.objects label ≡ o → IsRight (remove_file tree moment path (found_object label o))
+    removed_object : (o : Option Object) → object_of tree.objects label ≡ o → IsRight (remove_file tree moment path (option_map (λ (object : Object). (label, object)) o))
     removed_object None is = tt
     removed_object (Some (Directory m)) is = tt
     removed_object (Some (File m contents)) is =
@@ -264,19 +270,18 @@ module _ (tree : Tree) (number moment : ℕ) (unused : (q : Path) → label_at t
   new_handle : IsNewHandle number tree number
   new_handle = record { is_number = refl; free = unopened }
 
-  directory_opened : (session : ℕ) (found : FoundObject) → IsRight (open_directory tree session number found)
-  directory_opened session Nowhere = tt
-  directory_opened session Nothing = tt
-  directory_opened session (FileAt label m contents) = tt
-  directory_opened session (DirectoryAt label m) = either (has_all_handles tree session) _ _ tt (new_handle, tt)
+  directory_opened : (session : ℕ) (found : Option (ℕ × Object)) → IsRight (open_directory tree session number found)
+  directory_opened session None = tt
+  directory_opened session (Some (label, File m contents)) = tt
+  directory_opened session (Some (label, Directory m)) = either (has_all_handles tree session) _ _ tt (new_handle, tt)
 
-  present_opened : (session : ℕ) (flags : OpenFlags) (label : ℕ) (o : Option Object) → object_of tree.objects label ≡ o → IsRight (open_present tree session (stamp number moment) flags (found_object label o))
+  present_opened : (session : ℕ) (flags : OpenFlags) (label : ℕ) (o : Option Object) → object_of tree.objects label ≡ o → IsRight (open_present tree session number moment flags (option_map (λ (object : Object). (label, object)) o))
   present_opened session flags label None e = tt
   present_opened session flags label (Some (Directory m)) e = tt
   present_opened session flags label (Some (File m contents)) e =
       either (has_all_handles tree session) _ _ tt (either (flags.truncate && flags.write) _ _ (new_handle, (ap (option_map file_type_of) e, tt)) (new_handle, tt))
 
-  file_opened : (session : ℕ) (path : Path) (flags : OpenFlags) (attrs : Attrs) (place : Lookup) → look_up tree path ≡ place → IsRight (open_file tree session (stamp number moment) (opening path flags attrs) place)
+  file_opened : (session : ℕ) (path : Path) (flags : OpenFlags) (attrs : Attrs) (place : Lookup) → look_up tree path ≡ place → IsRight (open_file tree session number moment path flags attrs place)
   file_opened session path flags attrs NoWay e = tt
   file_opened session path flags attrs (At label) e =
       either (flags.create && flags.exclusive) _ _ tt (present_opened session flags label (object_of tree.objects label) refl)
@@ -289,33 +294,33 @@ module _ (tree : Tree) (number moment : ℕ) (unused : (q : Path) → label_at t
   closed handle None = tt
   closed handle (Some h) = (tt, tt)
 
-  opened_stat : (o : Opened) → IsRight (stat_opened o)
-  opened_stat NotOpen = tt
-  opened_stat (OpenDirectory h m) = tt
-  opened_stat (OpenFile h m contents) = tt
+  opened_stat : (o : Option (Handle × Object)) → IsRight (stat_opened o)
+  opened_stat None = tt
+  opened_stat (Some (h, Directory m)) = tt
+  opened_stat (Some (h, File m contents)) = tt
 
-  set_by_object : (attrs : Attrs) (h : Handle) (o : Option Object) → object_of tree.objects h.label ≡ o → IsRight (set_opened moment attrs (opened_object h o))
+  set_by_object : (attrs : Attrs) (h : Handle) (o : Option Object) → object_of tree.objects h.label ≡ o → IsRight (set_opened moment attrs (option_map (λ (object : Object). (h, object)) o))
   set_by_object attrs h None e = tt
   set_by_object attrs h (Some (Directory m)) e = either (nat_eq h.label 0) _ _ tt (parts_set h.label attrs (Directory m) e)
   set_by_object attrs h (Some (File m contents)) e = either (is_some attrs.size && not h.write) _ _ tt (parts_set h.label attrs (File m contents) e)
 
-  set_by_handle : (attrs : Attrs) (o : Option Handle) → IsRight (set_opened moment attrs (opened_by tree o))
+  set_by_handle : (attrs : Attrs) (o : Option Handle) → IsRight (set_opened moment attrs (option_and_then (opened_by tree) o))
   set_by_handle attrs None = tt
   set_by_handle attrs (Some h) = set_by_object attrs h (object_of tree.objects h.label) refl
 
-  was_read : (offset len : ℕ) (o : Opened) → IsRight (read offset len o)
-  was_read offset len NotOpen = tt
-  was_read offset len (OpenDirectory h m) = tt
-  was_read offset len (OpenFile h m contents) = either (not h.read) _ _ tt (either (nat_le (length contents) offset) _ _ tt tt)
+  was_read : (offset len : ℕ) (o : Option (Handle × Object)) → IsRight (read offset len o)
+  was_read offset len None = tt
+  was_read offset len (Some (h, Directory m)) = tt
+  was_read offset len (Some (h, File m contents)) = either (not h.read) _ _ tt (either (nat_le (length contents) offset) _ _ tt tt)
 
-  written_object : (offset : ℕ) (bytes : List ℕ) (h : Handle) (o : Option Object) → object_of tree.objects h.label ≡ o → IsRight (write moment offset bytes (opened_object h o))
+  written_object : (offset : ℕ) (bytes : List ℕ) (h : Handle) (o : Option Object) → object_of tree.objects h.label ≡ o → IsRight (write moment offset bytes (option_map (λ (object : Object). (h, object)) o))
   written_object offset bytes h None e = tt
   written_object offset bytes h (Some (Directory m)) e = tt
   written_object offset bytes h (Some (File m contents)) e =
       either (not h.write) _ _ tt (either (is_nil bytes) _ _ tt
       (either (nat_lt MAX_FILE_SIZE (start_of h contents offset + length bytes)) _ _ tt (ap (option_map file_type_of) e, tt)))
 
-  was_written : (offset : ℕ) (bytes : List ℕ) (o : Option Handle) → IsRight (write moment offset bytes (opened_by tree o))
+  was_written : (offset : ℕ) (bytes : List ℕ) (o : Option Handle) → IsRight (write moment offset bytes (option_and_then (opened_by tree) o))
   was_written offset bytes None = tt
   was_written offset bytes (Some h) = written_object offset bytes h (object_of tree.objects h.label) refl
 
@@ -323,12 +328,12 @@ module _ (tree : Tree) (number moment : ℕ) (unused : (q : Path) → label_at t
   listed handle h [] there = tt
   listed handle h (e ∷ es) there = ((h, there, refl), tt)
 
-  listed_object : (handle : ℕ) (h : Handle) (o : Option Object) → handle_of tree.handles handle ≡ Some h → IsRight (read_directory tree handle (opened_object h o))
+  listed_object : (handle : ℕ) (h : Handle) (o : Option Object) → handle_of tree.handles handle ≡ Some h → IsRight (read_directory tree handle (option_map (λ (object : Object). (h, object)) o))
   listed_object handle h None there = tt
   listed_object handle h (Some (File m contents)) there = tt
   listed_object handle h (Some (Directory m)) there = listed handle h (listing_of tree h.listed (path_of tree.names h.label)) there
 
-  directory_read : (session handle : ℕ) (o : Option Handle) → handle_in tree session handle ≡ o → IsRight (read_directory tree handle (opened_by tree o))
+  directory_read : (session handle : ℕ) (o : Option Handle) → handle_in tree session handle ≡ o → IsRight (read_directory tree handle (option_and_then (opened_by tree) o))
   directory_read session handle None e = tt
   directory_read session handle (Some h) e = listed_object handle h (object_of tree.objects h.label) (handle_there tree session handle h e)
 
@@ -352,7 +357,7 @@ module _ (tree : Tree) (number moment : ℕ) (unused : (q : Path) → label_at t
   moved_leaves : (old new path : Path) (label : ℕ) → after_front old path ≡ None → after_front new path ≡ None → label_at tree.names path ≡ Some label
       → option_map file_type_of (object_of (changed tree (Move old new)).objects label) ≡ option_map file_type_of (object_of tree.objects label)
   moved_leaves old new path label not_old not_new e =
-      ap (option_map file_type_of) (kept_object (with_names tree (moved tree.names old new)) path label (moved_outside tree.names old new path not_old not_new ∙ e))
+      ap (option_map file_type_of) (kept_object (record tree { names = moved tree.names old new }) path label (moved_outside tree.names old new path not_old not_new ∙ e))
 
   may_move : (old new : Path) → IsMove tree old new → IsRight (moves tree moment old new)
   may_move old new may = (
@@ -403,13 +408,13 @@ module _ (tree : Tree) (number moment : ℕ) (unused : (q : Path) → label_at t
     moved_to Absent e = to_free e
 
     replaced : (place : Lookup) → look_up tree new ≡ place → IsRight (replace_by tree moment old new label (found_place tree.objects place))
-    replaced NoWay e = tt
-    replaced Absent e = to_free e
+    replaced NoWay e = either_if (is_faulty_way tree new) _ _ (λ faulty. tt) (λ clear. absurd (way_open tree new e clear))
+    replaced Absent e = either_if (is_faulty_way tree new) _ _ (λ faulty. tt) (λ clear. to_free e)
     replaced (At at) e = replaced_object (object_of tree.objects at) refl where
       here : label_at tree.names new ≡ Some at
       here = place_label tree new at e
 
-      replaced_object : (o : Option Object) → object_of tree.objects at ≡ o → IsRight (replace_by tree moment old new label (found_object at o))
+      replaced_object : (o : Option Object) → object_of tree.objects at ≡ o → IsRight (replace_by tree moment old new label (option_map (λ (object : Object). (at, object)) o))
       replaced_object None is = let some : is_some (object_of tree.objects at) ≡ true = f.object new at here in let none : is_some (object_of tree.objects at) ≡ false = ap (λ (o : Option Object). is_some o) is in cc
       replaced_object (Some (Directory m)) is =
           either_if (is_directory tree old && is_empty tree.names new) _ _
@@ -451,7 +456,7 @@ module _ (tree : Tree) (number moment : ℕ) (unused : (q : Path) → label_at t
   linked new NoWay = tt
   linked new Absent = tt
   linked new (At label) = linked_object (object_of tree.objects label) refl where
-    linked_object : (o : Option Object) → object_of tree.objects label ≡ o → IsRight (link tree moment new (found_object label o))
+    linked_object : (o : Option Object) → object_of tree.objects label ≡ o → IsRight (link tree moment new (option_map (λ (object : Object). (label, object)) o))
     linked_object None is = tt
     linked_object (Some (Directory m)) is = tt
     linked_object (Some (File m contents)) is = linked_to new label m contents is

@@ -11,7 +11,7 @@ use Rattle.std.proofs.lemmas.Map.Entries.{lookup-filter-keys}
 use Rattle.sf_path.specs.Order.{path_cmp}
 use Rattle.sf_path.specs.Names.{Path}
 use Rattle.sf_call.specs.Attributes.{Object}
-use Rattle.sf_call.specs.Tree.{Tree, Handle, label_at, object_of, handle_of, is_used, kept, with_names, with_handles, empty_tree}
+use Rattle.sf_call.specs.Tree.{Tree, Handle, label_at, object_of, handle_of, is_used, kept, empty_tree}
 use Rattle.sf_call.specs.Changes.{Change, changed}
 use Rattle.sf_call.specs.Changes.Change.{SetObject, NewPath, NewName, GonePath, Move, OpenHandle, SetHandle, CloseHandle}
 use Rattle.sf_call.specs.Moves.{moved}
@@ -134,8 +134,8 @@ used_changed number tree (NewName path label) may used =
     (λ e t. or_left (list_any (λ n. nat_eq n.1 e.0) tree.names) (list_any (λ n. nat_eq n.1 e.0) names) (list_any (λ h. nat_eq h.1.label e.0) tree.handles)
     (any_still path_cmp path label (λ n. nat_eq n e.0) tree.names may.free) t)
     used
-used_changed number tree (GonePath path) may used = used_kept (with_names tree (remove_entry (is_at (path_cmp path)) tree.names))
-used_changed number tree (Move old new) may used = used_kept (with_names tree (moved tree.names old new))
+used_changed number tree (GonePath path) may used = used_kept (record tree { names = remove_entry (is_at (path_cmp path)) tree.names })
+used_changed number tree (Move old new) may used = used_kept (record tree { names = moved tree.names old new })
 used_changed number tree (OpenHandle handle opened) may used =
     all_by (λ e. is_used tree.names tree.handles e.0 ≡ true) (λ e. is_used tree.names (insert_entry nat_cmp tree.handles handle opened) e.0 ≡ true) tree.objects
     (λ e t. or_right (list_any (λ n. nat_eq n.1 e.0) tree.names) _ (list_any (λ h. nat_eq h.1.label e.0) (insert_entry nat_cmp tree.handles handle opened))
@@ -145,10 +145,10 @@ used_changed number tree (SetHandle handle opened) (before, there, same) used =
     all_by (λ e. is_used tree.names tree.handles e.0 ≡ true) (λ e. is_used tree.names (set_value (is_at (nat_cmp handle)) tree.handles opened) e.0 ≡ true) tree.objects
     (λ e t. ap (λ b. list_any (λ n. nat_eq n.1 e.0) tree.names || b) (same_uses e.0 handle before opened tree.handles there same) ∙ t)
     used
-used_changed number tree (CloseHandle handle) may used = used_kept (with_handles tree (remove_entry (is_at (nat_cmp handle)) tree.handles))
+used_changed number tree (CloseHandle handle) may used = used_kept (record tree { handles = remove_entry (is_at (nat_cmp handle)) tree.handles })
 
-pub used_left : (tree : Tree) (session : ℕ) → AllUsed (kept (with_handles tree (filter (λ e. not (nat_eq e.1.session session)) tree.handles)))
-used_left tree session = used_kept (with_handles tree (filter (λ e. not (nat_eq e.1.session session)) tree.handles))
+pub used_left : (tree : Tree) (session : ℕ) → AllUsed (kept (record tree { handles = filter (λ e. not (nat_eq e.1.session session)) tree.handles }))
+used_left tree session = used_kept (record tree { handles = filter (λ e. not (nat_eq e.1.session session)) tree.handles })
 
 pub used_empty : AllUsed empty_tree
 used_empty = (refl, tt)

@@ -23,11 +23,7 @@ made_at permissions moment = record {
 
 -- with this modification time (POSIX: the last data modification timestamp)
 abbrev pub modified_at : ℕ → Metadata → Metadata
-modified_at moment m = record {
-  owner = m.owner;
-  permissions = m.permissions;
-  times = record { atime = m.times.atime; mtime = moment };
-}
+modified_at moment m = record m { times = record m.times { mtime = moment } }
 
 -- a given user or group replaces the stored one, unless it is 4294967295 (POSIX, chown: -1)
 abbrev pub new_id : ℕ → ℕ → ℕ

@@ -17,10 +17,8 @@ use Rattle.sf_call.specs.declared.lookup.Lookup.TheVariants.{NoWay, Absent, At}
 use Rattle.sf_call.specs.Attributes.{Metadata, Object, new_metadata, with_parts, modified_at, attrs_of}
 use Rattle.sf_call.specs.Attributes.Object.{Directory, File}
 use Rattle.sf_block.specs.Contents.{resized, written}
-use Rattle.sf_call.specs.Tree.{Tree, Handle, Lookup, FoundObject, look_up, found_object, found_at, object_of, links, is_directory, after_front, is_empty, is_nil, kept, with_handles}
-use Rattle.sf_call.specs.Tree.FoundObject.{Nowhere, Nothing, DirectoryAt, FileAt}
-use Rattle.sf_call.specs.Handles.{Opened, handle_in, opened, with_listed}
-use Rattle.sf_call.specs.Handles.Opened.{NotOpen, OpenDirectory, OpenFile}
+use Rattle.sf_call.specs.Tree.{Tree, Handle, Lookup, look_up, found_place, found_at, links, is_directory, is_faulty_way, after_front, is_empty, is_nil, kept}
+use Rattle.sf_call.specs.Handles.{handle_in, opened}
 use Rattle.sf_call.specs.Listings.{path_of, listing_of, last_name}
 use Rattle.sf_call.specs.Changes.{Change, done, touched}
 use Rattle.sf_call.specs.Changes.Change.{SetObject, NewPath, NewName, GonePath, Move, OpenHandle, SetHandle, CloseHandle}
@@ -43,11 +41,9 @@ succeeds changes = record { reply = reply.Status Success; changes = changes }
 -- ---- calls on paths
 
 -- STAT (draft, section 6.8; POSIX, stat)
-abbrev pub stat : FoundObject → Outcome
-stat Nowhere = refuses NoSuchFile
-stat Nothing = refuses NoSuchFile
-stat (DirectoryAt label m) = tells (reply.Attrs (attrs_of (Directory m)))
-stat (FileAt label m contents) = tells (reply.Attrs (attrs_of (File m contents)))
+abbrev pub stat : Option (ℕ × Object) → Outcome
+stat None = refuses NoSuchFile
+stat (Some (label, object)) = tells (reply.Attrs (attrs_of object))
 
 -- Setting the size of a directory fails, and so does a size above MAX_FILE_SIZE.
 abbrev pub refuses_size : Object → Option ℕ → Bool
@@ -72,55 +68,42 @@ sets moment label attrs object =
     else succeeds (SetObject label (with_attrs moment attrs object) ∷ [])
 
 -- SETSTAT (draft, section 6.9)
-abbrev pub set_stat : ℕ → Attrs → FoundObject → Outcome
-set_stat moment attrs Nowhere = refuses NoSuchFile
-set_stat moment attrs Nothing = refuses NoSuchFile
-set_stat moment attrs (DirectoryAt label m) = sets moment label attrs (Directory m)
-set_stat moment attrs (FileAt label m contents) = sets moment label attrs (File m contents)
+abbrev pub set_stat : ℕ → Attrs → Option (ℕ × Object) → Outcome
+set_stat moment attrs None = refuses NoSuchFile
+set_stat moment attrs (Some (label, object)) = sets moment label attrs object
 
--- A call's number and its timestamp. The number is also the inode number of an object that the call
--- creates, and the number of a handle that it opens.
-pub record Stamp : Type 0 where
-  pub number : ℕ
-  pub moment : ℕ
-
-abbrev pub stamp : ℕ → ℕ → Stamp
-stamp number moment = record { number = number; moment = moment }
-
--- MKDIR (draft, section 6.6; POSIX, mkdir): creates a directory and sets its parent's modification
--- time
-abbrev pub make_directory : Tree → Stamp → Path → Attrs → Lookup → Outcome
-make_directory tree call path attrs NoWay = refuses NoSuchFile
-make_directory tree call path attrs (At label) = refuses Failure
-make_directory tree call path attrs Absent =
-    succeeds (NewPath path call.number (Directory (new_metadata 0o755 call.moment attrs))
-    ∷ touched tree call.moment (parent path))
+-- MKDIR (draft, section 6.6; POSIX, mkdir): creates a directory, whose inode number is the call's
+-- number, and sets its parent's modification time
+abbrev pub make_directory : Tree → ℕ → ℕ → Path → Attrs → Lookup → Outcome
+make_directory tree number moment path attrs NoWay = refuses NoSuchFile
+make_directory tree number moment path attrs (At label) = refuses Failure
+make_directory tree number moment path attrs Absent =
+    succeeds (NewPath path number (Directory (new_metadata 0o755 moment attrs))
+    ∷ touched tree moment (parent path))
 
 -- removes a path and sets its parent's modification time
 abbrev pub goes : Tree → ℕ → Path → Outcome
 goes tree moment path = succeeds (GonePath path ∷ touched tree moment (parent path))
 
 -- RMDIR (draft, section 6.6; POSIX, rmdir)
-abbrev pub remove_directory : Tree → ℕ → Path → FoundObject → Outcome
-remove_directory tree moment path Nowhere = refuses NoSuchFile
-remove_directory tree moment path Nothing = refuses NoSuchFile
-remove_directory tree moment path (FileAt label m contents) = refuses Failure
-remove_directory tree moment path (DirectoryAt label m) =
+abbrev pub remove_directory : Tree → ℕ → Path → Option (ℕ × Object) → Outcome
+remove_directory tree moment path None = refuses NoSuchFile
+remove_directory tree moment path (Some (label, File m contents)) = refuses Failure
+remove_directory tree moment path (Some (label, Directory m)) =
     if is_empty tree.names path then goes tree moment path else refuses Failure
 
 -- REMOVE (draft, section 6.5; POSIX, unlink)
-abbrev pub remove_file : Tree → ℕ → Path → FoundObject → Outcome
-remove_file tree moment path Nowhere = refuses NoSuchFile
-remove_file tree moment path Nothing = refuses NoSuchFile
-remove_file tree moment path (DirectoryAt label m) = refuses Failure
-remove_file tree moment path (FileAt label m contents) = goes tree moment path
+abbrev pub remove_file : Tree → ℕ → Path → Option (ℕ × Object) → Outcome
+remove_file tree moment path None = refuses NoSuchFile
+remove_file tree moment path (Some (label, Directory m)) = refuses Failure
+remove_file tree moment path (Some (label, File m contents)) = goes tree moment path
 
 -- whether a session has reached the limit of open handles
 abbrev pub has_all_handles : Tree → ℕ → Bool
 has_all_handles tree session =
     nat_le MAX_HANDLES (count_by (λ e. nat_eq e.1.session session) tree.handles)
 
--- opens a handle, numbered like the call
+-- opens a handle, whose number is the call's
 abbrev pub opens : ℕ → Handle → List Change → Outcome
 opens number handle changes =
     record { reply = reply.Handle number; changes = OpenHandle number handle ∷ changes }
@@ -149,49 +132,38 @@ new_file_handle session label flags =
     }
 
 -- OPENDIR (draft, section 6.7)
-abbrev pub open_directory : Tree → ℕ → ℕ → FoundObject → Outcome
-open_directory tree session number Nowhere = refuses NoSuchFile
-open_directory tree session number Nothing = refuses NoSuchFile
-open_directory tree session number (FileAt label m contents) = refuses Failure
-open_directory tree session number (DirectoryAt label m) =
+abbrev pub open_directory : Tree → ℕ → ℕ → Option (ℕ × Object) → Outcome
+open_directory tree session number None = refuses NoSuchFile
+open_directory tree session number (Some (label, File m contents)) = refuses Failure
+open_directory tree session number (Some (label, Directory m)) =
     if has_all_handles tree session then refuses Failure
     else opens number (directory_handle session label) []
 
 -- OPEN of an existing file: TRUNC with WRITE truncates it
-abbrev pub open_present : Tree → ℕ → Stamp → OpenFlags → FoundObject → Outcome
-open_present tree session call flags Nowhere = refuses NoSuchFile
-open_present tree session call flags Nothing = refuses NoSuchFile
-open_present tree session call flags (DirectoryAt label m) = refuses Failure
-open_present tree session call flags (FileAt label m contents) =
+abbrev pub open_present : Tree → ℕ → ℕ → ℕ → OpenFlags → Option (ℕ × Object) → Outcome
+open_present tree session number moment flags None = refuses NoSuchFile
+open_present tree session number moment flags (Some (label, Directory m)) = refuses Failure
+open_present tree session number moment flags (Some (label, File m contents)) =
     if has_all_handles tree session then refuses Failure
     else if flags.truncate && flags.write then
-    opens call.number (new_file_handle session label flags)
-    (SetObject label (File (modified_at call.moment m) []) ∷ [])
-    else opens call.number (new_file_handle session label flags) []
+    opens number (new_file_handle session label flags)
+    (SetObject label (File (modified_at moment m) []) ∷ [])
+    else opens number (new_file_handle session label flags) []
 
--- The arguments of an OPEN.
-pub record Opening : Type 0 where
-  pub path : Path
-  pub flags : OpenFlags
-  pub attrs : Attrs
-
-abbrev pub opening : Path → OpenFlags → Attrs → Opening
-opening path flags attrs = record { path = path; flags = flags; attrs = attrs }
-
--- OPEN (draft, section 6.3; POSIX, open): a new file is empty, and its parent's modification time
--- is set
-abbrev pub open_file : Tree → ℕ → Stamp → Opening → Lookup → Outcome
-open_file tree session call asked NoWay = refuses NoSuchFile
-open_file tree session call asked (At label) =
-    if asked.flags.create && asked.flags.exclusive then refuses Failure
-    else open_present tree session call asked.flags
-    (found_object label (object_of tree.objects label))
-open_file tree session call asked Absent =
-    if not asked.flags.create then refuses NoSuchFile
+-- OPEN (draft, section 6.3; POSIX, open): a new file is empty, its inode number is the call's
+-- number, and its parent's modification time is set
+abbrev pub open_file : Tree → ℕ → ℕ → ℕ → Path → OpenFlags → Attrs → Lookup → Outcome
+open_file tree session number moment path flags attrs NoWay = refuses NoSuchFile
+open_file tree session number moment path flags attrs (At label) =
+    if flags.create && flags.exclusive then refuses Failure
+    else open_present tree session number moment flags
+    (found_place tree.objects (At label))
+open_file tree session number moment path flags attrs Absent =
+    if not flags.create then refuses NoSuchFile
     else if has_all_handles tree session then refuses Failure
-    else opens call.number (new_file_handle session call.number asked.flags)
-    (NewPath asked.path call.number (File (new_metadata 0o644 call.moment asked.attrs) [])
-    ∷ touched tree call.moment (parent asked.path))
+    else opens number (new_file_handle session number flags)
+    (NewPath path number (File (new_metadata 0o644 moment attrs) [])
+    ∷ touched tree moment (parent path))
 
 -- ---- renames
 
@@ -220,13 +192,13 @@ rename tree moment old new (At label) =
 
 -- The extension posix-rename (POSIX, rename; OpenSSH's PROTOCOL): a file may replace a file, and a
 -- directory an empty directory. If both paths name one file, nothing changes.
-abbrev pub replace_by : Tree → ℕ → Path → Path → ℕ → FoundObject → Outcome
-replace_by tree moment old new label Nowhere = refuses NoSuchFile
-replace_by tree moment old new label Nothing = moves tree moment old new
-replace_by tree moment old new label (DirectoryAt at m) =
+abbrev pub replace_by : Tree → ℕ → Path → Path → ℕ → Option (ℕ × Object) → Outcome
+replace_by tree moment old new label None =
+    if is_faulty_way tree new then refuses NoSuchFile else moves tree moment old new
+replace_by tree moment old new label (Some (at, Directory m)) =
     if is_directory tree old && is_empty tree.names new then moves tree moment old new
     else refuses Failure
-replace_by tree moment old new label (FileAt at m contents) =
+replace_by tree moment old new label (Some (at, File m contents)) =
     if nat_eq label at then succeeds []
     else if is_directory tree old then refuses Failure else moves tree moment old new
 
@@ -250,11 +222,10 @@ link_to tree moment new label Absent =
 
 -- the extension hardlink (POSIX, link; OpenSSH's PROTOCOL): the new path names the file that the
 -- old one names
-abbrev pub link : Tree → ℕ → Path → FoundObject → Outcome
-link tree moment new Nowhere = refuses NoSuchFile
-link tree moment new Nothing = refuses NoSuchFile
-link tree moment new (DirectoryAt label m) = refuses Failure
-link tree moment new (FileAt label m contents) =
+abbrev pub link : Tree → ℕ → Path → Option (ℕ × Object) → Outcome
+link tree moment new None = refuses NoSuchFile
+link tree moment new (Some (label, Directory m)) = refuses Failure
+link tree moment new (Some (label, File m contents)) =
     link_to tree moment new label (look_up tree new)
 
 -- ---- calls by handle
@@ -265,25 +236,24 @@ close number None = refuses Failure
 close number (Some handle) = succeeds (CloseHandle number ∷ [])
 
 -- FSTAT (draft, section 6.8; POSIX, fstat)
-abbrev pub stat_opened : Opened → Outcome
-stat_opened NotOpen = refuses Failure
-stat_opened (OpenDirectory handle m) = tells (reply.Attrs (attrs_of (Directory m)))
-stat_opened (OpenFile handle m contents) = tells (reply.Attrs (attrs_of (File m contents)))
+abbrev pub stat_opened : Option (Handle × Object) → Outcome
+stat_opened None = refuses Failure
+stat_opened (Some (handle, object)) = tells (reply.Attrs (attrs_of object))
 
 -- FSETSTAT (draft, section 6.9): fails for the root; setting a size needs a writable handle
-abbrev pub set_opened : ℕ → Attrs → Opened → Outcome
-set_opened moment attrs NotOpen = refuses Failure
-set_opened moment attrs (OpenDirectory handle m) =
+abbrev pub set_opened : ℕ → Attrs → Option (Handle × Object) → Outcome
+set_opened moment attrs None = refuses Failure
+set_opened moment attrs (Some (handle, Directory m)) =
     if nat_eq handle.label 0 then refuses Failure else sets moment handle.label attrs (Directory m)
-set_opened moment attrs (OpenFile handle m contents) =
+set_opened moment attrs (Some (handle, File m contents)) =
     if is_some attrs.size && not handle.write then refuses PermissionDenied
     else sets moment handle.label attrs (File m contents)
 
 -- READ (draft, section 6.4; POSIX, pread)
-abbrev pub read : ℕ → ℕ → Opened → Outcome
-read offset len NotOpen = refuses Failure
-read offset len (OpenDirectory handle m) = refuses Failure
-read offset len (OpenFile handle m contents) =
+abbrev pub read : ℕ → ℕ → Option (Handle × Object) → Outcome
+read offset len None = refuses Failure
+read offset len (Some (handle, Directory m)) = refuses Failure
+read offset len (Some (handle, File m contents)) =
     if not handle.read then refuses PermissionDenied
     else if nat_le (length contents) offset then refuses EndOfFile
     else tells (reply.Data (take (min len MAX_READ) (drop offset contents)))
@@ -293,10 +263,10 @@ abbrev pub start_of : Handle → List ℕ → ℕ → ℕ
 start_of handle contents offset = if handle.append then length contents else offset
 
 -- WRITE (draft, section 6.4; POSIX, pwrite and O_APPEND)
-abbrev pub write : ℕ → ℕ → List ℕ → Opened → Outcome
-write moment offset bytes NotOpen = refuses Failure
-write moment offset bytes (OpenDirectory handle m) = refuses Failure
-write moment offset bytes (OpenFile handle m contents) =
+abbrev pub write : ℕ → ℕ → List ℕ → Option (Handle × Object) → Outcome
+write moment offset bytes None = refuses Failure
+write moment offset bytes (Some (handle, Directory m)) = refuses Failure
+write moment offset bytes (Some (handle, File m contents)) =
     if not handle.write then refuses PermissionDenied
     else if is_nil bytes then succeeds []
     else if nat_lt MAX_FILE_SIZE (start_of handle contents offset + length bytes)
@@ -309,13 +279,13 @@ abbrev pub lists : ℕ → Handle → List Entry → Outcome
 lists number handle [] = refuses EndOfFile
 lists number handle (e ∷ es) = record {
   reply = reply.Names (e ∷ es);
-  changes = SetHandle number (with_listed handle (last_name (e ∷ es))) ∷ [];
+  changes = SetHandle number (record handle { listed = last_name (e ∷ es) }) ∷ [];
 }
 
-abbrev pub read_directory : Tree → ℕ → Opened → Outcome
-read_directory tree number NotOpen = refuses Failure
-read_directory tree number (OpenFile handle m contents) = refuses Failure
-read_directory tree number (OpenDirectory handle m) =
+abbrev pub read_directory : Tree → ℕ → Option (Handle × Object) → Outcome
+read_directory tree number None = refuses Failure
+read_directory tree number (Some (handle, File m contents)) = refuses Failure
+read_directory tree number (Some (handle, Directory m)) =
     lists number handle (listing_of tree handle.listed (path_of tree.names handle.label))
 
 -- ---- all calls
@@ -332,7 +302,7 @@ answer_to tree session number moment (Stat path) = stat (found_at tree path)
 answer_to tree session number moment (SetStat path attrs) =
     unless_root path (set_stat moment attrs (found_at tree path))
 answer_to tree session number moment (Mkdir path attrs) =
-    unless_root path (make_directory tree (stamp number moment) path attrs (look_up tree path))
+    unless_root path (make_directory tree number moment path attrs (look_up tree path))
 answer_to tree session number moment (Rmdir path) =
     unless_root path (remove_directory tree moment path (found_at tree path))
 answer_to tree session number moment (Remove path) =
@@ -340,8 +310,7 @@ answer_to tree session number moment (Remove path) =
 answer_to tree session number moment (OpenDir path) =
     open_directory tree session number (found_at tree path)
 answer_to tree session number moment (Open path flags attrs) =
-    unless_root path (open_file tree session (stamp number moment) (opening path flags attrs)
-    (look_up tree path))
+    unless_root path (open_file tree session number moment path flags attrs (look_up tree path))
 answer_to tree session number moment (Close handle) = close handle (handle_in tree session handle)
 answer_to tree session number moment (FStat handle) = stat_opened (opened tree session handle)
 answer_to tree session number moment (FSetStat handle attrs) =
@@ -364,14 +333,12 @@ pub record Applied : Type 0 where
   pub reply : Reply
   pub tree : Tree
 
-abbrev pub carry_out : Tree → Outcome → Applied
-carry_out tree answer = record { reply = answer.reply; tree = done tree answer.changes }
-
 abbrev pub apply : Tree → ℕ → ℕ → ℕ → Request → Applied
 apply tree session number moment request =
-    carry_out tree (answer_to tree session number moment request)
+    let answer = answer_to tree session number moment request in
+    record { reply = answer.reply; tree = done tree answer.changes }
 
 -- the tree after a session ends: its handles are closed
 abbrev pub leave : Tree → ℕ → Tree
 leave tree session =
-    kept (with_handles tree (filter (λ e. not (nat_eq e.1.session session)) tree.handles))
+    kept (record tree { handles = filter (λ e. not (nat_eq e.1.session session)) tree.handles })

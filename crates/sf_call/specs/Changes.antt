@@ -7,7 +7,7 @@ use Rattle.sf_path.specs.Order.{path_cmp}
 use Rattle.sf_call.specs.Attributes.{Metadata, Object, modified_at}
 use Rattle.sf_call.specs.Attributes.Object.{Directory}
 use Rattle.sf_path.specs.Names.{Path}
-use Rattle.sf_call.specs.Tree.{Tree, Handle, with_names, with_objects, with_handles, directory_at, kept}
+use Rattle.sf_call.specs.Tree.{Tree, Handle, directory_at, kept}
 use Rattle.sf_call.specs.Moves.{moved}
 
 -- set the object of an inode number; add a path with a new object; add a link to a file; remove a
@@ -25,21 +25,23 @@ pub data Change : Type 0 where
 -- The tree after a change: an object left without link and open handle is deleted.
 abbrev pub changed : Tree → Change → Tree
 changed tree (SetObject label object) =
-    with_objects tree (set_value (is_at (nat_cmp label)) tree.objects object)
+    record tree { objects = set_value (is_at (nat_cmp label)) tree.objects object }
 changed tree (NewPath path label object) =
-    with_objects (with_names tree (insert_entry path_cmp tree.names path label))
-    (insert_entry nat_cmp tree.objects label object)
+    record tree {
+      names = insert_entry path_cmp tree.names path label;
+      objects = insert_entry nat_cmp tree.objects label object;
+    }
 changed tree (NewName path label) =
-    with_names tree (insert_entry path_cmp tree.names path label)
+    record tree { names = insert_entry path_cmp tree.names path label }
 changed tree (GonePath path) =
-    kept (with_names tree (remove_entry (is_at (path_cmp path)) tree.names))
-changed tree (Move old new) = kept (with_names tree (moved tree.names old new))
+    kept (record tree { names = remove_entry (is_at (path_cmp path)) tree.names })
+changed tree (Move old new) = kept (record tree { names = moved tree.names old new })
 changed tree (OpenHandle number handle) =
-    with_handles tree (insert_entry nat_cmp tree.handles number handle)
+    record tree { handles = insert_entry nat_cmp tree.handles number handle }
 changed tree (SetHandle number handle) =
-    with_handles tree (set_value (is_at (nat_cmp number)) tree.handles handle)
+    record tree { handles = set_value (is_at (nat_cmp number)) tree.handles handle }
 changed tree (CloseHandle number) =
-    kept (with_handles tree (remove_entry (is_at (nat_cmp number)) tree.handles))
+    kept (record tree { handles = remove_entry (is_at (nat_cmp number)) tree.handles })
 
 -- the tree after all changes
 abbrev pub done : Tree → List Change → Tree

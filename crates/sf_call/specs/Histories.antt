@@ -34,41 +34,25 @@ IsOther number (Left session) = Unit {0}
 abbrev pub IsNewNumber : ℕ → List Record → Type 0
 IsNewNumber number history = AllByRecursion (IsOther number) history
 
--- the record is not the end of the session
-abbrev pub IsNoLeaving : ℕ → Record → Type 0
-IsNoLeaving session (Did number s moment request given) = Unit {0}
-IsNoLeaving session (Left s) = s ≢ session
-
 -- the session has not ended
 abbrev pub IsPresent : ℕ → List Record → Type 0
-IsPresent session history = AllByRecursion (IsNoLeaving session) history
-
--- a call with the reply that it received
-pub record DoneCall : Type 0 where
-  pub number : ℕ
-  pub session : ℕ
-  pub moment : ℕ
-  pub request : Request
-  pub given : Reply
-
--- the reply of the sequential specification after this history
-abbrev pub due_reply : List Record → DoneCall → Reply
-due_reply history d = (apply (replay history) d.session d.number d.moment d.request).reply
+IsPresent session history = AllByRecursion (λ r. r ≢ Left session) history
 
 -- A call may come next if its values are in range, its number is new and above 0, and its session
--- has not ended. Its reply is the specified one or out of memory.
-pub record CallMayFollow (history : List Record) (d : DoneCall) : Type 0 where
-  pub is_call : IsCall d.number d.session d.moment d.request
-  pub above_zero : 0 < d.number
-  pub new_number : IsNewNumber d.number history
-  pub present : IsPresent d.session history
-  pub answered : (d.given ≡ due_reply history d) ⊎ (d.given ≡ reply.NoMemory)
+-- has not ended. Its reply is that of the sequential specification or out of memory.
+pub record CallMayFollow (history : List Record) (number session moment : ℕ) (request : Request)
+    (given : Reply) : Type 0 where
+  pub is_call : IsCall number session moment request
+  pub above_zero : 0 < number
+  pub new_number : IsNewNumber number history
+  pub present : IsPresent session history
+  pub answered : (given ≡ (apply (replay history) session number moment request).reply)
+      ⊎ (given ≡ reply.NoMemory)
 
 -- a record may come next; no record of a session follows its end
 abbrev pub MayFollow : List Record → Record → Type 0
 MayFollow history (Did number session moment request given) =
-    CallMayFollow history
-    record { number = number; session = session; moment = moment; request = request; given = given }
+    CallMayFollow history number session moment request given
 MayFollow history (Left session) = IsPresent session history
 
 -- each record may follow those before it

@@ -30,15 +30,6 @@ empty_tree = record {
   handles = [];
 }
 
-abbrev pub with_names : Tree → List (Path × ℕ) → Tree
-with_names tree names = record { names = names; objects = tree.objects; handles = tree.handles }
-
-abbrev pub with_objects : Tree → List (ℕ × Object) → Tree
-with_objects tree objects = record { names = tree.names; objects = objects; handles = tree.handles }
-
-abbrev pub with_handles : Tree → List (ℕ × Handle) → Tree
-with_handles tree handles = record { names = tree.names; objects = tree.objects; handles = handles }
-
 -- lookups in the three maps
 abbrev pub label_at : List (Path × ℕ) → Path → Option ℕ
 label_at names path = lookup (is_at (path_cmp path)) names
@@ -90,24 +81,14 @@ lookup_of (Some label) = At label
 abbrev pub look_up : Tree → Path → Lookup
 look_up tree path = if is_faulty_way tree path then NoWay else lookup_of (label_at tree.names path)
 
--- the object that a lookup finds; an inode number without an object counts as absent
-pub data FoundObject : Type 0 where
-  Nowhere : FoundObject
-  Nothing : FoundObject
-  DirectoryAt : (label : ℕ) → (metadata : Metadata) → FoundObject
-  FileAt : (label : ℕ) → (metadata : Metadata) → (contents : List ℕ) → FoundObject
+-- the inode number and the object that a lookup finds; an inode number without an object counts as
+-- absent
+abbrev pub found_place : List (ℕ × Object) → Lookup → Option (ℕ × Object)
+found_place objects NoWay = None
+found_place objects Absent = None
+found_place objects (At label) = option_map (λ object. (label, object)) (object_of objects label)
 
-abbrev pub found_object : ℕ → Option Object → FoundObject
-found_object label None = Nothing
-found_object label (Some (Directory m)) = DirectoryAt label m
-found_object label (Some (File m contents)) = FileAt label m contents
-
-abbrev pub found_place : List (ℕ × Object) → Lookup → FoundObject
-found_place objects NoWay = Nowhere
-found_place objects Absent = Nothing
-found_place objects (At label) = found_object label (object_of objects label)
-
-abbrev pub found_at : Tree → Path → FoundObject
+abbrev pub found_at : Tree → Path → Option (ℕ × Object)
 found_at tree path = found_place tree.objects (look_up tree path)
 
 -- the suffix of a path after a prefix, if the path begins with that prefix
@@ -141,7 +122,8 @@ is_used names handles label =
 
 -- without the objects that have no link and no open handle (POSIX, unlink)
 abbrev pub kept : Tree → Tree
-kept tree = with_objects tree (filter (λ e. is_used tree.names tree.handles e.0) tree.objects)
+kept tree =
+    record tree { objects = filter (λ e. is_used tree.names tree.handles e.0) tree.objects }
 
 -- each map is in key order
 pub record IsOrderedTree (tree : Tree) : Type 0 where

@@ -27,7 +27,7 @@ mod tree_laws;
 
 pub use answer::Answer;
 pub use call::{Call, Calls, PlacedCall, Reached, Stage};
-pub use fault::CoreFault;
+pub use fault::{BeginFault, JoinFault};
 pub use handle::Handle;
 pub use history_laws::{
     allowed_changes, found_by_number, given_by_history, labels_of_paths, one_record_more,

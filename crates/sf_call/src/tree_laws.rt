@@ -16,7 +16,6 @@ ghost use Rattle.sf_call.specs.declared.lookup.Lookup.TheVariants.{Absent};
 ghost use Rattle.sf_reply.specs.declared.reply.Reply.TheVariants.{Status, Data};
 ghost use Rattle.sf_reply.specs.declared.reply.StatusCode.TheVariants.{Success, Failure};
 ghost use Rattle.sf_call.specs.Attributes.Object.{File};
-ghost use Rattle.sf_call.specs.Handles.Opened.{OpenFile};
 ghost use Rattle.sf_call.specs.Calls.{apply, refuses, tells, refuses_size, has_all_handles, link_to, read, write};
 ghost use Rattle.sf_call.specs.ReplyKinds.{IsReplyTo, HasAllParts};
 ghost use Rattle.sf_reply.specs.Longname.{HasType, longname_text};
@@ -102,13 +101,13 @@ pub fn limit_cases()
     // and after a WRITE.
     ensures written { (moment byte : ℕ) (handle : Handle) (m : Metadata) (contents : List ℕ)
         → handle.write ≡ true → handle.append ≡ false
-        → ((write moment 1099511627775 (byte ∷ []) (OpenFile handle m contents)).reply
+        → ((write moment 1099511627775 (byte ∷ []) (Some (handle, File m contents))).reply
         ≡ Status Success)
-        × (write moment 1099511627776 (byte ∷ []) (OpenFile handle m contents) ≡ refuses Failure) }
+        × (write moment 1099511627776 (byte ∷ []) (Some (handle, File m contents)) ≡ refuses Failure) }
     // One READ returns at most 261120 bytes.
     ensures read { (len : ℕ) (handle : Handle) (m : Metadata) (contents : List ℕ)
         → handle.read ≡ true → 0 < length contents → 261120 ≤ len
-        → read 0 len (OpenFile handle m contents) ≡ tells (Data (take 261120 contents)) }
+        → read 0 len (Some (handle, File m contents)) ≡ tells (Data (take 261120 contents)) }
     // A session has at most 128 handles open.
     ensures open { (tree : Tree) (session : ℕ) → (has_all_handles tree session ≡ true)
         ↔ (128 ≤ count_by (λ e. nat_eq e.1.session session) tree.handles) }

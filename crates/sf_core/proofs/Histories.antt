@@ -5,8 +5,9 @@ use Rattle.std.proofs.Common.{sym, ap, subst, ◌∙◌, inl, inr, arith}
 use Rattle.sf_reply.specs.declared.reply.Reply.{Reply}
 use Rattle.sf_call.specs.declared.call.Call.{Call}
 use Rattle.sf_call.specs.declared.record.Record.{Record}
+use Rattle.sf_call.specs.declared.record.Record.TheVariants.{Left}
 use Rattle.sf_call.specs.Tree.{Tree}
-use Rattle.sf_call.specs.Histories.{after, IsLegal, replay, IsNewNumber, IsPresent, IsOther, IsNoLeaving, MayFollow, IsAmong}
+use Rattle.sf_call.specs.Histories.{after, IsLegal, replay, IsNewNumber, IsPresent, IsOther, MayFollow, IsAmong}
 use Rattle.sf_call.proofs.Laws.{replay-push, IsLegal-push}
 use Rattle.sf_book.specs.Books.{BookView, is_call, excess, kept_of, gone_of, put}
 use Rattle.sf_book.proofs.Laws.{kept-put, gone-put, call_count-split, call_count-append}
@@ -143,7 +144,7 @@ module _ (p q : PartsView) (h : List Record) (is : IsHistory (core_of p) h) (c :
   new_after m ne k = all_push (IsOther m) h r k (λ e. ne (sym e))
 
   present_after : (s : ℕ) → IsPresent s h → IsPresent s (h ++ r ∷ [])
-  present_after s k = all_push (IsNoLeaving s) h r k tt
+  present_after s k = all_push (λ (x : Record). x ≢ Left s) h r k (λ e. cc)
 
   -- one undecided call fewer
   pub fewer : undecided_in q.calls + 1 ≡ undecided_in p.calls

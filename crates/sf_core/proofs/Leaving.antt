@@ -12,7 +12,7 @@ use Rattle.sf_call.specs.declared.call.Call.{Call}
 use Rattle.sf_call.specs.declared.record.Record.{Record}
 use Rattle.sf_call.specs.declared.record.Record.TheVariants.{Left}
 use Rattle.sf_call.specs.Tree.{Tree}
-use Rattle.sf_call.specs.Histories.{replay, IsNewNumber, IsPresent, IsOther, IsNoLeaving}
+use Rattle.sf_call.specs.Histories.{replay, IsNewNumber, IsPresent, IsOther}
 use Rattle.sf_call.specs.declared.handle.Handle.{Handle}
 use Rattle.sf_call.specs.Handles.{handle_in}
 use Rattle.sf_call.proofs.Laws.{replay-push, IsLegal-push, no_object}
@@ -128,7 +128,7 @@ module _ (p q : PartsView) (h : List Record) (sound : Sound p h) (session : ℕ)
   new_after m k = all_push (IsOther m) h (Left session) k tt
 
   present_after : (s : ℕ) → s ≢ session → IsPresent s h → IsPresent s (h ++ Left session ∷ [])
-  present_after s ne k = all_push (IsNoLeaving s) h (Left session) k (λ e. ne (sym e))
+  present_after s ne k = all_push (λ (x : Record). x ≢ Left s) h (Left session) k (λ e. let same : session ≡ s = cc in ne (sym same))
 
   as_many : undecided_in q.calls ≡ undecided_in p.calls
   as_many = ap (λ cs. undecided_in cs) parted.calls

@@ -1,15 +1,14 @@
 -- A WRITE that its first step answers writes at most one block.
 use Rattle.std.specs.Prelude.{if◌then◌else◌, ◌≡◌, ◌≤◌, ℕ, true, false, List, [], ◌∷◌, length, option_map, Option, Some, None, refl}
 use Rattle.std.specs.Option.{option_map_or}
-use Rattle.std.proofs.Common.{sym, ap, ◌∙◌, arith}
+use Rattle.std.proofs.Common.{option_and_then, sym, ap, ◌∙◌, arith}
 use Rattle.sf_reply.specs.declared.reply.Reply.{Reply}
 use Rattle.sf_block.specs.Contents.{blocks_of}
 use Rattle.sf_call.specs.declared.call.Call.{Call}
 use Rattle.sf_call.specs.declared.metadata.Metadata.{Metadata}
 use Rattle.sf_call.specs.declared.handle.Handle.{Handle}
 use Rattle.sf_call.specs.Tree.{Tree, object_of}
-use Rattle.sf_call.specs.Handles.{handle_in, opened, opened_by, opened_object}
-use Rattle.sf_call.specs.Handles.Opened.{OpenFile}
+use Rattle.sf_call.specs.Handles.{handle_in, opened, opened_by}
 use Rattle.sf_call.specs.Calls.{start_of}
 use Rattle.sf_inode.specs.declared.node.Node.{Node}
 use Rattle.sf_inode.specs.declared.node.Content.{Content}
@@ -23,6 +22,8 @@ use Rattle.sf_walk.specs.Files.{start_by}
 use Rattle.sf_core.specs.Progress.{is_write}
 use Rattle.sf_core.specs.Events.{IsOfOneBlock}
 use Rattle.sf_core.specs.Writing.{CopiesOne}
+use Rattle.sf_call.specs.Attributes.Object.{File}
+use Rattle.sf_call.specs.Attributes.{Object}
 
 -- the file that a handle opens in the tree
 -- an open handle of a tree, and what its label leads to
@@ -33,16 +34,20 @@ record HandleTo (t : Tree) (session number : ℕ) : Type 0 where
   is_open : handle_in t session number ≡ Some handle
   leads : object_of t.objects handle.label ≡ Some (object_in metadata content)
 
-opens_file : (t : Tree) (session number : ℕ) (x : HandleTo t session number) (handle : Handle) (m : Metadata) (contents : List ℕ) → opened t session number ≡ OpenFile handle m contents → (handle ≡ x.handle) × (contents ≡ bytes_in x.content)
+opens_file : (t : Tree) (session number : ℕ) (x : HandleTo t session number) (handle : Handle) (m : Metadata) (contents : List ℕ) → opened t session number ≡ Some (handle, File m contents) → (handle ≡ x.handle) × (contents ≡ bytes_in x.content)
 opens_file t session number x handle m contents e =
-    elim x.content as (λ y. opened_object x.handle (Some (object_in x.metadata y)) ≡ OpenFile handle m contents → (handle ≡ x.handle) × (contents ≡ bytes_in y)) [
-      | content.Directory es ↦ λ f. absurd (let k : ⊥ = cc in k)
-      | content.File f ↦ λ f. (cc, cc)
-    ] (sym (ap (opened_by t) x.is_open ∙ ap (opened_object x.handle) x.leads) ∙ e)
+    let both = sym (ap (option_and_then (opened_by t)) x.is_open ∙ ap (option_map {U = Handle × Object} (λ (object : Object). (x.handle, object))) x.leads) ∙ e in
+    let object : object_in x.metadata x.content ≡ File m contents = ap (λ (o : Option (Handle × Object)). option_map_or (λ y. y.1) o (File m contents)) both in (
+      sym (ap (λ (o : Option (Handle × Object)). option_map_or (λ y. y.0) o handle) both),
+      elim x.content as (λ y. object_in x.metadata y ≡ File m contents → contents ≡ bytes_in y) [
+        | content.Directory es ↦ λ f. absurd (let k : ⊥ = cc in k)
+        | content.File g ↦ λ f. cc
+      ] object,
+    )
 
 module _ (s : StoreState) (t : Tree) (keeps : Keeps s t) (session number : ℕ) where
   -- a write by a handle starts in the tree where it starts in the store
-  pub start_told : (x : OpenHandle) → open_handle_at s session number ≡ Some x → (handle : Handle) (m : Metadata) (contents : List ℕ) → opened t session number ≡ OpenFile handle m contents → (offset : ℕ)
+  pub start_told : (x : OpenHandle) → open_handle_at s session number ≡ Some x → (handle : Handle) (m : Metadata) (contents : List ℕ) → opened t session number ≡ Some (handle, File m contents) → (offset : ℕ)
       → start_of handle contents offset ≡ start_by s x offset
   start_told x at handle m contents opens offset =
       let node = keeps.led session number x at in
@@ -53,10 +58,10 @@ module _ (s : StoreState) (t : Tree) (keeps : Keeps s t) (session number : ℕ) 
       ap (λ (y : Handle). start_of y contents offset) f.0 ∙ ap (λ (b : List ℕ). if x.marks.append then length b else offset) stored
 
   -- a file that is open in the tree is open in the store
-  open_there : open_handle_at s session number ≡ None → (handle : Handle) (m : Metadata) (contents : List ℕ) → opened t session number ≡ OpenFile handle m contents → ⊥
+  open_there : open_handle_at s session number ≡ None → (handle : Handle) (m : Metadata) (contents : List ℕ) → opened t session number ≡ Some (handle, File m contents) → ⊥
   open_there none handle m contents opens =
       let here : handle_in t session number ≡ None = keeps.shows.by.handles session number ∙ ap (option_map (shown_handle session)) none in
-      let e = sym (ap (opened_by t) here) ∙ opens in
+      let e = sym (ap (option_and_then (opened_by t)) here) ∙ opens in
       let k : ⊥ = cc in k
 
 pub one_block : (s : StoreState) (t : Tree) → Keeps s t → (c : Call) (given : Reply) → CopiesOne s c given → IsOfOneBlock t c given

@@ -14,7 +14,6 @@ use Rattle.sf_call.specs.declared.request.Request.TheVariants as request
 use Rattle.sf_call.specs.declared.metadata.Metadata.{Metadata}
 use Rattle.sf_call.specs.declared.handle.Handle.{Handle}
 use Rattle.sf_call.specs.Handles.{opened}
-use Rattle.sf_call.specs.Handles.Opened.{OpenFile}
 use Rattle.sf_call.specs.Calls.{start_of}
 use Rattle.sf_call.specs.Histories.{replay}
 use Rattle.sf_call.specs.Unanswered.{at_stage, answered, with_reply}
@@ -50,6 +49,7 @@ use Rattle.sf_core.proofs.CopySteps.{is_a_write, write_is}
 use Rattle.sf_core.proofs.WriteSteps.{is, opens_was, starts, carried, written_sound}
 use Rattle.sf_core.proofs.BlockTurns.{OnTurn}
 use Rattle.sf_core.proofs.OneBlock.{start_told}
+use Rattle.sf_call.specs.Attributes.Object.{File}
 
 pub write_route : (r : Request) → IsWriteRequest r → route_of r ≡ NoPath
 write_route r write = let w = is_a_write r write in ap route_of w.3
@@ -101,7 +101,7 @@ module _ (p : PartsView) (lane : LaneView) (c : Call) (turn : IsTurn p lane c) (
       | inr e ↦ let a = begun.2.copied.left in omega (arith, a, e)
     ]
 
-    blocks : (number offset : ℕ) (bytes : List ℕ) → c.request ≡ request.Write number offset bytes → (x : Handle) (m : Metadata) (contents : List ℕ) → opened (replay h) c.session number ≡ OpenFile x m contents
+    blocks : (number offset : ℕ) (bytes : List ℕ) → c.request ≡ request.Write number offset bytes → (x : Handle) (m : Metadata) (contents : List ℕ) → opened (replay h) c.session number ≡ Some (x, File m contents)
         → begun.1.left + 1 ≡ blocks_of (start_of x contents offset) bytes
     blocks number offset bytes e x m contents opens =
         let same : request.Write number offset bytes ≡ request.Write request_is.0 request_is.1 request_is.2 = sym e ∙ request_is.3 in

@@ -17,12 +17,13 @@ use Rattle.sf_call.specs.declared.record.Record.TheVariants.{Did, Left}
 use Rattle.sf_call.specs.declared.call.Call.{Call}
 use Rattle.sf_call.specs.declared.call.Stage.TheVariants as stage
 use Rattle.sf_call.specs.Answers.{AnswerView}
-use Rattle.sf_call.specs.declared.fault.CoreFault.{CoreFault}
-use Rattle.sf_call.specs.declared.fault.CoreFault.TheVariants as fault
+use Rattle.sf_call.specs.declared.fault.JoinFault.{JoinFault}
+use Rattle.sf_call.specs.declared.fault.JoinFault.TheVariants as join
+use Rattle.sf_call.specs.declared.fault.BeginFault.{BeginFault}
+use Rattle.sf_call.specs.declared.fault.BeginFault.TheVariants as begin
 use Rattle.sf_call.specs.Changes.{moved_by}
 use Rattle.sf_call.specs.Calls.{answer_to, start_of}
 use Rattle.sf_call.specs.Handles.{opened}
-use Rattle.sf_call.specs.Handles.Opened.{OpenFile}
 use Rattle.sf_call.specs.Histories.{replay, IsNewNumber, IsAmong}
 use Rattle.sf_inode.specs.Stores.{StoreState, child_of, holder_of}
 use Rattle.sf_keeps.specs.Steps.{walk}
@@ -32,6 +33,8 @@ use Rattle.sf_walk.specs.Routes.{IsPosition, held_paths_of}
 use Rattle.sf_walk.specs.Steps.{LooksUp, AdvancesOne}
 use Rattle.sf_walk.specs.Files.{WaitsForFile, cuts_file}
 use Rattle.sf_core.specs.Sure.{AreSure}
+use Rattle.sf_core.specs.declared.fault.CoreFault.{CoreFault}
+use Rattle.sf_core.specs.declared.fault.CoreFault.TheVariants as fault
 use Rattle.sf_core.specs.declared.step.Step.{Step}
 use Rattle.sf_core.specs.declared.step.Step.TheVariants.{Moved, Blocked, Answered, Stranger}
 use Rattle.sf_core.specs.Lanes.{LaneView, at_rest}
@@ -39,6 +42,7 @@ use Rattle.sf_core.specs.Cores.{CoreView, LaneState, call_at, lane_state, joined
 use Rattle.sf_core.specs.Cores.LaneState.{NoLane, Idle, Busy}
 use Rattle.sf_core.specs.Histories.{IsHistory}
 use Rattle.sf_core.specs.Progress.{waiting_reply, left_of, bound_of, is_write, IsBehind, CopiesInto, IsCopying, MayDecide, did, new_call, SameCall, overtaken, names_in_records, record_number}
+use Rattle.sf_call.specs.Attributes.Object.{File}
 
 -- the lane's call, if the lane is this core's
 pub record OwnCall (v : CoreView) (lane : LaneView) (c : Call) : Type 0 where
@@ -146,7 +150,7 @@ abbrev pub LeavesBlocks : Tree → Call → ℕ → Type 0
 LeavesBlocks t c left =
     (number offset : ℕ) (bytes : List ℕ) → c.request ≡ request.Write number offset bytes
     → (handle : Handle) (m : Metadata) (contents : List ℕ)
-    → opened t c.session number ≡ OpenFile handle m contents
+    → opened t c.session number ≡ Some (handle, File m contents)
     → left + 1 ≡ blocks_of (start_of handle contents offset) bytes
 
 -- a WRITE that succeeds writes at most one block
@@ -154,7 +158,7 @@ abbrev pub IsOfOneBlock : Tree → Call → Reply → Type 0
 IsOfOneBlock t c given =
     (number offset : ℕ) (bytes : List ℕ) → c.request ≡ request.Write number offset bytes
     → given ≡ reply.Status Success → (handle : Handle) (m : Metadata) (contents : List ℕ)
-    → opened t c.session number ≡ OpenFile handle m contents
+    → opened t c.session number ≡ Some (handle, File m contents)
     → blocks_of (start_of handle contents offset) bytes ≤ 1
 
 -- The first step of a WRITE of more than one block. Its record is added, its reply is pending, and
@@ -359,11 +363,10 @@ pub record Joins (v w : CoreView) : Type 0 where
   pub drawn : w.drawn ≡ v.drawn
   pub look_ups : w.look_ups ≡ v.look_ups
 
-abbrev pub RefusesJoin : CoreView → CoreFault → Type 0
-RefusesJoin v fault.OutOfMemory = (joined v < most_sessions) × (v.joins < last_number)
-RefusesJoin v fault.Sessions = most_sessions ≤ joined v
-RefusesJoin v fault.NumbersSpent = (joined v < most_sessions) × (v.joins ≡ last_number)
-RefusesJoin v fault.Stranger = ⊥
+abbrev pub RefusesJoin : CoreView → JoinFault → Type 0
+RefusesJoin v join.OutOfMemory = (joined v < most_sessions) × (v.joins < last_number)
+RefusesJoin v join.Sessions = most_sessions ≤ joined v
+RefusesJoin v join.NumbersSpent = (joined v < most_sessions) × (v.joins ≡ last_number)
 
 -- a call begins, under the next number; it has resolved no component
 pub record CallBegins (v w : CoreView) (lane : LaneView) (request : Request) (moment : ℕ)
@@ -393,11 +396,13 @@ pub record AnswersAtOnce (v : CoreView) (lane : LaneView) (request : Request) (m
   pub history : (h : List Record) → IsHistory v h → IsHistory mid h
   pub steps : StepsOn mid (begun lane mid.drawn) c.step c.core c.lane
 
+-- why a call could not begin
+abbrev pub RefusesCall : CoreView → BeginFault → Type 0
+RefusesCall v begin.OutOfMemory = v.drawn < last_number
+RefusesCall v begin.NumbersSpent = v.drawn ≡ last_number
+
 abbrev pub RefusesBegin : CoreView → LaneView → CoreFault → Type 0
-RefusesBegin v lane fault.OutOfMemory = (lane_state v lane.session ≡ Idle) × (v.drawn < last_number)
-RefusesBegin v lane fault.Sessions = ⊥
-RefusesBegin v lane fault.NumbersSpent =
-    (lane_state v lane.session ≡ Idle) × (v.drawn ≡ last_number)
+RefusesBegin v lane (fault.Refused f) = (lane_state v lane.session ≡ Idle) × RefusesCall v f
 RefusesBegin v lane fault.Stranger = lane_state v lane.session ≢ Idle
 
 -- the session leaves

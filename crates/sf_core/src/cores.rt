@@ -16,11 +16,12 @@ ghost use Rattle.sf_core.specs.declared.step.Step.TheVariants.{Answered};
 ghost use Rattle.sf_core.specs.Writing.{ReportsStep};
 ghost use Rattle.sf_core.specs.Events.{StepsOn, Walks, Joins, CallBegins, begun, AnswersAtOnce, SessionLeaves, RefusesJoin, RefusesBegin, walk_end};
 
+use crate::fault::CoreFault;
 use crate::lane::{Lane, Share};
 use crate::parts::{Parts, WalkOutcome};
 use crate::step::Step;
 use sf_book::Book;
-use sf_call::{Answer, CoreFault, Leaf, Record, Request};
+use sf_call::{Answer, BeginFault, JoinFault, Leaf, Record, Request};
 use sf_reply::Reply;
 use sf_walk::Walk;
 use std::alloc::{AllocError, Global};
@@ -91,17 +92,17 @@ impl Core {
     }
 
     /// Returns why no session can join, except for an allocation failure.
-    pub fn join_fault(&self) -> Option<CoreFault>
-        ensures some { IfSome result (λ fault. (fault ≢ CoreFault.OutOfMemory)
+    pub fn join_fault(&self) -> Option<JoinFault>
+        ensures some { IfSome result (λ fault. (fault ≢ JoinFault.OutOfMemory)
             × RefusesJoin self.now fault) }
         ensures none { IfNone result ((joined self.now < most_sessions)
             × (self.now.joins < last_number)) }
     {
         if self.parts.joined() >= MOST_SESSIONS {
-            return Some(CoreFault::Sessions);
+            return Some(JoinFault::Sessions);
         }
         if self.parts.joins() >= LAST_NUMBER {
-            return Some(CoreFault::NumbersSpent);
+            return Some(JoinFault::NumbersSpent);
         }
         None
     }
@@ -110,7 +111,7 @@ impl Core {
     ///
     /// Errors: `Sessions` if 256 sessions are joined, `NumbersSpent` after 2^63 - 1 joins, and
     /// `OutOfMemory`.
-    pub fn join(&mut self) -> Result<Lane, CoreFault>
+    pub fn join(&mut self) -> Result<Lane, JoinFault>
         ensures lane { IfOk result (λ lane. lane
             ≡ record { session = self.old.joins + 1; call = None; begun = 0 }) }
         ensures ok { OnOk result (Joins self.old self.new) }
@@ -120,13 +121,13 @@ impl Core {
         ensures fault { IfErr result (λ fault. RefusesJoin self.old fault) }
     {
         if self.parts.joined() >= MOST_SESSIONS {
-            return Err(CoreFault::Sessions);
+            return Err(JoinFault::Sessions);
         }
         if self.parts.joins() >= LAST_NUMBER {
-            return Err(CoreFault::NumbersSpent);
+            return Err(JoinFault::NumbersSpent);
         }
         let Ok(()) = self.parts.join() else {
-            return Err(CoreFault::OutOfMemory);
+            return Err(JoinFault::OutOfMemory);
         };
         Ok(Lane {
             session: self.parts.joins(),
@@ -154,14 +155,14 @@ impl Core {
             return Err(CoreFault::Stranger);
         }
         if self.parts.drawn() >= LAST_NUMBER {
-            return Err(CoreFault::NumbersSpent);
+            return Err(CoreFault::Refused(BeginFault::NumbersSpent));
         }
         let places = self.parts.unanswered() + 1;
         let Ok(()) = self.overtaken.reserve(places) else {
-            return Err(CoreFault::OutOfMemory);
+            return Err(CoreFault::Refused(BeginFault::OutOfMemory));
         };
         let Ok(()) = self.parts.begin(lane.session, request, moment) else {
-            return Err(CoreFault::OutOfMemory);
+            return Err(CoreFault::Refused(BeginFault::OutOfMemory));
         };
         lane.call = Some(self.parts.drawn());
         lane.begun = lane.begun.saturating_add(1);
@@ -198,11 +199,11 @@ impl Core {
             return Err(CoreFault::Stranger);
         }
         if self.parts.drawn() >= LAST_NUMBER {
-            return Err(CoreFault::NumbersSpent);
+            return Err(CoreFault::Refused(BeginFault::NumbersSpent));
         }
         let _count = self.parts.look_ups();
         let Ok(reply) = self.parts.answer_at_once(lane.session, request, moment) else {
-            return Err(CoreFault::OutOfMemory);
+            return Err(CoreFault::Refused(BeginFault::OutOfMemory));
         };
         lane.begun = lane.begun.saturating_add(1);
         let answer = Answer::new(self.parts.drawn(), lane.session, reply);

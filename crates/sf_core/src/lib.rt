@@ -17,11 +17,13 @@
 #![tactic(auto)]
 
 mod cores;
+mod fault;
 mod lane;
 mod parts;
 mod sessions;
 mod step;
 
 pub use cores::Core;
+pub use fault::CoreFault;
 pub use lane::{Lane, Share};
 pub use step::Step;

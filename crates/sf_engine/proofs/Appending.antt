@@ -361,7 +361,7 @@ module _ (e : EngineView) (log : List Entry) (ev : Event) (f : EngineFault) (h :
 
 -- ---- a session opens
 
-module _ (e : EngineView) (log : List Entry) (h : HasLog e log) (new : EngineView) (g : OpenGives e.core e.hosted (happened.Opened (e.core.joins + 1)) new.core new.hosted) (history : (l : List Record) → IsHistory e.core l → IsHistory new.core l) where
+module _ (e : EngineView) (log : List Entry) (h : HasLog e log) (new : EngineView) (g : OpenGives e.core e.hosted (e.core.joins + 1) new.core new.hosted) (history : (l : List Record) → IsHistory e.core l → IsHistory new.core l) where
   abbrev n : ℕ
   n = opened_in log + 1
 

@@ -8,7 +8,7 @@ use Rattle.sf_session.specs.Sessions.{SessionView, new_session, Begins, EndsBy, 
 use Rattle.sf_core.specs.Cores.{CoreView, lane_state, joined, new_core, last_number}
 use Rattle.sf_engine.specs.declared.hosted.HostedSession.{HostedSession}
 use Rattle.sf_engine.specs.declared.hosted.HostedState.{HostedState}
-use Rattle.sf_engine.specs.Turns.{Stand, stand, OpenGives, OpenFault, FeedGives, FeedFault, SentGives, SentFault, ReadGives, StepGives, before, after_turn, WritesAnswer, StaysAs, ClosesAt, CloseGives, AddsRecords, finding, GivesAt, PlaceGives, TurnGives, IsHostedState, MayRefuseTurn, is_under_way}
+use Rattle.sf_engine.specs.Turns.{Stand, stand, OpenGives, FeedGives, FeedFault, SentGives, SentFault, ReadGives, StepGives, before, after_turn, WritesAnswer, StaysAs, ClosesAt, CloseGives, AddsRecords, finding, GivesAt, PlaceGives, TurnGives, IsHostedState, MayRefuseTurn, is_under_way}
 use Rattle.sf_engine.specs.Views.{EngineView}
 use Rattle.std.specs.List.{sum_by, AllByRecursion, flat_map, AllZip}
 use Rattle.std.proofs.lemmas.Bool.{cases_eq, cases_lt, ne_eqb, eq-eqb}
@@ -19,7 +19,7 @@ use Rattle.sf_core.specs.Cores.LaneState.{NoLane, Idle, Busy}
 use Rattle.sf_core.specs.Progress.{left_of, SameCall, new_call, waiting_reply, bound_of, is_write, IsCopying, MayDecide, did, IsBehind}
 use Rattle.sf_core.specs.Histories.{IsHistory}
 use Rattle.sf_inode.specs.Stores.{StoreState}
-use Rattle.sf_core.specs.Events.{Joins, begun, SessionLeaves, RefusesBegin, IsOfOther, IsFinished, IsHelped, Before, After}
+use Rattle.sf_core.specs.Events.{Joins, begun, SessionLeaves, RefusesJoin, IsOfOther, IsFinished, IsHelped, Before, After}
 use Rattle.sf_engine.specs.declared.event.Happened.{Happened}
 use Rattle.sf_engine.specs.declared.event.EngineFault.{EngineFault}
 use Rattle.sf_session.specs.Responses.{transcript, Response, Version, Locally, Refused, ask_behind, packet_for, ByCall, if_so, RepliedCall, recorded_by, recorded_in, calls_answered, answered_in, Due, NothingDue, Unrecorded, Recorded, recorded_due, has_begun, AreAsked, asked_due}
@@ -28,7 +28,7 @@ use Rattle.std.proofs.lemmas.List.{take-append-drop, flat_map_more, length-take-
 use Rattle.sf_field.specs.Fields.{packet}
 use Rattle.sf_wire.specs.Packets.{IsCut, IsBody}
 use Rattle.sf_reply.specs.Replies.{reply_body}
-use Rattle.sf_call.specs.declared.fault.CoreFault.{CoreFault}
+use Rattle.sf_call.specs.declared.fault.JoinFault.{JoinFault}
 use Rattle.sf_session.specs.declared.asking.Ask.{Ask}
 use Rattle.sf_session.specs.Asking.{AsksFor}
 use Rattle.sf_core.specs.Lanes.{LaneView, at_rest}
@@ -53,7 +53,6 @@ use Rattle.sf_wire.proofs.Laws.{one_packet}
 use Rattle.sf_core.specs.Stuck.{steps_left_in, left_below}
 use Rattle.sf_core.proofs.Laws.{furthest, one_call, busy_left, idle_left, gone_left, left_stays, goes_falls, writes_falls, copies_falls, fetches_falls, decides_falls}
 use Rattle.sf_call.specs.declared.call.Stage.TheVariants as stage
-use Rattle.sf_call.specs.declared.fault.CoreFault.TheVariants as core
 use Rattle.sf_call.specs.declared.request.Request.TheVariants as request
 use Rattle.sf_engine.specs.declared.event.EngineFault.TheVariants as fault
 use Rattle.sf_engine.specs.declared.event.Event.TheVariants as event
@@ -83,6 +82,11 @@ pub record HostedChange : Type 0 where
   pub now : HostedSession
   pub number : at + 1 ≡ session
   pub stood : slice_get old.hosted at ≡ Some was
+
+-- by the core and the hosted sessions before it, and the core and the session after it
+abbrev pub change_at : (at : ℕ) {session : ℕ} {was : HostedSession} (v w : CoreView) (hosted : List HostedSession) (now : HostedSession) → at + 1 ≡ session → slice_get hosted at ≡ Some was → HostedChange
+change_at at {session = session} {was = was} v w hosted now number stood =
+    record { old = engine v hosted; at = at; session = session; was = was; core = w; now = now; number = number; stood = stood }
 
 -- the engine after it
 abbrev pub changed : HostedChange → EngineView
@@ -158,11 +162,11 @@ zip_push R (a ∷ xs) [] x y all is = absurd all
 zip_push R (a ∷ xs) (b ∷ ys) x y all is = (all.0, zip_push R xs ys x y all.1 is)
 
 -- opening a session: a new session, or nothing changes
-pub record Opens (old new : EngineView) (r : Result Happened EngineFault) : Type 0 where
-  pub ok : IfOk r (λ k. OpenGives old.core old.hosted k new.core new.hosted)
+pub record Opens (old new : EngineView) (r : Result ℕ JoinFault) : Type 0 where
+  pub ok : IfOk r (λ s. OpenGives old.core old.hosted s new.core new.hosted)
   pub history : OnOk r ((h : List Record) → IsHistory old.core h → IsHistory new.core h)
   pub err : OnErr r ((new.core ≡ old.core) × (new.hosted ≡ old.hosted))
-  pub fault : IfErr r (λ f. OpenFault old.core f)
+  pub fault : IfErr r (λ f. RefusesJoin old.core f)
 
 -- feeding a hosted session
 pub record FeedsHosted (s : HostedChange) (bytes : List ℕ) (r : Result Happened EngineFault) : Type 0 where

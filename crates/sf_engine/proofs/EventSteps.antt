@@ -10,6 +10,8 @@ use Rattle.sf_call.specs.declared.record.Record.{Record}
 use Rattle.sf_call.specs.declared.record.Record.TheVariants.{Left}
 use Rattle.sf_core.specs.Progress.{did}
 use Rattle.sf_engine.specs.Works.{IsStep, IsWork}
+use Rattle.sf_call.specs.declared.fault.JoinFault.{JoinFault}
+use Rattle.sf_call.specs.declared.fault.JoinFault.TheVariants as join
 use Rattle.sf_call.specs.declared.call.Call.{Call}
 use Rattle.sf_session.specs.declared.cause.Cause.{Cause}
 use Rattle.sf_session.specs.Sessions.{reply_room}
@@ -17,6 +19,7 @@ use Rattle.sf_session.specs.Responses.{RepliedCall, recorded_in, answered_in, Du
 use Rattle.sf_core.specs.Lanes.{LaneView}
 use Rattle.sf_core.specs.Cores.{CoreView, lane_state, joined}
 use Rattle.sf_core.specs.Histories.{IsHistory}
+use Rattle.sf_core.specs.Events.{RefusesJoin}
 use Rattle.sf_engine.specs.declared.event.Event.{Event}
 use Rattle.sf_engine.specs.declared.event.Event.TheVariants as event
 use Rattle.sf_engine.specs.declared.event.Happened.{Happened}
@@ -27,10 +30,10 @@ use Rattle.sf_engine.specs.declared.hosted.HostedSession.{HostedSession}
 use Rattle.sf_engine.specs.declared.hosted.HostedState.{HostedState}
 use Rattle.sf_engine.specs.declared.hosted.HostedState.TheVariants as state
 use Rattle.sf_engine.specs.Views.{EngineView}
-use Rattle.sf_engine.specs.Turns.{stand, finding, before, after_turn, StepGives, ReadGives, WritesAnswer, GivesAt, FeedFault, SentFault, OpenFault, MayRefuseTurn}
+use Rattle.sf_engine.specs.Turns.{stand, finding, before, after_turn, StepGives, ReadGives, WritesAnswer, GivesAt, FeedFault, SentFault, MayRefuseTurn}
 use Rattle.sf_engine.specs.Promise.{Entry, BytesFed, BytesSent, SessionClosed, EventRefused, SessionOpened, CallBegun, CallMoved, CallBlocked, CallDecided, ReplyWritten, SessionIdle, SessionEnded, event_of, result_of, linearization, opened_in, begun_in, added_by, SessionLog, of_session, IsKnown, IsHere, MayBeRefused}
 use Rattle.sf_engine.specs.Steady.{IsSteady}
-use Rattle.sf_engine.specs.HasLog.{replied, IsOpenOrGone, IsAtPlace, AtRest, HasAnswer, seat, Hosts, HasLog, AppendsEntry}
+use Rattle.sf_engine.specs.HasLog.{replied, IsOpenOrGone, IsAtPlace, AtRest, HasAnswer, seat, Hosts, HasLog, engine_fault, open_result, AppendsEntry}
 use Rattle.sf_engine.proofs.MovesBy.{moves_by}
 use Rattle.sf_engine.proofs.Working.{Works, read_works, step_works, same_work, settle_same, close_same}
 use Rattle.sf_engine.proofs.ReplyRooms.{any_id}
@@ -138,18 +141,17 @@ any_close_log s gives = by_number s event.Close (Ok happened.Closed) (λ log h.
 
 -- ---- opening
 
-open_refused : (e : EngineView) (f : EngineFault) (log : List Entry) → HasLog e log → OpenFault e.core f → MayBeRefused log event.Open f
-open_refused e fault.OutOfMemory log h why = (omega (arith, why.0, h.here), omega (arith, why.1, h.opened))
-open_refused e fault.Sessions log h why = omega (arith, why, h.here)
-open_refused e fault.NumbersSpent log h why = (omega (arith, why.0, h.here), sym h.opened ∙ why.1)
-open_refused e _ log h why = absurd why
+open_refused : (e : EngineView) (f : JoinFault) (log : List Entry) → HasLog e log → RefusesJoin e.core f → MayBeRefused log event.Open (engine_fault f)
+open_refused e join.OutOfMemory log h why = (omega (arith, why.0, h.here), omega (arith, why.1, h.opened))
+open_refused e join.Sessions log h why = omega (arith, why, h.here)
+open_refused e join.NumbersSpent log h why = (omega (arith, why.0, h.here), sym h.opened ∙ why.1)
 
-pub any_open_log : (old new : EngineView) (r : Result Happened EngineFault) → Opens old new r → AppendsEntry old event.Open r new
-any_open_log old new (Ok k) opens = λ log h.
+pub any_open_log : (old new : EngineView) (r : Result ℕ JoinFault) → Opens old new r → AppendsEntry old event.Open (open_result r) new
+any_open_log old new (Ok s) opens = λ log h.
     let ok = opens.ok in (
       SessionOpened (opened_in log + 1),
       refl,
-      ap (λ (z : Happened). Ok z) (ap (λ (n : ℕ). happened.Opened (n + 1)) (sym h.opened) ∙ sym ok.opened),
+      ap (λ (n : ℕ). Ok (happened.Opened n)) (ap (λ (n : ℕ). n + 1) (sym h.opened) ∙ sym ok.opened),
       opened_on old log h new (record { opened = refl; core = ok.core; added = ok.added }) opens.history,
       tt,
       tt,
@@ -157,7 +159,7 @@ any_open_log old new (Ok k) opens = λ log h.
     )
 any_open_log old new (Err f) opens = λ log h.
     let same : new ≡ old = ap (λ (z : CoreView). engine z new.hosted) opens.err.0 ∙ ap (λ (z : List HostedSession). engine old.core z) opens.err.1 in
-    subst (λ (e : EngineView). Follows old event.Open (Err f) e log) (sym same) (EventRefused event.Open f, refl, refl, refused_on old log event.Open f h (open_refused old f log h opens.fault), tt, tt, refl)
+    subst (λ (e : EngineView). Follows old event.Open (Err (engine_fault f)) e log) (sym same) (EventRefused event.Open (engine_fault f), refl, refl, refused_on old log event.Open (engine_fault f) h (open_refused old f log h opens.fault), tt, tt, refl)
 
 -- ---- turns
 

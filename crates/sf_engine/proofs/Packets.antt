@@ -4,14 +4,15 @@ use Rattle.sf_field.specs.Fields.{packet}
 use Rattle.sf_reply.specs.Replies.{reply_body}
 use Rattle.sf_call.specs.declared.record.Record.{Record}
 use Rattle.sf_call.specs.declared.request.Request.{Request}
-use Rattle.sf_call.specs.declared.fault.CoreFault.{CoreFault}
+use Rattle.sf_call.specs.declared.fault.BeginFault.{BeginFault}
+use Rattle.sf_session.specs.declared.session.Next.{Next}
 use Rattle.sf_session.specs.declared.session.Next.TheVariants as next
 use Rattle.sf_session.specs.Sessions.{SessionView, NextGives, refusal_of}
 use Rattle.sf_core.specs.declared.step.Step.{Step}
 use Rattle.sf_core.specs.declared.step.Step.TheVariants as step
 use Rattle.sf_core.specs.Lanes.{LaneView}
 use Rattle.sf_core.specs.Cores.{CoreView}
-use Rattle.sf_core.specs.Events.{CallBegins, begun, AnswersAtOnce, RefusesBegin, StepsOn, TakesMoves, Walks, walk_end}
+use Rattle.sf_core.specs.Events.{CallBegins, begun, AnswersAtOnce, RefusesCall, StepsOn, TakesMoves, Walks, walk_end}
 use Rattle.sf_core.specs.Histories.{IsHistory}
 use Rattle.sf_engine.specs.declared.hosted.HostedState.{HostedState}
 use Rattle.sf_engine.specs.declared.hosted.HostedState.TheVariants as state
@@ -36,6 +37,16 @@ pub record CallAsked : Type 0 where
   pub lane : LaneView
   pub gave : NextGives from.session (next.Call request) session
   pub at : from.place ≡ state.Resting lane
+
+abbrev pub asked : (v : CoreView) (x y : SessionView) (p : HostedState) {n : Next} {request : Request} {lane : LaneView} → NextGives x n y → n ≡ next.Call request → p ≡ state.Resting lane → CallAsked
+asked v x y p {request = request} {lane = lane} gives is at = record {
+  from = stand v x p;
+  session = y;
+  request = request;
+  lane = lane;
+  gave = subst (λ (n : Next). NextGives x n y) is gives;
+  at = at;
+}
 
 -- it rested
 rests : (a : CallAsked) → is_resting a.from.place ≡ true
@@ -65,7 +76,7 @@ pub goes_far : (a : CallAsked) (f : Finding) (b : CallBegun a f.moment) (last : 
 goes_far a f b last end far = begun_far a.from f (begun_stand a b.core) last end (rests a) (begun_turn a f.moment b) far
 
 -- it is refused
-pub refused_turn : (a : CallAsked) (m : ℕ) (f : CoreFault) (z : SessionView) → RefusesBegin a.from.core a.lane f
+pub refused_turn : (a : CallAsked) (m : ℕ) (f : BeginFault) (z : SessionView) → RefusesCall a.from.core f
     → IfSome a.session.waiting (λ id. z ≡ record a.session { output = a.session.output ++ packet (reply_body id (refusal_of f)); waiting = None })
     → TurnGives a.from (finding false m) happened.Wrote (stand a.from.core z (state.Resting a.lane))
 refused_turn a m f z refused wrote = λ h is. (

@@ -11,8 +11,8 @@ use Rattle.sf_wire.proofs.Laws.{one_packet}
 use Rattle.sf_request.proofs.Laws.{one_question}
 use Rattle.sf_request.specs.declared.request.Asked.{Asked}
 use Rattle.sf_reply.specs.declared.reply.Reply.{Reply}
-use Rattle.sf_call.specs.declared.fault.CoreFault.{CoreFault}
-use Rattle.sf_call.specs.declared.fault.CoreFault.TheVariants as core
+use Rattle.sf_call.specs.declared.fault.BeginFault.{BeginFault}
+use Rattle.sf_call.specs.declared.fault.BeginFault.TheVariants as begin
 use Rattle.sf_call.specs.declared.request.Request.{Request}
 use Rattle.sf_call.specs.declared.record.Record.{Record}
 use Rattle.sf_call.specs.declared.record.Record.TheVariants.{Left}
@@ -118,14 +118,11 @@ one_bodies (x ∷ xs) (y ∷ ys) a b h k same e =
     let rest = one_bodies xs ys a b h.1 k.1 (omega (arith, same)) first.1 in
     ap (λ (z : List ℕ). z ∷ xs) first.0 ∙ ap (λ (zs : List (List ℕ)). y ∷ zs) rest
 
-one_fault : (front : List Entry) (s id : ℕ) (r r' : Request) (f g : CoreFault) → MayWrite front s (Refused id r f) → MayWrite front s (Refused id r' g) → f ≡ g
-one_fault front s id r r' core.OutOfMemory core.OutOfMemory h k = refl
-one_fault front s id r r' core.NumbersSpent core.NumbersSpent h k = refl
-one_fault front s id r r' core.OutOfMemory core.NumbersSpent h k = absurd (omega (arith, h, k))
-one_fault front s id r r' core.NumbersSpent core.OutOfMemory h k = absurd (omega (arith, h, k))
-one_fault front s id r r' core.OutOfMemory _ h k = absurd k
-one_fault front s id r r' core.NumbersSpent _ h k = absurd k
-one_fault front s id r r' _ g h k = absurd h
+one_fault : (front : List Entry) (s id : ℕ) (r r' : Request) (f g : BeginFault) → MayWrite front s (Refused id r f) → MayWrite front s (Refused id r' g) → f ≡ g
+one_fault front s id r r' begin.OutOfMemory begin.OutOfMemory h k = refl
+one_fault front s id r r' begin.NumbersSpent begin.NumbersSpent h k = refl
+one_fault front s id r r' begin.OutOfMemory begin.NumbersSpent h k = absurd (omega (arith, h, k))
+one_fault front s id r r' begin.NumbersSpent begin.OutOfMemory h k = absurd (omega (arith, h, k))
 
 one_call : (x y : RepliedCall) → x ∷ [] ≡ y ∷ [] → x ≡ y
 one_call x y e = cc
@@ -147,7 +144,7 @@ one_answer front s c (Refused id q f) (Refused id' q' g) at at' h k e =
     let faults : f ≡ g = one_fault front s id q q' f g h k in
     let ids : id ≡ id' = cc in
     let requests : q ≡ q' = cc in
-    ap (λ (i : ℕ). Refused i q f) ids ∙ ap (λ (z : Request). Refused id' z f) requests ∙ ap (λ (z : CoreFault). Refused id' q' z) faults
+    ap (λ (i : ℕ). Refused i q f) ids ∙ ap (λ (z : Request). Refused id' z f) requests ∙ ap (λ (z : BeginFault). Refused id' q' z) faults
 one_answer front s c (Refused id q f) _ at at' h k e = absurd cc
 
 -- ---- fed bytes are bytes

@@ -18,8 +18,8 @@ use Rattle.sf_call.specs.declared.call.Stage.TheVariants as stage
 use Rattle.sf_call.specs.declared.request.Request.{Request}
 use Rattle.sf_call.specs.declared.record.Record.{Record}
 use Rattle.sf_call.specs.declared.record.Record.TheVariants.{Did, Left}
-use Rattle.sf_call.specs.declared.fault.CoreFault.{CoreFault}
-use Rattle.sf_call.specs.declared.fault.CoreFault.TheVariants as core
+use Rattle.sf_call.specs.declared.fault.BeginFault.{BeginFault}
+use Rattle.sf_call.specs.declared.fault.BeginFault.TheVariants as begin
 use Rattle.sf_call.specs.Histories.{IsAmong, IsLegal, IsNewNumber, replay}
 use Rattle.sf_call.specs.Routes.{route_of}
 use Rattle.sf_walk.specs.Routes.{IsPosition}
@@ -38,7 +38,7 @@ use Rattle.sf_session.proofs.Laws.{all_push, begun_is, begun_push, asked_push, m
 use Rattle.sf_core.specs.Lanes.{LaneView, at_rest}
 use Rattle.sf_core.specs.Cores.LaneState.{NoLane, Idle, Busy}
 use Rattle.sf_core.specs.Cores.{CoreView, LaneState, lane_state}
-use Rattle.sf_core.specs.Events.{SessionLeaves, RefusesBegin, IsOfOther, Fetches, Decides, IsHelped, IsFinished}
+use Rattle.sf_core.specs.Events.{SessionLeaves, RefusesCall, IsOfOther, Fetches, Decides, IsHelped, IsFinished}
 use Rattle.sf_core.specs.Histories.{IsHistory}
 use Rattle.sf_core.specs.Progress.{is_write, IsCopying, waiting_reply, MayDecide, left_of, bound_of, new_call, did, SameCall}
 use Rattle.sf_engine.specs.declared.event.Happened.TheVariants as happened
@@ -50,7 +50,7 @@ use Rattle.sf_engine.specs.Turns.{Stand, stand, FeedGives, SentGives, WritesAtOn
 use Rattle.sf_engine.specs.HasLog.{replied, IsUnfinished, HasMoved, IsHeldUp, IsWhy, blocked_in}
 use Rattle.sf_engine.specs.Promise.{Entry, BytesFed, CallBegun, CallMoved, CallBlocked, CallDecided, ReplyWritten, SessionIdle, SessionEnded, SessionClosed, BytesSent, linearization, opened_in, begun_in, SessionLog, with_own, of_session, IsKnown, IsHere, IsUnanswered, SessionPhase, WithoutCall, Running, Replying, HasLeft, phase_at, phase_before, phase, IsInPhase, IsPending, IsDueTo, added_by, MayWrite, IsDueAfter, IsAnswered, IsUnsent, HasFewMoves, SessionOpened, EventRefused, most_steps}
 use Rattle.sf_engine.specs.Steady.{IsOfOthersCall, CarriesCallOut}
-use Rattle.sf_engine.specs.HasLog.{AtRest, IsGoing, HasAnswer, IsAway, IsAtPlace, IsOpenOrGone, seat, Hosts, HasLog}
+use Rattle.sf_engine.specs.HasLog.{AtRest, IsGoing, HasAnswer, IsAway, IsAtPlace, IsOpenOrGone, Seat, seat, Hosts, HasLog}
 use Rattle.std.proofs.lemmas.Bool.{cases_eq, cases_lt, eq-eqb, ne_eqb}
 use Rattle.sf_engine.proofs.Deciding.{moved_on, stops, step_sure}
 use Rattle.sf_engine.proofs.MovesBy.{MovesBy}
@@ -139,15 +139,12 @@ local_answer v may (ask.Local id reply) text h locally version = (Locally id rep
 local_answer v may _ text h locally version = absurd h
 
 -- why a call could not begin
-may_refuse : (log : List Entry) (s : ℕ) (v : CoreView) (lane : LaneView) (id : ℕ) (request : Request) (fault : CoreFault) → v.drawn ≡ begun_in log → lane_state v lane.session ≡ Idle
-    → RefusesBegin v lane fault → MayWrite log s (Refused id request fault)
-may_refuse log s v lane id request core.OutOfMemory drawn idle h = subst (λ (n : ℕ). n < most_calls) drawn h.1
-may_refuse log s v lane id request core.NumbersSpent drawn idle h = sym drawn ∙ h.1
-may_refuse log s v lane id request core.Sessions drawn idle h = h
-may_refuse log s v lane id request core.Stranger drawn idle h = absurd (h idle)
+may_refuse : (log : List Entry) (s : ℕ) (v : CoreView) (id : ℕ) (request : Request) (fault : BeginFault) → v.drawn ≡ begun_in log → RefusesCall v fault → MayWrite log s (Refused id request fault)
+may_refuse log s v id request begin.OutOfMemory drawn h = subst (λ (n : ℕ). n < most_calls) drawn h
+may_refuse log s v id request begin.NumbersSpent drawn h = sym drawn ∙ h
 
-answers_one : (x : SessionView) (lane : LaneView) (v : CoreView) (y : SessionView) (may : Response → Type 0) → WritesAtOnce (stand v x (state.Resting lane)) lane y
-    → ((id : ℕ) (reply : LocalReply) → may (Locally id reply)) → may Version → ((id : ℕ) (request : Request) (fault : CoreFault) → RefusesBegin v lane fault → may (Refused id request fault)) → AnswersOne x y may
+answers_one : (x : SessionView) (lane : LaneView) (v : CoreView) (y : SessionView) (may : Response → Type 0) → WritesAtOnce (stand v x (state.Resting lane)) y
+    → ((id : ℕ) (reply : LocalReply) → may (Locally id reply)) → may Version → ((id : ℕ) (request : Request) (fault : BeginFault) → RefusesCall v fault → may (Refused id request fault)) → AnswersOne x y may
 answers_one x lane v y may (inl g) locally version refuses =
     let o = g.1 in
     let a = local_answer x may o.asked o.text o.local_packet locally version in record {
@@ -296,13 +293,17 @@ due_long : (id : ℕ) (c : Call) (due : Due) → (due ≡ Unrecorded id c.reques
 due_long id c due (inl is) = let one = ap (λ (d : Due). length (asked_due d)) is in omega (arith, one)
 due_long id c due (inr is) = let one = ap (λ (d : Due). length (asked_due d)) is.1 in omega (arith, one)
 
+-- a session whose call the core has is in the place for that
+pub busy_at : (o : HostedState) (closed : Bool) (c : Call) (k : Seat) → k.slot ≡ Busy c → IsAtPlace o closed k → (lane : LaneView) × (o ≡ state.UnderWay lane) × IsGoing lane k
+busy_at (state.UnderWay lane) closed c k busy at = (lane, refl, at)
+busy_at (state.Resting lane) closed c k busy at = absurd (let z : Busy c ≡ Idle = sym busy ∙ at.0.slot in cc)
+busy_at (state.Decided lane a) closed c k busy at = absurd (let z : Busy c ≡ Idle = sym busy ∙ at.slot in cc)
+busy_at (state.Gone cause) closed c k busy at = absurd (let z : Busy c ≡ NoLane = sym busy ∙ at.slot in cc)
+
 -- the call that the core has for a session is its last one, and has no reply yet
-busy_hosts : (t : SessionLog) (r : List RepliedCall) (s : ℕ) (p : HostedSession) (c : Call) (h : Hosts t r (Busy c) s p) (o : HostedState) → IsAtPlace o p.closed (seat (Busy c) s p.session h.answered.due t)
-    → IsUnanswered t c.number × (t.call.moment ≡ c.moment)
-busy_hosts t r s p c h (state.Resting lane) k = absurd (let z : Busy c ≡ Idle = k.0.slot in cc)
-busy_hosts t r s p c h (state.Decided lane a) k = absurd (let z : Busy c ≡ Idle = k.slot in cc)
-busy_hosts t r s p c h (state.Gone cause) k = absurd (let z : Busy c ≡ NoLane = k.slot in cc)
-busy_hosts t r s p c h (state.UnderWay lane) k =
+busy_hosts : (t : SessionLog) (r : List RepliedCall) (s : ℕ) (p : HostedSession) (c : Call) → Hosts t r (Busy c) s p → IsUnanswered t c.number × (t.call.moment ≡ c.moment)
+busy_hosts t r s p c h =
+    let k = (busy_at p.place p.closed c (seat (Busy c) s p.session h.answered.due t) refl h.at).2 in
     let own : k.call ≡ c = let z : Busy c ≡ Busy k.call = k.slot in cc in
     let some : 0 < length (asked_due h.answered.due) = due_long k.id k.call h.answered.due k.due in
     let begun = h.answered.begun in (
@@ -320,7 +321,7 @@ busy_call e log h (suc i) c busy = elim (cases_lt i (opened_in log)) [
       let num : i + 1 ≡ suc i = omega arith in
       let host = subst (λ (n : ℕ). Hosts (of_session n log) (recorded_in n (linearization log)) (lane_state e.core n) n p.0) num (h.each i p.0 p.1) in
       let host' = subst (λ (z : LaneState Call). Hosts (of_session (suc i) log) (recorded_in (suc i) (linearization log)) z (suc i) p.0) busy host in
-      busy_hosts (of_session (suc i) log) (recorded_in (suc i) (linearization log)) (suc i) p.0 c host' p.0.place host'.at
+      busy_hosts (of_session (suc i) log) (recorded_in (suc i) (linearization log)) (suc i) p.0 c host'
 ]
 
 -- ---- one more record
@@ -357,12 +358,11 @@ recorded_now t r a id c given due = record {
   few = subst (λ (d : Due). HasFewMoves d t.call.moves) due a.few;
 }
 
-push_own : (t : SessionLog) (h : List Record) (i : ℕ) (p : HostedSession) (c : Call) (given : Reply) (host : Hosts t (recorded_in i h) (Busy c) i p) → IsNewNumber c.number h
-    → (o : HostedState) → p.place ≡ o → IsAtPlace o p.closed (seat (Busy c) i p.session host.answered.due t) → Hosts t (recorded_in i h ++ replied c.number c.request given ∷ []) (Busy c) i p
-push_own t h i p c given host new (state.Resting lane) placed k = absurd (let z : Busy c ≡ Idle = k.0.slot in cc)
-push_own t h i p c given host new (state.Decided lane a) placed k = absurd (let z : Busy c ≡ Idle = k.slot in cc)
-push_own t h i p c given host new (state.Gone cause) placed k = absurd (let z : Busy c ≡ NoLane = k.slot in cc)
-push_own t h i p c given host new (state.UnderWay lane) placed k =
+push_own : (t : SessionLog) (h : List Record) (i : ℕ) (p : HostedSession) (c : Call) (given : Reply) → Hosts t (recorded_in i h) (Busy c) i p → IsNewNumber c.number h
+    → Hosts t (recorded_in i h ++ replied c.number c.request given ∷ []) (Busy c) i p
+push_own t h i p c given host new =
+    let at = busy_at p.place p.closed c (seat (Busy c) i p.session host.answered.due t) refl host.at in
+    let k = at.2 in
     let own : k.call ≡ c = let z : Busy c ≡ Busy k.call = k.slot in cc in
     elim k.due [
       | inr had ↦
@@ -376,7 +376,7 @@ push_own t h i p c given host new (state.UnderWay lane) placed k =
             begun = host.begun;
             open_or_gone = host.open_or_gone;
             closed = host.closed;
-            at = subst (λ (z : HostedState). IsAtPlace z p.closed (seat (Busy c) i p.session (Recorded k.id (replied c.number c.request given)) t)) (sym placed) (record {
+            at = subst (λ (z : HostedState). IsAtPlace z p.closed (seat (Busy c) i p.session (Recorded k.id (replied c.number c.request given)) t)) (sym at.1) (record {
               call = c;
               id = k.id;
               session = k.session;
@@ -446,26 +446,24 @@ push_others v s i t p h (Did n z m q given ∷ helped) all legal host =
           let host' = subst (λ (y : LaneState Call). Hosts t (recorded_in i h) y i p) slot host in
           subst (λ (y : LaneState Call). Hosts t (recorded_in i (h ++ rec ∷ [])) y i p) (sym slot)
           (subst (λ (cs : List RepliedCall). Hosts t cs (Busy c) i p) (sym (flat_map-append (recorded_by i) h (rec ∷ []) ∙ ap (λ (cs : List RepliedCall). recorded_in i h ++ cs) (own_record i c given own)))
-          (push_own t h i p c given host' new p.place refl host'.at))
+          (push_own t h i p c given host' new))
       | inr ne ↦ subst (λ (cs : List RepliedCall). Hosts t cs (lane_state v i) i p)
           (sym (flat_map-append (recorded_by i) h (rec ∷ []) ∙ ap (λ (cs : List RepliedCall). recorded_in i h ++ cs) (others_record i c given ne) ∙ append-nil (recorded_in i h))) host
     ] in
     subst (λ (xs : List Record). Hosts t (recorded_in i xs) (lane_state v i) i p) (sym parts) (push_others v s i t p (h ++ rec ∷ []) helped all.1 legal' one)
 
 -- a session's call in another state: it took effect, or its last block was copied
-reslot : (t : SessionLog) (r : List RepliedCall) (i : ℕ) (p : HostedSession) (c d : Call) (host : Hosts t r (Busy c) i p) → SameCall c d → left_of d ≤ left_of c → (IsUnfinished d → ⊥)
-    → (o : HostedState) → p.place ≡ o → IsAtPlace o p.closed (seat (Busy c) i p.session host.answered.due t) → Hosts t r (Busy d) i p
-reslot t r i p c d host same less done (state.Resting lane) placed k = absurd (let z : Busy c ≡ Idle = k.0.slot in cc)
-reslot t r i p c d host same less done (state.Decided lane a) placed k = absurd (let z : Busy c ≡ Idle = k.slot in cc)
-reslot t r i p c d host same less done (state.Gone cause) placed k = absurd (let z : Busy c ≡ NoLane = k.slot in cc)
-reslot t r i p c d host same less done (state.UnderWay lane) placed k =
+reslot : (t : SessionLog) (r : List RepliedCall) (i : ℕ) (p : HostedSession) (c d : Call) → Hosts t r (Busy c) i p → SameCall c d → left_of d ≤ left_of c → (IsUnfinished d → ⊥) → Hosts t r (Busy d) i p
+reslot t r i p c d host same less done =
+    let at = busy_at p.place p.closed c (seat (Busy c) i p.session host.answered.due t) refl host.at in
+    let k = at.2 in
     let own : k.call ≡ c = let z : Busy c ≡ Busy k.call = k.slot in cc in record {
       answered = host.answered;
       output = host.output;
       begun = host.begun;
       open_or_gone = host.open_or_gone;
       closed = host.closed;
-      at = subst (λ (z : HostedState). IsAtPlace z p.closed (seat (Busy d) i p.session host.answered.due t)) (sym placed) (going_as t i p host.answered.due lane c d k own same less done);
+      at = subst (λ (z : HostedState). IsAtPlace z p.closed (seat (Busy d) i p.session host.answered.due t)) (sym at.1) (going_as t i p host.answered.due at.0 c d k own same less done);
     }
 
 -- a call with a record has this pending reply
@@ -762,7 +760,7 @@ module _ (e : EngineView) (log : List Entry) (h : HasLog e log) (at : ℕ) (p : 
       let k = resting lane placed in
       let idle : lane_state e.core lane.session ≡ Idle = ap (λ (n : ℕ). lane_state e.core n) k.0.session ∙ k.0.slot in
       let x : AnswersOne p.session q.session (λ a. MayWrite log (at + 1) a) = answers_one p.session lane e.core q.session (λ a. MayWrite log (at + 1) a) g.0
-      (λ id reply. tt) tt (λ id request fault refused. may_refuse log (at + 1) e.core lane id request fault h.begun idle refused) in
+      (λ id reply. tt) tt (λ id request fault refused. may_refuse log (at + 1) e.core id request fault h.begun refused) in
       let open_now = is_open k.0.ended in
       let y = ReplyWritten (at + 1) m x.answer false in
       let unclosed : t.closed ≡ false = sym (host.closed open_now.0) ∙ k.1 in (
@@ -1141,10 +1139,10 @@ module _ (e : EngineView) (log : List Entry) (h : HasLog e log) (at : ℕ) (p : 
   helped_other v' helped i z u cs (inl same_slot) had = subst (λ (y : LaneState Call). Hosts u cs y i z) (sym same_slot) had
   helped_other v' helped i z u cs (inr (inl b)) had =
       let host' = subst (λ (y : LaneState Call). Hosts u cs y i z) b.was had in
-      subst (λ (y : LaneState Call). Hosts u cs y i z) (sym b.now) (reslot u cs i z b.before b.after host' b.same b.less (not_on_way b.after b.given b.decided b.rests) z.place refl host'.at)
+      subst (λ (y : LaneState Call). Hosts u cs y i z) (sym b.now) (reslot u cs i z b.before b.after host' b.same b.less (not_on_way b.after b.given b.decided b.rests))
   helped_other v' helped i z u cs (inr (inr b)) had =
       let host' = subst (λ (y : LaneState Call). Hosts u cs y i z) b.was had in
-      subst (λ (y : LaneState Call). Hosts u cs y i z) (sym b.now) (reslot u cs i z b.before b.after host' b.same b.less (not_on_way b.after b.given b.has b.rests) z.place refl host'.at)
+      subst (λ (y : LaneState Call). Hosts u cs y i z) (sym b.now) (reslot u cs i z b.before b.after host' b.same b.less (not_on_way b.after b.given b.has b.rests))
 
   pub decided_log : (m : ℕ) (lane : LaneView) (given : AnswerView) (c : Call) (lane' : LaneView) (v' : CoreView) (q : HostedSession) (added : List Record) → p.place ≡ state.UnderWay lane → q.closed ≡ p.closed → q.session ≡ p.session → q.place ≡ state.Decided lane' given
       → IsHistory v' (linearization log ++ added) → (f : Decides (before e.core (linearization log) lane) (after_turn v' added lane') c given.reply) → lane' ≡ at_rest lane
@@ -1167,7 +1165,7 @@ module _ (e : EngineView) (log : List Entry) (h : HasLog e log) (at : ℕ) (p : 
       let with_helped : Hosts t (recorded_in s (lin ++ f.helped)) (Busy c) s p =
       subst (λ (z : LaneState Call). Hosts t (recorded_in s (lin ++ f.helped)) z s p) slot (push_others e.core lane.session s t p lin f.helped f.of_others legal_helped host) in
       let recorded_own : Hosts t (recorded_in s (lin ++ all)) (Busy c) s p =
-      subst (λ (z : List RepliedCall). Hosts t z (Busy c) s p) (sym (last s ∙ ap (λ (z : List RepliedCall). recorded_in s (lin ++ f.helped) ++ z) (own_record s c given.reply own_session))) (push_own t (lin ++ f.helped) s p c given.reply with_helped new p.place refl with_helped.at) in
+      subst (λ (z : List RepliedCall). Hosts t z (Busy c) s p) (sym (last s ∙ ap (λ (z : List RepliedCall). recorded_in s (lin ++ f.helped) ++ z) (own_record s c given.reply own_session))) (push_own t (lin ++ f.helped) s p c given.reply with_helped new) in
       let x = CallDecided s m all in
       goes_on e log at x v' q h (record {
         is_of = refl;
@@ -1238,7 +1236,7 @@ module _ (e : EngineView) (log : List Entry) (h : HasLog e log) (at : ℕ) (p : 
               let new = number_is_new lin (record { number = c.number; session = c.session; moment = c.moment; request = c.request }) g.0 legal in
               let busy = busy_host c slot in
               subst (λ (z : List RepliedCall). Hosts t z (Busy c) s p)
-              (sym (split s ∙ ap (λ (z : List Record). r ++ recorded_in s z) g.1.records ∙ ap (λ (z : List RepliedCall). r ++ z) (own_record s c g.0 own_session))) (push_own t lin s p c g.0 busy new p.place refl busy.at)
+              (sym (split s ∙ ap (λ (z : List Record). r ++ recorded_in s z) g.1.records ∙ ap (λ (z : List RepliedCall). r ++ z) (own_record s c g.0 own_session))) (push_own t lin s p c g.0 busy new)
           | inr g ↦ none g.1.none
         ]
       ] in

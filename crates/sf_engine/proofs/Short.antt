@@ -1,5 +1,5 @@
 -- The calls of an engine together have few steps left, as paths are short and sessions are few.
-use Rattle.std.proofs.Common.{◌≡◌, ℕ, zero, suc, ◌+◌, ◌-◌, ◌*◌, ◌^◌, ◌≤◌, ◌<◌, List, [], ◌∷◌, ◌++◌, Bool, true, false, Option, Some, None, cond, slice_get, length, map, refl, ap, sym, ◌∙◌, subst, arith, length-append}
+use Rattle.std.proofs.Common.{is_none, ◌≡◌, ℕ, zero, suc, ◌+◌, ◌-◌, ◌*◌, ◌^◌, ◌≤◌, ◌<◌, List, [], ◌∷◌, ◌++◌, Bool, true, false, Option, Some, None, cond, slice_get, length, map, refl, ap, sym, ◌∙◌, subst, arith, length-append}
 use Rattle.std.specs.Prelude.{nat_lt, ◌==◌, if◌then◌else◌, option_map, option_and_then}
 use Rattle.std.specs.List.{sum_by, count_by, flat_map, list_any}
 use Rattle.std.proofs.lemmas.Bool.{ltb-false}
@@ -19,12 +19,14 @@ use Rattle.sf_walk.specs.Ways.{request_names}
 use Rattle.sf_session.specs.declared.asking.Ask.{Ask}
 use Rattle.sf_session.specs.declared.asking.Ask.TheVariants as ask
 use Rattle.sf_session.specs.declared.cause.Cause.TheVariants.{OldVersion}
-use Rattle.sf_session.specs.Asking.{path_unless, path_at, handle_number, call_of, call_ask, real_path_at, request_ask, ask_in, AsksFor}
+use Rattle.sf_session.specs.Asking.{path_at, handle_number, call_of, failure, real_path_reply, request_ask, ask_in, AsksFor}
 use Rattle.sf_request.specs.Requests.{Asks, RequestFits}
 use Rattle.sf_request.proofs.Laws.{asked_fits}
 use Rattle.sf_core.specs.Progress.{bound_of, blocks_in}
 use Rattle.sf_session.specs.Responses.{ask_behind, AreAsked}
 use Rattle.sf_engine.specs.Promise.{most_steps}
+use Rattle.std.specs.Option.{option_map_or}
+use Rattle.sf_session.specs.declared.local_reply.LocalReply.TheVariants.{Plain}
 
 -- ---- paths
 flat_names : (path : Path) → length path ≤ length (flat_map slashed path)
@@ -60,7 +62,7 @@ abbrev IsShortPath : Option Path → Type 0
 IsShortPath None = Unit {0}
 IsShortPath (Some path) = length path ≤ 4097
 
-path_unless_short : (text : List ℕ) (o : Option PathFault) → fault_of text ≡ o → IsShortPath (path_unless o (norm text))
+path_unless_short : (text : List ℕ) (o : Option PathFault) → fault_of text ≡ o → IsShortPath (if is_none o then Some (norm text) else None)
 path_unless_short text None e = short_text text e
 path_unless_short text (Some fault) e = tt
 
@@ -106,11 +108,11 @@ call_short (wire.FStat handle) fits = by_handle call.FStat (λ n. omega arith) (
 call_short (wire.FSetStat handle attrs) fits = by_handle (λ n. call.FSetStat n attrs) (λ n. omega arith) (handle_number handle)
 call_short (wire.ReadDir handle) fits = by_handle call.ReadDir (λ n. omega arith) (handle_number handle)
 
-call_ask_short : (id : ℕ) (o : Option Request) → IsShortCall o → IsShortAsk (call_ask id o)
+call_ask_short : (id : ℕ) (o : Option Request) → IsShortCall o → IsShortAsk (option_map_or (ask.Call id) o (failure id))
 call_ask_short id None h = tt
 call_ask_short id (Some request) h = h
 
-real_path_short : (id : ℕ) (o : Option Path) → IsShortAsk (real_path_at id o)
+real_path_short : (id : ℕ) (o : Option Path) → IsShortAsk (option_map_or (λ path. ask.Local id (Plain (real_path_reply path))) o (failure id))
 real_path_short id None = tt
 real_path_short id (Some path) = tt
 

@@ -32,7 +32,7 @@ use Rattle.sf_engine.specs.HasLog.{replied, left_to, IsBehindOther, IsHeldUp, Ha
 use Rattle.sf_engine.specs.Promise.{Entry, added_by, result_of, linearization, opened_in, SessionLog, of_session, phase, Running, is_running, under_way_to, under_way, AreNeverAllBlocked, IsInPhase}
 use Rattle.sf_engine.specs.HasLog.{is_some_list, Hosts, HasLog, AppendsEntry, AppendsRound, IsAtPlace, AtRest, IsGoing, HasAnswer, IsAway, seat, here_at, here_of}
 use Rattle.sf_engine.proofs.Short.{IsShortAsk, last_short, bound_is}
-use Rattle.sf_engine.proofs.SessionEvents.{host, known}
+use Rattle.sf_engine.proofs.SessionEvents.{host, known, busy_at}
 use Rattle.sf_engine.proofs.Rounds.{same_count, is_walks, RoundsSoFar, RoundLog, StepEntry, walking_at, walking_entry, is_step_result, starts_walking}
 use Rattle.sf_engine.proofs.Base.{get_within, SameSlots, StepDoes, AllBlocked, work_on}
 
@@ -129,18 +129,11 @@ start_work e log h = record {
   same = λ z. refl;
 }
 
--- a session whose call the core has is in the place for that
-busy_place : (t : SessionLog) (r : List RepliedCall) (s : ℕ) (p : HostedSession) (c : Call) (slot : LaneState Call) (h : Hosts t r slot s p) → slot ≡ Busy c → (o : HostedState) → IsAtPlace o p.closed (seat slot s p.session h.answered.due t) → is_under_way o ≡ true
-busy_place t r s p c slot h busy (state.Resting lane) k = absurd (let z : Busy c ≡ Idle = sym busy ∙ k.0.slot in cc)
-busy_place t r s p c slot h busy (state.UnderWay lane) k = refl
-busy_place t r s p c slot h busy (state.Decided lane a) k = absurd (let z : Busy c ≡ Idle = sym busy ∙ k.slot in cc)
-busy_place t r s p c slot h busy (state.Gone why) k = absurd (let z : Busy c ≡ NoLane = sym busy ∙ k.slot in cc)
-
--- so by the log its call is running
+-- a session whose call the core has is running by the log
 busy_walks : (e : EngineView) (log : List Entry) (h : HasLog e log) (at : ℕ) (p : HostedSession) (stood : slice_get e.hosted at ≡ Some p) (c : Call) → lane_state e.core (at + 1) ≡ Busy c → is_running (phase (of_session (at + 1) log)) ≡ true
 busy_walks e log h at p stood c busy =
     let hosts = h.each at p stood in
-    walking_at e log h at p stood p.place refl ∙ busy_place (of_session (at + 1) log) (recorded_in (at + 1) (linearization log)) (at + 1) p c (lane_state e.core (at + 1)) hosts busy p.place hosts.at
+    walking_at e log h at p stood p.place refl ∙ ap is_under_way (busy_at p.place p.closed c (seat (lane_state e.core (at + 1)) (at + 1) p.session hosts.answered.due (of_session (at + 1) log)) busy hosts.at).1
 
 pub skips_work : (e : EngineView) (at : ℕ) (any : Bool) (e' : EngineView) (log : List Entry) → HasLog e log → at < length e.hosted → is_running (phase (of_session (at + 1) log)) ≡ false → WorkSoFar e at any e' → WorkSoFar e (at + 1) any e'
 skips_work e at any e' log h within rests k = record {

@@ -5,6 +5,8 @@ use Rattle.std.specs.List.{AllByRecursion, AllZip, flat_map, sum_by}
 use Rattle.std.specs.Result.{IsOk}
 use Rattle.sf_reply.specs.declared.reply.Reply.{Reply}
 use Rattle.sf_call.specs.declared.request.Request.{Request}
+use Rattle.sf_call.specs.declared.fault.JoinFault.{JoinFault}
+use Rattle.sf_call.specs.declared.fault.JoinFault.TheVariants as join
 use Rattle.sf_call.specs.declared.call.Call.{Call}
 use Rattle.sf_call.specs.declared.call.Stage.{Stage}
 use Rattle.sf_call.specs.declared.call.Stage.TheVariants as stage
@@ -22,7 +24,9 @@ use Rattle.sf_core.specs.Stuck.{left_below}
 use Rattle.sf_engine.specs.declared.event.Event.{Event}
 use Rattle.sf_engine.specs.declared.event.Event.TheVariants.{Turn}
 use Rattle.sf_engine.specs.declared.event.Happened.{Happened}
+use Rattle.sf_engine.specs.declared.event.Happened.TheVariants as happened
 use Rattle.sf_engine.specs.declared.event.EngineFault.{EngineFault}
+use Rattle.sf_engine.specs.declared.event.EngineFault.TheVariants as fault
 use Rattle.sf_engine.specs.declared.hosted.HostedSession.{HostedSession}
 use Rattle.sf_engine.specs.declared.hosted.HostedState.{HostedState}
 use Rattle.sf_engine.specs.declared.hosted.HostedState.TheVariants as state
@@ -194,6 +198,16 @@ IsEngine core hosted =
     (log : List Entry) × HasLog (record { core = core; hosted = hosted }) log
 
 -- ---- contracts
+
+abbrev pub engine_fault : JoinFault → EngineFault
+engine_fault join.OutOfMemory = fault.OutOfMemory
+engine_fault join.Sessions = fault.Sessions
+engine_fault join.NumbersSpent = fault.NumbersSpent
+
+-- the result of the event `Open`
+abbrev pub open_result : Result ℕ JoinFault → Result Happened EngineFault
+open_result (Ok session) = Ok (happened.Opened session)
+open_result (Err f) = Err (engine_fault f)
 
 -- Each log of the engine gets one more entry, of this event and result. The core has made the step
 -- of the session's call, with no more work than it may take.

@@ -17,7 +17,7 @@ use Rattle.sf_call.specs.declared.request.Request.{Request}
 use Rattle.sf_call.specs.declared.request.Request.TheVariants as request
 use Rattle.sf_call.specs.declared.record.Record.{Record}
 use Rattle.sf_call.specs.declared.record.Record.TheVariants.{Did, Left}
-use Rattle.sf_call.specs.declared.fault.CoreFault.TheVariants as core
+use Rattle.sf_call.specs.declared.fault.BeginFault.TheVariants as begin
 use Rattle.sf_call.specs.Histories.{IsLegal}
 use Rattle.sf_session.specs.declared.asking.Ask.TheVariants as ask
 use Rattle.sf_session.specs.declared.cause.Cause.{Cause}
@@ -326,10 +326,8 @@ MayWrite front s Version = Unit {0}
 MayWrite front s (Locally id reply) = Unit {0}
 MayWrite front s (ByCall id number request reply) = recorded_in s (linearization front)
     ≡ answered_in ((of_session s front).wrote ++ ByCall id number request reply ∷ [])
-MayWrite front s (Refused id request core.OutOfMemory) = begun_in front < most_calls
-MayWrite front s (Refused id request core.NumbersSpent) = begun_in front ≡ most_calls
-MayWrite front s (Refused id request core.Sessions) = ⊥
-MayWrite front s (Refused id request core.Stranger) = ⊥
+MayWrite front s (Refused id request begin.OutOfMemory) = begun_in front < most_calls
+MayWrite front s (Refused id request begin.NumbersSpent) = begun_in front ≡ most_calls
 
 -- why an event is refused
 abbrev pub MayBeRefused : List Entry → Event → EngineFault → Type 0

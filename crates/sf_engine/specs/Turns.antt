@@ -7,7 +7,7 @@ use Rattle.sf_call.specs.declared.record.Record.{Record}
 use Rattle.sf_call.specs.declared.record.Record.TheVariants.{Left}
 use Rattle.sf_call.specs.declared.request.Request.{Request}
 use Rattle.sf_call.specs.declared.call.Call.{Call}
-use Rattle.sf_call.specs.declared.fault.CoreFault.{CoreFault}
+use Rattle.sf_call.specs.declared.fault.BeginFault.{BeginFault}
 use Rattle.sf_call.specs.Answers.{AnswerView}
 use Rattle.sf_session.specs.declared.cause.Cause.TheVariants.{Closed}
 use Rattle.sf_session.specs.declared.session.Next.TheVariants as next
@@ -15,8 +15,8 @@ use Rattle.sf_session.specs.Sessions.{SessionView, NextGives, refusal_of, reply_
 use Rattle.sf_core.specs.Lanes.{LaneView}
 use Rattle.sf_session.specs.Sessions.{new_session}
 use Rattle.sf_core.specs.Cores.LaneState.{Idle}
-use Rattle.sf_core.specs.Cores.{CoreView, lane_state, joined, most_sessions, last_number}
-use Rattle.sf_core.specs.Events.{Before, After, Joins, OwnCall, MovesOn, IsBlocked, Fetches, Decides, AddsNothing, Answers, CallBegins, begun, RefusesBegin, SessionLeaves}
+use Rattle.sf_core.specs.Cores.{CoreView, lane_state}
+use Rattle.sf_core.specs.Events.{Before, After, Joins, OwnCall, MovesOn, IsBlocked, Fetches, Decides, AddsNothing, Answers, CallBegins, begun, RefusesCall, SessionLeaves}
 use Rattle.sf_core.specs.Histories.{IsHistory}
 use Rattle.sf_engine.specs.declared.hosted.HostedSession.{HostedSession}
 use Rattle.sf_engine.specs.declared.hosted.HostedState.{HostedState}
@@ -66,10 +66,10 @@ StepGives b happened.Decided a p =
 StepGives b _ a p = ⊥
 
 -- a reply without a call: the session's own, or a refusal, as the call could not begin
-abbrev pub WritesAtOnce : Stand → LaneView → SessionView → Type 0
-WritesAtOnce a lane y = NextGives a.session next.Local y
-    ⊎ ((request : Request) × (mid : SessionView) × (fault : CoreFault)
-    × NextGives a.session (next.Call request) mid × RefusesBegin a.core lane fault
+abbrev pub WritesAtOnce : Stand → SessionView → Type 0
+WritesAtOnce a y = NextGives a.session next.Local y
+    ⊎ ((request : Request) × (mid : SessionView) × (fault : BeginFault)
+    × NextGives a.session (next.Call request) mid × RefusesCall a.core fault
     × IfSome mid.waiting (λ id. y ≡ record mid {
       output = mid.output ++ packet (reply_body id (refusal_of fault));
       waiting = None;
@@ -79,7 +79,7 @@ WritesAtOnce a lane y = NextGives a.session next.Local y
 abbrev pub ReadGives : Stand → LaneView → ℕ → Happened → List Record → Stand → Type 0
 ReadGives a lane m happened.Idle added b = NextGives a.session next.More b.session
     × (b.core ≡ a.core) × (added ≡ []) × (b.place ≡ state.Resting lane)
-ReadGives a lane m happened.Wrote added b = WritesAtOnce a lane b.session
+ReadGives a lane m happened.Wrote added b = WritesAtOnce a b.session
     × (b.core ≡ a.core) × (added ≡ []) × (b.place ≡ state.Resting lane)
 ReadGives a lane m happened.Begun added b =
     (request : Request) × NextGives a.session (next.Call request) b.session
@@ -201,21 +201,15 @@ SentFault p n fault.NotSent = length p.session.output < n
 SentFault p n _ = ⊥
 
 -- a session joined, and is the next one that the engine hosts
-pub record OpenGives (v : CoreView) (hosted : List HostedSession) (r : Happened) (w : CoreView)
+pub record OpenGives (v : CoreView) (hosted : List HostedSession) (session : ℕ) (w : CoreView)
     (hosted' : List HostedSession) : Type 0 where
-  pub opened : r ≡ happened.Opened (v.joins + 1)
+  pub opened : session ≡ v.joins + 1
   pub core : Joins v w
   pub added : hosted' ≡ hosted ++ record {
     session = new_session;
     place = state.Resting (record { session = v.joins + 1; call = None; begun = 0 });
     closed = false;
   } ∷ []
-
-abbrev pub OpenFault : CoreView → EngineFault → Type 0
-OpenFault v fault.OutOfMemory = (joined v < most_sessions) × (v.joins < last_number)
-OpenFault v fault.Sessions = most_sessions ≤ joined v
-OpenFault v fault.NumbersSpent = (joined v < most_sessions) × (v.joins ≡ last_number)
-OpenFault v _ = ⊥
 
 -- A turn may run out of memory when it reads a packet, or writes a reply longer than its room.
 abbrev pub MayRefuseTurn : HostedState → Type 0

@@ -9,14 +9,14 @@ ghost use Rattle.sf_core.specs.Histories.{IsHistory};
 ghost use Rattle.sf_engine.specs.declared.hosted.HostedSession.{HostedSession};
 ghost use Rattle.sf_engine.specs.Turns.{is_under_way};
 ghost use Rattle.sf_engine.specs.Promise.{refusals, Entry, linearization};
-ghost use Rattle.sf_engine.specs.HasLog.{IsEngine, left_to, HasLog, AppendsEntry, AppendsTurns, ShowsOutput, IsNoSession, AppendsEvents, AppendsRound, AppendsRounds, AreDecided, IsWithinBounds, WantsBytes};
+ghost use Rattle.sf_engine.specs.HasLog.{IsEngine, left_to, HasLog, open_result, AppendsEntry, AppendsTurns, ShowsOutput, IsNoSession, AppendsEvents, AppendsRound, AppendsRounds, AreDecided, IsWithinBounds, WantsBytes};
 
 use crate::event::{EngineFault, Event, Happened};
 use crate::hosted::{
     HostedSession, close_hosted, feed_hosted, open_hosted, send_hosted, turn_hosted, turns_hosted,
     wants_bytes,
 };
-use sf_call::Leaf;
+use sf_call::{JoinFault, Leaf};
 use sf_core::Core;
 use std::alloc::{AllocError, Global};
 use std::marker::Model;
@@ -73,6 +73,18 @@ fn refusal(outcome: &Result<Happened, EngineFault>) -> usize
     }
 }
 
+/// The result of the event `Open`.
+fn open_result(opened: Result<u64, JoinFault>) -> Result<Happened, EngineFault>
+    ensures { result ≡ open_result opened }
+{
+    match opened {
+        Ok(session) => Ok(Happened::Opened(session)),
+        Err(JoinFault::OutOfMemory) => Err(EngineFault::OutOfMemory),
+        Err(JoinFault::Sessions) => Err(EngineFault::Sessions),
+        Err(JoinFault::NumbersSpent) => Err(EngineFault::NumbersSpent),
+    }
+}
+
 impl Engine {
     /// No session, and the root alone. The core keeps all records.
     pub fn new(alloc: Global) -> Result<Engine, AllocError>
@@ -107,8 +119,9 @@ impl Engine {
         }
     }
 
-    fn open(&mut self) -> Result<Happened, EngineFault>
-        ensures log { AppendsEntry self.old Event.Open result self.new }
+    /// The event `Open`. Returns the session's number.
+    pub fn open(&mut self) -> Result<u64, JoinFault>
+        ensures log { AppendsEntry self.old Event.Open (open_result result) self.new }
         ensures err { OnErr result (self.new ≡ self.old) }
     {
         open_hosted(self.alloc, &mut self.core, &mut self.hosted)
@@ -141,7 +154,7 @@ impl Engine {
         ensures err { OnErr result (self.new ≡ self.old) }
     {
         match event {
-            Event::Open => self.open(),
+            Event::Open => open_result(self.open()),
             Event::Feed(session, bytes) => self.feed(*session, bytes),
             Event::Turn(session, moment) => self.turn(*session, *moment),
             Event::Close(session) => self.close(*session),

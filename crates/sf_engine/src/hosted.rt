@@ -9,15 +9,15 @@ ghost use Rattle.sf_session.specs.declared.session.Next.TheVariants as TheNext;
 ghost use Rattle.sf_session.specs.Sessions.{SessionView, NextGives};
 ghost use Rattle.sf_core.specs.Cores.LaneState.{Idle};
 ghost use Rattle.sf_core.specs.Cores.{lane_state};
-ghost use Rattle.sf_core.specs.Events.{SessionLeaves};
+ghost use Rattle.sf_core.specs.Events.{RefusesJoin, SessionLeaves};
 ghost use Rattle.sf_core.specs.Histories.{IsHistory};
 ghost use Rattle.sf_core.specs.Lanes.{LaneView};
 ghost use Rattle.sf_engine.specs.Promise.{continues};
-ghost use Rattle.sf_engine.specs.Turns.{AddsRecords, RestsOrLeaves, has_lane, is_resting, is_under_way, IsLaneOf, TurnGives, OtherGives, CloseGives, FeedGives, FeedFault, SentGives, SentFault, IsHostedState, OpenGives, OpenFault, MayRefuseTurn, stand, IsReady, TurnsGive, GoesFar, finding};
+ghost use Rattle.sf_engine.specs.Turns.{AddsRecords, RestsOrLeaves, has_lane, is_resting, is_under_way, IsLaneOf, TurnGives, OtherGives, CloseGives, FeedGives, FeedFault, SentGives, SentFault, IsHostedState, OpenGives, MayRefuseTurn, stand, IsReady, TurnsGive, GoesFar, finding};
 
 use crate::event::{EngineFault, Happened};
-use sf_call::{Answer, CoreFault, Request};
-use sf_core::{Core, Lane, Step};
+use sf_call::{Answer, JoinFault, Request};
+use sf_core::{Core, CoreFault, Lane, Step};
 use sf_session::{Cause, Next, Session, SessionFault};
 use std::alloc::Global;
 use std::mem;
@@ -168,10 +168,11 @@ impl HostedState {
                 *self = HostedState::UnderWay(self.take_lane());
                 Ok(Happened::Begun)
             }
-            Err(fault) => {
+            Err(CoreFault::Refused(fault)) => {
                 session.refuse(fault);
                 Ok(Happened::Wrote)
             }
+            Err(CoreFault::Stranger) => unreachable!(),
         }
     }
 
@@ -259,10 +260,11 @@ impl HostedState {
         };
         let made = match core.call(lane, request, moment) {
             Ok(made) => made,
-            Err(fault) => {
+            Err(CoreFault::Refused(fault)) => {
                 session.refuse(fault);
                 return Ok(Happened::Wrote);
             }
+            Err(CoreFault::Stranger) => unreachable!(),
         };
         *self = HostedState::UnderWay(self.take_lane());
         match made {
@@ -436,29 +438,27 @@ pub(crate) fn send_hosted(hosted: &mut HostedSession, n: usize) -> Result<Happen
     Ok(Happened::Sent)
 }
 
-/// Opens the next session.
+/// Opens the next session. Returns its number.
 pub(crate) fn open_hosted(
     alloc: Global,
     core: &mut Core,
     hosted: &mut Vec<HostedSession>,
-) -> Result<Happened, EngineFault>
-    ensures ok { IfOk result (λ r. OpenGives core.old hosted.old.items r core.new
+) -> Result<u64, JoinFault>
+    ensures ok { IfOk result (λ session. OpenGives core.old hosted.old.items session core.new
         hosted.new.items) }
     ensures history { OnOk result ((h : List Record) → IsHistory core.old h
         → IsHistory core.new h) }
     ensures err { OnErr result ((core.new ≡ core.old) × (hosted.new.items ≡ hosted.old.items)) }
-    ensures fault { IfErr result (λ fault. OpenFault core.old fault) }
+    ensures fault { IfErr result (λ fault. RefusesJoin core.old fault) }
 {
-    match core.join_fault() {
-        Some(CoreFault::Sessions) => return Err(EngineFault::Sessions),
-        Some(_) => return Err(EngineFault::NumbersSpent),
-        None => {}
+    if let Some(fault) = core.join_fault() {
+        return Err(fault);
     }
     if hosted.reserve(1).is_err() {
-        return Err(EngineFault::OutOfMemory);
+        return Err(JoinFault::OutOfMemory);
     }
     let Ok(lane) = core.join() else {
-        return Err(EngineFault::OutOfMemory);
+        return Err(JoinFault::OutOfMemory);
     };
     let session = lane.session();
     let hosted_session = HostedSession {
@@ -469,5 +469,5 @@ pub(crate) fn open_hosted(
     if hosted.push(hosted_session).is_err() {
         unreachable!();
     }
-    Ok(Happened::Opened(session))
+    Ok(session)
 }

@@ -1,6 +1,6 @@
 //! The texts of errors.
 
-use sf_call::CoreFault;
+use sf_call::{BeginFault, JoinFault};
 use sf_path::PathFault;
 use sf_session::SessionFault;
 use std::test::*;
@@ -21,10 +21,15 @@ fn texts_of_path_faults(rt: HostRuntime) -> Result<(), Fail> {
 #[test]
 fn texts_of_core_faults(rt: HostRuntime) -> Result<(), Fail> {
     for (fault, words) in [
-        (CoreFault::OutOfMemory, "out of memory"),
-        (CoreFault::Sessions, "too many sessions"),
-        (CoreFault::NumbersSpent, "numbers spent"),
-        (CoreFault::Stranger, "not of this core"),
+        (JoinFault::OutOfMemory, "out of memory"),
+        (JoinFault::Sessions, "too many sessions"),
+        (JoinFault::NumbersSpent, "numbers spent"),
+    ] {
+        assert_eq!(rt; format!(in rt.alloc(); "{fault}")?.as_str(), words);
+    }
+    for (fault, words) in [
+        (BeginFault::OutOfMemory, "out of memory"),
+        (BeginFault::NumbersSpent, "numbers spent"),
     ] {
         assert_eq!(rt; format!(in rt.alloc(); "{fault}")?.as_str(), words);
     }

@@ -6,7 +6,7 @@ use Rattle.std.specs.Ordering.{nat_cmp}
 use Rattle.std.specs.Map.{remove_entry}
 use Rattle.std.specs.BTreeMap.{is_at}
 use Rattle.sf_call.specs.declared.handle.Handle.{Handle}
-use Rattle.sf_call.specs.Tree.{Tree, handle_of, is_used, with_handles}
+use Rattle.sf_call.specs.Tree.{Tree, handle_of, is_used}
 use Rattle.sf_call.specs.Changes.{Change as change, changed}
 use Rattle.sf_inode.specs.declared.node.Node.{Node}
 use Rattle.sf_inode.specs.declared.handle.OpenHandle.{OpenHandle}
@@ -29,7 +29,7 @@ module _ (s : StoreState) (t : Tree) (k : Keeps s t) (session number : ℕ) (h :
   less it = with_opened (it.opens - 1) it
 
   abbrev rest : Tree
-  rest = with_handles t (remove_entry (is_at (nat_cmp number)) t.handles)
+  rest = record t { handles = remove_entry (is_at (nat_cmp number)) t.handles }
 
   abbrev after : Tree
   after = changed t (change.CloseHandle number)

@@ -8,7 +8,7 @@ use Rattle.sf_call.specs.declared.metadata.Metadata.{Metadata}
 use Rattle.sf_call.specs.declared.lookup.Lookup.TheVariants.{NoWay, Absent, At}
 use Rattle.sf_call.specs.Attributes.{Object}
 use Rattle.sf_call.specs.Attributes.Object.{Directory}
-use Rattle.sf_call.specs.Tree.{Tree, directory_metadata, directory_at, label_at, object_of, is_directory, proper_fronts, is_faulty_way, lookup_of, look_up, found_object, found_place, found_at}
+use Rattle.sf_call.specs.Tree.{Tree, directory_metadata, directory_at, label_at, object_of, is_directory, proper_fronts, is_faulty_way, lookup_of, look_up, found_place, found_at}
 use Rattle.sf_inode.specs.declared.node.Node.{Node}
 use Rattle.sf_inode.specs.declared.node.Content.TheVariants as content
 use Rattle.sf_inode.specs.Nodes.{object_in, is_directory_content, is_file_content}
@@ -132,8 +132,8 @@ module _ (s : StoreState) (t : Tree) (k : Keeps s t) where
       ap (λ (b : Bool). if b then NoWay else lookup_of (label_at t.names path)) (way_by (view_of s) t k.shows.by path ∙ clear_way (view_of s) t k.shows.by path s.root id at)
       ∙ ap lookup_of (label_found path ∙ ap (λ (w : Option ℕ). option_map (λ (node : Node). node.label) (option_and_then (node_in s.nodes) w)) at ∙ ap (option_map (λ (node : Node). node.label)) here)
 
-  pub object_found : (path : Path) (id : ℕ) (node : Node) → walk (child_of s.nodes) s.root path ≡ Some id → node_in s.nodes id ≡ Some node → found_at t path ≡ found_object node.label (Some (object_in node.metadata node.content))
-  object_found path id node at here = ap (found_place t.objects) (place_found path id node at here) ∙ ap (found_object node.label) (object_there s t k id node here)
+  pub object_found : (path : Path) (id : ℕ) (node : Node) → walk (child_of s.nodes) s.root path ≡ Some id → node_in s.nodes id ≡ Some node → found_at t path ≡ Some (node.label, object_in node.metadata node.content)
+  object_found path id node at here = ap (found_place t.objects) (place_found path id node at here) ∙ ap (option_map {U = ℕ × Object} (λ (object : Object). (node.label, object))) (object_there s t k id node here)
 
   -- an absent name of a directory
   pub absent_found : (p : Path) (dir : ℕ) (n : Name) → walk (child_of s.nodes) s.root p ≡ Some dir → is_directory_at s.nodes dir ≡ true → child_of s.nodes dir n ≡ None → look_up t (p ++ n ∷ []) ≡ Absent

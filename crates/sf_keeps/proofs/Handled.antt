@@ -8,7 +8,7 @@ use Rattle.std.specs.Map.{remove_entry}
 use Rattle.std.specs.BTreeMap.{is_at}
 use Rattle.sf_call.specs.declared.handle.Handle.{Handle}
 use Rattle.sf_call.specs.Attributes.{Object}
-use Rattle.sf_call.specs.Tree.{Tree, IsOrderedTree, handle_of, is_used, with_handles}
+use Rattle.sf_call.specs.Tree.{Tree, IsOrderedTree, handle_of, is_used}
 use Rattle.sf_call.specs.Handles.{if_of}
 use Rattle.sf_call.specs.Changes.{changed}
 use Rattle.sf_call.specs.Changes.Change.{OpenHandle, SetHandle, CloseHandle}
@@ -43,7 +43,7 @@ module _ (view : View) (t : Tree) (h : ShowsBy view t) (session number : ℕ) (r
   opens_changed a = at_or_beside _ number (simp (found.at, nat_eq_itself) (at_number a))
       (λ b ne. simp (nat_eq_apart number b ne) (ap (option_and_then (if_of a)) (found.beside b ne) ∙ h.handles a b ∙ sym (no_and (nat_eq session a) r (view.opens a b))))
 
-  pub by_opens : ShowsBy (with_opens view session number r) (with_handles t handles)
+  pub by_opens : ShowsBy (with_opens view session number r) (record t { handles = handles })
   by_opens = record { names = h.names; objects = h.objects; found = h.found; handles = opens_changed; sound = h.sound }
 
 -- no handle has the number
@@ -97,7 +97,7 @@ module _ (view : View) (t : Tree) (h : Shows view t) where
 
     -- ---- the handle closed
     abbrev closed : Tree
-    closed = with_handles t (remove_entry (is_at (nat_cmp number)) t.handles)
+    closed = record t { handles = remove_entry (is_at (nat_cmp number)) t.handles }
 
     pub by_closed : ShowsBy (with_opens view session number None) closed
     by_closed = by_opens view t h.by session number None (λ x e. cc) alone closed.handles (removed_at number_keys t.handles number h.ordered.handles)

@@ -9,7 +9,7 @@ use Rattle.std.specs.BTreeMap.{is_at}
 use Rattle.sf_call.specs.declared.metadata.Metadata.{Metadata}
 use Rattle.sf_call.specs.Attributes.{Object}
 use Rattle.sf_call.specs.Attributes.Object.{Directory, File}
-use Rattle.sf_call.specs.Tree.{Tree, with_objects}
+use Rattle.sf_call.specs.Tree.{Tree}
 use Rattle.sf_call.specs.Changes.{changed}
 use Rattle.sf_call.specs.Changes.Change.{SetObject}
 use Rattle.sf_inode.specs.declared.node.Node.{Node}
@@ -84,4 +84,4 @@ set_again test [] v w = refl
 set_again test (e ∷ es) v w = elim (cases_Bool (test e.0)) [ inl f ↦ simp f | inr f ↦ simp f (ap (λ rest. e ∷ rest) (set_again test es v w)) ]
 
 pub object_again : (t : Tree) (label : ℕ) (o u : Object) → changed (changed t (SetObject label o)) (SetObject label u) ≡ changed t (SetObject label u)
-object_again t label o u = ap (with_objects t) (set_again (is_at (nat_cmp label)) t.objects o u)
+object_again t label o u = ap (λ (objects : List (ℕ × Object)). record t { objects = objects }) (set_again (is_at (nat_cmp label)) t.objects o u)

@@ -14,7 +14,7 @@ use Rattle.sf_path.specs.Names.{Name, Path}
 use Rattle.sf_path.specs.Order.{path_cmp, path_total}
 use Rattle.sf_call.specs.declared.handle.Handle.{Handle}
 use Rattle.sf_call.specs.Attributes.{Object}
-use Rattle.sf_call.specs.Tree.{Tree, IsOrderedTree, label_at, object_of, handle_of, is_used, kept, with_names, with_objects}
+use Rattle.sf_call.specs.Tree.{Tree, IsOrderedTree, label_at, object_of, handle_of, is_used, kept}
 use Rattle.sf_call.specs.Handles.{handle_in, if_of}
 use Rattle.sf_keeps.specs.Steps.{walk}
 use Rattle.sf_keeps.specs.Shows.{View, ShowsBy, AllUsed, label_by, changed_shown, with_step, with_shown}
@@ -26,7 +26,7 @@ use Rattle.sf_keeps.proofs.Shown.{labels_along, names_led, some_label, nat_same}
 
 module _ (view : View) (t : Tree) (s : ShowsBy view t) where
   pub shows_less : (p : Path) (d : ℕ) (n : Name) (c : ℕ) → T (is_sorted path_cmp t.names) → walk view.step view.root p ≡ Some d → view.step d n ≡ Some c → IsBare view.step c
-      → ShowsBy (with_step view d n None) (with_names t (remove_entry (is_at (path_cmp (p ++ n ∷ []))) t.names))
+      → ShowsBy (with_step view d n None) (record t { names = remove_entry (is_at (path_cmp (p ++ n ∷ []))) t.names })
   shows_less p d n c ordered at there bare = record {
     names = names_led view t s p d n None (label_by view.shown) (remove_entry (is_at (path_cmp (p ++ n ∷ []))) t.names) (record {
       at = at;
@@ -48,7 +48,7 @@ module _ (view : View) (t : Tree) (s : ShowsBy view t) where
   -- ---- a deleted inode
   -- the same objects but one
   pub shows_dropped : (c label : ℕ) (o : Object) (objects : List (ℕ × Object)) → view.shown c ≡ Some (label, o) → HasNoEntry view.step c → IsBare view.step c → (view.root ≡ c → ⊥)
-      → SetsAt (object_of t.objects) (object_of objects) label None → ShowsBy (with_shown view c None) (with_objects t objects)
+      → SetsAt (object_of t.objects) (object_of objects) label None → ShowsBy (with_shown view c None) (record t { objects = objects })
   shows_dropped c label o objects at free bare other gone =
       let shown = sets view.shown c None in
       let labels = set_seen (option_map (λ (x : ℕ × Object). x.0)) shown in
@@ -105,7 +105,7 @@ IsClosed view label = (session number : ℕ) (h : Handle) → view.opens session
 
 module _ (view : View) (t : Tree) (s : ShowsBy view t) where
   -- the same objects by lookups
-  pub shows_same : (objects : List (ℕ × Object)) → ((l : ℕ) → object_of objects l ≡ object_of t.objects l) → ShowsBy view (with_objects t objects)
+  pub shows_same : (objects : List (ℕ × Object)) → ((l : ℕ) → object_of objects l ≡ object_of t.objects l) → ShowsBy view (record t { objects = objects })
   shows_same objects same = record {
     names = s.names;
     objects = λ i l u e. same l ∙ s.objects i l u e;

@@ -5,7 +5,7 @@ use Rattle.std.proofs.Common.{sym, ap, subst, ◌∙◌, inl, inr, arith, eq-eqb
 use Rattle.sf_path.specs.Names.{Name}
 use Rattle.sf_call.specs.declared.handle.Handle.{Handle}
 use Rattle.sf_call.specs.Tree.{Tree, handle_of}
-use Rattle.sf_call.specs.Handles.{if_of, with_listed}
+use Rattle.sf_call.specs.Handles.{if_of}
 use Rattle.sf_call.specs.Changes.{Change as change, changed}
 use Rattle.sf_call.proofs.Laws.{ordered_changed}
 use Rattle.sf_inode.specs.declared.node.Node.{Node}
@@ -106,7 +106,7 @@ module _ (s : StoreState) (t : Tree) (k : Keeps s t) (session number id : ℕ) (
 -- ---- the last listed name of a handle
 module _ (s : StoreState) (t : Tree) (k : Keeps s t) (session number : ℕ) (h : OpenHandle) (at : open_handle_at s session number ≡ Some h) (name : Name) where
   abbrev set_handle : Handle
-  set_handle = with_listed (shown_handle session h) (Some name)
+  set_handle = record (shown_handle session h) { listed = Some name }
 
   abbrev listed : Tree
   listed = changed t (change.SetHandle number set_handle)

@@ -5,7 +5,7 @@ use Rattle.std.proofs.Common.{sym, ap, ◌∙◌, append_assoc, eqb-true, eq-eqb
 use Rattle.sf_path.specs.Names.{Name, Path}
 use Rattle.sf_path.specs.Order.{path_cmp, path_total}
 use Rattle.sf_call.specs.Attributes.{Object}
-use Rattle.sf_call.specs.Tree.{Tree, IsOrderedTree, after_front, label_at, object_of, is_used, kept, with_names}
+use Rattle.sf_call.specs.Tree.{Tree, IsOrderedTree, after_front, label_at, object_of, is_used, kept}
 use Rattle.sf_call.specs.Moves.{moved}
 use Rattle.sf_call.specs.Changes.{changed}
 use Rattle.sf_call.specs.Changes.Change.{Move}
@@ -133,7 +133,7 @@ module _ (view : View) (t : Tree) (h : Shows view t) (po : Path) (on : Name) (fr
   relinked_view = with_step (with_step view from on None) to nn (Some c)
 
   abbrev moved_tree : Tree
-  moved_tree = with_names t (moved t.names old new)
+  moved_tree = record t { names = moved t.names old new }
 
   by_moved : ShowsBy relinked_view moved_tree
   by_moved = record {

@@ -9,7 +9,7 @@ use Rattle.sf_path.specs.Names.{Name, Path}
 use Rattle.sf_path.specs.Order.{path_cmp, path_total}
 use Rattle.sf_call.specs.declared.handle.Handle.{Handle}
 use Rattle.sf_call.specs.Attributes.{Object}
-use Rattle.sf_call.specs.Tree.{Tree, IsOrderedTree, directory_metadata, label_at, object_of, handle_of, is_used, with_names}
+use Rattle.sf_call.specs.Tree.{Tree, IsOrderedTree, directory_metadata, label_at, object_of, handle_of, is_used}
 use Rattle.sf_call.specs.Changes.{changed}
 use Rattle.sf_call.specs.Changes.Change.{SetObject, NewPath, GonePath}
 use Rattle.sf_call.proofs.Laws.{ordered_changed, same_tree}
@@ -89,7 +89,7 @@ module _ (view : View) (t : Tree) (h : Shows view t) where
   -- ---- one entry fewer
   module _ (p : Path) (d : ℕ) (n : Name) (c label : ℕ) (o : Object) (at : walk view.step view.root p ≡ Some d) (there : view.step d n ≡ Some c) (bare : IsBare view.step c) (is : view.shown c ≡ Some (label, o)) where
     abbrev less : Tree
-    less = with_names t (remove_entry (is_at (path_cmp (p ++ n ∷ []))) t.names)
+    less = record t { names = remove_entry (is_at (path_cmp (p ++ n ∷ []))) t.names }
 
     ordered_less : IsOrderedTree less
     ordered_less = record { names = (ordered_changed t (GonePath (p ++ n ∷ [])) h.ordered).names; objects = h.ordered.objects; handles = h.ordered.handles }

@@ -5,7 +5,7 @@ ghost use Rattle.std.specs.List.{All, count_by};
 ghost use Rattle.std.specs.Option.{option_map_or};
 ghost use Rattle.sf_path.specs.Names.{Name, Path};
 ghost use Rattle.sf_call.specs.Tree.{Tree, handle_of, object_of};
-ghost use Rattle.sf_call.specs.Handles.{handle_in, with_listed};
+ghost use Rattle.sf_call.specs.Handles.{handle_in};
 ghost use Rattle.sf_call.specs.Changes.{changed};
 ghost use Rattle.sf_call.specs.Changes.{Change as change};
 ghost use Rattle.sf_call.specs.Calls.{leave};
@@ -60,7 +60,7 @@ pub fn listed_handles()
     ensures { (s : StoreState) (t : Tree) (session number : ℕ) (name : Name) (h : OpenHandle)
         → Keeps s t → open_handle_at s session number ≡ Some h
         → Keeps (handle_listed s session number name) (changed t
-        (change.SetHandle number (with_listed (shown_handle session h) (Some name)))) }
+        (change.SetHandle number (record (shown_handle session h) { listed = Some name }))) }
 {}
 
 /// Closing a handle, or all of a session, closes them in the tree. Objects without link and open

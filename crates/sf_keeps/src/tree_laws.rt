@@ -7,7 +7,7 @@ ghost use Rattle.sf_path.specs.Names.{Name, Path};
 ghost use Rattle.sf_call.specs.declared.metadata.Metadata.{Metadata};
 ghost use Rattle.sf_call.specs.Attributes.{Object};
 ghost use Rattle.sf_call.specs.Attributes.Object.{Directory, File};
-ghost use Rattle.sf_call.specs.Tree.{Tree, empty_tree, after_front, directory_at, label_at, object_of, is_faulty_way, look_up, found_object, found_at, is_empty, links};
+ghost use Rattle.sf_call.specs.Tree.{Tree, empty_tree, after_front, directory_at, label_at, object_of, is_faulty_way, look_up, found_at, is_empty, links};
 ghost use Rattle.sf_call.specs.declared.lookup.Lookup.TheVariants.{NoWay, Absent, At};
 ghost use Rattle.sf_call.specs.Changes.{changed};
 ghost use Rattle.sf_call.specs.Changes.Change.{SetObject, NewPath, NewName, GonePath, Move};
@@ -96,7 +96,7 @@ pub fn found_paths()
         → look_up t p ≡ At node.label }
     ensures found { (s : StoreState) (t : Tree) (p : Path) (id : ℕ) (node : Node) → Keeps s t
         → walk (child_of s.nodes) s.root p ≡ Some id → node_in s.nodes id ≡ Some node
-        → found_at t p ≡ found_object node.label (Some (object_in node.metadata node.content)) }
+        → found_at t p ≡ Some (node.label, object_in node.metadata node.content) }
     ensures directory { (s : StoreState) (t : Tree) (p : Path) (dir label : ℕ) (m : Metadata)
         → Keeps s t → walk (child_of s.nodes) s.root p ≡ Some dir
         → shown_of s.nodes dir ≡ Some (label, Directory m) → directory_at t p ≡ Some (label, m) }

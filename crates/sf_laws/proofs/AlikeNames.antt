@@ -14,7 +14,7 @@ use Rattle.sf_call.specs.declared.request.Request.TheVariants.{Stat, SetStat, Op
 use Rattle.sf_call.specs.declared.lookup.Lookup.{Lookup}
 use Rattle.sf_call.specs.declared.lookup.Lookup.TheVariants.{NoWay, At}
 use Rattle.sf_call.specs.Tree.{Tree, label_at, links, lookup_of, look_up, found_place, is_directory}
-use Rattle.sf_call.specs.Calls.{Outcome, answer_to, stat, set_stat, open_directory, open_file, opening, stamp, unless_root}
+use Rattle.sf_call.specs.Calls.{Outcome, answer_to, stat, set_stat, open_directory, open_file, unless_root}
 use Rattle.sf_call.specs.Histories.{replay, IsLegal}
 use Rattle.sf_call.proofs.Laws.{exact_paths, same_path_is, one_path, named_way, open_way, ordered_replay, other_removed, removed_itself, sorted_removed, is_link_itself, links_less, none_linked}
 use Rattle.sf_laws.specs.Linked.{NameOne}
@@ -56,7 +56,7 @@ module _ (history : List Record) (legal : IsLegal history) where
     pub open_alike : (flags : OpenFlags) (attrs : Attrs) (path other : Path) → NameOne tree path other
         → answer_to tree session number moment (Open path flags attrs) ≡ answer_to tree session number moment (Open other flags attrs)
     open_alike flags attrs path other one =
-        by_label (λ path p. open_file tree session (stamp number moment) (opening path flags attrs) p) one.label (λ _ _. refl) path other one.first one.second
+        by_label (λ path p. open_file tree session number moment path flags attrs p) one.label (λ _ _. refl) path other one.first one.second
 
   pub directory_links : (path : Path) (label : ℕ) → is_directory tree path ≡ true → label_at tree.names path ≡ Some label → links tree.names label ≡ 1
   directory_links path label is at =

@@ -1,5 +1,5 @@
 -- Requests that change nothing.
-use Rattle.std.proofs.Common.{◌≡◌, ℕ, Bool, true, false, cond, nat_eq, nat_le, not, List, [], ◌∷◌, length, Option, Some, None, refl, sym, ap}
+use Rattle.std.proofs.Common.{option_and_then, option_map, ◌≡◌, ℕ, Bool, true, false, cond, nat_eq, nat_le, not, List, [], ◌∷◌, length, Option, Some, None, refl, sym, ap}
 use Rattle.std.specs.Ordering.{nat_cmp}
 use Rattle.std.specs.Map.{lookup, set_value}
 use Rattle.std.specs.BTreeMap.{is_at}
@@ -10,10 +10,8 @@ use Rattle.sf_field.specs.Attributes.{no_attrs}
 use Rattle.sf_call.specs.Attributes.{Object}
 use Rattle.sf_call.specs.Attributes.Object.{Directory, File}
 use Rattle.sf_call.specs.declared.handle.Handle.{Handle}
-use Rattle.sf_call.specs.Tree.{Tree, FoundObject, object_of, found_object, found_place, look_up, with_objects}
-use Rattle.sf_call.specs.Tree.FoundObject.{Nowhere, Nothing, DirectoryAt, FileAt}
-use Rattle.sf_call.specs.Handles.{Opened, opened_object, opened_by}
-use Rattle.sf_call.specs.Handles.Opened.{NotOpen, OpenDirectory, OpenFile}
+use Rattle.sf_call.specs.Tree.{Tree, object_of, found_place, look_up}
+use Rattle.sf_call.specs.Handles.{opened_by}
 use Rattle.sf_call.specs.Changes.{done}
 use Rattle.sf_call.specs.Calls.{Outcome, stat, stat_opened, sets, set_stat, set_opened, read, write, unless_root}
 
@@ -31,27 +29,26 @@ module _ (tree : Tree) where
   either true this that p q = p
   either false this that p q = q
 
-  pub told : (found : FoundObject) → done tree (stat found).changes ≡ tree
-  told Nowhere = refl
-  told Nothing = refl
-  told (DirectoryAt label m) = refl
-  told (FileAt label m contents) = refl
+  pub told : (found : Option (ℕ × Object)) → done tree (stat found).changes ≡ tree
+  told None = refl
+  told (Some (label, Directory m)) = refl
+  told (Some (label, File m contents)) = refl
 
-  pub told_opened : (o : Opened) → done tree (stat_opened o).changes ≡ tree
-  told_opened NotOpen = refl
-  told_opened (OpenDirectory h m) = refl
-  told_opened (OpenFile h m contents) = refl
+  pub told_opened : (o : Option (Handle × Object)) → done tree (stat_opened o).changes ≡ tree
+  told_opened None = refl
+  told_opened (Some (h, Directory m)) = refl
+  told_opened (Some (h, File m contents)) = refl
 
-  pub was_read : (offset len : ℕ) (o : Opened) → done tree (read offset len o).changes ≡ tree
-  was_read offset len NotOpen = refl
-  was_read offset len (OpenDirectory h m) = refl
-  was_read offset len (OpenFile h m contents) = either (not h.read) _ _ refl (either (nat_le (length contents) offset) _ _ refl refl)
+  pub was_read : (offset len : ℕ) (o : Option (Handle × Object)) → done tree (read offset len o).changes ≡ tree
+  was_read offset len None = refl
+  was_read offset len (Some (h, Directory m)) = refl
+  was_read offset len (Some (h, File m contents)) = either (not h.read) _ _ refl (either (nat_le (length contents) offset) _ _ refl refl)
 
   parts_set : (moment label : ℕ) (object : Object) → object_of tree.objects label ≡ Some object → done tree (sets moment label no_attrs object).changes ≡ tree
-  parts_set moment label (Directory m) there = ap (with_objects tree) (same_value (is_at (nat_cmp label)) tree.objects (Directory m) there)
-  parts_set moment label (File m contents) there = ap (with_objects tree) (same_value (is_at (nat_cmp label)) tree.objects (File m contents) there)
+  parts_set moment label (Directory m) there = ap (λ (objects : List (ℕ × Object)). record tree { objects = objects }) (same_value (is_at (nat_cmp label)) tree.objects (Directory m) there)
+  parts_set moment label (File m contents) there = ap (λ (objects : List (ℕ × Object)). record tree { objects = objects }) (same_value (is_at (nat_cmp label)) tree.objects (File m contents) there)
 
-  set_object : (moment label : ℕ) (o : Option Object) → object_of tree.objects label ≡ o → done tree (set_stat moment no_attrs (found_object label o)).changes ≡ tree
+  set_object : (moment label : ℕ) (o : Option Object) → object_of tree.objects label ≡ o → done tree (set_stat moment no_attrs (option_map (λ (object : Object). (label, object)) o)).changes ≡ tree
   set_object moment label None there = refl
   set_object moment label (Some (Directory m)) there = parts_set moment label (Directory m) there
   set_object moment label (Some (File m contents)) there = parts_set moment label (File m contents) there
@@ -65,16 +62,16 @@ module _ (tree : Tree) where
   set_by_path moment [] = refl
   set_by_path moment (name ∷ path) = set_place moment (look_up tree (name ∷ path))
 
-  set_opened_object : (moment : ℕ) (h : Handle) (o : Option Object) → object_of tree.objects h.label ≡ o → done tree (set_opened moment no_attrs (opened_object h o)).changes ≡ tree
+  set_opened_object : (moment : ℕ) (h : Handle) (o : Option Object) → object_of tree.objects h.label ≡ o → done tree (set_opened moment no_attrs (option_map (λ (object : Object). (h, object)) o)).changes ≡ tree
   set_opened_object moment h None there = refl
   set_opened_object moment h (Some (Directory m)) there = either (nat_eq h.label 0) _ _ refl (parts_set moment h.label (Directory m) there)
   set_opened_object moment h (Some (File m contents)) there = parts_set moment h.label (File m contents) there
 
-  pub set_by_handle : (moment : ℕ) (o : Option Handle) → done tree (set_opened moment no_attrs (opened_by tree o)).changes ≡ tree
+  pub set_by_handle : (moment : ℕ) (o : Option Handle) → done tree (set_opened moment no_attrs (option_and_then (opened_by tree) o)).changes ≡ tree
   set_by_handle moment None = refl
   set_by_handle moment (Some h) = set_opened_object moment h (object_of tree.objects h.label) refl
 
-  pub nothing_written : (moment offset : ℕ) (o : Opened) → done tree (write moment offset [] o).changes ≡ tree
-  nothing_written moment offset NotOpen = refl
-  nothing_written moment offset (OpenDirectory h m) = refl
-  nothing_written moment offset (OpenFile h m contents) = either (not h.write) _ _ refl refl
+  pub nothing_written : (moment offset : ℕ) (o : Option (Handle × Object)) → done tree (write moment offset [] o).changes ≡ tree
+  nothing_written moment offset None = refl
+  nothing_written moment offset (Some (h, Directory m)) = refl
+  nothing_written moment offset (Some (h, File m contents)) = either (not h.write) _ _ refl refl

@@ -62,11 +62,11 @@ unfolding IsLegal IsLegalAfter replay
 legal_history = (
   record { is_call = record { number_fits = omega arith; session_fits = omega arith; moment_fits = omega arith; request_fits = (path_a, nothing_fits) }; above_zero = omega arith; new_number = tt; present = tt; answered = inl refl },
   (
-    record { is_call = record { number_fits = omega arith; session_fits = omega arith; moment_fits = omega arith; request_fits = (path_b, nothing_fits) }; above_zero = omega arith; new_number = (λ e. omega arith, tt); present = (tt, tt); answered = inr refl },
+    record { is_call = record { number_fits = omega arith; session_fits = omega arith; moment_fits = omega arith; request_fits = (path_b, nothing_fits) }; above_zero = omega arith; new_number = (λ e. omega arith, tt); present = (λ e. cc, tt); answered = inr refl },
     (
-      record { is_call = record { number_fits = omega arith; session_fits = omega arith; moment_fits = omega arith; request_fits = path_b }; above_zero = omega arith; new_number = (λ e. omega arith, (λ e. omega arith, tt)); present = (tt, (tt, tt)); answered = inl refl },
+      record { is_call = record { number_fits = omega arith; session_fits = omega arith; moment_fits = omega arith; request_fits = path_b }; above_zero = omega arith; new_number = (λ e. omega arith, (λ e. omega arith, tt)); present = (λ e. cc, (λ e. cc, tt)); answered = inl refl },
       (
-        (tt, (tt, (tt, tt))),
+        (λ e. cc, (λ e. cc, (λ e. cc, tt))),
         tt,
       ),
     ),

@@ -1,5 +1,5 @@
 -- A successful link adds a path of a file.
-use Rattle.std.proofs.Common.{◌≡◌, ℕ, Bool, true, false, cond, nat_le, ◌+◌, List, [], ◌∷◌, Option, Some, None, refl, ap, ◌∙◌}
+use Rattle.std.proofs.Common.{option_map, ◌≡◌, ℕ, Bool, true, false, cond, nat_le, ◌+◌, List, [], ◌∷◌, Option, Some, None, refl, ap, ◌∙◌}
 use Rattle.std.specs.Ordering.{is_eq}
 use Rattle.std.specs.Cmp.{tied_itself}
 use Rattle.std.specs.BTreeMap.{insert_entry}
@@ -15,7 +15,7 @@ use Rattle.sf_call.specs.declared.lookup.Lookup.{Lookup}
 use Rattle.sf_call.specs.declared.lookup.Lookup.TheVariants.{NoWay, Absent, At}
 use Rattle.sf_call.specs.Attributes.{Object}
 use Rattle.sf_call.specs.Attributes.Object.{Directory, File}
-use Rattle.sf_call.specs.Tree.{Tree, label_at, object_of, links, look_up, found_object, found_place, directory_at}
+use Rattle.sf_call.specs.Tree.{Tree, label_at, object_of, links, look_up, found_place, directory_at}
 use Rattle.sf_call.specs.Changes.{changed, done, touch, touched}
 use Rattle.sf_call.specs.Changes.Change.{NewName}
 use Rattle.sf_call.specs.Calls.{Outcome, answer_to, refuses, succeeds, unless_root, link_to, link}
@@ -62,7 +62,7 @@ module _ (tree : Tree) (moment : ℕ) (old new : Path) where
         | false ↦ λ f _. made label was (place_free tree new at).1 f
       ] refl
 
-  of_object : (label : ℕ) → label_at tree.names old ≡ Some label → (o : Option Object) → LinksIt (link tree moment new (found_object label o))
+  of_object : (label : ℕ) → label_at tree.names old ≡ Some label → (o : Option Object) → LinksIt (link tree moment new (option_map (λ (object : Object). (label, object)) o))
   of_object label was None = λ e. cc
   of_object label was (Some (Directory m)) = λ e. cc
   of_object label was (Some (File m contents)) = to_place label was (look_up tree new) refl

@@ -11,12 +11,12 @@ use Rattle.sf_call.specs.declared.request.Request.TheVariants.{Rename, PosixRena
 use Rattle.sf_call.specs.declared.lookup.Lookup.TheVariants.{NoWay, At}
 use Rattle.sf_call.specs.Attributes.{Object}
 use Rattle.sf_call.specs.Attributes.Object.{Directory, File}
-use Rattle.sf_call.specs.Tree.{Tree, label_at, object_of, is_directory, is_faulty_way, lookup_of, look_up, found_object, found_place, after_front, only_name, children, is_nil, is_empty}
+use Rattle.sf_call.specs.Tree.{Tree, label_at, object_of, is_directory, is_faulty_way, lookup_of, look_up, found_place, after_front, only_name, children, is_nil, is_empty}
 use Rattle.sf_call.specs.declared.record.Record.{Record}
 use Rattle.sf_call.specs.Histories.{replay, IsLegal}
 use Rattle.sf_call.specs.Allowed.{file_type_of, IsMove}
 use Rattle.sf_call.specs.Calls.{Outcome, answer_to, refuses, succeeds, moves, unless_nested, unless_root, rename_to, rename, replace_by, posix_rename}
-use Rattle.sf_reply.specs.declared.reply.StatusCode.TheVariants.{Failure}
+use Rattle.sf_reply.specs.declared.reply.StatusCode.TheVariants.{NoSuchFile, Failure}
 use Rattle.sf_call.proofs.Laws.{same_name_itself, same_path_is, append-after_front, kind_by, kind_at, named_object, named_way}
 
 -- the lookup of a path after its proper prefixes resolve
@@ -92,7 +92,7 @@ module _ (tree : Tree) (moment : ℕ) (old new : Path) (object : (path : Path) (
   kind_false true e = cc
   kind_false false e = refl
 
-  replaces_object : (at : ℕ) (o : Option Object) → nat_eq may.label at ≡ false → is_some o ≡ true → option_map file_type_of o ≡ Some (kind_by (is_directory tree old)) → replace_by tree moment old new may.label (found_object at o) ≡ moves tree moment old new
+  replaces_object : (at : ℕ) (o : Option Object) → nat_eq may.label at ≡ false → is_some o ≡ true → option_map file_type_of o ≡ Some (kind_by (is_directory tree old)) → replace_by tree moment old new may.label (option_map (λ (object : Object). (at, object)) o) ≡ moves tree moment old new
   replaces_object at None apart some kind = cc
   replaces_object at (Some (Directory m)) apart some kind =
       ap (λ b. cond (b && is_empty tree.names new) (moves tree moment old new) (refuses Failure)) (kind_true (is_directory tree old) kind)
@@ -109,7 +109,7 @@ module _ (tree : Tree) (moment : ℕ) (old new : Path) (object : (path : Path) (
       ] refl
 
   replaces : (o : Option ℕ) → label_at tree.names new ≡ o → replace_by tree moment old new may.label (found_place tree.objects (lookup_of o)) ≡ moves tree moment old new
-  replaces None e = refl
+  replaces None e = ap (λ b. cond b (refuses NoSuchFile) (moves tree moment old new)) may.way
   replaces (Some at) e = replaces_object at (object_of tree.objects at) (another at e) (object new at e) (may.alike at e ∙ kind_at tree old may.label (object old may.label may.named) may.named)
 
   posix_moves : posix_rename tree moment old new (look_up tree old) ≡ moves tree moment old new

@@ -17,7 +17,7 @@ use Rattle.sf_call.specs.declared.handle.Handle.{Handle}
 use Rattle.sf_call.specs.declared.request.Request.{Request}
 use Rattle.sf_call.specs.declared.record.Record.{Record}
 use Rattle.sf_call.specs.Attributes.{Object}
-use Rattle.sf_call.specs.Tree.{Tree, object_of, handle_of, kept, directory_at, with_names, with_handles}
+use Rattle.sf_call.specs.Tree.{Tree, object_of, handle_of, kept, directory_at}
 use Rattle.sf_call.specs.Handles.{if_of}
 use Rattle.sf_call.specs.Moves.{moved}
 use Rattle.sf_call.specs.Changes.{changed, done, touch, touched}
@@ -166,10 +166,10 @@ name_holds : (tree : Tree) (path : Path) (label : ℕ) → HandlesHold tree → 
 name_holds tree path label h = record { few = h.few; founded = h.founded }
 
 gone_holds : (tree : Tree) (path : Path) → HandlesHold tree → HandlesHold (changed tree (GonePath path))
-gone_holds tree path h = kept_holds (with_names tree (remove_entry (is_at (path_cmp path)) tree.names)) (record { few = h.few; founded = h.founded })
+gone_holds tree path h = kept_holds (record tree { names = remove_entry (is_at (path_cmp path)) tree.names }) (record { few = h.few; founded = h.founded })
 
 move_holds : (tree : Tree) (old new : Path) → HandlesHold tree → HandlesHold (changed tree (Move old new))
-move_holds tree old new h = kept_holds (with_names tree (moved tree.names old new)) (record { few = h.few; founded = h.founded })
+move_holds tree old new h = kept_holds (record tree { names = moved tree.names old new }) (record { few = h.few; founded = h.founded })
 
 touch_holds : (tree : Tree) (moment : ℕ) (at : Option (ℕ × Metadata)) → HandlesHold tree → HandlesHold (done tree (touch moment at))
 touch_holds tree moment None h = h
@@ -211,13 +211,13 @@ set_handle_holds tree number before after there same leads h = record {
 }
 
 close_holds : (tree : Tree) (number : ℕ) → HandlesHold tree → HandlesHold (changed tree (CloseHandle number))
-close_holds tree number h = kept_holds (with_handles tree (remove_entry (is_at (nat_cmp number)) tree.handles)) (record {
+close_holds tree number h = kept_holds (record tree { handles = remove_entry (is_at (nat_cmp number)) tree.handles }) (record {
   few = λ session. omega (arith, count_removed session (is_at (nat_cmp number)) tree.handles, h.few session);
   founded = all_removed (IsFounded tree.objects) (is_at (nat_cmp number)) tree.handles h.founded;
 })
 
 leave_holds : (tree : Tree) (session : ℕ) → HandlesHold tree → HandlesHold (leave tree session)
-leave_holds tree session h = kept_holds (with_handles tree (filter (λ e. not (nat_eq e.1.session session)) tree.handles)) (record {
+leave_holds tree session h = kept_holds (record tree { handles = filter (λ e. not (nat_eq e.1.session session)) tree.handles }) (record {
   few = λ s. omega (arith, count_filtered s (λ e. not (nat_eq e.1.session session)) tree.handles, h.few s);
   founded = all_filtered (IsFounded tree.objects) (λ e. not (nat_eq e.1.session session)) tree.handles h.founded;
 })

@@ -1,5 +1,5 @@
 -- The effect of a request on the directory in which it adds or removes an entry.
-use Rattle.std.proofs.Common.{◌≡◌, ◌≢◌, ◌⊎◌, ◌-◌, ℕ, nat_eq, Bool, true, false, cond, not, ◌&&◌, [], ◌∷◌, ◌++◌, length, Option, Some, None, refl, sym, ap, ◌∙◌, subst, eq-eqb, inl, inr, arith}
+use Rattle.std.proofs.Common.{option_map, ◌≡◌, ◌≢◌, ◌⊎◌, ◌-◌, ℕ, nat_eq, Bool, true, false, cond, not, ◌&&◌, [], ◌∷◌, ◌++◌, length, Option, Some, None, refl, sym, ap, ◌∙◌, subst, eq-eqb, inl, inr, arith}
 use Rattle.std.proofs.lemmas.Bool.{eqb-true}
 use Rattle.std.specs.Ordering.{nat_cmp}
 use Rattle.std.specs.Cmp.{nat_cmp_total}
@@ -18,12 +18,11 @@ use Rattle.sf_call.specs.declared.request.Request.{Request}
 use Rattle.sf_call.specs.declared.request.Request.TheVariants.{Stat, SetStat, Mkdir, Rmdir, Remove, OpenDir, Open, Close, FStat, FSetStat, Read, Write, ReadDir, Rename, PosixRename, Link}
 use Rattle.sf_call.specs.Attributes.{Object, modified_at}
 use Rattle.sf_call.specs.Attributes.Object.{Directory, File}
-use Rattle.sf_call.specs.Tree.{Tree, FoundObject, label_at, object_of, directory_at, look_up, found_object, found_at, is_empty, after_front, with_names}
+use Rattle.sf_call.specs.Tree.{Tree, label_at, object_of, directory_at, look_up, found_at, is_empty, after_front}
 use Rattle.sf_call.specs.Moves.{moved}
-use Rattle.sf_call.specs.Tree.FoundObject.{Nowhere, Nothing, DirectoryAt, FileAt}
 use Rattle.sf_call.specs.Changes.{changed, done, touch, touched}
 use Rattle.sf_call.specs.Changes.Change.{SetObject, NewPath, NewName, GonePath, Move}
-use Rattle.sf_call.specs.Calls.{Outcome, answer_to, make_directory, remove_directory, remove_file, has_all_handles, open_present, open_file, moves, opening, stamp}
+use Rattle.sf_call.specs.Calls.{Outcome, answer_to, make_directory, remove_directory, remove_file, has_all_handles, open_present, open_file, moves}
 use Rattle.sf_call.proofs.Laws.{exact_paths, other_put, other_set, other_removed, set_there, kept_object, directory_there, moved_outside, no_front, no_parent, rename_cases, posix_rename_cases, link_cases, link_to_cases}
 use Rattle.sf_laws.specs.Own.{IsOneOf, NamesEntry}
 
@@ -69,7 +68,7 @@ module _ (tree : Tree) (moment label : ℕ) (m : Metadata) (is : object_of tree.
       → label_at tree.names (parent path) ≡ Some label → MayBeTouched (done tree (moves tree moment old new).changes)
   parent_moved old new path not_old not_new named =
       both_touched (changed tree (Move old new)) (parent old) (parent new) (directory_at tree (parent old)) refl
-      (inl (kept_object (with_names tree (moved tree.names old new)) (parent path) label (moved_outside tree.names old new (parent path) not_old not_new ∙ named) ∙ is))
+      (inl (kept_object (record tree { names = moved tree.names old new }) (parent path) label (moved_outside tree.names old new (parent path) not_old not_new ∙ named) ∙ is))
 
   pub both_ends : (old new path : Path) → (path ≡ old) ⊎ (path ≡ new) → after_front old new ≡ None → after_front new old ≡ None
       → label_at tree.names (parent path) ≡ Some label → MayBeTouched (done tree (moves tree moment old new).changes)
@@ -100,12 +99,12 @@ module _ (tree : Tree) (session number moment label : ℕ) (path : Path) (m : Me
   new_stays : (new : Path) (object : Object) → object_of (changed tree (NewPath new number object)).objects label ≡ Some (Directory m)
   new_stays new object = other_put nat_cmp nat_cmp-IsAntisymmetric nat_cmp_total tree.objects number object label apart ∙ is
 
-  made : (attrs : Attrs) (place : Lookup) → Keeps (make_directory tree (stamp number moment) path attrs place)
+  made : (attrs : Attrs) (place : Lookup) → Keeps (make_directory tree number moment path attrs place)
   made attrs NoWay = inl is
   made attrs (At l) = inl is
   made attrs Absent = touch_stays _ (directory_at tree (parent path)) refl (new_stays path _)
 
-  file_object : (flags : OpenFlags) (l : ℕ) (o : Option Object) → object_of tree.objects l ≡ o → Keeps (open_present tree session (stamp number moment) flags (found_object l o))
+  file_object : (flags : OpenFlags) (l : ℕ) (o : Option Object) → object_of tree.objects l ≡ o → Keeps (open_present tree session number moment flags (option_map (λ (object : Object). (l, object)) o))
   file_object flags l None at = inl is
   file_object flags l (Some (Directory x)) at = inl is
   file_object flags l (Some (File x contents)) at =
@@ -113,7 +112,7 @@ module _ (tree : Tree) (session number moment label : ℕ) (path : Path) (m : Me
       either (has_all_handles tree session) _ _ (inl is) (either (flags.truncate && flags.write) _ _
       (inl (other_set nat_cmp nat_cmp-IsAntisymmetric tree.objects l _ label other ∙ is)) (inl is))
 
-  file_opened : (flags : OpenFlags) (attrs : Attrs) (place : Lookup) → Keeps (open_file tree session (stamp number moment) (opening path flags attrs) place)
+  file_opened : (flags : OpenFlags) (attrs : Attrs) (place : Lookup) → Keeps (open_file tree session number moment path flags attrs place)
   file_opened flags attrs NoWay = inl is
   file_opened flags attrs (At l) = either (flags.create && flags.exclusive) _ _ (inl is) (file_object flags l (object_of tree.objects l) refl)
   file_opened flags attrs Absent =
@@ -124,20 +123,18 @@ module _ (tree : Tree) (session number moment label : ℕ) (path : Path) (m : Me
     gone : Stays (done tree (GonePath path ∷ touched tree moment (parent path)))
     gone =
         touch_stays (changed tree (GonePath path)) (directory_at tree (parent path)) refl
-        (kept_object (with_names tree (remove_entry (is_at (path_cmp path)) tree.names)) (parent path) label
+        (kept_object (record tree { names = remove_entry (is_at (path_cmp path)) tree.names }) (parent path) label
         (other_removed path_cmp exact_paths path (parent path) tree.names not_root ∙ named) ∙ is)
 
-    directory_removed : (found : FoundObject) → Keeps (remove_directory tree moment path found)
-    directory_removed Nowhere = inl is
-    directory_removed Nothing = inl is
-    directory_removed (FileAt l x contents) = inl is
-    directory_removed (DirectoryAt l x) = either (is_empty tree.names path) _ _ gone (inl is)
+    directory_removed : (found : Option (ℕ × Object)) → Keeps (remove_directory tree moment path found)
+    directory_removed None = inl is
+    directory_removed (Some (l, File x contents)) = inl is
+    directory_removed (Some (l, Directory x)) = either (is_empty tree.names path) _ _ gone (inl is)
 
-    file_removed : (found : FoundObject) → Keeps (remove_file tree moment path found)
-    file_removed Nowhere = inl is
-    file_removed Nothing = inl is
-    file_removed (DirectoryAt l x) = inl is
-    file_removed (FileAt l x contents) = gone
+    file_removed : (found : Option (ℕ × Object)) → Keeps (remove_file tree moment path found)
+    file_removed None = inl is
+    file_removed (Some (l, Directory x)) = inl is
+    file_removed (Some (l, File x contents)) = gone
 
 module _ (tree : Tree) (session number moment label : ℕ) (m : Metadata) (apart : label ≢ number) (is : object_of tree.objects label ≡ Some (Directory m)) where
   abbrev pub KeepsParent : Path → Request → Type 0

@@ -1,5 +1,5 @@
 -- A successful REMOVE takes one name from its file.
-use Rattle.std.proofs.Common.{◌≡◌, ℕ, cond, List, [], ◌∷◌, Option, Some, None, refl, sym, ap, ◌∙◌, arith}
+use Rattle.std.proofs.Common.{option_map, ◌≡◌, ℕ, cond, List, [], ◌∷◌, Option, Some, None, refl, sym, ap, ◌∙◌, arith}
 use Rattle.std.specs.Ordering.{nat_cmp}
 use Rattle.std.specs.Map.{remove_entry}
 use Rattle.std.specs.BTreeMap.{is_at}
@@ -14,7 +14,7 @@ use Rattle.sf_call.specs.declared.lookup.Lookup.TheVariants.{NoWay, Absent, At}
 use Rattle.sf_call.specs.declared.request.Request.TheVariants.{Remove}
 use Rattle.sf_call.specs.Attributes.{Object}
 use Rattle.sf_call.specs.Attributes.Object.{Directory, File}
-use Rattle.sf_call.specs.Tree.{Tree, IsOrderedTree, label_at, object_of, links, is_used, directory_at, look_up, found_object, found_place, with_names}
+use Rattle.sf_call.specs.Tree.{Tree, IsOrderedTree, label_at, object_of, links, is_used, directory_at, look_up, found_place}
 use Rattle.sf_call.specs.Changes.{changed, done, touch}
 use Rattle.sf_call.specs.Changes.Change.{GonePath}
 use Rattle.sf_call.specs.Calls.{Outcome, answer_to, goes, remove_file, unless_root}
@@ -29,7 +29,7 @@ handles_touched t moment (Some e) = refl
 module _ (tree : Tree) (ordered : IsOrderedTree tree) (moment : ℕ) (path : Path) where
   -- without the path, before unused objects are deleted
   abbrev unnamed : Tree
-  unnamed = with_names tree (remove_entry (is_at (path_cmp path)) tree.names)
+  unnamed = record tree { names = remove_entry (is_at (path_cmp path)) tree.names }
 
   abbrev less : Tree
   less = changed tree (GonePath path)
@@ -67,7 +67,7 @@ module _ (tree : Tree) (ordered : IsOrderedTree tree) (moment : ℕ) (path : Pat
         last = λ is_unused. object_is ∙ ap (λ b. cond b (object_of tree.objects label) None) (sym used ∙ is_unused);
       }
 
-  of_object : (label : ℕ) → label_at tree.names path ≡ Some label → (o : Option Object) → object_of tree.objects label ≡ o → RemovesIt (remove_file tree moment path (found_object label o))
+  of_object : (label : ℕ) → label_at tree.names path ≡ Some label → (o : Option Object) → object_of tree.objects label ≡ o → RemovesIt (remove_file tree moment path (option_map (λ (object : Object). (label, object)) o))
   of_object label was None is = λ e. cc
   of_object label was (Some (Directory m)) is = λ e. cc
   of_object label was (Some (File m contents)) is = λ e. gone label m contents was is

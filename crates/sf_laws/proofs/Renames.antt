@@ -1,6 +1,7 @@
 -- The paths that a rename moves, the inode numbers that stay, and the requests that keep a move
 -- allowed.
-use Rattle.std.proofs.Common.{true, false, ◌≡◌, ◌≢◌, ◌⊎◌, ℕ, List, [], ◌∷◌, ◌++◌, length, Option, Some, None, IsSome, is_some, refl, sym, ap, ◌∙◌, subst, inl, inr, arith, length-append}
+use Rattle.std.proofs.Common.{option_map, true, false, ◌≡◌, ◌≢◌, ◌⊎◌, ℕ, List, [], ◌∷◌, ◌++◌, length, Option, Some, None, IsSome, is_some, refl, sym, ap, ◌∙◌, subst, inl, inr, arith, length-append}
+use Rattle.std.specs.Option.{option_map_or}
 use Rattle.std.proofs.lemmas.List.{append-nil, take_all, take-append-le}
 use Rattle.sf_path.specs.Names.{Name, Path}
 use Rattle.sf_path.specs.Order.{parent}
@@ -8,13 +9,12 @@ use Rattle.sf_call.specs.declared.metadata.Metadata.{Metadata}
 use Rattle.sf_call.specs.declared.lookup.Lookup.{Lookup}
 use Rattle.sf_call.specs.declared.lookup.Lookup.TheVariants.{NoWay, Absent, At}
 use Rattle.sf_call.specs.Attributes.{Object}
-use Rattle.sf_call.specs.Attributes.Object.{Directory, File}
+use Rattle.sf_call.specs.Attributes.Object.{File}
 use Rattle.sf_call.specs.declared.request.Request.{Request}
 use Rattle.sf_call.specs.declared.request.Request.TheVariants as request
 use Rattle.sf_call.specs.Requests.{Target, target_of}
 use Rattle.sf_call.specs.Requests.Target.{ByHandle, OnPath, OnPaths}
-use Rattle.sf_call.specs.Tree.{Tree, FoundObject, label_at, object_of, directory_at, is_directory_object, is_directory, is_faulty_way, look_up, found_object, found_place, found_at, after_front}
-use Rattle.sf_call.specs.Tree.FoundObject.{Nowhere, Nothing, DirectoryAt, FileAt}
+use Rattle.sf_call.specs.Tree.{Tree, label_at, object_of, directory_at, is_directory_object, is_directory, is_faulty_way, look_up, found_place, found_at, after_front}
 use Rattle.sf_call.specs.Changes.{Change, done, touch, moved_by}
 use Rattle.sf_call.specs.Changes.Change.{SetObject, NewPath, NewName, GonePath, Move, OpenHandle, SetHandle, CloseHandle}
 use Rattle.sf_call.specs.Allowed.{AreAllowed, IsMove}
@@ -98,30 +98,18 @@ begins None some nowhere = cc
 begins (Some rest) some nowhere = nowhere rest refl
 
 -- a file that is found has a path and an object
-found_file : (tree : Tree) (path : Path) (label : ℕ) (m : Metadata) (contents : List ℕ) → found_at tree path ≡ FileAt label m contents
+found_file : (tree : Tree) (path : Path) (label : ℕ) (m : Metadata) (contents : List ℕ) → found_at tree path ≡ Some (label, File m contents)
     → (label_at tree.names path ≡ Some label) × (object_of tree.objects label ≡ Some (File m contents))
 found_file tree path label m contents e = by_place (look_up tree path) refl e where
-  by_object : (at : ℕ) (o : Option Object) → object_of tree.objects at ≡ o → look_up tree path ≡ At at → found_object at o ≡ FileAt label m contents
+  by_object : (at : ℕ) (o : Option Object) → object_of tree.objects at ≡ o → look_up tree path ≡ At at → option_map {U = ℕ × Object} (λ (object : Object). (at, object)) o ≡ Some (label, File m contents)
       → (label_at tree.names path ≡ Some label) × (object_of tree.objects label ≡ Some (File m contents))
   by_object at None is here f = cc
-  by_object at (Some (Directory x)) is here f = cc
-  by_object at (Some (File x bytes)) is here f =
-      let same : at ≡ label = ap label_in f in
-      let object : Some (File x bytes) ≡ Some (File m contents) = ap object_found f in
-      (place_label tree path at here ∙ ap Some same, ap (object_of tree.objects) (sym same) ∙ is ∙ object) where
-        label_in : FoundObject → ℕ
-        label_in Nowhere = 0
-        label_in Nothing = 0
-        label_in (DirectoryAt l x) = l
-        label_in (FileAt l x bytes) = l
+  by_object at (Some object) is here f =
+      let same : at ≡ label = ap (λ (o : Option (ℕ × Object)). option_map_or (λ x. x.0) o label) f in
+      let object_is : Some object ≡ Some (File m contents) = ap (option_map (λ (x : ℕ × Object). x.1)) f in
+      (place_label tree path at here ∙ ap Some same, ap (object_of tree.objects) (sym same) ∙ is ∙ object_is)
 
-        object_found : FoundObject → Option Object
-        object_found Nowhere = None
-        object_found Nothing = None
-        object_found (DirectoryAt l x) = Some (Directory x)
-        object_found (FileAt l x bytes) = Some (File x bytes)
-
-  by_place : (place : Lookup) → look_up tree path ≡ place → found_place tree.objects place ≡ FileAt label m contents
+  by_place : (place : Lookup) → look_up tree path ≡ place → found_place tree.objects place ≡ Some (label, File m contents)
       → (label_at tree.names path ≡ Some label) × (object_of tree.objects label ≡ Some (File m contents))
   by_place NoWay here f = cc
   by_place Absent here f = cc
@@ -134,7 +122,7 @@ module _ (tree : Tree) (session number moment : ℕ) (r : Request) (old new : Pa
     pub metadata : Metadata
     pub contents : List ℕ
     pub is_link : r ≡ request.Link old new
-    pub file : found_at tree old ≡ FileAt label metadata contents
+    pub file : found_at tree old ≡ Some (label, File metadata contents)
     pub free : look_up tree new ≡ Absent
     pub unmoved : moved_by changes ≡ None
 

@@ -1,6 +1,6 @@
 -- The answer to a request is a failure or one of a few shapes, so a law of answers is a table with
 -- one row for each.
-use Rattle.std.proofs.Common.{◌≡◌, ℕ, Bool, true, false, cond, not, nat_eq, nat_lt, nat_le, ◌+◌, ◌&&◌, List, [], ◌∷◌, length, Option, Some, None, refl}
+use Rattle.std.proofs.Common.{option_and_then, option_map, ◌≡◌, ℕ, Bool, true, false, cond, not, nat_eq, nat_lt, nat_le, ◌+◌, ◌&&◌, List, [], ◌∷◌, length, Option, Some, None, refl}
 use Rattle.std.specs.Option.{is_some}
 use Rattle.sf_path.specs.Names.{Path}
 use Rattle.sf_path.specs.Order.{parent}
@@ -18,14 +18,12 @@ use Rattle.sf_call.specs.declared.lookup.Lookup.TheVariants.{NoWay, Absent, At}
 use Rattle.sf_call.specs.Attributes.{Object}
 use Rattle.sf_call.specs.Attributes.Object.{Directory, File}
 use Rattle.sf_call.specs.declared.handle.Handle.{Handle}
-use Rattle.sf_call.specs.Tree.{Tree, FoundObject, label_at, object_of, look_up, found_object, found_place, found_at, is_empty, is_nil}
-use Rattle.sf_call.specs.Tree.FoundObject.{Nowhere, Nothing, DirectoryAt, FileAt}
-use Rattle.sf_call.specs.Handles.{Opened, handle_in, opened, opened_by, opened_object}
-use Rattle.sf_call.specs.Handles.Opened.{NotOpen, OpenDirectory, OpenFile}
+use Rattle.sf_call.specs.Tree.{Tree, label_at, object_of, look_up, found_place, found_at, is_empty, is_nil}
+use Rattle.sf_call.specs.Handles.{handle_in, opened, opened_by}
 use Rattle.sf_call.specs.Listings.{path_of, listing_of}
 use Rattle.sf_call.specs.Changes.{touched}
 use Rattle.sf_call.specs.Changes.Change.{SetObject, NewPath, NewName, CloseHandle}
-use Rattle.sf_call.specs.Calls.{Outcome, answer_to, tells, refuses, succeeds, stat, refuses_size, set_stat, make_directory, goes, remove_directory, remove_file, has_all_handles, opens, directory_handle, new_file_handle, open_directory, open_present, open_file, close, stat_opened, set_opened, read, start_of, write, lists, read_directory, unless_root, moves, opening, stamp}
+use Rattle.sf_call.specs.Calls.{Outcome, answer_to, tells, refuses, succeeds, stat, refuses_size, set_stat, make_directory, goes, remove_directory, remove_file, has_all_handles, opens, directory_handle, new_file_handle, open_directory, open_present, open_file, close, stat_opened, set_opened, read, start_of, write, lists, read_directory, unless_root, moves}
 use Rattle.sf_call.proofs.Laws.{place_label, rename_cases, posix_rename_cases, link_cases, link_to_cases}
 
 -- the possible answers to a request
@@ -74,18 +72,17 @@ module _ (tree : Tree) (session number moment : ℕ) where
   rooted r [] answer p = Refuses r Failure
   rooted r (n ∷ path) answer p = p
 
-  told : (r : Request) (found : FoundObject) → HasShape r (stat found)
-  told r Nowhere = Refuses r NoSuchFile
-  told r Nothing = Refuses r NoSuchFile
-  told r (DirectoryAt label m) = TellsAttrs r _
-  told r (FileAt label m contents) = TellsAttrs r _
+  told : (r : Request) (found : Option (ℕ × Object)) → HasShape r (stat found)
+  told r None = Refuses r NoSuchFile
+  told r (Some (label, Directory m)) = TellsAttrs r _
+  told r (Some (label, File m contents)) = TellsAttrs r _
 
-  told_opened : (r : Request) (o : Opened) → HasShape r (stat_opened o)
-  told_opened r NotOpen = Refuses r Failure
-  told_opened r (OpenDirectory h m) = TellsAttrs r _
-  told_opened r (OpenFile h m contents) = TellsAttrs r _
+  told_opened : (r : Request) (o : Option (Handle × Object)) → HasShape r (stat_opened o)
+  told_opened r None = Refuses r Failure
+  told_opened r (Some (h, Directory m)) = TellsAttrs r _
+  told_opened r (Some (h, File m contents)) = TellsAttrs r _
 
-  set_object : (path : Path) (attrs : Attrs) (label : ℕ) (o : Option Object) → label_at tree.names path ≡ Some label → HasShape (SetStat path attrs) (set_stat moment attrs (found_object label o))
+  set_object : (path : Path) (attrs : Attrs) (label : ℕ) (o : Option Object) → label_at tree.names path ≡ Some label → HasShape (SetStat path attrs) (set_stat moment attrs (option_map (λ (object : Object). (label, object)) o))
   set_object path attrs label None e = Refuses (SetStat path attrs) NoSuchFile
   set_object path attrs label (Some (Directory m)) e = either (SetStat path attrs) (refuses_size (Directory m) attrs.size) _ _ (Refuses (SetStat path attrs) Failure) (SetsAt path attrs label _ e)
   set_object path attrs label (Some (File m contents)) e = either (SetStat path attrs) (refuses_size (File m contents) attrs.size) _ _ (Refuses (SetStat path attrs) Failure) (SetsAt path attrs label _ e)
@@ -95,24 +92,22 @@ module _ (tree : Tree) (session number moment : ℕ) where
   set_place path attrs Absent e = Refuses (SetStat path attrs) NoSuchFile
   set_place path attrs (At label) e = set_object path attrs label (object_of tree.objects label) (place_label tree path label e)
 
-  made : (path : Path) (attrs : Attrs) (place : Lookup) → HasShape (Mkdir path attrs) (make_directory tree (stamp number moment) path attrs place)
+  made : (path : Path) (attrs : Attrs) (place : Lookup) → HasShape (Mkdir path attrs) (make_directory tree number moment path attrs place)
   made path attrs NoWay = Refuses (Mkdir path attrs) NoSuchFile
   made path attrs (At label) = Refuses (Mkdir path attrs) Failure
   made path attrs Absent = MakesDirectory path attrs _
 
-  directory_removed : (path : Path) (found : FoundObject) → HasShape (Rmdir path) (remove_directory tree moment path found)
-  directory_removed path Nowhere = Refuses (Rmdir path) NoSuchFile
-  directory_removed path Nothing = Refuses (Rmdir path) NoSuchFile
-  directory_removed path (FileAt label m contents) = Refuses (Rmdir path) Failure
-  directory_removed path (DirectoryAt label m) = either (Rmdir path) (is_empty tree.names path) _ _ (RemovesDirectory path) (Refuses (Rmdir path) Failure)
+  directory_removed : (path : Path) (found : Option (ℕ × Object)) → HasShape (Rmdir path) (remove_directory tree moment path found)
+  directory_removed path None = Refuses (Rmdir path) NoSuchFile
+  directory_removed path (Some (label, File m contents)) = Refuses (Rmdir path) Failure
+  directory_removed path (Some (label, Directory m)) = either (Rmdir path) (is_empty tree.names path) _ _ (RemovesDirectory path) (Refuses (Rmdir path) Failure)
 
-  file_removed : (path : Path) (found : FoundObject) → HasShape (Remove path) (remove_file tree moment path found)
-  file_removed path Nowhere = Refuses (Remove path) NoSuchFile
-  file_removed path Nothing = Refuses (Remove path) NoSuchFile
-  file_removed path (DirectoryAt label m) = Refuses (Remove path) Failure
-  file_removed path (FileAt label m contents) = RemovesFile path
+  file_removed : (path : Path) (found : Option (ℕ × Object)) → HasShape (Remove path) (remove_file tree moment path found)
+  file_removed path None = Refuses (Remove path) NoSuchFile
+  file_removed path (Some (label, Directory m)) = Refuses (Remove path) Failure
+  file_removed path (Some (label, File m contents)) = RemovesFile path
 
-  directory_object : (path : Path) (label : ℕ) (o : Option Object) → label_at tree.names path ≡ Some label → object_of tree.objects label ≡ o → HasShape (OpenDir path) (open_directory tree session number (found_object label o))
+  directory_object : (path : Path) (label : ℕ) (o : Option Object) → label_at tree.names path ≡ Some label → object_of tree.objects label ≡ o → HasShape (OpenDir path) (open_directory tree session number (option_map (λ (object : Object). (label, object)) o))
   directory_object path label None e is = Refuses (OpenDir path) NoSuchFile
   directory_object path label (Some (File m contents)) e is = Refuses (OpenDir path) Failure
   directory_object path label (Some (Directory m)) e is = unless (OpenDir path) (has_all_handles tree session) _ _ (Refuses (OpenDir path) Failure) (λ free. OpensDirectory path label (Directory m) e is free)
@@ -123,7 +118,7 @@ module _ (tree : Tree) (session number moment : ℕ) where
   directory_opened path (At label) e = directory_object path label (object_of tree.objects label) (place_label tree path label e) refl
 
   file_present : (path : Path) (flags : OpenFlags) (attrs : Attrs) (label : ℕ) (o : Option Object) → label_at tree.names path ≡ Some label → object_of tree.objects label ≡ o
-      → HasShape (Open path flags attrs) (open_present tree session (stamp number moment) flags (found_object label o))
+      → HasShape (Open path flags attrs) (open_present tree session number moment flags (option_map (λ (object : Object). (label, object)) o))
   file_present path flags attrs label None e is = Refuses (Open path flags attrs) NoSuchFile
   file_present path flags attrs label (Some (Directory m)) e is = Refuses (Open path flags attrs) Failure
   file_present path flags attrs label (Some (File m contents)) e is =
@@ -131,7 +126,7 @@ module _ (tree : Tree) (session number moment : ℕ) where
       unless r (has_all_handles tree session) _ _ (Refuses r Failure) (λ free.
       either r (flags.truncate && flags.write) _ _ (CutsFile path flags attrs label (File m contents) _ e is free) (OpensFile path flags attrs label (File m contents) e is free))
 
-  file_opened : (path : Path) (flags : OpenFlags) (attrs : Attrs) (place : Lookup) → look_up tree path ≡ place → HasShape (Open path flags attrs) (open_file tree session (stamp number moment) (opening path flags attrs) place)
+  file_opened : (path : Path) (flags : OpenFlags) (attrs : Attrs) (place : Lookup) → look_up tree path ≡ place → HasShape (Open path flags attrs) (open_file tree session number moment path flags attrs place)
   file_opened path flags attrs NoWay e = Refuses (Open path flags attrs) NoSuchFile
   file_opened path flags attrs (At label) e =
       let r = Open path flags attrs in
@@ -144,7 +139,7 @@ module _ (tree : Tree) (session number moment : ℕ) where
   closed handle None e = Refuses (Close handle) Failure
   closed handle (Some h) e = Closes handle h e
 
-  set_by_object : (handle : ℕ) (attrs : Attrs) (h : Handle) (o : Option Object) → handle_in tree session handle ≡ Some h → HasShape (FSetStat handle attrs) (set_opened moment attrs (opened_object h o))
+  set_by_object : (handle : ℕ) (attrs : Attrs) (h : Handle) (o : Option Object) → handle_in tree session handle ≡ Some h → HasShape (FSetStat handle attrs) (set_opened moment attrs (option_map (λ (object : Object). (h, object)) o))
   set_by_object handle attrs h None e = Refuses (FSetStat handle attrs) Failure
   set_by_object handle attrs h (Some (Directory m)) e =
       let r = FSetStat handle attrs in
@@ -153,16 +148,16 @@ module _ (tree : Tree) (session number moment : ℕ) where
       let r = FSetStat handle attrs in
       either r (is_some attrs.size && not h.write) _ _ (Refuses r PermissionDenied) (either r (refuses_size (File m contents) attrs.size) _ _ (Refuses r Failure) (SetsOpen handle attrs h _ e))
 
-  set_by_handle : (handle : ℕ) (attrs : Attrs) (o : Option Handle) → handle_in tree session handle ≡ o → HasShape (FSetStat handle attrs) (set_opened moment attrs (opened_by tree o))
+  set_by_handle : (handle : ℕ) (attrs : Attrs) (o : Option Handle) → handle_in tree session handle ≡ o → HasShape (FSetStat handle attrs) (set_opened moment attrs (option_and_then (opened_by tree) o))
   set_by_handle handle attrs None e = Refuses (FSetStat handle attrs) Failure
   set_by_handle handle attrs (Some h) e = set_by_object handle attrs h (object_of tree.objects h.label) e
 
-  was_read : (r : Request) (offset len : ℕ) (o : Opened) → HasShape r (read offset len o)
-  was_read r offset len NotOpen = Refuses r Failure
-  was_read r offset len (OpenDirectory h m) = Refuses r Failure
-  was_read r offset len (OpenFile h m contents) = either r (not h.read) _ _ (Refuses r PermissionDenied) (either r (nat_le (length contents) offset) _ _ (Refuses r EndOfFile) (TellsData r _))
+  was_read : (r : Request) (offset len : ℕ) (o : Option (Handle × Object)) → HasShape r (read offset len o)
+  was_read r offset len None = Refuses r Failure
+  was_read r offset len (Some (h, Directory m)) = Refuses r Failure
+  was_read r offset len (Some (h, File m contents)) = either r (not h.read) _ _ (Refuses r PermissionDenied) (either r (nat_le (length contents) offset) _ _ (Refuses r EndOfFile) (TellsData r _))
 
-  written_object : (handle offset : ℕ) (bytes : List ℕ) (h : Handle) (o : Option Object) → handle_in tree session handle ≡ Some h → HasShape (Write handle offset bytes) (write moment offset bytes (opened_object h o))
+  written_object : (handle offset : ℕ) (bytes : List ℕ) (h : Handle) (o : Option Object) → handle_in tree session handle ≡ Some h → HasShape (Write handle offset bytes) (write moment offset bytes (option_map (λ (object : Object). (h, object)) o))
   written_object handle offset bytes h None e = Refuses (Write handle offset bytes) Failure
   written_object handle offset bytes h (Some (Directory m)) e = Refuses (Write handle offset bytes) Failure
   written_object handle offset bytes h (Some (File m contents)) e =
@@ -170,7 +165,7 @@ module _ (tree : Tree) (session number moment : ℕ) where
       either r (not h.write) _ _ (Refuses r PermissionDenied) (either r (is_nil bytes) _ _ (DoesNothing r)
       (either r (nat_lt MAX_FILE_SIZE (start_of h contents offset + length bytes)) _ _ (Refuses r Failure) (Writes handle offset bytes h _ e)))
 
-  was_written : (handle offset : ℕ) (bytes : List ℕ) (o : Option Handle) → handle_in tree session handle ≡ o → HasShape (Write handle offset bytes) (write moment offset bytes (opened_by tree o))
+  was_written : (handle offset : ℕ) (bytes : List ℕ) (o : Option Handle) → handle_in tree session handle ≡ o → HasShape (Write handle offset bytes) (write moment offset bytes (option_and_then (opened_by tree) o))
   was_written handle offset bytes None e = Refuses (Write handle offset bytes) Failure
   was_written handle offset bytes (Some h) e = written_object handle offset bytes h (object_of tree.objects h.label) e
 
@@ -178,12 +173,12 @@ module _ (tree : Tree) (session number moment : ℕ) where
   listed handle h [] e = Refuses (ReadDir handle) EndOfFile
   listed handle h (x ∷ xs) e = Lists handle h x xs e
 
-  listed_object : (handle : ℕ) (h : Handle) (o : Option Object) → handle_in tree session handle ≡ Some h → HasShape (ReadDir handle) (read_directory tree handle (opened_object h o))
+  listed_object : (handle : ℕ) (h : Handle) (o : Option Object) → handle_in tree session handle ≡ Some h → HasShape (ReadDir handle) (read_directory tree handle (option_map (λ (object : Object). (h, object)) o))
   listed_object handle h None e = Refuses (ReadDir handle) Failure
   listed_object handle h (Some (File m contents)) e = Refuses (ReadDir handle) Failure
   listed_object handle h (Some (Directory m)) e = listed handle h (listing_of tree h.listed (path_of tree.names h.label)) e
 
-  directory_read : (handle : ℕ) (o : Option Handle) → handle_in tree session handle ≡ o → HasShape (ReadDir handle) (read_directory tree handle (opened_by tree o))
+  directory_read : (handle : ℕ) (o : Option Handle) → handle_in tree session handle ≡ o → HasShape (ReadDir handle) (read_directory tree handle (option_and_then (opened_by tree) o))
   directory_read handle None e = Refuses (ReadDir handle) Failure
   directory_read handle (Some h) e = listed_object handle h (object_of tree.objects h.label) e
 

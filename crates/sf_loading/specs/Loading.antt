@@ -1,5 +1,5 @@
 -- Loading: one request for each item.
-use Rattle.std.specs.Prelude.{◌≡◌, ◌⊎◌, ℕ, List, [], ◌∷◌, ◌++◌, true, false, Option, Some, None, Result, Ok, Err}
+use Rattle.std.specs.Prelude.{◌≡◌, ◌⊎◌, ◌≤◌, ◌-◌, ◌^◌, ℕ, List, [], ◌∷◌, ◌++◌, length, true, false, Option, Some, None, Result, Ok, Err}
 use Rattle.sf_field.specs.Fields.{be64}
 use Rattle.sf_field.specs.Attributes.{no_attrs}
 use Rattle.sf_field.specs.declared.open_flags.OpenFlags.{OpenFlags}
@@ -79,17 +79,22 @@ MakesOneItem session handle old new operations (Err (fault.Server why)) = (x : I
     × (outcome : Result Reply TreeFault) × GivesItems old (x ∷ []) new
     × (operations ≡ Asks session (request_of (be64 handle) x) outcome ∷ [])
     × (settled_by handle x outcome ≡ Err why)
+MakesOneItem session handle old new operations (Err fault.TooMany) = ⊥
 
--- the last turn
-abbrev pub IsLastTurn : (session handle : ℕ) → (old new : Option (List Item)) → List Operation
-    → Result (Unit {0}) LoadFault → Type 0
-IsLastTurn session handle old new operations (Ok done) =
+-- The last turn, after these items. They are too many if they can't be counted.
+abbrev pub IsLastTurn : (session handle : ℕ) → List Item → (old new : Option (List Item))
+    → List Operation → Result (Unit {0}) LoadFault → Type 0
+IsLastTurn session handle items old new operations (Ok done) =
     MakesOneItem session handle old new operations (Ok None)
-IsLastTurn session handle old new operations (Err why) =
-    MakesOneItem session handle old new operations (Err why)
+IsLastTurn session handle items old new operations (Err (fault.Folder why)) =
+    MakesOneItem session handle old new operations (Err (fault.Folder why))
+IsLastTurn session handle items old new operations (Err (fault.Server why)) =
+    MakesOneItem session handle old new operations (Err (fault.Server why))
+IsLastTurn session handle items old new operations (Err fault.TooMany) =
+    (2 ^ 64 - 1 ≤ length items) × (new ≡ old) × (operations ≡ [])
 
 -- Items of the folder were made in order, in a session without an open file. Then the folder ended
--- or failed, or an item was rejected.
+-- or failed, an item was rejected, or they are too many.
 pub record MakesItems (session : ℕ) (old new : Option (List Item)) (operations : List Operation)
     (result : Result (Unit {0}) LoadFault) : Type 0 where
   pub items : List Item
@@ -100,7 +105,7 @@ pub record MakesItems (session : ℕ) (old new : Option (List Item)) (operations
   pub gives : GivesItems old items now
   pub makes : Makes session 0 items made last
   pub parts : operations ≡ made ++ end
-  pub ends : IsLastTurn session last now new end result
+  pub ends : IsLastTurn session last items now new end result
 
 -- A session opened, made the items, and closed.
 pub record HasLoaded (old new : Option (List Item)) (operations : List Operation)

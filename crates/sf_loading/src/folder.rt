@@ -33,9 +33,6 @@ pub enum FolderFault {
     /// Something in the folder can't be read.
     #[error("cannot read")]
     Unreadable,
-    /// More items than can be counted.
-    #[error("too many items")]
-    TooMany,
 }
 
 impl From<AllocError> for FolderFault {

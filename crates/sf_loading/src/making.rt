@@ -20,6 +20,9 @@ pub enum LoadFault {
     /// The server rejected the last item.
     #[error("{0}")]
     Server(TreeFault),
+    /// More than 2^64 - 1 items.
+    #[error("too many items")]
+    TooMany,
 }
 
 /// WRITE, CREAT and EXCL.
@@ -152,14 +155,14 @@ fn make_all<F: Folder, S: Server>(
         (MakesItems session (F.items folder.old) (F.items folder.new)) result }
 {
     let mut handle = 0;
-    for _ in 0..u64::MAX {
+    for count in 0..u64::MAX {
         match turn(folder, server, session, handle) {
             Ok(Some(last)) => handle = last,
             Ok(None) => return Ok(()),
             Err(fault) => return Err(fault),
         }
     }
-    Err(LoadFault::Folder(FolderFault::TooMany))
+    Err(LoadFault::TooMany)
 }
 
 /// Loads all items of a folder, in a session that it opens and closes.

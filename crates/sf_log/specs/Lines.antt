@@ -155,7 +155,6 @@ outcome_text (Ok cause.NoId) = codes ": no room for an id"
 outcome_text (Err fault.Line) = codes ": the line failed"
 outcome_text (Err fault.OutOfMemory) = codes ": out of memory"
 outcome_text (Err fault.Sessions) = codes ": too many sessions"
-outcome_text (Err fault.Stranger) = codes ": not a session of this core"
 outcome_text (Err fault.NumbersSpent) = codes ": numbers are spent"
 
 abbrev pub line_text : LogLine → List ℕ

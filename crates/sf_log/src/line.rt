@@ -51,7 +51,6 @@ fn words_of(outcome: Result<Cause, ServeFault>) -> &'static str
         Err(ServeFault::Line) => ": the line failed",
         Err(ServeFault::OutOfMemory) => ": out of memory",
         Err(ServeFault::Sessions) => ": too many sessions",
-        Err(ServeFault::Stranger) => ": not a session of this core",
         Err(ServeFault::NumbersSpent) => ": numbers are spent",
     }
 }

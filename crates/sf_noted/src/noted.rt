@@ -17,8 +17,8 @@ ghost use Rattle.sf_roll.specs.Seen.{IsPrefixOf};
 
 use crate::growth::{CoreStep, HistoryGrowth};
 use crate::page::{Clears, Page, PageChange};
-use sf_call::{CoreFault, Record, Request};
-use sf_core::{Core, Lane, Share, Step};
+use sf_call::{BeginFault, JoinFault, Record, Request};
+use sf_core::{Core, CoreFault, Lane, Share, Step};
 use sf_roll::{Keeper, Log, NewRoll, RollName, Seen, Ticket};
 use std::alloc::{AllocError, Global};
 use std::marker::Model;
@@ -135,7 +135,7 @@ impl<B: RollName + Ledger> NotedCore<B> {
     }
 
     /// A session joins. It has no call in the token's prefix.
-    pub fn join(&mut self, seen: &mut Seen<Record, B>) -> Result<NotedLane<B>, CoreFault>
+    pub fn join(&mut self, seen: &mut Seen<Record, B>) -> Result<NotedLane<B>, JoinFault>
         ensures lane { IfOk result (λ lane. lane ≡ (self.old.0.joins + 1, fresh_page)) }
         ensures ok { OnOk result (Joins self.old.0 self.new.0) }
         ensures history { (h : List Record) → IsHistory self.old.0 h → IsHistory self.new.0 h }
@@ -157,8 +157,8 @@ impl<B: RollName + Ledger> NotedCore<B> {
         Ok(NotedLane { lane, ticket })
     }
 
-    /// A call begins, and the share counts it. It is not in the token's prefix, which has all calls
-    /// of the session so far.
+    /// A call begins, and the share counts it. The token's prefix becomes the whole history so far, so
+    /// it has every call that was answered, of any session. It does not have the call that begins.
     pub fn begin(
         &mut self,
         lane: &mut NotedLane<B>,
@@ -166,7 +166,7 @@ impl<B: RollName + Ledger> NotedCore<B> {
         seen: &mut Seen<Record, B>,
         request: Request,
         moment: u32,
-    ) -> Result<u64, CoreFault>
+    ) -> Result<u64, BeginFault>
         requires resting { lane.old.1.state ≡ Idle }
         requires part { 0 < share.old.parts }
         ensures ok { IfOk result (λ n. (lane.new
@@ -178,9 +178,10 @@ impl<B: RollName + Ledger> NotedCore<B> {
             × CallBegins self.old.0 self.new.0 (lane_of lane.old) request moment) }
         ensures history { (h : List Record) → IsHistory self.old.0 h → IsHistory self.new.0 h }
         ensures refused { OnErr result (self.new ≡ self.old) }
-        ensures known { IfErr result (λ fault. fault ≢ CoreFault.Stranger) }
-        ensures fault { IfErr result (λ fault. RefusesBegin self.old.0 (lane_of lane.old) fault) }
+        ensures fault { IfErr result (λ fault. RefusesBegin self.old.0 (lane_of lane.old)
+            (CoreFault.Refused fault)) }
         ensures log { self.new.2 ≡ self.old.2 }
+        ensures whole { seen.new ≡ self.old.2 }
         ensures seen { IsPrefixOf seen.old seen.new }
         ensures own { HasSeen seen.new lane.old }
         ensures new_number { IfOk result (λ n. IsNewNumber n seen.new) }
@@ -195,8 +196,10 @@ impl<B: RollName + Ledger> NotedCore<B> {
         log.show(seen);
         keeper.agrees(ticket);
         let asked = Snapshot::of(&request);
-        if let Err(fault) = core.begin(lane, request, moment) {
-            return Err(fault);
+        match core.begin(lane, request, moment) {
+            Ok(()) => {}
+            Err(CoreFault::Refused(fault)) => return Err(fault),
+            Err(CoreFault::Stranger) => unreachable!(),
         }
         let number = core.calls();
         keeper.change(ticket, &PageChange::Begins(number, moment, asked));
@@ -293,7 +296,7 @@ impl<B: RollName + Ledger> NotedCore<B> {
     }
 
     /// Law: the pages agree with the history.
-    fn agrees(&self)
+    pub fn agrees(&self)
         ensures { PagesAgree self.now.0 self.now.1 self.now.2 }
     {
         let _core = &self.core;

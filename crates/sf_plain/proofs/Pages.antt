@@ -10,7 +10,6 @@ use Rattle.sf_call.specs.declared.handle.Handle.{Handle}
 use Rattle.sf_call.specs.Attributes.{Object}
 use Rattle.sf_call.specs.Attributes.Object.{Directory, File}
 use Rattle.sf_call.specs.Tree.{Tree}
-use Rattle.sf_call.specs.Handles.{opened_object, with_listed}
 use Rattle.sf_call.specs.Listings.{path_of, listing_of, names_of, last_name}
 use Rattle.sf_call.specs.Changes.Change.{SetHandle}
 use Rattle.sf_call.specs.Calls.{refuses, lists, read_directory}
@@ -66,14 +65,14 @@ pub last_ends : {f : Path × ℕ → Option Entry} {names left : List (Path × �
 last_ends {f} {names} {left} {entries} {last} page none = page.last_given ∙ ap last_name (page_ends page none)
 
 pub lists_opened : (tree : Tree) (number : ℕ) (h : Handle) (o : Object)
-    → read_directory tree number (opened_object h (Some o)) ≡ cond (is_directory_node o) (lists number h (listing_of tree h.listed (path_of tree.names h.label))) (refuses Failure)
+    → read_directory tree number (Some (h, o)) ≡ cond (is_directory_node o) (lists number h (listing_of tree h.listed (path_of tree.names h.label))) (refuses Failure)
 lists_opened tree number h (Directory m) = refl
 lists_opened tree number h (File m contents) = refl
 
 pub lists_none : (number : ℕ) (h : Handle) (entries : List Entry) → entries ≡ [] → lists number h entries ≡ refuses EndOfFile
 lists_none number h entries none = ap (lists number h) none
 
-pub lists_some : (number : ℕ) (h : Handle) (entries : List Entry) → entries ≢ [] → lists number h entries ≡ record { reply = reply.Names entries; changes = SetHandle number (with_listed h (last_name entries)) ∷ [] }
+pub lists_some : (number : ℕ) (h : Handle) (entries : List Entry) → entries ≢ [] → lists number h entries ≡ record { reply = reply.Names entries; changes = SetHandle number (record h { listed = last_name entries }) ∷ [] }
 lists_some number h [] some = absurd (some refl)
 lists_some number h (e ∷ es) some = refl
 

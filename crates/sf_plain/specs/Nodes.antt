@@ -3,6 +3,8 @@
 use Rattle.std.specs.Prelude.{ℕ, nat_eq, Bool, true, false, ◌&&◌, Option, Some, None}
 use Rattle.sf_call.specs.Attributes.{Object}
 use Rattle.sf_call.specs.Attributes.Object.{Directory, File}
+use Rattle.sf_call.specs.declared.lookup.Lookup.{Lookup}
+use Rattle.sf_call.specs.declared.lookup.Lookup.TheVariants.{NoWay, Absent, At}
 use Rattle.sf_call.specs.Tree.{Tree, object_of}
 use Rattle.sf_plain.specs.declared.node.Kind.{Kind}
 use Rattle.sf_plain.specs.declared.node.Kind.TheVariants as kind
@@ -21,6 +23,12 @@ abbrev pub is_file : Option Object → Bool
 is_file None = false
 is_file (Some (Directory m)) = false
 is_file (Some (File m contents)) = true
+
+-- whether a lookup found that a proper prefix of its path is no directory
+abbrev pub is_no_way : Lookup → Bool
+is_no_way NoWay = true
+is_no_way Absent = false
+is_no_way (At label) = false
 
 -- whether both inode numbers are those of one file
 abbrev pub is_same_file : Tree → ℕ → ℕ → Bool

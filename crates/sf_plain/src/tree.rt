@@ -9,6 +9,7 @@ ghost use Rattle.sf_call.specs.Tree.{empty_tree, label_at, directory_at, is_faul
 ghost use Rattle.sf_call.specs.Changes.{changed, done, touch};
 ghost use Rattle.sf_call.specs.Changes.Change.{NewPath, SetObject, GonePath};
 ghost use Rattle.sf_call.specs.Calls.{apply, leave};
+ghost use Rattle.sf_plain.specs.Nodes.{is_no_way};
 
 use crate::copies::copy_of;
 use crate::node::Node;
@@ -194,7 +195,8 @@ impl PlainTree {
     }
 
     fn place_at(&self, path: &Path) -> Result<Lookup, AllocError>
-        ensures { IfOk result (λ place. place ≡ look_up self.now path.now) }
+        ensures place { IfOk result (λ place. place ≡ look_up self.now path.now) }
+        ensures way { IfOk result (λ place. is_faulty_way self.now path.now ≡ is_no_way place) }
     {
         if self.is_faulty_way(path)? {
             return Ok(Lookup::NoWay);

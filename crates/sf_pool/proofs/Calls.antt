@@ -8,7 +8,7 @@ use Rattle.sf_reply.specs.declared.reply.Reply.{Reply}
 use Rattle.sf_reply.specs.Replies.{reply_body}
 use Rattle.sf_call.specs.declared.request.Request.{Request}
 use Rattle.sf_call.specs.Answers.{AnswerView}
-use Rattle.sf_call.specs.declared.fault.CoreFault.{CoreFault}
+use Rattle.sf_call.specs.declared.fault.BeginFault.{BeginFault}
 use Rattle.sf_call.specs.ReplyKinds.{longest_packet}
 use Rattle.sf_core.specs.Cores.LaneState.{Busy}
 use Rattle.sf_session.specs.declared.asking.Ask.TheVariants as ask
@@ -92,7 +92,7 @@ call_made {d = d} {d2 = d2} {request = request} {number = number} Asked answer v
     (λ id e. omega (arith, little, ap (λ (b : List ℕ). length b) e, length-append v.output (packet_for (ByCall id number request h.0))))
     (subst (λ (r : Reply). IfSome v.waiting (λ id. w ≡ record v { output = v.output ++ packet (reply_body id r); waiting = None })) (last_at d.calls d2.calls (record_of_call number request h.0) answer.number answer.reply (ap (λ (x : SessionLaneView). x.calls) h.1) last) written)
 
-pub call_refused : (request : Request) (Asked : List Attempt → Type 0) {d d1 : SessionLaneView} (fault : CoreFault) (v w : SessionView) → d1 ≡ d → IfSome v.waiting (λ id. w ≡ record v { output = v.output ++ packet (reply_body id (refusal_of fault)); waiting = None })
+pub call_refused : (request : Request) (Asked : List Attempt → Type 0) {d d1 : SessionLaneView} (fault : BeginFault) (v w : SessionView) → d1 ≡ d → IfSome v.waiting (λ id. w ≡ record v { output = v.output ++ packet (reply_body id (refusal_of fault)); waiting = None })
     → Asked (attempt request (Err fault) ∷ []) → MakesCall request Asked (talk d v) (talk d1 w)
 call_refused request Asked {d = d} fault v w same written asked =
     let answers : Answers request Asked d d (λ id. Refused id request fault) =
@@ -113,7 +113,7 @@ call_unanswered {d = d} {d2 = d2} {request = request} {number = number} waiting 
     (number, (h.0, h.1, long waiting h.0 r (subst (λ (x : Reply). IfSome waiting (λ id. length (packet (reply_body id x)) ≤ reply_room → IsOk r)) same enough) err), asked)
 
 -- a lane was asked to begin a call at the moment that was told for it, and no other since
-pub one_begin : (tl tl' : Option (List ℕ)) (b : Option (List Begin)) {b1 b2 : Option (List Begin)} (request : Request) (moment : ℕ) (outcome : Result ℕ CoreFault)
+pub one_begin : (tl tl' : Option (List ℕ)) (b : Option (List Begin)) {b1 b2 : Option (List Begin)} (request : Request) (moment : ℕ) (outcome : Result ℕ BeginFault)
     → Appends tl tl' (moment ∷ []) → Notes b b1 (record { request = request; moment = moment; outcome = outcome } ∷ []) → b2 ≡ b1 → BeginsCalls tl tl' b b2 (attempt request outcome ∷ [])
 one_begin tl tl' b request moment outcome told noted same =
     let one : List Begin = record { request = request; moment = moment; outcome = outcome } ∷ [] in

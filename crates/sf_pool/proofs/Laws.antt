@@ -21,6 +21,6 @@ notes_more (Some a) (Some b) (Some c) xs ys one other = other ∙ ap (λ l. l ++
 pub keeps_served : (start now : LaneScene) (from line : LineView) (old new : ℕ) → ServesLane start now from line old new → now.lane.keeps ≡ start.lane.keeps
 keeps_served start now from line old new serves = serves.1.keeps
 
-pub keeps_stopped : (f : ServeFault) (start now : LaneScene) (from line : LineView) (failed failed' old new : ℕ) → StopsLane f start now from line failed failed' old new → now.lane.keeps ≡ start.lane.keeps
-keeps_stopped f start now from line failed failed' old new (inl (never, begins, told, same, share, seen)) = ap (λ (d : SessionLaneView). d.keeps) never.2
-keeps_stopped f start now from line failed failed' old new (inr serves) = serves.1.keeps
+pub keeps_stopped : (f : ServeFault) (start now : LaneScene) (from line : LineView) (old new : ℕ) → StopsLane f start now from line old new → now.lane.keeps ≡ start.lane.keeps
+keeps_stopped f start now from line old new (inl (never, begins, told, same, share, seen)) = ap (λ (d : SessionLaneView). d.keeps) never.2
+keeps_stopped f start now from line old new (inr serves) = serves.1.keeps

@@ -3,11 +3,9 @@ use Rattle.std.proofs.Common.{◌≡◌, ◌≢◌, ◌++◌, ◌∷◌, [], ℕ
 use Rattle.std.proofs.lemmas.List.{map-append}
 use Rattle.sf_reply.specs.declared.reply.Reply.{Reply}
 use Rattle.sf_call.specs.declared.request.Request.{Request}
-use Rattle.sf_call.specs.declared.fault.CoreFault.{CoreFault}
-use Rattle.sf_call.specs.declared.fault.CoreFault.TheVariants as refused
+use Rattle.sf_call.specs.declared.fault.JoinFault.{JoinFault}
 use Rattle.sf_core.specs.Cores.{CoreView, LaneState}
 use Rattle.sf_core.specs.Cores.LaneState.{NoLane, Idle, Busy}
-use Rattle.sf_core.specs.Events.{RefusesJoin}
 use Rattle.sf_audit.specs.declared.transcript.AnsweredCall.{AnsweredCall}
 use Rattle.sf_audit.specs.declared.transcript.Transcript.{Transcript}
 use Rattle.sf_audit.specs.Audits.{CallRecord, call_record}
@@ -21,13 +19,6 @@ use Rattle.sf_pool.specs.declared.transcript_lane.Place.TheVariants as place
 use Rattle.sf_pool.specs.SessionLanes.{New, IsLast, IsLastAnswer, SessionLaneView, next_count, Steps}
 use Rattle.sf_pool.specs.OnCores.{IsPageOf, IsVisitOf, calls_begun_by}
 use Rattle.sf_pool.specs.TranscriptLanes.{session_lane_at, calls_in, WasAsked, EndsAs, IsTranscriptLane}
-
--- no session is refused as a stranger
-pub refused_known : (v : CoreView) (fault : CoreFault) → RefusesJoin v fault → fault ≢ refused.Stranger
-refused_known v refused.Stranger h e = h
-refused_known v refused.OutOfMemory h e = cc
-refused_known v refused.Sessions h e = cc
-refused_known v refused.NumbersSpent h e = cc
 
 -- the last call that is kept is the last that was told
 pub last_kept : (d : SessionLaneView) (asked : Option Request) (t : Transcript) → IsTranscriptLane d asked t → (earlier : List AnsweredCall) (call : AnsweredCall) → t.calls.items ≡ earlier ++ call ∷ [] → IsLast d.calls (call_record call)
@@ -72,7 +63,7 @@ was_asked (place.Refused fault) keeps steps d view asked = tt
 was_asked (place.Joined lane) keeps steps d view asked = tt
 was_asked (place.Left visit) keeps steps d view asked = tt
 
-pub visit_of : {B : Type 0} (p : Place B) (keeps : Bool) (steps : ℕ) (d : SessionLaneView) (ended : Result (ℕ × Page) CoreFault) → session_lane_at p keeps steps ≡ d → EndsAs p ended → IsVisitOf d ended
+pub visit_of : {B : Type 0} (p : Place B) (keeps : Bool) (steps : ℕ) (d : SessionLaneView) (ended : Result (ℕ × Page) JoinFault) → session_lane_at p keeps steps ≡ d → EndsAs p ended → IsVisitOf d ended
 visit_of place.New keeps steps d ended view ends = absurd ends
 visit_of (place.Refused fault) keeps steps d ended view ends = subst (IsVisitOf d) (sym ends) (ap (λ (x : SessionLaneView). x.place) (sym view))
 visit_of (place.Joined lane) keeps steps d ended view ends =
@@ -80,7 +71,7 @@ visit_of (place.Joined lane) keeps steps d ended view ends =
 visit_of (place.Left visit) keeps steps d ended view ends =
     subst (IsVisitOf d) (sym ends) (subst (λ (x : SessionLaneView). IsPageOf x visit) view (record { session = refl; place = refl; told = refl }))
 
-pub calls_of_end : {B : Type 0} (p : Place B) (ended : Result (ℕ × Page) CoreFault) → EndsAs p ended → calls_in p ≡ calls_begun_by ended
+pub calls_of_end : {B : Type 0} (p : Place B) (ended : Result (ℕ × Page) JoinFault) → EndsAs p ended → calls_in p ≡ calls_begun_by ended
 calls_of_end place.New ended ends = absurd ends
 calls_of_end (place.Refused fault) ended ends = ap calls_begun_by (sym ends)
 calls_of_end (place.Joined lane) ended ends = ap calls_begun_by (sym ends)

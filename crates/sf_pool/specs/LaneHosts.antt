@@ -87,13 +87,12 @@ IsPlaced standing.Unanswered v d = IsResting d.place
 IsPlaced standing.UnderWay v d = HasCallUnderWay d.place × (most_counted ≤ d.steps)
 IsPlaced (standing.Left share) v d = d.place ≡ Joined NoLane
 
--- and where the session has ended, by no fault
-abbrev pub IsOver : Standing → SessionLaneView → Option ServeFault → Type 0
-IsOver standing.Joined d f = ⊥
-IsOver standing.Unanswered d f = ⊥
-IsOver standing.UnderWay d f =
-    (f ≡ None) × HasCallUnderWay d.place × (most_counted ≤ d.steps)
-IsOver (standing.Left share) d f = (f ≡ None) × (d.place ≡ Joined NoLane)
+-- and where the session has ended
+abbrev pub IsOver : Standing → SessionLaneView → Type 0
+IsOver standing.Joined d = ⊥
+IsOver standing.Unanswered d = ⊥
+IsOver standing.UnderWay d = HasCallUnderWay d.place × (most_counted ≤ d.steps)
+IsOver (standing.Left share) d = d.place ≡ Joined NoLane
 
 -- the share is of all calls that the session was told, and one that was left under way has no reply
 abbrev pub IsCounted : Standing → SessionLaneView → SessionState → Type 0

@@ -1,8 +1,10 @@
 -- What the events of a session's lane do to its core, and how a lane ends.
 use Rattle.std.specs.Prelude.{◌≡◌, ◌⊎◌, ℕ, true, false, Result, Ok, Err}
 use Rattle.sf_call.specs.declared.request.Request.{Request}
-use Rattle.sf_call.specs.declared.fault.CoreFault.{CoreFault}
-use Rattle.sf_call.specs.declared.fault.CoreFault.TheVariants.{OutOfMemory}
+use Rattle.sf_call.specs.declared.fault.BeginFault.{BeginFault}
+use Rattle.sf_call.specs.declared.fault.BeginFault.TheVariants.{OutOfMemory}
+use Rattle.sf_call.specs.declared.fault.JoinFault.{JoinFault}
+use Rattle.sf_core.specs.declared.fault.CoreFault.TheVariants.{Refused}
 use Rattle.sf_core.specs.declared.step.Step.{Step}
 use Rattle.sf_core.specs.declared.step.Step.TheVariants as step
 use Rattle.sf_core.specs.Cores.{CoreView}
@@ -20,12 +22,12 @@ pub record IsPageOf (d : SessionLaneView) (x : ℕ × Page) : Type 0 where
   pub told : x.1.told ≡ d.calls
 
 -- the result of a lane: the session's page, or why it never joined
-abbrev pub IsVisitOf : SessionLaneView → Result (ℕ × Page) CoreFault → Type 0
+abbrev pub IsVisitOf : SessionLaneView → Result (ℕ × Page) JoinFault → Type 0
 IsVisitOf d (Ok x) = IsPageOf d x
 IsVisitOf d (Err refusal) = d.place ≡ JoinRefused refusal
 
 -- the number of calls that the session began
-abbrev pub calls_begun_by : Result (ℕ × Page) CoreFault → ℕ
+abbrev pub calls_begun_by : Result (ℕ × Page) JoinFault → ℕ
 calls_begun_by (Ok x) = page_calls x.1
 calls_begun_by (Err refusal) = 0
 
@@ -35,9 +37,10 @@ BeginsAt d v w request moment =
     (x : ℕ × Page) × IsPageOf d x × CallBegins v w (lane_of x) request moment
 
 -- memory ran out, or the core refuses the session's call
-abbrev pub RefusesAt : SessionLaneView → CoreView → CoreFault → Type 0
+abbrev pub RefusesAt : SessionLaneView → CoreView → BeginFault → Type 0
 RefusesAt d v fault =
-    (fault ≡ OutOfMemory) ⊎ ((x : ℕ × Page) × IsPageOf d x × RefusesBegin v (lane_of x) fault)
+    (fault ≡ OutOfMemory) ⊎ ((x : ℕ × Page) × IsPageOf d x
+    × RefusesBegin v (lane_of x) (Refused fault))
 
 -- what a lane returns of a step: whether its call was answered, and whether it was blocked
 abbrev pub TellsOf : Step → Stepped → SessionLaneView → Type 0

@@ -4,12 +4,13 @@ use Rattle.std.specs.List.{flat_map}
 use Rattle.std.specs.Io.KnownBytes.{Appends}
 use Rattle.sf_line.specs.Lines.{Rose}
 use Rattle.sf_call.specs.declared.request.Request.{Request}
-use Rattle.sf_call.specs.declared.fault.CoreFault.{CoreFault}
-use Rattle.sf_call.specs.declared.fault.CoreFault.TheVariants as refused
+use Rattle.sf_call.specs.declared.fault.BeginFault.{BeginFault}
+use Rattle.sf_call.specs.declared.fault.JoinFault.{JoinFault}
 use Rattle.sf_core.specs.Cores.LaneState.{NoLane, Busy}
 use Rattle.sf_session.specs.declared.cause.Cause.{Cause}
 use Rattle.sf_session.specs.declared.fault.ServeFault.{ServeFault}
 use Rattle.sf_session.specs.declared.fault.ServeFault.TheVariants as fault
+use Rattle.sf_session.specs.Sessions.{join_refusal}
 use Rattle.sf_session.specs.Responses.{Response, Version, Locally, ByCall, Refused}
 use Rattle.sf_session.specs.SessionStates.{Phase, Resting, UnderWay, Decided, Gone, SessionState}
 use Rattle.sf_serving.specs.Hosts.{most_counted}
@@ -57,9 +58,9 @@ state_calls t = flat_map response_calls t.answers ++ phase_calls t.phase
 -- A call that a lane was asked to begin: its request, and its number or why it was refused.
 pub record Attempt : Type 0 where
   pub request : Request
-  pub outcome : Result ℕ CoreFault
+  pub outcome : Result ℕ BeginFault
 
-abbrev pub attempt : Request → Result ℕ CoreFault → Attempt
+abbrev pub attempt : Request → Result ℕ BeginFault → Attempt
 attempt request outcome = record { request = request; outcome = outcome }
 
 abbrev pub attempt_of : Begin → Attempt
@@ -122,16 +123,9 @@ ServesLane start now from line old new = Serves lane_held (NotesCalls start now)
     (λ p. ((cause : Cause) × IsServed line.incoming cause p) × (now.lane.place ≡ Joined NoLane)
     × IsShared (length (state_calls p.state)) old new)
 
--- why a session doesn't join
-abbrev pub join_refusal : CoreFault → ServeFault
-join_refusal refused.OutOfMemory = fault.OutOfMemory
-join_refusal refused.Sessions = fault.Sessions
-join_refusal refused.NumbersSpent = fault.NumbersSpent
-join_refusal refused.Stranger = fault.Stranger
-
 -- the session never joined, for this refusal
 abbrev pub NeverJoins : SessionLaneView → SessionLaneView → ServeFault → Type 0
-NeverJoins start now f = (refusal : CoreFault) × (f ≡ join_refusal refusal)
+NeverJoins start now f = (refusal : JoinFault) × (f ≡ join_refusal refusal)
     × (now ≡ record start { place = JoinRefused refusal })
 
 -- A call is under way, and its session waits for it.
@@ -151,29 +145,27 @@ HasLeftLane lane t old new =
     ((lane.place ≡ Joined NoLane) × IsShared (length (state_calls t)) old new)
     ⊎ (IsInCall lane.place t.phase × (most_counted ≤ lane.steps) × (new ≡ old))
 
--- a joined session is never unknown; numbers run out only after that many bytes or steps
+-- numbers run out only after that many bytes or steps
 abbrev pub LeavesFor : ServeFault → SessionLaneView → Progress → (old new : ℕ) → Type 0
 LeavesFor fault.Line lane p old new = HasLeftLane lane p.state old new
 LeavesFor fault.OutOfMemory lane p old new = HasLeftLane lane p.state old new
 LeavesFor fault.Sessions lane p old new = ⊥
-LeavesFor fault.Stranger lane p old new = ⊥
 LeavesFor fault.NumbersSpent lane p old new = HasLeftLane lane p.state old new
     × ((most_counted ≤ length p.state.stream) ⊎ (most_counted ≤ lane.steps))
 
 -- What serving did before this fault. If the session never joined, nothing. Otherwise it served the
 -- session so far, and wrote its replies, unless the stream failed.
 abbrev pub StopsLane : ServeFault → (start now : LaneScene) → (from line : LineView)
-    → (failed failed' old new : ℕ) → Type 0
-StopsLane f start now from line failed failed' old new =
+    → (old new : ℕ) → Type 0
+StopsLane f start now from line old new =
     (NeverJoins start.lane now.lane f × (now.begins ≡ start.begins) × (now.moments ≡ start.moments)
     × (line ≡ from) × (new ≡ old) × IsPrefixOf start.seen now.seen)
-    ⊎ Serves lane_held (NotesCalls start now) from line (λ p. HasWrittenFor f failed failed' p
+    ⊎ Serves lane_held (NotesCalls start now) from line (λ p. HasWrittenFor f p
     × LeavesFor f now.lane p old new)
 
--- a stream fault is reported only if the stream failed, and no session is unknown
+-- a stream fault is reported only if the stream failed
 abbrev pub IsLaneFault : ServeFault → ℕ → ℕ → Type 0
 IsLaneFault fault.Line failed failed' = Rose failed failed'
 IsLaneFault fault.OutOfMemory failed failed' = Unit {0}
 IsLaneFault fault.Sessions failed failed' = Unit {0}
-IsLaneFault fault.Stranger failed failed' = ⊥
 IsLaneFault fault.NumbersSpent failed failed' = Unit {0}

@@ -3,7 +3,7 @@ use Rattle.std.specs.Prelude.{◌≡◌, ◌+◌, ◌-◌, ◌^◌, ℕ, min, Li
 use Rattle.sf_reply.specs.declared.reply.Reply.{Reply}
 use Rattle.sf_call.specs.declared.request.Request.{Request}
 use Rattle.sf_call.specs.declared.record.Record.{Record}
-use Rattle.sf_call.specs.declared.fault.CoreFault.{CoreFault}
+use Rattle.sf_call.specs.declared.fault.JoinFault.{JoinFault}
 use Rattle.sf_core.specs.Cores.{LaneState}
 use Rattle.sf_core.specs.Cores.LaneState.{Idle}
 use Rattle.sf_audit.specs.Audits.{CallRecord, call_records}
@@ -16,7 +16,7 @@ use Rattle.sf_pool.specs.declared.session_lane.StepResult.TheVariants.{Going, An
 -- it hasn't joined, it was refused, or it has joined
 pub data SessionLaneState : Type 0 where
   New : SessionLaneState
-  JoinRefused : (fault : CoreFault) → SessionLaneState
+  JoinRefused : (fault : JoinFault) → SessionLaneState
   Joined : (state : LaneState BegunCall) → SessionLaneState
 
 abbrev pub IsResting : SessionLaneState → Type 0

@@ -3,7 +3,7 @@
 use Rattle.std.specs.Prelude.{◌≡◌, ◌≢◌, ◌<◌, ◌++◌, ℕ, Bool, true, List, [], map, Option, Some, None, Result, Ok, Err, vec_len}
 use Rattle.std.specs.Vec.{vec_capacity}
 use Rattle.sf_call.specs.declared.request.Request.{Request}
-use Rattle.sf_call.specs.declared.fault.CoreFault.{CoreFault}
+use Rattle.sf_call.specs.declared.fault.JoinFault.{JoinFault}
 use Rattle.sf_core.specs.Cores.LaneState.{NoLane, Busy}
 use Rattle.sf_audit.specs.declared.transcript.Transcript.{Transcript}
 use Rattle.sf_audit.specs.Audits.{CallRecord, call_record}
@@ -24,7 +24,7 @@ WasAsked place.New = ⊥
 WasAsked _ = Unit {0}
 
 -- what is noted of it at its end, or why it never joined
-abbrev pub EndsAs : {B : Type 0} → Place B → Result (ℕ × Page) CoreFault → Type 0
+abbrev pub EndsAs : {B : Type 0} → Place B → Result (ℕ × Page) JoinFault → Type 0
 EndsAs place.New ended = ⊥
 EndsAs (place.Refused fault) ended = ended ≡ Err fault
 EndsAs (place.Joined lane) ended = ended ≡ Ok lane

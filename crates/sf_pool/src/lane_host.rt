@@ -2,7 +2,6 @@
 
 ghost use Rattle.std.specs.Prelude.{◌≡◌, ◌≤◌, ℕ, List, length, take, Option, Some, None, vec_len, OnOk, OnErr, IfOk, IfErr};
 ghost use Rattle.sf_session.specs.declared.fault.ServeFault.{ServeFault};
-ghost use Rattle.sf_session.specs.declared.fault.ServeFault.TheVariants.{Stranger};
 ghost use Rattle.sf_session.specs.Sessions.{new_session};
 ghost use Rattle.sf_session.specs.SessionStates.{SessionState, fed, IsRead};
 ghost use Rattle.sf_session.specs.Responses.{transcript};
@@ -154,11 +153,9 @@ impl<D: SessionLane, G: StepObserver> Host<D> for LaneHost<'_, G> {
 
     ghost work = { λ h d. (D.at d).steps };
 
-    ghost strange = { λ h d. ⊥ };
-
     ghost rests = { λ h d. D.rests d };
 
-    ghost left = { λ h d fault. IsOver h.standing (D.at d) fault };
+    ghost left = { λ h d. IsOver h.standing (D.at d) };
 
     fn feed(&mut self, _lane: &mut D, piece: &Vec<u8>, n: usize) -> Result<(), AllocError> {
         self.room = GATHERED;
@@ -207,12 +204,11 @@ impl<D: SessionLane, G: StepObserver> Host<D> for LaneHost<'_, G> {
         self.session.take_front(n);
     }
 
-    fn end(&mut self, lane: &mut D) -> Result<(), ServeFault> {
+    fn end(&mut self, lane: &mut D) {
         match &self.standing {
-            Standing::UnderWay | Standing::Left(_) => return Ok(()),
+            Standing::UnderWay | Standing::Left(_) => return,
             Standing::Joined | Standing::Unanswered => {}
         }
         self.standing = Standing::Left(lane.leave());
-        Ok(())
     }
 }

@@ -3,30 +3,16 @@
 ghost use Rattle.std.specs.Prelude.{◌≡◌, ◌≢◌, vec_len, OnOk, IfErr};
 ghost use Rattle.sf_serving.specs.Serving.{line_view};
 ghost use Rattle.sf_pool.specs.SessionLanes.{New};
-ghost use Rattle.sf_pool.specs.Scenes.{lane_scene, join_refusal, ServesLane, StopsLane, IsLaneFault};
+ghost use Rattle.sf_pool.specs.Scenes.{lane_scene, ServesLane, StopsLane, IsLaneFault};
 
 use crate::lane_host::LaneHost;
 use crate::observer::StepObserver;
 use crate::session_lane::SessionLane;
-use sf_call::CoreFault;
 use sf_core::Share;
 use sf_line::Line;
 use sf_serving::serve_session;
 use sf_session::{Clock, ServeFault};
 use std::alloc::Global;
-
-/// Why the session did not join.
-fn join_refusal(fault: CoreFault) -> ServeFault
-    requires { fault ≢ CoreFault.Stranger }
-    ensures { result ≡ join_refusal fault }
-{
-    match fault {
-        CoreFault::OutOfMemory => ServeFault::OutOfMemory,
-        CoreFault::Sessions => ServeFault::Sessions,
-        CoreFault::NumbersSpent => ServeFault::NumbersSpent,
-        CoreFault::Stranger => unreachable!(),
-    }
-}
 
 /// Serves one session over a stream, until its input or the session ends, and merges its share of
 /// the calls. The lane has not joined before. The observer receives the session and its calls.
@@ -56,14 +42,14 @@ pub fn serve<D: SessionLane, L: Line, C: Clock, G: StepObserver>(
         (lane_scene (D.at lane.new) (D.begins lane.new) (C.moments clock.new) (D.seen lane.new))
         (line_view (L.incoming line.old) (L.outgoing line.old) (L.calls line.old))
         (line_view (L.incoming line.new) (L.outgoing line.new) (L.calls line.new))
-        (L.failed line.old) (L.failed line.new) share.old share.new) }
+        share.old share.new) }
     ensures fault { IfErr result (λ fault. IsLaneFault fault (L.failed line.old)
         (L.failed line.new)) }
     ensures asked { (D.at lane.new).place ≢ New }
 {
     let number = match lane.join() {
         Ok(number) => number,
-        Err(fault) => return Err(join_refusal(fault)),
+        Err(fault) => return Err(ServeFault::from(fault)),
     };
     observer.joined(number);
     let mut host = LaneHost::new(alloc, number, observer);

@@ -2,7 +2,6 @@
 
 ghost use Rattle.std.specs.Prelude.{◌≡◌, ◌≢◌, ◌<◌, List, [], ◌∷◌, length, Option, None, OnErr, IfOk, IfErr};
 ghost use Rattle.sf_call.specs.declared.record.Record.{Record};
-ghost use Rattle.sf_call.specs.declared.fault.CoreFault.TheVariants.{Stranger};
 ghost use Rattle.sf_call.specs.Histories.{IsNewNumber};
 ghost use Rattle.sf_core.specs.Cores.LaneState.{NoLane, Idle, Busy};
 ghost use Rattle.sf_audit.specs.Audits.{call_record};
@@ -12,7 +11,7 @@ ghost use Rattle.sf_pool.specs.declared.session_lane.Begin.{Begin};
 ghost use Rattle.sf_pool.specs.SessionLanes.{New, JoinRefused, Joined, IsResting, HasCallUnderWay, IsLast, Notes, share_of, SessionLaneView, Steps, HasSeenCalls, SeesOn};
 
 use sf_audit::AnsweredCall;
-use sf_call::{CoreFault, Request};
+use sf_call::{BeginFault, JoinFault, Request};
 use sf_core::Share;
 
 /// The outcome of a step.
@@ -31,11 +30,10 @@ pub struct Begin {
     /// In seconds since 1970.
     pub moment: u32,
     /// The call's number, or why it was refused.
-    pub outcome: Result<u64, CoreFault>,
+    pub outcome: Result<u64, BeginFault>,
 }
 
-/// A session at a core: it joins, makes one call after the other, and leaves. A session that joined
-/// is never unknown to the core.
+/// A session at a core: it joins, makes one call after the other, and leaves.
 pub trait SessionLane {
     /// The session's number and state, its answered calls in order, whether the lane retains them,
     /// and the number of steps made.
@@ -52,7 +50,7 @@ pub trait SessionLane {
     ghost rests: { Self → Type 0 } = { λ _. Unit {0} };
 
     /// The session joins. Returns its number, or why it was refused. It has no call in the prefix.
-    fn join(&mut self) -> Result<u64, CoreFault>
+    fn join(&mut self) -> Result<u64, JoinFault>
         requires { (at self.old).place ≡ New }
         ensures number { IfOk result (λ session. 0 < session) }
         ensures ok { IfOk result (λ session. at self.new ≡ record (at self.old) {
@@ -62,19 +60,17 @@ pub trait SessionLane {
         }) }
         ensures err { IfErr result (λ fault. at self.new
             ≡ record (at self.old) { place = JoinRefused fault }) }
-        ensures known { IfErr result (λ fault. fault ≢ Stranger) }
         ensures begins { begins self.new ≡ begins self.old }
         ensures further { IsPrefixOf (seen self.old) (seen self.new) }
         ensures own { IfOk result (λ _. HasSeenCalls (seen self.new) (at self.new)) };
 
     /// Begins a call at a timestamp, in seconds since 1970. Returns its number. Reserves memory for
     /// its reply. The call is not in the prefix, so it follows all of it in the history.
-    fn begin(&mut self, request: Request, moment: u32) -> Result<u64, CoreFault>
+    fn begin(&mut self, request: Request, moment: u32) -> Result<u64, BeginFault>
         requires { IsResting (at self.old).place }
         ensures ok { IfOk result (λ number. at self.new
             ≡ record (at self.old) { place = Joined (Busy (begun_call number moment request)) }) }
         ensures err { OnErr result (at self.new ≡ at self.old) }
-        ensures known { IfErr result (λ fault. fault ≢ Stranger) }
         ensures asked { Notes (begins self.old) (begins self.new) (record {
           request = request;
           moment = moment;

@@ -1,6 +1,6 @@
 //! A session's lane at a core under a mutex.
 
-ghost use Rattle.std.specs.Prelude.{◌≡◌, ◌≢◌, None, true, map};
+ghost use Rattle.std.specs.Prelude.{◌≡◌, ◌≢◌, ◌<◌, ◌+◌, None, true, map};
 ghost use Rattle.sf_audit.specs.Audits.{call_record};
 ghost use Rattle.sf_pool.specs.SessionLanes.{New, new_session_lane};
 ghost use Rattle.sf_pool.specs.OnCores.{IsVisitOf, calls_begun_by};
@@ -9,7 +9,7 @@ use crate::session_lane::{SessionLane, StepResult};
 use crate::transcript_lane::{EndedLane, TranscriptLane};
 use crate::wait_queue::{LOOKS, WaitQueue};
 use sf_audit::AnsweredCall;
-use sf_call::{CoreFault, Record, Request};
+use sf_call::{BeginFault, JoinFault, Record, Request};
 use sf_core::Share;
 use sf_noted::NotedCore;
 use sf_roll::{RollName, Seen};
@@ -32,6 +32,27 @@ const CALLS_BEFORE_PERMIT: u64 = 4;
 /// How many calls it makes before it gives the batch token to others.
 const CALLS_BY_PERMIT: u64 = 256;
 
+/// The batch token, and how many more calls it is for.
+#[derive(Drop)]
+struct Batch<'a> {
+    _token: MutexGuard<'a, ()>,
+    left: u64,
+    ghost few: { left < 256 },
+}
+
+impl Batch<'_> {
+    /// Whether the token is for the next call, which is counted.
+    fn count(&mut self) -> bool
+        ensures { result ≡ true → self.new.left + 1 ≡ self.old.left }
+    {
+        if self.left == 0 {
+            return false;
+        }
+        self.left -= 1;
+        true
+    }
+}
+
 /// Whether a call moves much data. Its packet and reply are best made while others have the core.
 fn is_large(request: &Request) -> bool {
     matches!(
@@ -51,7 +72,7 @@ pub struct SharedLane<'a, R: Wait, B: RollName + Ledger> {
     transcript_lane: TranscriptLane<B>,
     seen: Seen<Record, B>,
     held: Option<MutexGuard<'a, NotedCore<B>>>,
-    permit: Option<MutexGuard<'a, ()>>,
+    permit: Option<Batch<'a>>,
     // Calls begun since the last pause, and between the two pauses before.
     made: u64,
     before: u64,
@@ -207,7 +228,11 @@ impl<'a, R: Wait, B: RollName + Ledger> SharedLane<'a, R, B> {
         ensures seen { self.new.seen ≡ self.old.seen }
     {
         self.permit = None;
-        self.permit = Some(self.wait_queue.take_permit(self.rt));
+        let token = self.wait_queue.take_permit(self.rt);
+        self.permit = Some(Batch {
+            _token: token,
+            left: CALLS_BY_PERMIT - 1,
+        });
         self.lock()
     }
 
@@ -277,9 +302,11 @@ impl<'a, R: Wait, B: RollName + Ledger> SharedLane<'a, R, B> {
         let made = self.made;
         self.made = made.saturating_add(1);
         self.blocked = 0;
-        let is_many = self.permit.is_none()
-            && (made >= CALLS_BEFORE_PERMIT || self.before > CALLS_BEFORE_PERMIT);
-        if is_many || made % CALLS_BY_PERMIT == CALLS_BY_PERMIT - 1 {
+        let is_many = match &mut self.permit {
+            Some(batch) => !batch.count(),
+            None => made >= CALLS_BEFORE_PERMIT || self.before > CALLS_BEFORE_PERMIT,
+        };
+        if is_many {
             self.give_up();
             return self.lock_for_many();
         }
@@ -366,7 +393,7 @@ impl<R: Wait, B: RollName + Ledger> SessionLane for SharedLane<'_, R, B> {
 
     ghost rests = { λ d. (d.held ≡ None) × (d.permit ≡ None) };
 
-    fn join(&mut self) -> Result<u64, CoreFault> {
+    fn join(&mut self) -> Result<u64, JoinFault> {
         let mut core = self.lock();
         let joined = self.transcript_lane.join(&mut core, &mut self.seen);
         self.moved = true;
@@ -374,7 +401,7 @@ impl<R: Wait, B: RollName + Ledger> SessionLane for SharedLane<'_, R, B> {
         joined
     }
 
-    fn begin(&mut self, request: Request, moment: u32) -> Result<u64, CoreFault> {
+    fn begin(&mut self, request: Request, moment: u32) -> Result<u64, BeginFault> {
         self.is_large = is_large(&request);
         let mut core = self.lock_for_call();
         let begun = self

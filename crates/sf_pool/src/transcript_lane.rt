@@ -4,7 +4,6 @@ ghost use Rattle.std.specs.Prelude.{◌≡◌, ◌≢◌, ◌<◌, ◌+◌, ◌+
 ghost use Rattle.std.specs.Vec.{vec_capacity};
 ghost use Rattle.sf_call.specs.declared.record.Record.{Record};
 ghost use Rattle.sf_call.specs.declared.record.Record.TheVariants.{Left};
-ghost use Rattle.sf_call.specs.declared.fault.CoreFault.TheVariants.{Stranger};
 ghost use Rattle.sf_call.specs.Histories.{IsNewNumber};
 ghost use Rattle.sf_core.specs.Cores.LaneState.{NoLane, Idle, Busy};
 ghost use Rattle.sf_core.specs.Histories.{IsHistory};
@@ -18,7 +17,7 @@ ghost use Rattle.sf_pool.specs.SessionLanes.{New, JoinRefused, Joined, IsResting
 
 use crate::session_lane::StepResult;
 use sf_audit::{AnsweredCall, Transcript};
-use sf_call::{Answer, CoreFault, Record, Request};
+use sf_call::{Answer, BeginFault, JoinFault, Record, Request};
 use sf_core::{Share, Step};
 use sf_noted::{NotedCore, NotedLane, Visit};
 use sf_roll::{RollName, Seen};
@@ -30,7 +29,7 @@ use std::sync::ledger::{self, Ledger};
 /// The state of a session.
 enum Place<B: RollName> {
     New,
-    Refused(CoreFault),
+    Refused(JoinFault),
     Joined(NotedLane<B>),
     Left(Visit<B>),
 }
@@ -76,12 +75,12 @@ impl<B: RollName> Place<B> {
 /// Why a session never joined. Only the lane of a refused session makes it.
 #[derive(Debug, Drop)]
 pub struct NotJoined {
-    fault: CoreFault,
+    fault: JoinFault,
 }
 
 impl NotJoined {
     /// Why the core refused the session.
-    pub fn fault(&self) -> CoreFault
+    pub fn fault(&self) -> JoinFault
         ensures { result ≡ self.now }
     {
         self.fault
@@ -89,9 +88,9 @@ impl NotJoined {
 }
 
 impl Model for NotJoined {
-    ghost use Rattle.sf_call.specs.declared.fault.CoreFault.{CoreFault};
+    ghost use Rattle.sf_call.specs.declared.fault.JoinFault.{JoinFault};
 
-    ghost Value = { CoreFault };
+    ghost Value = { JoinFault };
 
     ghost view = { λ n. n.fault };
 }
@@ -195,7 +194,7 @@ impl<B: RollName + Ledger> TranscriptLane<B> {
         &mut self,
         core: &mut NotedCore<B>,
         seen: &mut Seen<Record, B>,
-    ) -> Result<u64, CoreFault>
+    ) -> Result<u64, JoinFault>
         requires { self.old.place ≡ New }
         ensures number { IfOk result (λ session. 0 < session) }
         ensures ok { IfOk result (λ session. self.new ≡ record self.old {
@@ -205,7 +204,6 @@ impl<B: RollName + Ledger> TranscriptLane<B> {
         }) }
         ensures err { IfErr result (λ fault. self.new
             ≡ record self.old { place = JoinRefused fault }) }
-        ensures known { IfErr result (λ fault. fault ≢ Stranger) }
         ensures joins { IfOk result (λ session. (session ≡ core.old.0.joins + 1)
             × Joins core.old.0 core.new.0) }
         ensures history { (h : List Record) → IsHistory core.old.0 h → IsHistory core.new.0 h }
@@ -228,25 +226,26 @@ impl<B: RollName + Ledger> TranscriptLane<B> {
         }
     }
 
-    /// Begins a call. Reserves memory for its reply.
+    /// Begins a call. Reserves memory for its reply. The token's prefix becomes the whole history so
+    /// far, also if sessions that are open made its calls.
     pub fn begin(
         &mut self,
         core: &mut NotedCore<B>,
         seen: &mut Seen<Record, B>,
         request: Request,
         moment: u32,
-    ) -> Result<u64, CoreFault>
+    ) -> Result<u64, BeginFault>
         requires { IsResting self.old.place }
         ensures ok { IfOk result (λ number. self.new
             ≡ record self.old { place = Joined (Busy (begun_call number moment request)) }) }
         ensures err { OnErr result (self.new ≡ self.old) }
-        ensures known { IfErr result (λ fault. fault ≢ Stranger) }
         ensures begins { IfOk result (λ number. (number ≡ core.new.0.drawn)
             × BeginsAt self.old core.old.0 core.new.0 request moment) }
         ensures history { (h : List Record) → IsHistory core.old.0 h → IsHistory core.new.0 h }
         ensures refused { OnErr result (core.new ≡ core.old) }
         ensures fault { IfErr result (λ fault. RefusesAt self.old core.old.0 fault) }
         ensures sees { SeesOn seen.old self.old seen.new self.new }
+        ensures whole { IfOk result (λ _. seen.new ≡ core.old.2) }
         ensures new_number { IfOk result (λ number. IsNewNumber number seen.new) }
     {
         self.transcript.calls.reserve(1)?;

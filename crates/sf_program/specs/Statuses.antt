@@ -42,7 +42,6 @@ status_line (Ok cause) = line_of_cause cause
 status_line (Err fault.OutOfMemory) = codes "sftpd: out of memory" ++ 10 ∷ []
 status_line (Err fault.Line) = codes "sftpd: stream: standard input or output failed" ++ 10 ∷ []
 status_line (Err fault.Sessions) = codes "sftpd: stream" ++ 10 ∷ []
-status_line (Err fault.Stranger) = codes "sftpd: stream" ++ 10 ∷ []
 status_line (Err fault.NumbersSpent) = codes "sftpd: stream" ++ 10 ∷ []
 
 -- the outcome of serving a line on an engine

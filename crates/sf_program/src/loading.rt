@@ -22,7 +22,7 @@ pub struct NotLoaded;
 fn report_fault(rt: &HostRuntime, folder: &LocalFolder<'_>, fault: LoadFault) -> NotLoaded {
     let _ = match fault {
         LoadFault::Folder(FolderFault::Unreadable) => Ok(()),
-        LoadFault::Server(TreeFault::OutOfMemory) | LoadFault::Folder(_) => {
+        LoadFault::Server(TreeFault::OutOfMemory) | LoadFault::Folder(_) | LoadFault::TooMany => {
             report_out_of_memory(rt)
         }
         LoadFault::Server(why) => match shown(rt.alloc(), folder.path()) {

@@ -151,9 +151,7 @@ fn line_bytes(outcome: Result<Cause, ServeFault>) -> &'static [u8]
         Ok(cause) => ending_bytes(cause),
         Err(ServeFault::OutOfMemory) => b"sftpd: out of memory\n",
         Err(ServeFault::Line) => b"sftpd: stream: standard input or output failed\n",
-        Err(ServeFault::Sessions) => b"sftpd: stream\n",
-        Err(ServeFault::Stranger) => b"sftpd: stream\n",
-        Err(ServeFault::NumbersSpent) => b"sftpd: stream\n",
+        Err(ServeFault::Sessions | ServeFault::NumbersSpent) => b"sftpd: stream\n",
     }
 }
 

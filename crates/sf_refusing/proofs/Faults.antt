@@ -32,27 +32,21 @@ feed_fault log s fed fault.Ended waits may =
     let none : a.due ≡ NothingDue = none_due a.due (omega (arith, rest.1, a.begun)) in
     let here : t.left ≡ true → ⊥ = λ left. let z : false ≡ true = sym rest.0 ∙ left in cc in
     absurd (elim may.1 [ inl closed ↦ here (a.closed closed none) | inr left ↦ here left ])
-feed_fault log s fed fault.Sessions waits may = absurd may
-feed_fault log s fed fault.NumbersSpent waits may = absurd may
-feed_fault log s fed fault.NotSent waits may = absurd may
+feed_fault log s fed _ waits may = absurd may
 
 -- all of a session's output may be removed
 pub sent_fault : (log : List Entry) (s : ℕ) (u : List ℕ) (n : ℕ) (f : EngineFault) → IsKnown log s → HasUnsent log s u → n ≡ length u → MayBeRefused log (event.Sent s n) f → f ≡ fault.OutOfMemory
 sent_fault log s u n fault.OutOfMemory known U all may = refl
 sent_fault log s u n fault.NoSuchSession known U all may = absurd (may known)
-sent_fault log s u n fault.Ended known U all may = absurd may
-sent_fault log s u n fault.Sessions known U all may = absurd may
-sent_fault log s u n fault.NumbersSpent known U all may = absurd may
 sent_fault log s u n fault.NotSent known U all may =
     absurd (omega (arith, may.1, all, ap (λ (b : List ℕ). length b) U.packets, length-append U.sent u, U.count_is))
+sent_fault log s u n _ known U all may = absurd may
 
 pub feed_refused : (log : List Entry) (s : ℕ) (fed : Vec ℕ) (f : EngineFault) → IsKnown log s → MayBeRefused log (event.Feed s fed) f → MayRefuseFeed log s f
 feed_refused log s fed fault.OutOfMemory known may = known
 feed_refused log s fed fault.NoSuchSession known may = may
 feed_refused log s fed fault.Ended known may = may
-feed_refused log s fed fault.Sessions known may = absurd may
-feed_refused log s fed fault.NumbersSpent known may = absurd may
-feed_refused log s fed fault.NotSent known may = absurd may
+feed_refused log s fed _ known may = absurd may
 
 -- more than the output, of which some is buffered here
 pub sent_refused : (journal : List Act) (s n k : ℕ) (held output : List ℕ) (begun : Bool) (f : EngineFault) → n ≡ length output + k → ServesHere journal s held output begun → MayBeRefused (log_of journal) (event.Sent s k) f → MayRefuseSent journal s n f
@@ -62,10 +56,7 @@ sent_refused journal s n k held output begun fault.NotSent all S may = λ own.
     let waits : length (sent_in s journal) ≡ delivered_in s journal + (length output + length T.unsent) =
     ap (λ (b : List ℕ). length b) T.waits ∙ omega (arith, length-append (T.gone ++ output) T.unsent, length-append T.gone output, T.count) in
     omega (arith, waits, all, may.1, ap (λ (b : List ℕ). length b) T.in_engine.packets, length-append T.in_engine.sent T.unsent, T.in_engine.count_is)
-sent_refused journal s n k held output begun fault.OutOfMemory all S may = absurd may
-sent_refused journal s n k held output begun fault.Ended all S may = absurd may
-sent_refused journal s n k held output begun fault.Sessions all S may = absurd may
-sent_refused journal s n k held output begun fault.NumbersSpent all S may = absurd may
+sent_refused journal s n k held output begun _ all S may = absurd may
 
 pub on_err_from : {A B : Type 0} (r : Result A B) (P : B → Type 0) → ((f : B) → r ≡ Err f → P f) → IfErr r P
 on_err_from (Ok x) P f = tt

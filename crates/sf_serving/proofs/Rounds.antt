@@ -86,25 +86,20 @@ rose_until : (start old new : ℕ) → old ≤ new → Rose start old → Rose s
 rose_until start old new more (inl rose) = inl (omega arith)
 rose_until start old new more (inr most) = inr most
 
-pub host_stop : (f : ServeFault) (work failed failed' : ℕ) (s : Type 0) → IsHostFault f work s → IsStop f failed failed' s
-host_stop serve.Line work failed failed' s h = absurd h
-host_stop serve.Sessions work failed failed' s h = absurd h
-host_stop serve.Stranger work failed failed' s h = h
-host_stop f work failed failed' s h = tt
+pub host_stop : (f : ServeFault) (work failed failed' : ℕ) → IsHostFault f work → IsStop f failed failed'
+host_stop serve.Line work failed failed' h = absurd h
+host_stop serve.Sessions work failed failed' h = absurd h
+host_stop f work failed failed' h = tt
 
 -- an error since a later time is one since an earlier time
-pub stop_since : (f : ServeFault) (start old new : ℕ) (s : Type 0) → start ≤ old → old ≤ new → IsStop f old new s → IsStop f start new s
-stop_since serve.Line start old new s before more h = rose_since start old new before more h
-stop_since f start old new s before more h = h
+pub stop_since : (f : ServeFault) (start old new : ℕ) → start ≤ old → old ≤ new → IsStop f old new → IsStop f start new
+stop_since serve.Line start old new before more h = rose_since start old new before more h
+stop_since f start old new before more h = h
 
 -- and one up to a later time
-pub stop_until : (f : ServeFault) (start old new : ℕ) (s s' : Type 0) → old ≤ new → (s → s') → IsStop f start old s → IsStop f start new s'
-stop_until serve.Line start old new s s' more to h = rose_until start old new more h
-stop_until serve.Stranger start old new s s' more to h = to h
-stop_until f start old new s s' more to h = h
-
-pub stranger_stop : (f : ServeFault) (failed failed' : ℕ) (s : Type 0) → f ≡ serve.Stranger → s → IsStop f failed failed' s
-stranger_stop f failed failed' s is h = subst (λ (x : ServeFault). IsStop x failed failed' s) (sym is) h
+pub stop_until : (f : ServeFault) (start old new : ℕ) → old ≤ new → IsStop f start old → IsStop f start new
+stop_until serve.Line start old new more h = rose_until start old new more h
+stop_until f start old new more h = h
 
 -- ---- exhausted counts
 
@@ -113,9 +108,9 @@ spent_for serve.NumbersSpent w w' p p' same stream (inl h) = inl (subst (λ (b :
 spent_for serve.NumbersSpent w w' p p' same stream (inr h) = inr (subst (λ (k : ℕ). most_counted ≤ k) (sym same) h)
 spent_for f w w' p p' same stream h = tt
 
-host_spent : (f : ServeFault) (w : ℕ) (s : Type 0) (p : Progress) → IsHostFault f w s → IsSpentFor f w p
-host_spent serve.NumbersSpent w s p h = inr h
-host_spent f w s p h = tt
+host_spent : (f : ServeFault) (w : ℕ) (p : Progress) → IsHostFault f w → IsSpentFor f w p
+host_spent serve.NumbersSpent w p h = inr h
+host_spent f w p h = tt
 
 -- ---- processing packets
 
@@ -163,8 +158,8 @@ gone T T' from now n k r goes serves =
       },
     )
 
-pub gone_stops : {held : ℕ} (T : SessionState → Type 0) {from now : LineView} {n k : ℕ} (w : ℕ) (s : Type 0) {f : ServeFault} → IsHostFault f w s → Serves held T from now (HasGone n k (Err f)) → Serves held T from now (Stops f w)
-gone_stops T w s {f = f} why serves = (serves.0, serves.1, serves.2, ((λ no. serves.3.in_step), host_spent f w s serves.0 why))
+pub gone_stops : {held : ℕ} (T : SessionState → Type 0) {from now : LineView} {n k : ℕ} (w : ℕ) {f : ServeFault} → IsHostFault f w → Serves held T from now (HasGone n k (Err f)) → Serves held T from now (Stops f w)
+gone_stops T w {f = f} why serves = (serves.0, serves.1, serves.2, ((λ no. serves.3.in_step), host_spent f w serves.0 why))
 
 -- the unsent output was sent
 abbrev pub SentGone : ℕ → ℕ → Option (List ℕ) → SessionStep → Progress → Type 0
@@ -305,17 +300,6 @@ written_ended p h =
     let same = ended_same p.state in
     (same.sent ∙ h.0 ∙ ap transcript (sym same.answers), h.1 ∙ sym same.sent)
 
-written_for : (f : ServeFault) (failed failed' : ℕ) (s : Type 0) (p : Progress) → IsStop f failed failed' s → (f ≢ serve.Line → HasWritten p) → HasWrittenFor f failed failed' p
-written_for serve.Line failed failed' s p why h = tt
-written_for serve.Sessions failed failed' s p why h = absurd why
-written_for serve.Stranger failed failed' s p why h = inr (h (λ e. let no : serve.Stranger ≡ serve.Line = e in cc))
-written_for f failed failed' s p why h = h (λ e. cc)
-
-strange_for : (f : ServeFault) (failed failed' : ℕ) (s : Type 0) (p : Progress) → IsStop f failed failed' s → (f ≢ serve.Line → HasWritten p) → Rose failed failed' ⊎ HasWritten p
-strange_for serve.Line failed failed' s p why h = inl why
-strange_for serve.Sessions failed failed' s p why h = absurd why
-strange_for f failed failed' s p why h = inr (h (λ e. cc))
-
 abbrev over : Progress → Progress
 over p = progress (ended p.state) p.unfed p.written
 
@@ -324,22 +308,12 @@ pub ends_so : {held : ℕ} (T T' : SessionState → Type 0) (from now : LineView
 ends_so T T' from now P Q ends so serves =
     let p = serves.0 in (over p, ends p.state serves.1, ended_serves from now p.state p.unfed p.written serves.2, so p serves.3)
 
-pub stopped_ended : {f : ServeFault} {failed failed' w w' : ℕ} (s : Type 0) (p : Progress) → w' ≡ w → IsStop f failed failed' s → HasStopped f w p → IsStopped f failed failed' w' (over p)
-stopped_ended {f = f} {failed = failed} {failed' = failed'} {w = w} {w' = w'} s p same why h =
-    record { written = written_for f failed failed' s (over p) why (λ no. written_ended p (h.0 no)); spent = spent_for f w w' p (over p) same (ended_same p.state).stream h.1; closed = ended_none p.state }
-
--- the shared state doesn't contain the session
-pub stopped_strange : (g : ServeFault) (failed failed' w : ℕ) (p : Progress) → g ≡ serve.Stranger → Rose failed failed' ⊎ HasWritten (over p) → IsStopped g failed failed' w (over p)
-stopped_strange g failed failed' w p is written = subst (λ (x : ServeFault). IsStopped x failed failed' w (over p)) (sym is) (record { written = written; spent = tt; closed = ended_none p.state })
-
-pub strange_stopped : (f : ServeFault) (failed failed' w : ℕ) (s : Type 0) (p : Progress) → IsStop f failed failed' s → HasStopped f w p → Rose failed failed' ⊎ HasWritten (over p)
-strange_stopped f failed failed' w s p why h = strange_for f failed failed' s (over p) why (λ no. written_ended p (h.0 no))
+pub stopped_ended : {f : ServeFault} {w w' : ℕ} (p : Progress) → w' ≡ w → HasStopped f w p → IsStopped f w' (over p)
+stopped_ended {f = f} {w = w} {w' = w'} p same h =
+    record { written = λ no. written_ended p (h.0 no); spent = spent_for f w w' p (over p) same (ended_same p.state).stream h.1; closed = ended_none p.state }
 
 pub served_over : (incoming : Option (List ℕ)) (cause : Cause) (p : Progress) → EndsByCause incoming cause p → IsServed incoming cause (over p)
 served_over incoming cause p h = let w = written_ended p (h.sent, h.in_step) in record { fed = h.fed; whole = h.whole; sent = w.0; in_step = w.1; at_end = h.at_end }
-
-pub written_over : (incoming : Option (List ℕ)) (cause : Cause) (p : Progress) → EndsByCause incoming cause p → HasWritten (over p)
-written_over incoming cause p h = written_ended p (h.sent, h.in_step)
 
 -- ---- the session begins
 

@@ -62,16 +62,9 @@ with_sent t = record t { sent = transcript t.answers }
 abbrev pub ended : SessionState → SessionState
 ended t = closed_now t t.phase
 
--- Why a backend stops: memory ran out, its work can no longer be counted, or the shared state
--- doesn't contain the session.
-abbrev pub IsHostFault : ServeFault → (work : ℕ) → (strange : Type 0) → Type 0
-IsHostFault fault.Line work strange = ⊥
-IsHostFault fault.OutOfMemory work strange = Unit {0}
-IsHostFault fault.Sessions work strange = ⊥
-IsHostFault fault.Stranger work strange = strange
-IsHostFault fault.NumbersSpent work strange = most_counted ≤ work
-
--- the shared state after serving stops with this error: ending the session returned no error, or
--- this one
-abbrev pub IsLeftFor : (Option ServeFault → Type 0) → ServeFault → Type 0
-IsLeftFor Left f = Left None ⊎ Left (Some f)
+-- why a backend stops: memory ran out, or its work can no longer be counted
+abbrev pub IsHostFault : ServeFault → (work : ℕ) → Type 0
+IsHostFault fault.Line work = ⊥
+IsHostFault fault.OutOfMemory work = Unit {0}
+IsHostFault fault.Sessions work = ⊥
+IsHostFault fault.NumbersSpent work = most_counted ≤ work

@@ -13,7 +13,7 @@ use Rattle.sf_session.specs.declared.fault.ServeFault.TheVariants as fault
 use Rattle.sf_session.specs.SessionStates.{SessionState}
 use Rattle.sf_serving.specs.Ends.{IsWhole}
 use Rattle.sf_serving.specs.Hosts.{HasSent, with_sent, ended}
-use Rattle.sf_serving.specs.Serving.{LineView, Progress, progress, ServedSoFar, IsInStep, Rests, HasWritten, IsSpentFor}
+use Rattle.sf_serving.specs.Serving.{LineView, Progress, progress, ServedSoFar, IsInStep, Rests, HasWritten, IsSpentFor, HasWrittenFor}
 
 abbrev pub IsPieceWritten : LineCall → Type 0
 IsPieceWritten (Read n) = ⊥
@@ -68,4 +68,4 @@ Stops f work p = (f ≢ fault.Line → IsInStep p) × IsSpentFor f work p
 
 -- and unless it failed, all replies were written
 abbrev pub HasStopped : ServeFault → (work : ℕ) → Progress → Type 0
-HasStopped f work p = (f ≢ fault.Line → HasWritten p) × IsSpentFor f work p
+HasStopped f work p = HasWrittenFor f p × IsSpentFor f work p

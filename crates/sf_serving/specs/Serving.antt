@@ -1,5 +1,5 @@
 -- The progress of one session over a transport, with any backend.
-use Rattle.std.specs.Prelude.{◌≡◌, ◌≤◌, ◌⊎◌, ℕ, List, [], ◌∷◌, ◌++◌, length, Option}
+use Rattle.std.specs.Prelude.{◌≡◌, ◌≢◌, ◌≤◌, ◌⊎◌, ℕ, List, [], ◌∷◌, ◌++◌, length, Option}
 use Rattle.std.specs.List.{AllByRecursion, flat_map}
 use Rattle.std.specs.Io.KnownBytes.{Appends, Consumes, IsAtEnd}
 use Rattle.sf_wire.specs.Packets.{More, Cuts}
@@ -131,12 +131,8 @@ abbrev pub HasWritten : Progress → Type 0
 HasWritten p = HasSent p.state × IsInStep p
 
 -- what was written if serving stops with this error: everything, unless the transport failed
-abbrev pub HasWrittenFor : ServeFault → (failed failed' : ℕ) → Progress → Type 0
-HasWrittenFor fault.Line failed failed' p = Unit {0}
-HasWrittenFor fault.OutOfMemory failed failed' p = HasWritten p
-HasWrittenFor fault.Sessions failed failed' p = HasWritten p
-HasWrittenFor fault.Stranger failed failed' p = Rose failed failed' ⊎ HasWritten p
-HasWrittenFor fault.NumbersSpent failed failed' p = HasWritten p
+abbrev pub HasWrittenFor : ServeFault → Progress → Type 0
+HasWrittenFor f p = f ≢ fault.Line → HasWritten p
 
 -- `NumbersSpent` occurs only if this many bytes were read, or the backend did as much work
 abbrev pub IsSpentFor : ServeFault → (work : ℕ) → Progress → Type 0
@@ -145,15 +141,14 @@ IsSpentFor fault.NumbersSpent work p =
 IsSpentFor _ work p = Unit {0}
 
 -- Serving has stopped: the session accepts no more input.
-pub record IsStopped (f : ServeFault) (failed failed' work : ℕ) (p : Progress) : Type 0 where
-  pub written : HasWrittenFor f failed failed' p
+pub record IsStopped (f : ServeFault) (work : ℕ) (p : Progress) : Type 0 where
+  pub written : HasWrittenFor f p
   pub spent : IsSpentFor f work p
   pub closed : TakesNone p.state
 
 -- why serving stops: the transport failed, or the backend returned the error
-abbrev pub IsStop : ServeFault → (failed failed' : ℕ) → (strange : Type 0) → Type 0
-IsStop fault.Line failed failed' strange = Rose failed failed'
-IsStop fault.OutOfMemory failed failed' strange = Unit {0}
-IsStop fault.Sessions failed failed' strange = ⊥
-IsStop fault.Stranger failed failed' strange = strange
-IsStop fault.NumbersSpent failed failed' strange = Unit {0}
+abbrev pub IsStop : ServeFault → (failed failed' : ℕ) → Type 0
+IsStop fault.Line failed failed' = Rose failed failed'
+IsStop fault.OutOfMemory failed failed' = Unit {0}
+IsStop fault.Sessions failed failed' = ⊥
+IsStop fault.NumbersSpent failed failed' = Unit {0}

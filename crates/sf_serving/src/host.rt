@@ -2,7 +2,6 @@
 
 ghost use Rattle.std.specs.Prelude.{◌≡◌, ◌<◌, ◌≤◌, ◌++◌, ◌^◌, ℕ, List, Option, Some, None, length, take, vec_len, IfOk, IfErr, OnOk, OnErr};
 ghost use Rattle.sf_session.specs.declared.fault.ServeFault.{ServeFault};
-ghost use Rattle.sf_session.specs.declared.fault.ServeFault.TheVariants.{Stranger};
 ghost use Rattle.sf_session.specs.SessionStates.{SessionState, fed, IsRead};
 ghost use Rattle.sf_session.specs.Responses.{transcript};
 ghost use Rattle.sf_serving.specs.Hosts.{IsOpen, HasSent, IsFurther, IsSessionStep, with_sent, ended, IsHostFault};
@@ -38,14 +37,11 @@ pub trait Host<P> {
     /// The amount of work done for the session, saturated at 2^64 - 1.
     ghost work: { Self → P → ℕ };
 
-    /// The shared state doesn't contain the session.
-    ghost strange: { Self → P → Type 0 };
-
     /// The backend holds nothing that other sessions wait for.
     ghost rests: { Self → P → Type 0 } = { λ _ _. Unit {0} };
 
-    /// The state after `end` returned this error, or none.
-    ghost left: { Self → P → Option ServeFault → Type 0 };
+    /// The state after `end`.
+    ghost left: { Self → P → Type 0 };
 
     /// Receives the first `n` bytes of `piece` as input.
     fn feed(&mut self, place: &mut P, piece: &Vec<u8>, n: usize) -> Result<(), AllocError>
@@ -70,8 +66,7 @@ pub trait Host<P> {
             × serves start self.new place.new (C.moments clock.new) t'
             × IsFurther held t t' × IsSessionStep result t t' }
         ensures rests { IfOk result (λ step. step ≡ SessionStep.Waits → rests self.new place.new) }
-        ensures fault { IfErr result (λ fault. IsHostFault fault (work self.new place.new)
-            (strange self.new place.new)) };
+        ensures fault { IfErr result (λ fault. IsHostFault fault (work self.new place.new)) };
 
     /// The unsent output.
     fn output<'a>(&'a self, place: &'a P) -> &'a [u8]
@@ -86,18 +81,14 @@ pub trait Host<P> {
         ensures sent { (start : Start) (moments : Option (List ℕ)) (t : SessionState)
             → serves start self.old place.old moments t
             → serves start self.new place.new moments (with_sent t) }
-        ensures work { work self.new place.new ≡ work self.old place.old }
-        ensures strange { strange self.old place.old → strange self.new place.new };
+        ensures work { work self.new place.new ≡ work self.old place.old };
 
     /// Ends the session. It accepts no more input, and leaves unless a call is pending.
-    fn end(&mut self, place: &mut P) -> Result<(), ServeFault>
+    fn end(&mut self, place: &mut P)
         requires { sound self.old place.old }
-        ensures left { OnOk result (left self.new place.new None) }
+        ensures left { left self.new place.new }
         ensures ended { (start : Start) (moments : Option (List ℕ)) (t : SessionState)
             → serves start self.old place.old moments t
             → serves start self.new place.new moments (ended t) }
-        ensures fault { IfErr result (λ fault. (fault ≡ Stranger) × strange self.new place.new
-            × left self.new place.new (Some fault)) }
-        ensures work { work self.new place.new ≡ work self.old place.old }
-        ensures strange { strange self.old place.old → strange self.new place.new };
+        ensures work { work self.new place.new ≡ work self.old place.old };
 }

@@ -3,7 +3,6 @@
 ghost use Rattle.std.specs.Prelude.{◌≡◌, ◌<◌, ◌≤◌, ◌+◌, ◌∷◌, ℕ, List, [], length, take, Option, None, Result, Ok, IfOk, IfErr, OnOk, OnErr, vec_len};
 ghost use Rattle.sf_line.specs.Lines.{Rose};
 ghost use Rattle.sf_session.specs.SessionStates.{SessionState};
-ghost use Rattle.sf_serving.specs.Hosts.{IsLeftFor};
 ghost use Rattle.sf_serving.specs.Serving.{LineView, line_view, Progress, ServedSoFar, Serves, GoesOn, Rests, IsServed, IsStopped, IsStop};
 ghost use Rattle.sf_serving.specs.Rounds.{WritesByPieces, WritesFront, SendsAll, SendsSome, IsRounded, EndsByCause, Stops, HasStopped};
 
@@ -56,7 +55,6 @@ fn send<P, H: Host<P>, L: Line>(host: &mut H, place: &mut P, line: &mut L) -> Re
         (line_view (L.incoming line.new) (L.outgoing line.new) (L.calls line.new))) }
     ensures same { OnErr result ((host.new ≡ host.old) × (place.new ≡ place.old)) }
     ensures work { H.work host.new place.new ≡ H.work host.old place.old }
-    ensures strange { H.strange host.old place.old → H.strange host.new place.new }
     ensures failures { L.failed line.old ≤ L.failed line.new }
     ensures fault { OnErr result (Rose (L.failed line.old) (L.failed line.new)) }
 {
@@ -88,8 +86,7 @@ fn drain<P, H: Host<P>, L: Line, C: Clock>(
         (line_view (L.incoming line.new) (L.outgoing line.new) (L.calls line.new))
         (Stops fault (H.work host.new place.new))) }
     ensures failures { L.failed line.old ≤ L.failed line.new }
-    ensures fault { IfErr result (λ fault. IsStop fault (L.failed line.old) (L.failed line.new)
-        (H.strange host.new place.new)) }
+    ensures fault { IfErr result (λ f. IsStop f (L.failed line.old) (L.failed line.new)) }
 {
     for turn in 0..u64::MAX {
         let step = host.go_on(place, clock)?;
@@ -128,8 +125,7 @@ fn round<P, H: Host<P>, L: Line, C: Clock>(
         (Stops fault (H.work host.new place.new))) }
     ensures len { vec_len piece.new ≡ vec_len piece.old }
     ensures failures { L.failed line.old ≤ L.failed line.new }
-    ensures fault { IfErr result (λ fault. IsStop fault (L.failed line.old) (L.failed line.new)
-        (H.strange host.new place.new)) }
+    ensures fault { IfErr result (λ f. IsStop f (L.failed line.old) (L.failed line.new)) }
 {
     let n = line.read(piece)?;
     if n == 0 {
@@ -164,8 +160,7 @@ fn rounds<P, H: Host<P>, L: Line, C: Clock>(
         (Stops fault (H.work host.new place.new))) }
     ensures len { vec_len piece.new ≡ vec_len piece.old }
     ensures failures { L.failed line.old ≤ L.failed line.new }
-    ensures fault { IfErr result (λ fault. IsStop fault (L.failed line.old) (L.failed line.new)
-        (H.strange host.new place.new)) }
+    ensures fault { IfErr result (λ f. IsStop f (L.failed line.old) (L.failed line.new)) }
 {
     for count in 0..u64::MAX {
         match round(host, place, line, clock, piece) {
@@ -194,8 +189,7 @@ fn send_last<P, H: Host<P>, L: Line>(
         (line_view (L.incoming line.new) (L.outgoing line.new) (L.calls line.new))
         (HasStopped result (H.work host.new place.new)) }
     ensures fault { (before : ℕ) → before ≤ L.failed line.old
-        → IsStop fault before (L.failed line.old) (H.strange host.old place.old)
-        → IsStop result before (L.failed line.new) (H.strange host.new place.new) }
+        → IsStop fault before (L.failed line.old) → IsStop result before (L.failed line.new) }
 {
     match fault {
         ServeFault::Line => ServeFault::Line,
@@ -214,25 +208,20 @@ fn stop<P, H: Host<P>, L: Line>(
     fault: ServeFault,
 ) -> ServeFault
     requires { H.sound host.old place.old }
-    ensures left { IsLeftFor (H.left host.new place.new) result }
-    ensures stopped { (start : H.Start) (moments : Option (List ℕ)) (from : LineView) (before : ℕ)
-        → before ≤ L.failed line.old
-        → IsStop fault before (L.failed line.old) (H.strange host.old place.old)
+    ensures left { H.left host.new place.new }
+    ensures stopped { (start : H.Start) (moments : Option (List ℕ)) (from : LineView)
         → Serves H.held (H.serves start host.old place.old moments) from
         (line_view (L.incoming line.old) (L.outgoing line.old) (L.calls line.old))
         (Stops fault (H.work host.old place.old))
         → Serves H.held (H.serves start host.new place.new moments) from
         (line_view (L.incoming line.new) (L.outgoing line.new) (L.calls line.new))
-        (IsStopped result before (L.failed line.new) (H.work host.new place.new)) }
+        (IsStopped result (H.work host.new place.new)) }
     ensures fault { (before : ℕ) → before ≤ L.failed line.old
-        → IsStop fault before (L.failed line.old) (H.strange host.old place.old)
-        → IsStop result before (L.failed line.new) (H.strange host.new place.new) }
+        → IsStop fault before (L.failed line.old) → IsStop result before (L.failed line.new) }
 {
     let answered = send_last(host, place, line, fault);
-    match host.end(place) {
-        Ok(()) => answered,
-        Err(strange) => strange,
-    }
+    host.end(place);
+    answered
 }
 
 /// Serves a session over a transport until its input or the session ends.
@@ -259,18 +248,16 @@ pub fn serve_session<P, H: Host<P>, L: Line, C: Clock>(
         (line_view (L.incoming line.old) (L.outgoing line.old) (L.calls line.old)) (Rests 0)
         → Serves H.held (H.serves start host.new place.new (C.moments clock.new)) from
         (line_view (L.incoming line.new) (L.outgoing line.new) (L.calls line.new))
-        (IsStopped fault (L.failed line.old) (L.failed line.new) (H.work host.new place.new))) }
-    ensures left { OnOk result (H.left host.new place.new None) }
-    ensures left_by { IfErr result (λ fault. IsLeftFor (H.left host.new place.new) fault) }
+        (IsStopped fault (H.work host.new place.new))) }
+    ensures left { H.left host.new place.new }
     ensures len { vec_len piece.new ≡ vec_len piece.old }
-    ensures fault { IfErr result (λ fault. IsStop fault (L.failed line.old) (L.failed line.new)
-        (H.strange host.new place.new)) }
+    ensures fault { IfErr result (λ f. IsStop f (L.failed line.old) (L.failed line.new)) }
 {
     match rounds(host, place, line, clock, piece) {
-        Ok(cause) => match host.end(place) {
-            Ok(()) => Ok(cause),
-            Err(strange) => Err(strange),
-        },
+        Ok(cause) => {
+            host.end(place);
+            Ok(cause)
+        }
         Err(fault) => Err(stop(host, place, line, fault)),
     }
 }

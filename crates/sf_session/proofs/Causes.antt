@@ -1,6 +1,7 @@
 -- No packet and no wrong length ends a session as closed.
 use Rattle.std.proofs.Common.{◌≡◌, ℕ, List, Bool, true, false, Option, Some, None, inl, inr, subst}
 use Rattle.std.specs.Prelude.{nat_lt, if◌then◌else◌}
+use Rattle.std.specs.Option.{option_map_or}
 use Rattle.sf_path.specs.Names.{Path}
 use Rattle.sf_request.specs.declared.request.WireRequest.{WireRequest}
 use Rattle.sf_request.specs.declared.request.WireRequest.TheVariants as wire
@@ -8,16 +9,17 @@ use Rattle.sf_request.specs.declared.request.Asked.{Asked}
 use Rattle.sf_request.specs.declared.request.Asked.TheVariants as asked
 use Rattle.sf_call.specs.declared.request.Request.{Request}
 use Rattle.sf_session.specs.declared.asking.Ask.TheVariants as ask
+use Rattle.sf_session.specs.declared.local_reply.LocalReply.TheVariants.{Plain}
 use Rattle.sf_session.specs.declared.cause.Cause.{Cause}
 use Rattle.sf_session.specs.declared.cause.Cause.TheVariants.{ZeroLength, TooLong, Closed, OldVersion}
-use Rattle.sf_session.specs.Asking.{ask_in, request_ask, call_ask, call_of, real_path_at, path_at}
+use Rattle.sf_session.specs.Asking.{ask_in, request_ask, failure, call_of, real_path_reply, path_at}
 use Rattle.sf_session.specs.Sessions.{EndsBy}
 
-no_call_ends : (id : ℕ) (call : Option Request) (cause : Cause) → ask.End cause ≡ call_ask id call → ⊥
+no_call_ends : (id : ℕ) (call : Option Request) (cause : Cause) → ask.End cause ≡ option_map_or (ask.Call id) call (failure id) → ⊥
 no_call_ends id None cause e = cc
 no_call_ends id (Some call) cause e = cc
 
-no_path_ends : (id : ℕ) (path : Option Path) (cause : Cause) → ask.End cause ≡ real_path_at id path → ⊥
+no_path_ends : (id : ℕ) (path : Option Path) (cause : Cause) → ask.End cause ≡ option_map_or (λ found. ask.Local id (Plain (real_path_reply found))) path (failure id) → ⊥
 no_path_ends id None cause e = cc
 no_path_ends id (Some path) cause e = cc
 

@@ -1,5 +1,6 @@
 -- The lengths of the packets that a session sends without a call, or to refuse one.
-use Rattle.std.proofs.Common.{◌≡◌, ℕ, ◌+◌, ◌≤◌, List, ◌++◌, length, Result, Ok, Err, OnOk, OnErr, Bool, true, false, Option, Some, None, if◌then◌else◌, nat_lt, refl, ap, sym, subst, arith, inl, inr}
+use Rattle.std.proofs.Common.{◌≡◌, ℕ, ◌+◌, ◌≤◌, List, ◌++◌, length, Result, Ok, Err, OnOk, OnErr, Bool, true, false, Option, Some, None, is_none, if◌then◌else◌, nat_lt, refl, ap, sym, subst, arith, inl, inr}
+use Rattle.std.specs.Option.{option_map_or}
 use Rattle.std.proofs.lemmas.Bool.{ltb-false}
 use Rattle.std.proofs.lemmas.List.{length-append}
 use Rattle.sf_field.specs.Attributes.{no_attrs}
@@ -18,8 +19,8 @@ use Rattle.sf_reply.specs.declared.reply.StatusCode.{StatusCode}
 use Rattle.sf_reply.specs.declared.reply.StatusCode.TheVariants.{Failure, BadMessage, OpUnsupported}
 use Rattle.sf_reply.specs.Replies.{reply_body, version_body}
 use Rattle.sf_reply.proofs.Laws.{plain_short, length-one_name}
-use Rattle.sf_call.specs.declared.fault.CoreFault.{CoreFault}
-use Rattle.sf_call.specs.declared.fault.CoreFault.TheVariants as fault
+use Rattle.sf_call.specs.declared.fault.BeginFault.{BeginFault}
+use Rattle.sf_call.specs.declared.fault.BeginFault.TheVariants as fault
 use Rattle.sf_call.specs.declared.request.Request.{Request}
 use Rattle.sf_call.specs.ReplyKinds.{longest_packet}
 use Rattle.sf_session.specs.declared.asking.Ask.{Ask}
@@ -29,8 +30,9 @@ use Rattle.sf_session.specs.declared.front.Front.TheVariants.{Asks}
 use Rattle.sf_session.specs.declared.session.Next.{Next}
 use Rattle.sf_session.specs.declared.session.Next.TheVariants as next
 use Rattle.sf_session.specs.declared.local_reply.LocalReply.{LocalReply}
+use Rattle.sf_session.specs.declared.local_reply.LocalReply.TheVariants.{Plain}
 use Rattle.sf_session.specs.Limits.{local_body}
-use Rattle.sf_session.specs.Asking.{AsksFor, path_unless, call_of, call_ask, real_path_at, request_ask, later_ask, first_ask, ask_in}
+use Rattle.sf_session.specs.Asking.{AsksFor, failure, call_of, real_path_reply, request_ask, later_ask, first_ask, ask_in}
 use Rattle.sf_session.specs.Sessions.{SessionView, Fronts, AnswersLocally, LocalPacket, NextGives, refusal_of}
 
 pub version_short : length (packet version_body) ≤ longest_packet
@@ -39,11 +41,9 @@ version_short = omega arith
 status_short : (id : ℕ) (code : StatusCode) → length (packet (reply_body id (reply.Status code))) ≤ longest_packet
 status_short id code = omega (arith, plain_short id (reply.Status code) tt)
 
-pub refusal_short : (id : ℕ) (f : CoreFault) → length (packet (reply_body id (refusal_of f))) ≤ longest_packet
+pub refusal_short : (id : ℕ) (f : BeginFault) → length (packet (reply_body id (refusal_of f))) ≤ longest_packet
 refusal_short id fault.OutOfMemory = omega (arith, plain_short id reply.NoMemory tt)
-refusal_short id fault.Sessions = status_short id Failure
 refusal_short id fault.NumbersSpent = status_short id Failure
-refusal_short id fault.Stranger = status_short id Failure
 
 -- ---- what a body requires
 
@@ -60,13 +60,13 @@ unless_long false others e = refl
 short_text : (text : List ℕ) → fault_of text ≡ None → length text ≤ 4096
 short_text text none = ltb-false 4096 (length text) (unless_long (nat_lt 4096 (length text)) _ none)
 
-real_path_short : (id : ℕ) (text : List ℕ) (found : Option PathFault) → (found ≡ None → length text ≤ 4096) → IsShortAsk (real_path_at id (path_unless found (norm text)))
+real_path_short : (id : ℕ) (text : List ℕ) (found : Option PathFault) → (found ≡ None → length text ≤ 4096) → IsShortAsk (option_map_or (λ path. ask.Local id (Plain (real_path_reply path))) (if is_none found then Some (norm text) else None) (failure id))
 real_path_short id text (Some f) short = status_short id Failure
 real_path_short id text None short =
     let name = text_of (norm text) in
     omega (arith, length-one_name id (record { filename = name; longname = name; attrs = no_attrs }) refl, length-text_of-norm text, short refl)
 
-call_short : (id : ℕ) (call : Option Request) → IsShortAsk (call_ask id call)
+call_short : (id : ℕ) (call : Option Request) → IsShortAsk (option_map_or (ask.Call id) call (failure id))
 call_short id None = status_short id Failure
 call_short id (Some request) = tt
 

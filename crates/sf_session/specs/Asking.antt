@@ -1,7 +1,7 @@
 -- What each body requires of a session, case by case.
-use Rattle.std.specs.Prelude.{◌≡◌, ℕ, length, List, [], ◌∷◌, Bool, Option, Some, None, option_map, option_and_then, nat_eq, nat_lt, if◌then◌else◌}
+use Rattle.std.specs.Prelude.{◌≡◌, ℕ, length, List, [], ◌∷◌, Bool, Option, Some, None, is_none, option_map, option_and_then, nat_eq, nat_lt, if◌then◌else◌}
+use Rattle.std.specs.Option.{option_map_or}
 use Rattle.std.specs.Int.{w64, from_be_bytes}
-use Rattle.sf_path.specs.declared.fault.PathFault.{PathFault}
 use Rattle.sf_path.specs.Names.{Path, text_of}
 use Rattle.sf_path.specs.Normal.{norm, fault_of}
 use Rattle.sf_reply.specs.declared.reply.Reply.{Reply}
@@ -32,12 +32,8 @@ real_path_reply path =
     reply.Names (record { filename = text_of path; longname = text_of path; attrs = no_attrs } ∷ [])
 
 -- the path that a text denotes, if it has no fault
-abbrev pub path_unless : Option PathFault → Path → Option Path
-path_unless None path = Some path
-path_unless (Some fault) path = None
-
 abbrev pub path_at : List ℕ → Option Path
-path_at text = path_unless (fault_of text) (norm text)
+path_at text = if is_none (fault_of text) then Some (norm text) else None
 
 -- a handle is the 8 bytes of a number, big-endian
 abbrev pub handle_number : List ℕ → Option ℕ
@@ -81,20 +77,13 @@ call_of (wire.Link old new) = option_map (λ paths. call.Link paths.0 paths.1) (
 call_of request = handle_call request
 
 -- an invalid path or handle is answered FAILURE
-abbrev pub call_ask : ℕ → Option Request → Ask
-call_ask id None = ask.Local id (Plain (reply.Status Failure))
-call_ask id (Some request) = ask.Call id request
-
-abbrev pub real_path_at : ℕ → Option Path → Ask
-real_path_at id None = ask.Local id (Plain (reply.Status Failure))
-real_path_at id (Some path) = ask.Local id (Plain (real_path_reply path))
-
-abbrev pub real_path_ask : ℕ → List ℕ → Ask
-real_path_ask id text = real_path_at id (path_at text)
+abbrev pub failure : ℕ → Ask
+failure id = ask.Local id (Plain (reply.Status Failure))
 
 abbrev pub request_ask : ℕ → WireRequest → Ask
-request_ask id (wire.RealPath text) = real_path_ask id text
-request_ask id request = call_ask id (call_of request)
+request_ask id (wire.RealPath text) =
+    option_map_or (λ path. ask.Local id (Plain (real_path_reply path))) (path_at text) (failure id)
+request_ask id request = option_map_or (ask.Call id) (call_of request) (failure id)
 
 -- a later body must not be INIT
 abbrev pub later_ask : Asked → Ask

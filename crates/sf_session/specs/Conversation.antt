@@ -6,7 +6,7 @@ use Rattle.sf_wire.specs.declared.cutting.Cut.TheVariants as cut
 use Rattle.sf_wire.specs.Packets.{IsBody, IsCut}
 use Rattle.sf_call.specs.declared.record.Record.{Record}
 use Rattle.sf_call.specs.declared.record.Record.TheVariants.{Did, Left}
-use Rattle.sf_call.specs.declared.fault.CoreFault.TheVariants as core
+use Rattle.sf_call.specs.declared.fault.BeginFault.TheVariants as fault
 use Rattle.sf_call.specs.Histories.{IsLegal}
 use Rattle.sf_session.specs.declared.cause.Cause.{Cause}
 use Rattle.sf_session.specs.declared.cause.Cause.TheVariants.{Closed}
@@ -20,13 +20,8 @@ IsBy session (Left s) = s ≡ session
 
 -- a call is refused only if memory ran out or the maximum number of calls has begun
 abbrev pub IsFair : (begun : ℕ) → Response → Type 0
-IsFair begun Version = Unit {0}
-IsFair begun (Locally id reply) = Unit {0}
-IsFair begun (ByCall id number request reply) = Unit {0}
-IsFair begun (Refused id request core.OutOfMemory) = Unit {0}
-IsFair begun (Refused id request core.NumbersSpent) = most_calls ≤ begun
-IsFair begun (Refused id request core.Sessions) = ⊥
-IsFair begun (Refused id request core.Stranger) = ⊥
+IsFair begun (Refused id request fault.NumbersSpent) = most_calls ≤ begun
+IsFair begun _ = Unit {0}
 
 -- the n-th call has the n-th of these timestamps
 abbrev pub IsAtItsTime : (times : List ℕ) → Record → Type 0

@@ -7,7 +7,7 @@ use Rattle.sf_reply.specs.Replies.{reply_body, version_body}
 use Rattle.sf_call.specs.declared.request.Request.{Request}
 use Rattle.sf_call.specs.declared.record.Record.{Record}
 use Rattle.sf_call.specs.declared.record.Record.TheVariants.{Did, Left}
-use Rattle.sf_call.specs.declared.fault.CoreFault.{CoreFault}
+use Rattle.sf_call.specs.declared.fault.BeginFault.{BeginFault}
 use Rattle.sf_session.specs.declared.asking.Ask.{Ask}
 use Rattle.sf_session.specs.declared.asking.Ask.TheVariants as ask
 use Rattle.sf_session.specs.declared.local_reply.LocalReply.{LocalReply}
@@ -25,7 +25,7 @@ pub data Response : Type 0 where
   Version : Response
   Locally : (id : ℕ) → (reply : LocalReply) → Response
   ByCall : (id number : ℕ) → (request : Request) → (reply : Reply) → Response
-  Refused : (id : ℕ) → (request : Request) → (fault : CoreFault) → Response
+  Refused : (id : ℕ) → (request : Request) → (fault : BeginFault) → Response
 
 -- what the body required
 abbrev pub ask_behind : Response → Ask

@@ -8,9 +8,13 @@ use Rattle.sf_reply.specs.Replies.{version_body}
 use Rattle.sf_reply.specs.declared.reply.Reply.{Reply}
 use Rattle.sf_reply.specs.declared.reply.Reply.TheVariants as reply
 use Rattle.sf_reply.specs.declared.reply.StatusCode.TheVariants.{Failure}
-use Rattle.sf_call.specs.declared.fault.CoreFault.{CoreFault}
-use Rattle.sf_call.specs.declared.fault.CoreFault.TheVariants as fault
+use Rattle.sf_call.specs.declared.fault.BeginFault.{BeginFault}
+use Rattle.sf_call.specs.declared.fault.BeginFault.TheVariants as fault
+use Rattle.sf_call.specs.declared.fault.JoinFault.{JoinFault}
+use Rattle.sf_call.specs.declared.fault.JoinFault.TheVariants as join
 use Rattle.sf_call.specs.declared.request.Request.{Request}
+use Rattle.sf_session.specs.declared.fault.ServeFault.{ServeFault}
+use Rattle.sf_session.specs.declared.fault.ServeFault.TheVariants as serving
 use Rattle.sf_session.specs.declared.asking.Ask.{Ask}
 use Rattle.sf_session.specs.declared.asking.Ask.TheVariants as ask
 use Rattle.sf_session.specs.declared.cause.Cause.{Cause}
@@ -119,8 +123,12 @@ NextGives v (next.Ended cause) w = ((v.ended ≡ Some cause) × (w ≡ v))
     }))
 
 -- the reply to a call that could not start
-abbrev pub refusal_of : CoreFault → Reply
+abbrev pub refusal_of : BeginFault → Reply
 refusal_of fault.OutOfMemory = reply.NoMemory
-refusal_of fault.Sessions = reply.Status Failure
 refusal_of fault.NumbersSpent = reply.Status Failure
-refusal_of fault.Stranger = reply.Status Failure
+
+-- the error of serving a session that could not join
+abbrev pub join_refusal : JoinFault → ServeFault
+join_refusal join.OutOfMemory = serving.OutOfMemory
+join_refusal join.Sessions = serving.Sessions
+join_refusal join.NumbersSpent = serving.NumbersSpent

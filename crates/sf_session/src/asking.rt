@@ -1,7 +1,8 @@
 //! What a packet's body requires of its session.
 
 ghost use Rattle.std.specs.Prelude.{◌≡◌, IfOk};
-ghost use Rattle.sf_session.specs.Asking.{AsksFor, first_ask, later_ask, request_ask, call_ask, real_path_ask, real_path_reply};
+ghost use Rattle.std.specs.Option.{option_map_or};
+ghost use Rattle.sf_session.specs.Asking.{AsksFor, first_ask, later_ask, request_ask, failure, real_path_reply};
 
 use crate::calling::{call_of, path_of};
 use crate::cause::Cause;
@@ -76,7 +77,7 @@ fn request_ask(alloc: Global, id: u32, request: WireRequest<'_>) -> Result<Ask, 
 
 /// A request with an invalid path or handle is answered `SSH_FX_FAILURE`.
 fn call_ask(id: u32, call: Option<Request>) -> Ask
-    ensures { result ≡ call_ask id call }
+    ensures { result ≡ option_map_or (Ask.Call id) call (failure id) }
 {
     match call {
         Some(call) => Ask::Call(id, call),
@@ -93,7 +94,7 @@ fn status(id: u32, code: StatusCode) -> Ask
 
 /// REALPATH: normalizes the path without a file-system call.
 fn real_path(alloc: Global, id: u32, text: &[u8]) -> Result<Ask, AllocError>
-    ensures { IfOk result (λ ask. ask ≡ real_path_ask id text.now) }
+    ensures { IfOk result (λ ask. ask ≡ request_ask id (WireRequest.RealPath text.now)) }
 {
     match path_of(alloc, text)? {
         Some(path) => {

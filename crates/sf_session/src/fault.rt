@@ -3,6 +3,7 @@
 ghost use Rattle.std.specs.Prelude.{◌≡◌};
 ghost use Rattle.sf_session.specs.declared.fault.ServeFault.TheVariants.{Line, OutOfMemory};
 
+use sf_call::JoinFault;
 use sf_line::LineFault;
 use std::alloc::AllocError;
 use thiserror::Error;
@@ -16,10 +17,8 @@ pub enum ServeFault {
     OutOfMemory = 2,
     #[error("too many sessions")]
     Sessions = 3,
-    #[error("not a session of this core")]
-    Stranger = 4,
     #[error("numbers are spent")]
-    NumbersSpent = 5,
+    NumbersSpent = 4,
 }
 
 impl From<LineFault> for ServeFault {
@@ -35,5 +34,19 @@ impl From<AllocError> for ServeFault {
 
     fn from(_error: AllocError) -> ServeFault {
         ServeFault::OutOfMemory
+    }
+}
+
+impl From<JoinFault> for ServeFault {
+    ghost use Rattle.sf_session.specs.Sessions.{join_refusal};
+
+    ghost from_gives = { λ refusal fault. fault ≡ join_refusal refusal };
+
+    fn from(refusal: JoinFault) -> ServeFault {
+        match refusal {
+            JoinFault::OutOfMemory => ServeFault::OutOfMemory,
+            JoinFault::Sessions => ServeFault::Sessions,
+            JoinFault::NumbersSpent => ServeFault::NumbersSpent,
+        }
     }
 }

@@ -1,6 +1,6 @@
 //! The law of the limits that clients are sent, stated as the contract of an empty function.
 
-ghost use Rattle.std.specs.Prelude.{◌≡◌, ℕ, ◌<◌, ◌≤◌, ◌^◌, nat_eq, true, false, List, ◌∷◌, ◌++◌, length, take, drop};
+ghost use Rattle.std.specs.Prelude.{◌≡◌, ℕ, ◌<◌, ◌≤◌, ◌^◌, nat_eq, true, false, List, ◌∷◌, ◌++◌, length, take, drop, Some};
 ghost use Rattle.std.specs.List.{count_by};
 ghost use Rattle.sf_field.specs.Fields.{be32, be64};
 ghost use Rattle.sf_wire.specs.declared.cutting.Cut.TheVariants.{Bad};
@@ -11,7 +11,7 @@ ghost use Rattle.sf_request.specs.Requests.{request_body};
 ghost use Rattle.sf_reply.specs.declared.reply.Reply.TheVariants.{Data};
 ghost use Rattle.sf_call.specs.declared.metadata.Metadata.{Metadata};
 ghost use Rattle.sf_call.specs.Calls.{has_all_handles, read, tells};
-ghost use Rattle.sf_call.specs.Handles.Opened.{OpenFile};
+ghost use Rattle.sf_call.specs.Attributes.Object.{File};
 ghost use Rattle.sf_call.specs.declared.handle.Handle.{Handle};
 ghost use Rattle.sf_call.specs.Tree.{Tree};
 ghost use Rattle.sf_session.specs.Limits.{limits_body};
@@ -26,7 +26,7 @@ pub fn sent_limits()
     // A READ of up to 261120 bytes returns all of them, or those up to the end of the file.
     ensures read { (offset len : ℕ) (handle : Handle) (m : Metadata) (contents : List ℕ)
         → handle.read ≡ true → offset < length contents → len ≤ 261120
-        → read offset len (OpenFile handle m contents)
+        → read offset len (Some (handle, File m contents))
         ≡ tells (Data (take len (drop offset contents))) }
     // A WRITE of up to 261120 bytes fits in a packet.
     ensures write { (id handle offset : ℕ) (bytes : List ℕ) → length bytes ≤ 261120

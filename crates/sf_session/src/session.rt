@@ -15,7 +15,7 @@ use crate::front::{Front, front_of};
 use crate::local_reply::{LocalReply, write_local};
 use crate::unread::Unread;
 use bytes::BytesMut;
-use sf_call::{Answer, CoreFault, Request};
+use sf_call::{Answer, BeginFault, Request};
 use sf_reply::{Reply, StatusCode, write_reply, write_version};
 use sf_wire::Cut;
 use std::alloc::{AllocError, Global};
@@ -279,7 +279,7 @@ impl Session {
 
     /// Replies to the pending call if it could not start: `Out of memory` if memory ran out, else
     /// `Failure`. It does not allocate, since the reply's capacity was reserved.
-    pub fn refuse(&mut self, fault: CoreFault)
+    pub fn refuse(&mut self, fault: BeginFault)
         requires { IsSome self.old.waiting }
         ensures { IfSome self.old.waiting (λ id. self.new
             ≡ record self.old {
@@ -349,13 +349,11 @@ impl Session {
 }
 
 /// The reply to a call that could not start.
-fn refusal(fault: CoreFault) -> Reply
+fn refusal(fault: BeginFault) -> Reply
     ensures { result ≡ refusal_of fault }
 {
     match fault {
-        CoreFault::OutOfMemory => Reply::NoMemory,
-        CoreFault::Sessions | CoreFault::NumbersSpent | CoreFault::Stranger => {
-            Reply::Status(StatusCode::Failure)
-        }
+        BeginFault::OutOfMemory => Reply::NoMemory,
+        BeginFault::NumbersSpent => Reply::Status(StatusCode::Failure),
     }
 }

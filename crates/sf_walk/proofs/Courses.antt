@@ -10,12 +10,12 @@ use Rattle.sf_call.specs.declared.lookup.Lookup.{Lookup}
 use Rattle.sf_call.specs.declared.lookup.Lookup.TheVariants as lookup
 use Rattle.sf_call.specs.Routes.{are_nested, is_rooted, route_between, route_kind}
 use Rattle.sf_call.specs.Routes.Route.{NoPath, Along, Between}
-use Rattle.sf_call.specs.Tree.{Tree, FoundObject, after_front, look_up, found_at, is_directory, is_empty}
+use Rattle.sf_call.specs.Tree.{Tree, after_front, label_at, lookup_of, look_up, found_at, is_directory, is_faulty_way, is_empty}
 use Rattle.sf_call.specs.Calls.{Outcome, refuses, succeeds, moves, unless_nested, unless_root, rename_to, rename, replace_by, posix_rename}
 use Rattle.sf_inode.specs.declared.node.Node.{Node}
 use Rattle.sf_inode.specs.declared.node.Content.{Content}
 use Rattle.sf_inode.specs.declared.node.Content.TheVariants as content
-use Rattle.sf_inode.specs.Nodes.{is_directory_content}
+use Rattle.sf_inode.specs.Nodes.{object_in, is_directory_content}
 use Rattle.sf_inode.specs.Stores.{StoreState, node_in, child_of, is_directory_at, is_bare_at}
 use Rattle.sf_keeps.specs.Steps.{walk}
 use Rattle.sf_keeps.specs.Keeps.{Keeps}
@@ -25,12 +25,13 @@ use Rattle.sf_call.specs.declared.route.RouteKind.TheVariants as kind
 use Rattle.sf_walk.specs.declared.finding.Ways.{Ways}
 use Rattle.sf_walk.specs.declared.finding.Located.{Located}
 use Rattle.sf_walk.specs.declared.finding.Located.TheVariants as located
-use Rattle.sf_walk.specs.Ways.{way_from, found_content, found_node, IsThere, Lead, AreWays}
+use Rattle.sf_walk.specs.Ways.{way_from, found_node, IsThere, Lead, AreWays}
 use Rattle.sf_walk.specs.Renames.{may_replace, MayMove}
 use Rattle.sf_walk.proofs.Fits.{Known, no_way, name_missing, node_at, directory_says}
 use Rattle.sf_walk.proofs.Onward.{has_entry}
 use Rattle.sf_walk.proofs.Parting.{not_nothing}
 use Rattle.sf_walk.proofs.PathCalls.{file_bare, found_no_way, found_missing}
+use Rattle.sf_call.specs.Attributes.{Object}
 
 abbrev pub AreNoRoots : Path → Path → Type 0
 AreNoRoots old new = (old ≡ [] → ⊥) × (new ≡ [] → ⊥)
@@ -39,6 +40,16 @@ not_rooted : (p q : Path) → AreNoRoots p q → is_rooted p q ≡ false
 not_rooted [] q ne = absurd (ne.0 refl)
 not_rooted (n ∷ p) [] ne = absurd (ne.1 refl)
 not_rooted (n ∷ p) (m ∷ q) ne = refl
+
+-- a lookup says whether the way is faulty
+no_way_faulty : (b : Bool) (o : Option ℕ) → cond b lookup.NoWay (lookup_of o) ≡ lookup.NoWay → b ≡ true
+no_way_faulty true o e = refl
+no_way_faulty false None e = cc
+no_way_faulty false (Some label) e = cc
+
+absent_open : (b : Bool) (o : Option ℕ) → cond b lookup.NoWay (lookup_of o) ≡ lookup.Absent → b ≡ false
+absent_open true o e = cc
+absent_open false o e = refl
 
 is_false : (b : Bool) → b ≡ true → b ≡ false → ⊥
 is_false true a b = cc
@@ -236,16 +247,22 @@ module _ (s : StoreState) (t : Tree) (k : Keeps s t) (moment : ℕ) (old new : P
 
       -- ---- the extension
       module _ (other : same_path old new ≡ false) where
-        posix_is : (found : FoundObject) → found_at t new ≡ found → unless_root old (unless_root new (posix_rename t moment old new (look_up t old))) ≡ replace_by t moment old new label found
+        posix_is : (found : Option (ℕ × Object)) → found_at t new ≡ found → unless_root old (unless_root new (posix_rename t moment old new (look_up t old))) ≡ replace_by t moment old new label found
         posix_is found e =
             posix_other other ∙ ap (λ b. cond {A = Outcome} b (refuses Failure) (replace_by t moment old new label (found_at t new))) apart ∙ ap (replace_by t moment old new label) e
 
         pub posix_no_way : way_from s.nodes s.root s.root new ≡ located.NoWay → unless_root old (unless_root new (posix_rename t moment old new (look_up t old))) ≡ refuses NoSuchFile
-        posix_no_way e = posix_is _ (found_no_way s t new k e)
+        posix_no_way e =
+            posix_is _ (found_no_way s t new k e)
+            ∙ ap (λ b. cond {A = Outcome} b (refuses NoSuchFile) (moves t moment old new)) (no_way_faulty (is_faulty_way t new) (label_at t.names new) (no_way s t k new e))
 
         pub posix_moves : (into : ℕ) → way_from s.nodes s.root s.root new ≡ located.Missing into
             → (unless_root old (unless_root new (posix_rename t moment old new (look_up t old))) ≡ moves t moment old new) × MayMove s old new from into
-        posix_moves into e = (posix_is _ (found_missing s t new k into e), may_move_free into e)
+        posix_moves into e = (
+          posix_is _ (found_missing s t new k into e)
+              ∙ ap (λ b. cond {A = Outcome} b (refuses NoSuchFile) (moves t moment old new)) (absent_open (is_faulty_way t new) (label_at t.names new) (name_missing s t k new into e).0),
+          may_move_free into e,
+        )
 
         -- both paths lead to one inode, which is then a file, since a directory has one path
         pub posix_one : (into target : ℕ) → way_from s.nodes s.root s.root new ≡ located.At into target → node ≡ target
@@ -264,13 +281,13 @@ module _ (s : StoreState) (t : Tree) (k : Keeps s t) (moment : ℕ) (old new : P
                 let paths : old ≡ new = one_way s t k old new d to_old to_new directory in
                 is_false (are_nested old new) (nested_itself old new paths) apart
 
-            one_content : (l : ℕ) (m : Metadata) (c : Content) → label ≡ l → (is_directory_content c ≡ true → ⊥) → replace_by t moment old new label (found_content l m c) ≡ succeeds []
+            one_content : (l : ℕ) (m : Metadata) (c : Content) → label ≡ l → (is_directory_content c ≡ true → ⊥) → replace_by t moment old new label (Some (l, object_in m c)) ≡ succeeds []
             one_content l m (content.Directory es) labels never = absurd (never refl)
             one_content l m (content.File contents) labels never = ap (λ b. cond {A = Outcome} b (succeeds []) (cond (is_directory t old) (refuses Failure) (moves t moment old new))) (eq-eqb label l labels)
 
         -- they lead to two inodes
         module _ (into target : ℕ) (e : way_from s.nodes s.root s.root new ≡ located.At into target) (two : node ≢ target) where
-          replace_content : (l : ℕ) (m : Metadata) (c : Content) → nat_eq label l ≡ false → replace_by t moment old new label (found_content l m c)
+          replace_content : (l : ℕ) (m : Metadata) (c : Content) → nat_eq label l ≡ false → replace_by t moment old new label (Some (l, object_in m c))
               ≡ cond (cond (is_directory_content c) (is_directory t old && is_empty t.names new) (not (is_directory t old))) (moves t moment old new) (refuses Failure)
           replace_content l m (content.Directory es) ne = refl
           replace_content l m (content.File contents) ne =

@@ -8,11 +8,10 @@ use Rattle.sf_call.specs.declared.handle.Handle.{Handle}
 use Rattle.sf_call.specs.declared.metadata.Metadata.{Metadata}
 use Rattle.sf_call.specs.declared.limits.TheConstants.{MAX_FILE_SIZE}
 use Rattle.sf_call.specs.Attributes.{Object, modified_at}
-use Rattle.sf_call.specs.Attributes.Object.{File}
+use Rattle.sf_call.specs.Attributes.Object.{Directory, File}
 use Rattle.sf_block.specs.Contents.{complete, written}
 use Rattle.sf_call.specs.Tree.{Tree, is_nil}
-use Rattle.sf_call.specs.Handles.{Opened, opened, opened_object}
-use Rattle.sf_call.specs.Handles.Opened.{OpenDirectory, OpenFile}
+use Rattle.sf_call.specs.Handles.{opened}
 use Rattle.sf_call.specs.Changes.{changed}
 use Rattle.sf_call.specs.Changes.Change.{SetObject}
 use Rattle.sf_call.specs.Calls.{Outcome, refuses, succeeds, write, start_of}
@@ -29,19 +28,19 @@ use Rattle.sf_walk.proofs.ReplyOnly.{tells_served}
 use Rattle.sf_walk.proofs.SetNodes.{ShownFile, shown_stored, stored_bytes}
 use Rattle.sf_walk.proofs.OpenHandles.{IsOpen, file_is}
 
-no_file : (f : Opened → Outcome) → ((handle : Handle) (m : Metadata) → f (OpenDirectory handle m) ≡ refuses Failure) → (handle : Handle) (m : Metadata) (c : Content) → is_file_content c ≡ false
-    → f (opened_object handle (Some (object_in m c))) ≡ refuses Failure
+no_file : (f : Option (Handle × Object) → Outcome) → ((handle : Handle) (m : Metadata) → f (Some (handle, Directory m)) ≡ refuses Failure) → (handle : Handle) (m : Metadata) (c : Content) → is_file_content c ≡ false
+    → f (Some (handle, object_in m c)) ≡ refuses Failure
 no_file f law handle m (content.Directory es) e = law handle m
 no_file f law handle m (content.File contents) e = cc
 
-write_denied : (moment offset : ℕ) (bytes : List ℕ) (handle : Handle) (m : Metadata) (contents : List ℕ) → handle.write ≡ false → write moment offset bytes (OpenFile handle m contents) ≡ refuses PermissionDenied
+write_denied : (moment offset : ℕ) (bytes : List ℕ) (handle : Handle) (m : Metadata) (contents : List ℕ) → handle.write ≡ false → write moment offset bytes (Some (handle, File m contents)) ≡ refuses PermissionDenied
 write_denied moment offset bytes handle m contents w =
     let ok = succeeds (SetObject handle.label (File (modified_at moment m) (written contents (start_of handle contents offset) bytes)) ∷ []) in
     λ i. if not (w i) then refuses PermissionDenied else if is_nil bytes then succeeds [] else if nat_lt MAX_FILE_SIZE (start_of handle contents offset + length bytes) then refuses Failure else ok
 
-write_nothing : (moment offset : ℕ) (bytes : List ℕ) (handle : Handle) (m : Metadata) (contents : List ℕ) → handle.write ≡ true → bytes ≡ [] → write moment offset bytes (OpenFile handle m contents) ≡ succeeds []
+write_nothing : (moment offset : ℕ) (bytes : List ℕ) (handle : Handle) (m : Metadata) (contents : List ℕ) → handle.write ≡ true → bytes ≡ [] → write moment offset bytes (Some (handle, File m contents)) ≡ succeeds []
 write_nothing moment offset bytes handle m contents w none =
-    (λ i. write moment offset (none i) (OpenFile handle m contents)) ∙ (λ i. if not (w i) then refuses PermissionDenied else succeeds [])
+    (λ i. write moment offset (none i) (Some (handle, File m contents))) ∙ (λ i. if not (w i) then refuses PermissionDenied else succeeds [])
 
 -- a handle that may write, at least one byte to write by it, and the offset in the contents
 record WriteStart (handle : Handle) (contents bytes : List ℕ) : Type 0 where
@@ -52,7 +51,7 @@ record WriteStart (handle : Handle) (contents bytes : List ℕ) : Type 0 where
   from : start_of handle contents offset ≡ start
 
 write_past : (moment : ℕ) (handle : Handle) (m : Metadata) (contents bytes : List ℕ) (w : WriteStart handle contents bytes) → nat_lt MAX_FILE_SIZE (w.start + length bytes) ≡ true
-    → write moment w.offset bytes (OpenFile handle m contents) ≡ refuses Failure
+    → write moment w.offset bytes (Some (handle, File m contents)) ≡ refuses Failure
 write_past moment handle m contents bytes w past =
     let ok = succeeds (SetObject handle.label (File (modified_at moment m) (written contents (start_of handle contents w.offset) bytes)) ∷ []) in
     let limit : Bool = nat_lt MAX_FILE_SIZE (start_of handle contents w.offset + length bytes) in
@@ -62,7 +61,7 @@ write_past moment handle m contents bytes w past =
     ∙ (λ i. if past i then refuses Failure else ok)
 
 write_within : (moment : ℕ) (handle : Handle) (m : Metadata) (contents bytes : List ℕ) (w : WriteStart handle contents bytes) → nat_lt MAX_FILE_SIZE (w.start + length bytes) ≡ false
-    → write moment w.offset bytes (OpenFile handle m contents) ≡ succeeds (SetObject handle.label (File (modified_at moment m) (written contents w.start bytes)) ∷ [])
+    → write moment w.offset bytes (Some (handle, File m contents)) ≡ succeeds (SetObject handle.label (File (modified_at moment m) (written contents w.start bytes)) ∷ [])
 write_within moment handle m contents bytes w past =
     let ok = λ (k : ℕ). succeeds (SetObject handle.label (File (modified_at moment m) (written contents k bytes)) ∷ []) in
     let from = start_of handle contents w.offset in
@@ -91,20 +90,20 @@ no_size nodes id e =
     ] refl e
 
 -- the object of a file, and its open handle
-abbrev pub IsOpenFile : List (Option Node) → ℕ → ℕ → Handle → Opened → Type 0
-IsOpenFile nodes id label handle o = (m : Metadata) × ((shown_of nodes id ≡ Some (label, File m (bytes_of nodes id))) × (o ≡ OpenFile handle m (bytes_of nodes id)))
+abbrev pub IsOpenFile : List (Option Node) → ℕ → ℕ → Handle → Option (Handle × Object) → Type 0
+IsOpenFile nodes id label handle o = (m : Metadata) × ((shown_of nodes id ≡ Some (label, File m (bytes_of nodes id))) × (o ≡ Some (handle, File m (bytes_of nodes id))))
 
 file_object : (m : Metadata) (c : Content) → is_file_content c ≡ true → object_in m c ≡ File m (bytes_in c)
 file_object m (content.Directory es) f = absurd (let x : ⊥ = cc in x)
 file_object m (content.File contents) f = refl
 
-file_content : (nodes : List (Option Node)) (id : ℕ) (handle : Handle) (o : Opened) (it : Node) → node_in nodes id ≡ Some it → o ≡ opened_object handle (Some (object_in it.metadata it.content)) → is_file_content it.content ≡ true
+file_content : (nodes : List (Option Node)) (id : ℕ) (handle : Handle) (o : Option (Handle × Object)) (it : Node) → node_in nodes id ≡ Some it → o ≡ Some (handle, object_in it.metadata it.content) → is_file_content it.content ≡ true
     → IsOpenFile nodes id it.label handle o
 file_content nodes id handle o it at is f =
     let m = it.metadata in
     let bytes : bytes_of nodes id ≡ bytes_in it.content = ap (λ (x : Option Node). option_map_or (λ (node : Node). bytes_in node.content) x []) at in
     let object : object_in m it.content ≡ File m (bytes_of nodes id) = file_object m it.content f ∙ ap (File m) (sym bytes) in
-    (m, (ap (option_map shown_node) at ∙ (λ i. Some (it.label, object i)), is ∙ ap (λ (x : Object). opened_object handle (Some x)) object))
+    (m, (ap (option_map shown_node) at ∙ (λ i. Some (it.label, object i)), is ∙ (λ i. Some (handle, object i))))
 
 -- ---- READ and WRITE
 module _ (s : StoreState) (t : Tree) (session number : ℕ) (h : OpenHandle) (o : IsOpen s t session number h) where
@@ -112,10 +111,10 @@ module _ (s : StoreState) (t : Tree) (session number : ℕ) (h : OpenHandle) (o 
   open_file f = subst (λ (l : ℕ). IsOpenFile s.nodes h.node l (shown_handle session h) (opened t session number)) o.label
       (file_content s.nodes h.node (shown_handle session h) (opened t session number) o.node o.there o.opens (sym (file_is s t session number h o) ∙ f))
 
-  no_file_open : (f : Opened → Outcome) → ((handle : Handle) (m : Metadata) → f (OpenDirectory handle m) ≡ refuses Failure) → is_file_at s.nodes h.node ≡ false → f (opened t session number) ≡ refuses Failure
+  no_file_open : (f : Option (Handle × Object) → Outcome) → ((handle : Handle) (m : Metadata) → f (Some (handle, Directory m)) ≡ refuses Failure) → is_file_at s.nodes h.node ≡ false → f (opened t session number) ≡ refuses Failure
   no_file_open f law none = ap f o.opens ∙ no_file f law (shown_handle session h) o.node.metadata o.node.content (sym (file_is s t session number h o) ∙ none)
 
-  pub refused_served : (f : Opened → Outcome) → ((handle : Handle) (m : Metadata) → f (OpenDirectory handle m) ≡ refuses Failure) → None ≡ file_size s.nodes h.node → IsCarriedOut s t (f (opened t session number)) (reply.Status Failure)
+  pub refused_served : (f : Option (Handle × Object) → Outcome) → ((handle : Handle) (m : Metadata) → f (Some (handle, Directory m)) ≡ refuses Failure) → None ≡ file_size s.nodes h.node → IsCarriedOut s t (f (opened t session number)) (reply.Status Failure)
   refused_served f law none = tells_served s t (f (opened t session number)) (reply.Status Failure) (no_file_open f law (no_size s.nodes h.node none)) o.keeps
 
   pub write_unmarked : (moment offset size : ℕ) (bytes : List ℕ) → Some size ≡ file_size s.nodes h.node → h.marks.write ≡ false → IsCarriedOut s t (write moment offset bytes (opened t session number)) (reply.Status PermissionDenied)

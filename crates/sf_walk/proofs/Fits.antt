@@ -7,7 +7,7 @@ use Rattle.sf_path.specs.Names.{Name, Path}
 use Rattle.sf_call.specs.declared.metadata.Metadata.{Metadata}
 use Rattle.sf_call.specs.declared.lookup.Lookup.TheVariants as lookup
 use Rattle.sf_call.specs.Attributes.{Object}
-use Rattle.sf_call.specs.Tree.{Tree, label_at, object_of, directory_metadata, is_directory, proper_fronts, lookup_of, look_up, found_at, found_place, found_object}
+use Rattle.sf_call.specs.Tree.{Tree, label_at, object_of, directory_metadata, is_directory, proper_fronts, lookup_of, look_up, found_at, found_place}
 use Rattle.sf_inode.specs.declared.node.Node.{Node}
 use Rattle.sf_inode.specs.declared.node.Content.{Content}
 use Rattle.sf_inode.specs.declared.node.Content.TheVariants as content
@@ -19,7 +19,7 @@ use Rattle.sf_keeps.specs.Keeps.{Keeps}
 use Rattle.sf_keeps.proofs.Laws.{walk-append, last_step}
 use Rattle.sf_walk.specs.declared.finding.Located.{Located}
 use Rattle.sf_walk.specs.declared.finding.Located.TheVariants as located
-use Rattle.sf_walk.specs.Ways.{missing, way_from, found_content, found_node}
+use Rattle.sf_walk.specs.Ways.{missing, way_from, found_node}
 
 -- whether a prefix of the path after `front` is no directory
 abbrev pub fails_behind : Tree → Path → Path → Bool
@@ -47,10 +47,6 @@ Fits s t front rest (located.At above y) = (fails_behind t front rest ≡ false)
 directory_object : (l : ℕ) (m : Metadata) (c : Content) → is_some {T = ℕ × Metadata} (option_map (λ (k : Metadata). (l, k)) (directory_metadata (object_in m c))) ≡ is_directory_content c
 directory_object l m (content.Directory es) = refl
 directory_object l m (content.File bytes) = refl
-
-object_found : (l : ℕ) (m : Metadata) (c : Content) → found_object l (Some (object_in m c)) ≡ found_content l m c
-object_found l m (content.Directory es) = refl
-object_found l m (content.File contents) = refl
 
 module _ (s : StoreState) (t : Tree) (h : Keeps s t) where
   -- the inode that a path leads to exists
@@ -137,4 +133,4 @@ module _ (s : StoreState) (t : Tree) (h : Keeps s t) where
       let f = subst (λ (l : Located). Fits s t [] p l) e (way_fits p [] s.root s.root refl (inl refl)) in
       let w = node_there p y f.1 in
       let is : look_up t p ≡ lookup.At w.0.label = ap (λ (b : Bool). cond b lookup.NoWay (lookup_of (label_at t.names p))) f.0 ∙ ap lookup_of (label_there p y w.0 f.1 w.1) in
-      (f.1, f.2, (w.0, w.1, is, ap (found_place t.objects) is ∙ ap (found_object w.0.label) (object_there y w.0 w.1) ∙ object_found w.0.label w.0.metadata w.0.content))
+      (f.1, f.2, (w.0, w.1, is, ap (found_place t.objects) is ∙ ap (option_map {U = ℕ × Object} (λ (object : Object). (w.0.label, object))) (object_there y w.0 w.1)))

@@ -13,8 +13,7 @@ use Rattle.sf_call.specs.declared.metadata.Metadata.{Metadata}
 use Rattle.sf_call.specs.declared.lookup.Lookup.{Lookup}
 use Rattle.sf_call.specs.declared.lookup.Lookup.TheVariants as lookup
 use Rattle.sf_call.specs.Attributes.{Object, modified_at}
-use Rattle.sf_call.specs.Tree.{Tree, FoundObject, after_front, links, look_up, found_at}
-use Rattle.sf_call.specs.Tree.FoundObject.{Nowhere, Nothing}
+use Rattle.sf_call.specs.Tree.{Tree, after_front, links, look_up, found_at}
 use Rattle.sf_call.specs.Changes.{changed, done, touched}
 use Rattle.sf_call.specs.Changes.Change.{NewName}
 use Rattle.sf_call.specs.Calls.{Outcome, refuses, succeeds, link_to, link, unless_root}
@@ -29,7 +28,7 @@ use Rattle.sf_keeps.specs.Keeps.{Keeps}
 use Rattle.sf_keeps.proofs.Laws.{walk-append, file_in_way, reached_node, place_found, keeps_linked, edited_apart, edited_itself}
 use Rattle.sf_walk.specs.declared.finding.Located.TheVariants as located
 use Rattle.sf_call.specs.Routes.{are_nested}
-use Rattle.sf_walk.specs.Ways.{last_name_of, way_from, found_content, found_node}
+use Rattle.sf_walk.specs.Ways.{last_name_of, way_from, found_node}
 use Rattle.sf_walk.specs.Served.{IsCarriedOut}
 use Rattle.sf_walk.specs.Links.{nested_code, MakesLink}
 use Rattle.sf_walk.proofs.Fits.{no_way, name_missing, node_at}
@@ -46,14 +45,14 @@ module _ (s : StoreState) (t : Tree) (k : Keeps s t) (moment : ℕ) (old new : P
   abbrev whole : Outcome
   whole = unless_root old (unless_root new (link t moment new (found_at t old)))
 
-  told : (found : FoundObject) → found_at t old ≡ found → whole ≡ link t moment new found
+  told : (found : Option (ℕ × Object)) → found_at t old ≡ found → whole ≡ link t moment new found
   told found e = past_roots s t k moment old new ne (link t moment new (found_at t old)) ∙ ap (link t moment new) e
 
   pub link_no_way : way_from s.nodes s.root s.root old ≡ located.NoWay → whole ≡ refuses NoSuchFile
-  link_no_way e = told Nowhere (found_no_way s t old k e)
+  link_no_way e = told None (found_no_way s t old k e)
 
   pub link_missing : (d : ℕ) → way_from s.nodes s.root s.root old ≡ located.Missing d → whole ≡ refuses NoSuchFile
-  link_missing d e = told Nothing (found_missing s t old k d e)
+  link_missing d e = told None (found_missing s t old k d e)
 
   -- ---- the old path leads to an inode
   module _ (from node : ℕ) (at : way_from s.nodes s.root s.root old ≡ located.At from node) where
@@ -66,7 +65,7 @@ module _ (s : StoreState) (t : Tree) (k : Keeps s t) (moment : ℕ) (old new : P
     content_at : is_directory_content it.content ≡ is_directory_at s.nodes node
     content_at = sym (ap (λ (o : Option Node). option_map_or (λ (x : Node). is_directory_content x.content) o false) here)
 
-    link_content : (l : ℕ) (m : Metadata) (c : Content) → link t moment new (found_content l m c) ≡ cond (is_directory_content c) (refuses Failure) (link_to t moment new l (look_up t new))
+    link_content : (l : ℕ) (m : Metadata) (c : Content) → link t moment new (Some (l, object_in m c)) ≡ cond (is_directory_content c) (refuses Failure) (link_to t moment new l (look_up t new))
     link_content l m (content.Directory es) = refl
     link_content l m (content.File contents) = refl
 

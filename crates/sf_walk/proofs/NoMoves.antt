@@ -1,6 +1,6 @@
 -- Requests other than renames move nothing.
 use Rattle.std.specs.Prelude.{◌≡◌, ℕ, Bool, true, false, cond, not, nat_eq, nat_lt, nat_le, ◌+◌, ◌&&◌, List, [], ◌∷◌, length, is_some, Option, Some, None, refl}
-use Rattle.std.proofs.Common.{ap, sym}
+use Rattle.std.proofs.Common.{option_map, ap, sym}
 use Rattle.sf_path.specs.Names.{Path}
 use Rattle.sf_path.specs.Order.{parent}
 use Rattle.sf_field.specs.declared.attrs.Attrs.{Attrs}
@@ -15,13 +15,11 @@ use Rattle.sf_call.specs.declared.lookup.Lookup.TheVariants as lookup
 use Rattle.sf_call.specs.Attributes.{Object}
 use Rattle.sf_call.specs.Attributes.Object.{Directory, File}
 use Rattle.sf_call.specs.declared.handle.Handle.{Handle}
-use Rattle.sf_call.specs.Tree.{Tree, FoundObject, look_up, found_at, found_object, object_of, directory_at, is_empty, is_nil}
-use Rattle.sf_call.specs.Tree.FoundObject.{Nowhere, Nothing, DirectoryAt, FileAt}
-use Rattle.sf_call.specs.Handles.{Opened, handle_in, opened}
-use Rattle.sf_call.specs.Handles.Opened.{NotOpen, OpenDirectory, OpenFile}
+use Rattle.sf_call.specs.Tree.{Tree, look_up, found_at, object_of, directory_at, is_empty, is_nil}
+use Rattle.sf_call.specs.Handles.{handle_in, opened}
 use Rattle.sf_call.specs.Listings.{path_of, listing_of}
 use Rattle.sf_call.specs.Changes.{touch, moved_by}
-use Rattle.sf_call.specs.Calls.{Outcome, answer_to, stat, set_stat, sets, refuses_size, make_directory, remove_directory, remove_file, open_directory, open_present, open_file, has_all_handles, close, stat_opened, set_opened, read, write, start_of, read_directory, lists, unless_root, opening, stamp}
+use Rattle.sf_call.specs.Calls.{Outcome, answer_to, stat, set_stat, sets, refuses_size, make_directory, remove_directory, remove_file, open_directory, open_present, open_file, has_all_handles, close, stat_opened, set_opened, read, write, start_of, read_directory, lists, unless_root}
 use Rattle.sf_call.proofs.Laws.{link_cases, link_to_cases}
 use Rattle.sf_inode.specs.Stores.{StoreState}
 use Rattle.sf_walk.specs.declared.renames.Course.{Course}
@@ -43,89 +41,83 @@ touches : (moment : ℕ) (o : Option (ℕ × Metadata)) → moved_by (touch mome
 touches moment None = refl
 touches moment (Some e) = refl
 
-stat_stays : (found : FoundObject) → Stays (stat found)
-stat_stays Nowhere = refl
-stat_stays Nothing = refl
-stat_stays (DirectoryAt label m) = refl
-stat_stays (FileAt label m contents) = refl
+stat_stays : (found : Option (ℕ × Object)) → Stays (stat found)
+stat_stays None = refl
+stat_stays (Some (label, Directory m)) = refl
+stat_stays (Some (label, File m contents)) = refl
 
 sets_stays : (moment label : ℕ) (attrs : Attrs) (object : Object) → Stays (sets moment label attrs object)
 sets_stays moment label attrs object = either (refuses_size object attrs.size) _ _ refl refl
 
-set_stat_stays : (moment : ℕ) (attrs : Attrs) (found : FoundObject) → Stays (set_stat moment attrs found)
-set_stat_stays moment attrs Nowhere = refl
-set_stat_stays moment attrs Nothing = refl
-set_stat_stays moment attrs (DirectoryAt label m) = sets_stays moment label attrs (Directory m)
-set_stat_stays moment attrs (FileAt label m contents) = sets_stays moment label attrs (File m contents)
+set_stat_stays : (moment : ℕ) (attrs : Attrs) (found : Option (ℕ × Object)) → Stays (set_stat moment attrs found)
+set_stat_stays moment attrs None = refl
+set_stat_stays moment attrs (Some (label, Directory m)) = sets_stays moment label attrs (Directory m)
+set_stat_stays moment attrs (Some (label, File m contents)) = sets_stays moment label attrs (File m contents)
 
 module _ (t : Tree) (session number moment : ℕ) where
-  make_stays : (p : Path) (attrs : Attrs) (at : Lookup) → Stays (make_directory t (stamp number moment) p attrs at)
+  make_stays : (p : Path) (attrs : Attrs) (at : Lookup) → Stays (make_directory t number moment p attrs at)
   make_stays p attrs lookup.NoWay = refl
   make_stays p attrs (lookup.At label) = refl
   make_stays p attrs lookup.Absent = touches moment (directory_at t (parent p))
 
-  remove_directory_stays : (p : Path) (found : FoundObject) → Stays (remove_directory t moment p found)
-  remove_directory_stays p Nowhere = refl
-  remove_directory_stays p Nothing = refl
-  remove_directory_stays p (DirectoryAt label m) = either (is_empty t.names p) _ _ (touches moment (directory_at t (parent p))) refl
-  remove_directory_stays p (FileAt label m contents) = refl
+  remove_directory_stays : (p : Path) (found : Option (ℕ × Object)) → Stays (remove_directory t moment p found)
+  remove_directory_stays p None = refl
+  remove_directory_stays p (Some (label, Directory m)) = either (is_empty t.names p) _ _ (touches moment (directory_at t (parent p))) refl
+  remove_directory_stays p (Some (label, File m contents)) = refl
 
-  remove_stays : (p : Path) (found : FoundObject) → Stays (remove_file t moment p found)
-  remove_stays p Nowhere = refl
-  remove_stays p Nothing = refl
-  remove_stays p (DirectoryAt label m) = refl
-  remove_stays p (FileAt label m contents) = touches moment (directory_at t (parent p))
+  remove_stays : (p : Path) (found : Option (ℕ × Object)) → Stays (remove_file t moment p found)
+  remove_stays p None = refl
+  remove_stays p (Some (label, Directory m)) = refl
+  remove_stays p (Some (label, File m contents)) = touches moment (directory_at t (parent p))
 
-  open_directory_stays : (found : FoundObject) → Stays (open_directory t session number found)
-  open_directory_stays Nowhere = refl
-  open_directory_stays Nothing = refl
-  open_directory_stays (DirectoryAt label m) = either (has_all_handles t session) _ _ refl refl
-  open_directory_stays (FileAt label m contents) = refl
+  open_directory_stays : (found : Option (ℕ × Object)) → Stays (open_directory t session number found)
+  open_directory_stays None = refl
+  open_directory_stays (Some (label, Directory m)) = either (has_all_handles t session) _ _ refl refl
+  open_directory_stays (Some (label, File m contents)) = refl
 
-  present_stays : (flags : OpenFlags) (found : FoundObject) → Stays (open_present t session (stamp number moment) flags found)
-  present_stays flags Nowhere = refl
-  present_stays flags Nothing = refl
-  present_stays flags (DirectoryAt label m) = refl
-  present_stays flags (FileAt label m contents) = either (has_all_handles t session) _ _ refl (either (flags.truncate && flags.write) _ _ refl refl)
+  present_stays : (flags : OpenFlags) (found : Option (ℕ × Object)) → Stays (open_present t session number moment flags found)
+  present_stays flags None = refl
+  present_stays flags (Some (label, Directory m)) = refl
+  present_stays flags (Some (label, File m contents)) = either (has_all_handles t session) _ _ refl (either (flags.truncate && flags.write) _ _ refl refl)
 
-  open_stays : (p : Path) (flags : OpenFlags) (attrs : Attrs) (at : Lookup) → Stays (open_file t session (stamp number moment) (opening p flags attrs) at)
+  open_stays : (p : Path) (flags : OpenFlags) (attrs : Attrs) (at : Lookup) → Stays (open_file t session number moment p flags attrs at)
   open_stays p flags attrs lookup.NoWay = refl
-  open_stays p flags attrs (lookup.At label) = either (flags.create && flags.exclusive) _ _ refl (present_stays flags (found_object label (object_of t.objects label)))
+  open_stays p flags attrs (lookup.At label) = either (flags.create && flags.exclusive) _ _ refl (present_stays flags (option_map (λ (object : Object). (label, object)) (object_of t.objects label)))
   open_stays p flags attrs lookup.Absent = either (not flags.create) _ _ refl (either (has_all_handles t session) _ _ refl (touches moment (directory_at t (parent p))))
 
   close_stays : (o : Option Handle) → Stays (close number o)
   close_stays None = refl
   close_stays (Some handle) = refl
 
-  stat_opened_stays : (o : Opened) → Stays (stat_opened o)
-  stat_opened_stays NotOpen = refl
-  stat_opened_stays (OpenDirectory handle m) = refl
-  stat_opened_stays (OpenFile handle m contents) = refl
+  stat_opened_stays : (o : Option (Handle × Object)) → Stays (stat_opened o)
+  stat_opened_stays None = refl
+  stat_opened_stays (Some (handle, Directory m)) = refl
+  stat_opened_stays (Some (handle, File m contents)) = refl
 
-  set_opened_stays : (attrs : Attrs) (o : Opened) → Stays (set_opened moment attrs o)
-  set_opened_stays attrs NotOpen = refl
-  set_opened_stays attrs (OpenDirectory handle m) = either (nat_eq handle.label 0) _ _ refl (sets_stays moment handle.label attrs (Directory m))
-  set_opened_stays attrs (OpenFile handle m contents) = either (is_some attrs.size && not handle.write) _ _ refl (sets_stays moment handle.label attrs (File m contents))
+  set_opened_stays : (attrs : Attrs) (o : Option (Handle × Object)) → Stays (set_opened moment attrs o)
+  set_opened_stays attrs None = refl
+  set_opened_stays attrs (Some (handle, Directory m)) = either (nat_eq handle.label 0) _ _ refl (sets_stays moment handle.label attrs (Directory m))
+  set_opened_stays attrs (Some (handle, File m contents)) = either (is_some attrs.size && not handle.write) _ _ refl (sets_stays moment handle.label attrs (File m contents))
 
-  read_stays : (offset len : ℕ) (o : Opened) → Stays (read offset len o)
-  read_stays offset len NotOpen = refl
-  read_stays offset len (OpenDirectory handle m) = refl
-  read_stays offset len (OpenFile handle m contents) = either (not handle.read) _ _ refl (either (nat_le (length contents) offset) _ _ refl refl)
+  read_stays : (offset len : ℕ) (o : Option (Handle × Object)) → Stays (read offset len o)
+  read_stays offset len None = refl
+  read_stays offset len (Some (handle, Directory m)) = refl
+  read_stays offset len (Some (handle, File m contents)) = either (not handle.read) _ _ refl (either (nat_le (length contents) offset) _ _ refl refl)
 
-  write_stays : (offset : ℕ) (bytes : List ℕ) (o : Opened) → Stays (write moment offset bytes o)
-  write_stays offset bytes NotOpen = refl
-  write_stays offset bytes (OpenDirectory handle m) = refl
-  write_stays offset bytes (OpenFile handle m contents) =
+  write_stays : (offset : ℕ) (bytes : List ℕ) (o : Option (Handle × Object)) → Stays (write moment offset bytes o)
+  write_stays offset bytes None = refl
+  write_stays offset bytes (Some (handle, Directory m)) = refl
+  write_stays offset bytes (Some (handle, File m contents)) =
       either (not handle.write) _ _ refl (either (is_nil bytes) _ _ refl (either (nat_lt MAX_FILE_SIZE (start_of handle contents offset + length bytes)) _ _ refl refl))
 
   lists_stays : (handle : Handle) (es : List Entry) → Stays (lists number handle es)
   lists_stays handle [] = refl
   lists_stays handle (e ∷ es) = refl
 
-  list_stays : (o : Opened) → Stays (read_directory t number o)
-  list_stays NotOpen = refl
-  list_stays (OpenDirectory handle m) = lists_stays handle (listing_of t handle.listed (path_of t.names handle.label))
-  list_stays (OpenFile handle m contents) = refl
+  list_stays : (o : Option (Handle × Object)) → Stays (read_directory t number o)
+  list_stays None = refl
+  list_stays (Some (handle, Directory m)) = lists_stays handle (listing_of t handle.listed (path_of t.names handle.label))
+  list_stays (Some (handle, File m contents)) = refl
 
 pub others_stay : (t : Tree) (session number moment : ℕ) (r : Request) → ((old new : Path) → r ≡ request.Rename old new → ⊥) → ((old new : Path) → r ≡ request.PosixRename old new → ⊥) → moved_by (answer_to t session number moment r).changes ≡ None
 others_stay t session number moment (request.Stat p) a b = stat_stays (found_at t p)

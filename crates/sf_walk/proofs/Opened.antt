@@ -16,10 +16,10 @@ use Rattle.sf_call.specs.declared.lookup.Lookup.{Lookup}
 use Rattle.sf_call.specs.declared.lookup.Lookup.TheVariants.{Absent}
 use Rattle.sf_call.specs.Attributes.{Object, new_metadata, modified_at}
 use Rattle.sf_call.specs.Attributes.Object.{Directory, File}
-use Rattle.sf_call.specs.Tree.{Tree, FoundObject, object_of, look_up, found_at, found_place, found_object}
+use Rattle.sf_call.specs.Tree.{Tree, object_of, look_up, found_at, found_place}
 use Rattle.sf_call.specs.Changes.{changed, done, touched}
 use Rattle.sf_call.specs.Changes.Change.{SetObject, NewPath, OpenHandle}
-use Rattle.sf_call.specs.Calls.{Outcome, refuses, opens, has_all_handles, directory_handle, new_file_handle, open_directory, open_present, open_file, unless_root, opening, stamp}
+use Rattle.sf_call.specs.Calls.{Outcome, refuses, opens, has_all_handles, directory_handle, new_file_handle, open_directory, open_present, open_file, unless_root}
 use Rattle.sf_inode.specs.declared.node.Node.{Node}
 use Rattle.sf_inode.specs.declared.node.NewNode.{NewNode}
 use Rattle.sf_inode.specs.declared.node.Content.{Content}
@@ -32,7 +32,7 @@ use Rattle.sf_keeps.specs.Steps.{walk}
 use Rattle.sf_inode.specs.Stores.{new_entry, StoreState, node_in, child_of, is_directory_at, shown_node, shown_of, edited, bytes_set, handle_put, new_handle, after_open_node, after_open}
 use Rattle.sf_keeps.specs.Keeps.{Keeps}
 use Rattle.sf_keeps.proofs.Laws.{keeps_opened, keeps_inserted, keeps_contents, keeps_file, object_again, inserted_alike}
-use Rattle.sf_walk.specs.Ways.{missing, way_from, last_name_of, found_content, found_node}
+use Rattle.sf_walk.specs.Ways.{missing, way_from, last_name_of, found_node}
 use Rattle.sf_walk.specs.declared.finding.Located.{Located}
 use Rattle.sf_walk.specs.declared.finding.Located.TheVariants as located
 use Rattle.sf_walk.specs.Opening.{ToOpen, marks_of, OpenedNew, to_open}
@@ -79,7 +79,7 @@ file_there l m (content.File contents) e = refl
 
 -- ---- OPENDIR
 module _ (t : Tree) (session number : ℕ) where
-  listing_opens : (l : ℕ) (m : Metadata) (c : Content) → is_directory_content c ≡ true → has_all_handles t session ≡ false → open_directory t session number (found_content l m c) ≡ opens number (directory_handle session l) []
+  listing_opens : (l : ℕ) (m : Metadata) (c : Content) → is_directory_content c ≡ true → has_all_handles t session ≡ false → open_directory t session number (Some (l, object_in m c)) ≡ opens number (directory_handle session l) []
   listing_opens l m (content.Directory es) d e = ap (λ b. cond b (refuses Failure) (opens number (directory_handle session l) [])) e
   listing_opens l m (content.File contents) d e = cc
 
@@ -98,17 +98,17 @@ module _ (t : Tree) (session number moment : ℕ) (flags : OpenFlags) where
   abbrev opens_file : ℕ → Metadata → Bool → Bool → Outcome
   opens_file l m full cuts = cond full (refuses Failure) (cond cuts (opens number (new_file_handle session l flags) (SetObject l (File (modified_at moment m) []) ∷ [])) (opens number (new_file_handle session l flags) []))
 
-  present_opens : (l : ℕ) (m : Metadata) (c : Content) (cuts : Bool) → is_directory_content c ≡ false → has_all_handles t session ≡ false → (flags.truncate && flags.write) ≡ cuts → open_present t session (stamp number moment) flags (found_content l m c) ≡ opens_file l m false cuts
+  present_opens : (l : ℕ) (m : Metadata) (c : Content) (cuts : Bool) → is_directory_content c ≡ false → has_all_handles t session ≡ false → (flags.truncate && flags.write) ≡ cuts → open_present t session number moment flags (Some (l, object_in m c)) ≡ opens_file l m false cuts
   present_opens l m (content.Directory es) cuts d e f = cc
   present_opens l m (content.File contents) cuts d e f = (λ i. opens_file l m (e i) (f i))
 
-  pub present_wants : (it : Node) → is_directory_content it.content ≡ false → has_all_handles t session ≡ false → is_success (open_present t session (stamp number moment) flags (found_node it)).reply ≡ true
+  pub present_wants : (it : Node) → is_directory_content it.content ≡ false → has_all_handles t session ≡ false → is_success (open_present t session number moment flags (found_node it)).reply ≡ true
   present_wants it d e =
       ap (λ (a : Outcome). is_success a.reply) (present_opens it.label it.metadata it.content (flags.truncate && flags.write) d e refl)
       ∙ elim (flags.truncate && flags.write) as (λ b. is_success (opens_file it.label it.metadata false b).reply ≡ true) [ true ↦ refl | false ↦ refl ]
 
   pub present_served : (s new : StoreState) (it : Node) (id : ℕ) → Keeps s t → IsUnused t number → number < 2 ^ 64 → node_in s.nodes id ≡ Some it → is_directory_content it.content ≡ false → has_all_handles t session ≡ false
-      → (flags.truncate && flags.write) ≡ false → new ≡ after_open s session number id (marks_of flags) → IsCarriedOut new t (open_present t session (stamp number moment) flags (found_node it)) (reply.Handle number)
+      → (flags.truncate && flags.write) ≡ false → new ≡ after_open s session number id (marks_of flags) → IsCarriedOut new t (open_present t session number moment flags (found_node it)) (reply.Handle number)
   present_served s new it id k fresh fits at d e f state =
       let kept = keeps_opened s t k session number id (marks_of flags) it fresh.above fits fresh.handle at in
       subst (λ (a : Outcome). IsCarriedOut new t a (reply.Handle number)) (sym (present_opens it.label it.metadata it.content false d e f))
@@ -119,7 +119,7 @@ module _ (t : Tree) (session number moment : ℕ) (flags : OpenFlags) where
   CutsFile mid new id = (u : Tree) (label : ℕ) (m : Metadata) (bytes : List ℕ) → Keeps mid u → shown_of mid.nodes id ≡ Some (label, File m bytes) → Keeps new (changed u (SetObject label (File (modified_at moment m) [])))
 
   pub present_cut : (s mid new : StoreState) (it : Node) (id : ℕ) → Keeps s t → IsUnused t number → number < 2 ^ 64 → node_in s.nodes id ≡ Some it → is_directory_content it.content ≡ false → has_all_handles t session ≡ false
-      → (flags.truncate && flags.write) ≡ true → mid ≡ after_open s session number id (marks_of flags) → CutsFile mid new id → IsCarriedOut new t (open_present t session (stamp number moment) flags (found_node it)) (reply.Handle number)
+      → (flags.truncate && flags.write) ≡ true → mid ≡ after_open s session number id (marks_of flags) → CutsFile mid new id → IsCarriedOut new t (open_present t session number moment flags (found_node it)) (reply.Handle number)
   present_cut s mid new it id k fresh fits at d e f state cuts =
       let kept : Keeps mid (changed t (OpenHandle number (new_file_handle session it.label flags))) =
       subst (λ (x : StoreState). Keeps x (changed t (OpenHandle number (new_file_handle session it.label flags)))) (sym state) (keeps_opened s t k session number id (marks_of flags) it fresh.above fits fresh.handle at) in
@@ -133,17 +133,17 @@ module _ (t : Tree) (session number moment : ℕ) (path : Path) (flags : OpenFla
   abbrev creates : Bool → Bool → Outcome
   creates lacks full = cond lacks (refuses NoSuchFile) (cond full (refuses Failure) (opens number (new_file_handle session number flags) (NewPath path number (File (new_metadata 0o644 moment attrs) []) ∷ touched t moment (parent path))))
 
-  absent_is : (lacks full : Bool) → not flags.create ≡ lacks → has_all_handles t session ≡ full → open_file t session (stamp number moment) (opening path flags attrs) Absent ≡ creates lacks full
+  absent_is : (lacks full : Bool) → not flags.create ≡ lacks → has_all_handles t session ≡ full → open_file t session number moment path flags attrs Absent ≡ creates lacks full
   absent_is lacks full c f = λ i. creates (c i) (f i)
 
-  pub absent_wants : not flags.create ≡ false → has_all_handles t session ≡ false → is_success (open_file t session (stamp number moment) (opening path flags attrs) Absent).reply ≡ true
+  pub absent_wants : not flags.create ≡ false → has_all_handles t session ≡ false → is_success (open_file t session number moment path flags attrs Absent).reply ≡ true
   absent_wants c f = ap (λ (a : Outcome). is_success a.reply) (absent_is false false c f)
 
   pub absent_served : (s mid new : StoreState) (front : Path) (dir : ℕ) (metadata : Metadata)
       → Keeps s t → IsUnused t number → number < 2 ^ 64 → path ≡ front ++ last_name_of path ∷ [] → walk (child_of s.nodes) s.root front ≡ Some dir → is_directory_at s.nodes dir ≡ true → child_of s.nodes dir (last_name_of path) ≡ None
       → not flags.create ≡ false → has_all_handles t session ≡ false → metadata ≡ new_metadata 0o644 moment attrs
       → OpenedNew s mid (to_open session number dir (last_name_of path) (marks_of flags)) (record { label = number; file_type = file_type.File; metadata = metadata }) → new ≡ edited (with_metadata (modified_at moment)) mid dir
-      → IsCarriedOut new t (open_file t session (stamp number moment) (opening path flags attrs) Absent) (reply.Handle number)
+      → IsCarriedOut new t (open_file t session number moment path flags attrs Absent) (reply.Handle number)
   absent_served s mid new front dir metadata k fresh fits is at d none c f asked did state =
       let n = last_name_of path in
       let it : NewNode = record { label = number; file_type = file_type.File; metadata = metadata } in
@@ -230,11 +230,11 @@ module _ (old mid : StoreState) (t : Tree) (p : Path) (most : ℕ) (looked : Loo
       → ServesOutcome new t (open_directory t session number (found_at t p)) r
   listing_located session number new above y {E} r e served =
       let w = node_located old mid t p most looked h above y e in
-      subst (λ (f : FoundObject). ServesOutcome new t (open_directory t session number f) r) (sym w.1.1) (served w.0 w.1.0)
+      subst (λ (f : Option (ℕ × Object)). ServesOutcome new t (open_directory t session number f) r) (sym w.1.1) (served w.0 w.1.0)
 
   module _ (session number moment : ℕ) (flags : OpenFlags) (attrs : Attrs) where
     abbrev answer : Lookup → Outcome
-    answer place = open_file t session (stamp number moment) (opening p flags attrs) place
+    answer place = open_file t session number moment p flags attrs place
 
     pub open_no_way : (l : Located) (code : StatusCode) → (p ≡ [] → ⊥) → (code ≡ NoSuchFile) × (l ≡ located.NoWay) → l ≡ way_from old.nodes old.root old.root p
         → IsCarriedOut mid t (unless_root p (answer (look_up t p))) (reply.Status code)
@@ -258,18 +258,18 @@ module _ (old mid : StoreState) (t : Tree) (p : Path) (most : ℕ) (looked : Loo
     open_exclusive above y ne e both =
         let k = keeps_counted old mid t most looked h in
         let f = node_at mid t k p above y (way_looked old mid p most (located.At above y) looked e) in
-        let at_label = ap answer f.2.2 ∙ ap (λ b. cond b (refuses Failure) (open_present t session (stamp number moment) flags (found_object f.2.0.label (object_of t.objects f.2.0.label)))) both in
+        let at_label = ap answer f.2.2 ∙ ap (λ b. cond b (refuses Failure) (open_present t session number moment flags (option_map (λ (object : Object). (f.2.0.label, object)) (object_of t.objects f.2.0.label)))) both in
         past_root mid t p (answer (look_up t p)) (reply.Status Failure) ne (tells_served mid t (answer (look_up t p)) (reply.Status Failure) at_label k)
 
     pub open_located : (new : StoreState) (above y : ℕ) → {E : Type 0} → (r : Result Reply E) → (p ≡ [] → ⊥) → located.At above y ≡ way_from old.nodes old.root old.root p → (flags.create && flags.exclusive) ≡ false
-        → ((it : Node) → node_in mid.nodes y ≡ Some it → ServesOutcome new t (open_present t session (stamp number moment) flags (found_node it)) r)
+        → ((it : Node) → node_in mid.nodes y ≡ Some it → ServesOutcome new t (open_present t session number moment flags (found_node it)) r)
         → ServesOutcome new t (unless_root p (answer (look_up t p))) r
     open_located new above y {E} r ne e both served =
         let k = keeps_counted old mid t most looked h in
         let f = node_at mid t k p above y (way_looked old mid p most (located.At above y) looked e) in
-        let is : found_object f.2.0.label (object_of t.objects f.2.0.label) ≡ found_node f.2.0 = sym (ap (found_place t.objects) f.2.2) ∙ f.2.3 in
-        let at_label : answer (look_up t p) ≡ open_present t session (stamp number moment) flags (found_node f.2.0) =
-        ap answer f.2.2 ∙ ap (λ b. cond b (refuses Failure) (open_present t session (stamp number moment) flags (found_object f.2.0.label (object_of t.objects f.2.0.label)))) both ∙ ap (open_present t session (stamp number moment) flags) is in
+        let is : option_map {U = ℕ × Object} (λ (object : Object). (f.2.0.label, object)) (object_of t.objects f.2.0.label) ≡ found_node f.2.0 = sym (ap (found_place t.objects) f.2.2) ∙ f.2.3 in
+        let at_label : answer (look_up t p) ≡ open_present t session number moment flags (found_node f.2.0) =
+        ap answer f.2.2 ∙ ap (λ b. cond b (refuses Failure) (open_present t session number moment flags (option_map (λ (object : Object). (f.2.0.label, object)) (object_of t.objects f.2.0.label)))) both ∙ ap (open_present t session number moment flags) is in
         past_root_gives new t p (answer (look_up t p)) r ne (subst (λ (a : Outcome). ServesOutcome new t a r) (sym at_label) (served f.2.0 f.2.1))
 
 -- ---- the directory of a missing name after the lookups

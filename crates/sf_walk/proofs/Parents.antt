@@ -13,7 +13,7 @@ use Rattle.sf_call.specs.Attributes.Object.{Directory}
 use Rattle.sf_call.specs.Tree.{Tree, look_up, directory_at, object_of}
 use Rattle.sf_call.specs.Changes.{changed, done, touch, touched}
 use Rattle.sf_call.specs.Changes.Change.{NewPath, GonePath}
-use Rattle.sf_call.specs.Calls.{Outcome, make_directory, goes, stamp}
+use Rattle.sf_call.specs.Calls.{Outcome, make_directory, goes}
 use Rattle.sf_inode.specs.declared.node.Node.{Node}
 use Rattle.sf_inode.specs.declared.node.NewNode.{NewNode}
 use Rattle.sf_inode.specs.declared.node.Content.{Content}
@@ -101,7 +101,7 @@ pub record MakesDirectory (old new : StoreState) (p : Path) (number : ℕ) : Typ
   pub state : new ≡ edited (with_metadata (modified_at moment)) made dir
 
 pub make_served : (old new : StoreState) (t : Tree) (p : Path) (number : ℕ) → Keeps old t → object_of t.objects number ≡ None → (m : MakesDirectory old new p number)
-    → IsCarriedOut new t (make_directory t (stamp number m.moment) p m.attrs (look_up t p)) (reply.Status Success)
+    → IsCarriedOut new t (make_directory t number m.moment p m.attrs (look_up t p)) (reply.Status Success)
 make_served old new t p number h fresh m =
     let mid = m.mid in
     let made = m.made in
@@ -126,7 +126,7 @@ make_served old new t p number h fresh m =
     (subst (λ (q : Path). Keeps touched_dir (done t (NewPath q number object ∷ touched t moment (parent q)))) (sym is)
     (subst (λ (o : Object). Keeps touched_dir (done t (NewPath (r ++ n ∷ []) number o ∷ touched t moment (parent (r ++ n ∷ []))))) m.object
     (subst (λ (l : ℕ). Keeps touched_dir (done t (NewPath (r ++ n ∷ []) l (object_in it.metadata (new_content it.file_type)) ∷ touched t moment (parent (r ++ n ∷ []))))) m.label after))) in
-    subst (λ (a : Outcome). IsCarriedOut new t a (reply.Status Success)) (sym (ap (make_directory t (stamp number moment) p m.attrs) f.0)) (record { told = refl; tree = whole })
+    subst (λ (a : Outcome). IsCarriedOut new t a (reply.Status Success)) (sym (ap (make_directory t number moment p m.attrs) f.0)) (record { told = refl; tree = whole })
 
 -- ---- a path is removed
 -- a path's last name is removed from its directory, whose modification time is set

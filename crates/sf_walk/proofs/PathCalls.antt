@@ -9,10 +9,9 @@ use Rattle.sf_reply.specs.declared.reply.Reply.TheVariants as reply
 use Rattle.sf_reply.specs.declared.reply.StatusCode.{StatusCode}
 use Rattle.sf_reply.specs.declared.reply.StatusCode.TheVariants.{Success, NoSuchFile, Failure}
 use Rattle.sf_call.specs.declared.metadata.Metadata.{Metadata}
-use Rattle.sf_call.specs.Attributes.{modified_at, attrs_of}
-use Rattle.sf_call.specs.Tree.{Tree, FoundObject, look_up, found_at, found_place, is_empty}
-use Rattle.sf_call.specs.Tree.FoundObject.{Nowhere, Nothing}
-use Rattle.sf_call.specs.Calls.{Outcome, tells, refuses, stat, set_stat, sets, make_directory, remove_directory, remove_file, goes, unless_root, stamp}
+use Rattle.sf_call.specs.Attributes.{Object, modified_at, attrs_of}
+use Rattle.sf_call.specs.Tree.{Tree, look_up, found_at, found_place, is_empty}
+use Rattle.sf_call.specs.Calls.{Outcome, tells, refuses, stat, set_stat, sets, make_directory, remove_directory, remove_file, goes, unless_root}
 use Rattle.sf_inode.specs.declared.node.Node.{Node}
 use Rattle.sf_inode.specs.declared.node.Content.{Content}
 use Rattle.sf_inode.specs.declared.node.Content.TheVariants as content
@@ -23,7 +22,7 @@ use Rattle.sf_keeps.specs.Keeps.{Keeps}
 use Rattle.sf_keeps.proofs.Laws.{bare_found}
 use Rattle.sf_walk.specs.declared.finding.Located.{Located}
 use Rattle.sf_walk.specs.declared.finding.Located.TheVariants as located
-use Rattle.sf_walk.specs.Ways.{way_from, found_content, found_node, IsThere}
+use Rattle.sf_walk.specs.Ways.{way_from, found_node, IsThere}
 use Rattle.sf_walk.specs.Served.{LookedUp, IsCarriedOut, KeepsRest, is_success}
 use Rattle.sf_walk.proofs.Holders.{stays_looked, stays_edited, stays_unlinked}
 use Rattle.sf_walk.proofs.Fits.{no_way, name_missing, node_at}
@@ -47,10 +46,10 @@ file_bare nodes y node at d =
 
 -- the located inode, in the tree
 module _ (s : StoreState) (t : Tree) (p : Path) (h : Keeps s t) where
-  pub found_no_way : way_from s.nodes s.root s.root p ≡ located.NoWay → found_at t p ≡ Nowhere
+  pub found_no_way : way_from s.nodes s.root s.root p ≡ located.NoWay → found_at t p ≡ None
   found_no_way e = ap (found_place t.objects) (no_way s t h p e)
 
-  pub found_missing : (d : ℕ) → way_from s.nodes s.root s.root p ≡ located.Missing d → found_at t p ≡ Nothing
+  pub found_missing : (d : ℕ) → way_from s.nodes s.root s.root p ≡ located.Missing d → found_at t p ≡ None
   found_missing d e = ap (found_place t.objects) (name_missing s t h p d e).0
 
 module _ (old mid : StoreState) (t : Tree) (p : Path) (most : ℕ) (looked : LookedUp old mid most) (h : Keeps old t) where
@@ -58,14 +57,14 @@ module _ (old mid : StoreState) (t : Tree) (p : Path) (most : ℕ) (looked : Loo
   mid_keeps = keeps_counted old mid t most looked h
 
   -- a path that leads to no inode, for any call that needs one
-  nothing_told : (f : FoundObject → Outcome) (code : StatusCode) → f (found_at t p) ≡ refuses NoSuchFile → code ≡ NoSuchFile → IsCarriedOut mid t (f (found_at t p)) (reply.Status code)
+  nothing_told : (f : Option (ℕ × Object) → Outcome) (code : StatusCode) → f (found_at t p) ≡ refuses NoSuchFile → code ≡ NoSuchFile → IsCarriedOut mid t (f (found_at t p)) (reply.Status code)
   nothing_told f code e is = tells_served mid t (f (found_at t p)) (reply.Status code) (e ∙ ap refuses (sym is)) mid_keeps
 
-  pub nowhere_served : (f : FoundObject → Outcome) → f Nowhere ≡ refuses NoSuchFile → f Nothing ≡ refuses NoSuchFile → (l : Located) (code : StatusCode)
+  pub nowhere_served : (f : Option (ℕ × Object) → Outcome) → f None ≡ refuses NoSuchFile → (l : Located) (code : StatusCode)
       → (code ≡ NoSuchFile) × (IsThere l → ⊥) → l ≡ way_from old.nodes old.root old.root p → IsCarriedOut mid t (f (found_at t p)) (reply.Status code)
-  nowhere_served f none nothing located.NoWay code not e = nothing_told f code (ap f (found_no_way mid t p mid_keeps (way_looked old mid p most located.NoWay looked e)) ∙ none) not.0
-  nowhere_served f none nothing (located.Missing d) code not e = nothing_told f code (ap f (found_missing mid t p mid_keeps d (way_looked old mid p most (located.Missing d) looked e)) ∙ nothing) not.0
-  nowhere_served f none nothing (located.At above y) code not e = absurd (not.1 tt)
+  nowhere_served f none located.NoWay code not e = nothing_told f code (ap f (found_no_way mid t p mid_keeps (way_looked old mid p most located.NoWay looked e)) ∙ none) not.0
+  nowhere_served f none (located.Missing d) code not e = nothing_told f code (ap f (found_missing mid t p mid_keeps d (way_looked old mid p most (located.Missing d) looked e)) ∙ none) not.0
+  nowhere_served f none (located.At above y) code not e = absurd (not.1 tt)
 
   -- the inode that was located
   pub node_located : (above y : ℕ) → located.At above y ≡ way_from old.nodes old.root old.root p → (node : Node) × ((node_in mid.nodes y ≡ Some node) × (found_at t p ≡ found_node node))
@@ -75,7 +74,7 @@ module _ (old mid : StoreState) (t : Tree) (p : Path) (most : ℕ) (looked : Loo
   walk_located above y e = (node_at mid t mid_keeps p above y (way_looked old mid p most (located.At above y) looked e)).0
 
   -- ---- STAT
-  stat_content : (l : ℕ) (m : Metadata) (c : Content) → stat (found_content l m c) ≡ tells (reply.Attrs (attrs_of (object_in m c)))
+  stat_content : (l : ℕ) (m : Metadata) (c : Content) → stat (Some (l, object_in m c)) ≡ tells (reply.Attrs (attrs_of (object_in m c)))
   stat_content l m (content.Directory es) = refl
   stat_content l m (content.File contents) = refl
 
@@ -95,7 +94,7 @@ module _ (old mid : StoreState) (t : Tree) (p : Path) (most : ℕ) (looked : Loo
       absurd (let x : ⊥ = cc in x)
 
   -- ---- SETSTAT
-  set_content : (moment : ℕ) (attrs : Attrs) (l : ℕ) (m : Metadata) (c : Content) → set_stat moment attrs (found_content l m c) ≡ sets moment l attrs (object_in m c)
+  set_content : (moment : ℕ) (attrs : Attrs) (l : ℕ) (m : Metadata) (c : Content) → set_stat moment attrs (Some (l, object_in m c)) ≡ sets moment l attrs (object_in m c)
   set_content moment attrs l m (content.Directory es) = refl
   set_content moment attrs l m (content.File contents) = refl
 
@@ -111,25 +110,25 @@ module _ (old mid : StoreState) (t : Tree) (p : Path) (most : ℕ) (looked : Loo
 
   -- ---- MKDIR
   pub make_wants : (number moment : ℕ) (attrs : Attrs) (d : ℕ) → (p ≡ [] → ⊥) → located.Missing d ≡ way_from old.nodes old.root old.root p
-      → is_success (unless_root p (make_directory t (stamp number moment) p attrs (look_up t p))).reply ≡ true
+      → is_success (unless_root p (make_directory t number moment p attrs (look_up t p))).reply ≡ true
   make_wants number moment attrs d ne e =
-      past_root_wants p (make_directory t (stamp number moment) p attrs (look_up t p)) ne
-      (ap (λ place. is_success (make_directory t (stamp number moment) p attrs place).reply) (name_missing mid t mid_keeps p d (way_looked old mid p most (located.Missing d) looked e)).0)
+      past_root_wants p (make_directory t number moment p attrs (look_up t p)) ne
+      (ap (λ place. is_success (make_directory t number moment p attrs place).reply) (name_missing mid t mid_keeps p d (way_looked old mid p most (located.Missing d) looked e)).0)
 
   pub make_no_way : (number moment : ℕ) (attrs : Attrs) (l : Located) (code : StatusCode) → (code ≡ NoSuchFile) × (l ≡ located.NoWay) → l ≡ way_from old.nodes old.root old.root p
-      → IsCarriedOut mid t (make_directory t (stamp number moment) p attrs (look_up t p)) (reply.Status code)
+      → IsCarriedOut mid t (make_directory t number moment p attrs (look_up t p)) (reply.Status code)
   make_no_way number moment attrs l code not e =
-      tells_served mid t (make_directory t (stamp number moment) p attrs (look_up t p)) (reply.Status code)
-      (ap (make_directory t (stamp number moment) p attrs) (no_way mid t mid_keeps p (way_looked old mid p most located.NoWay looked (sym not.1 ∙ e))) ∙ ap refuses (sym not.0)) mid_keeps
+      tells_served mid t (make_directory t number moment p attrs (look_up t p)) (reply.Status code)
+      (ap (make_directory t number moment p attrs) (no_way mid t mid_keeps p (way_looked old mid p most located.NoWay looked (sym not.1 ∙ e))) ∙ ap refuses (sym not.0)) mid_keeps
 
   pub make_present : (number moment : ℕ) (attrs : Attrs) (above y : ℕ) → located.At above y ≡ way_from old.nodes old.root old.root p
-      → IsCarriedOut mid t (make_directory t (stamp number moment) p attrs (look_up t p)) (reply.Status Failure)
+      → IsCarriedOut mid t (make_directory t number moment p attrs (look_up t p)) (reply.Status Failure)
   make_present number moment attrs above y e =
-      tells_served mid t (make_directory t (stamp number moment) p attrs (look_up t p)) (reply.Status Failure)
-      (ap (make_directory t (stamp number moment) p attrs) (node_at mid t mid_keeps p above y (way_looked old mid p most (located.At above y) looked e)).2.2) mid_keeps
+      tells_served mid t (make_directory t number moment p attrs (look_up t p)) (reply.Status Failure)
+      (ap (make_directory t number moment p attrs) (node_at mid t mid_keeps p above y (way_looked old mid p most (located.At above y) looked e)).2.2) mid_keeps
 
   -- ---- REMOVE
-  remove_content : (moment l : ℕ) (m : Metadata) (c : Content) → remove_file t moment p (found_content l m c) ≡ cond (is_directory_content c) (refuses Failure) (goes t moment p)
+  remove_content : (moment l : ℕ) (m : Metadata) (c : Content) → remove_file t moment p (Some (l, object_in m c)) ≡ cond (is_directory_content c) (refuses Failure) (goes t moment p)
   remove_content moment l m (content.Directory es) = refl
   remove_content moment l m (content.File contents) = refl
 
@@ -153,7 +152,7 @@ module _ (old mid : StoreState) (t : Tree) (p : Path) (most : ℕ) (looked : Loo
 
   -- ---- RMDIR
   remove_directory_content : (moment l : ℕ) (m : Metadata) (c : Content)
-      → remove_directory t moment p (found_content l m c) ≡ cond (is_directory_content c) (if is_empty t.names p then goes t moment p else refuses Failure) (refuses Failure)
+      → remove_directory t moment p (Some (l, object_in m c)) ≡ cond (is_directory_content c) (if is_empty t.names p then goes t moment p else refuses Failure) (refuses Failure)
   remove_directory_content moment l m (content.Directory es) = refl
   remove_directory_content moment l m (content.File contents) = refl
 

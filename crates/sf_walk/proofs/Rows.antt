@@ -10,7 +10,7 @@ use Rattle.sf_call.specs.declared.handle.Handle.{Handle}
 use Rattle.sf_call.specs.declared.metadata.Metadata.{Metadata}
 use Rattle.sf_call.specs.declared.limits.TheConstants.{MAX_ENTRIES}
 use Rattle.sf_call.specs.Tree.{Tree}
-use Rattle.sf_call.specs.Handles.{opened, opened_object, with_listed}
+use Rattle.sf_call.specs.Handles.{opened}
 use Rattle.sf_call.specs.Listings.{listing_of, path_of, last_name}
 use Rattle.sf_call.specs.Changes.Change.{SetHandle}
 use Rattle.sf_call.specs.Calls.{Outcome, refuses, lists, read_directory}
@@ -37,9 +37,9 @@ last_of_rows [] n id h = absurd (let x : ⊥ = cc in x)
 last_of_rows (e ∷ es) n id h = last_row None e es n id (ap (slice_get (e ∷ es)) (let k : length es ≡ length (e ∷ es) - 1 = omega arith in k) ∙ h)
 
 lists_last : (number : ℕ) (h : Handle) (entries : List Entry) (n : Name) → last_name entries ≡ Some n
-    → lists number h entries ≡ record { reply = reply.Names entries; changes = SetHandle number (with_listed h (Some n)) ∷ [] }
+    → lists number h entries ≡ record { reply = reply.Names entries; changes = SetHandle number (record h { listed = Some n }) ∷ [] }
 lists_last number h [] n e = absurd (let x : ⊥ = cc in x)
-lists_last number h (x ∷ xs) n e = λ i. record { reply = reply.Names (x ∷ xs); changes = SetHandle number (with_listed h (e i)) ∷ [] }
+lists_last number h (x ∷ xs) n e = λ i. record { reply = reply.Names (x ∷ xs); changes = SetHandle number (record h { listed = e i }) ∷ [] }
 
 last_there : (e : Name × ℕ) (es : List (Name × ℕ)) → slice_get (e ∷ es) (length es) ≡ None → ⊥
 last_there e [] h = cc
@@ -61,11 +61,11 @@ some_are_taken [] some e = some refl
 some_are_taken (x ∷ es) some e = cc
 
 -- ---- READDIR
-list_content : (t : Tree) (number : ℕ) (h : Handle) (m : Metadata) (c : Content) → is_directory_content c ≡ true → read_directory t number (opened_object h (Some (object_in m c))) ≡ lists number h (listing_of t h.listed (path_of t.names h.label))
+list_content : (t : Tree) (number : ℕ) (h : Handle) (m : Metadata) (c : Content) → is_directory_content c ≡ true → read_directory t number (Some (h, object_in m c)) ≡ lists number h (listing_of t h.listed (path_of t.names h.label))
 list_content t number h m (content.Directory es) e = refl
 list_content t number h m (content.File contents) e = absurd (let x : ⊥ = cc in x)
 
-refuse_content : (t : Tree) (number : ℕ) (h : Handle) (m : Metadata) (c : Content) → is_directory_content c ≡ false → read_directory t number (opened_object h (Some (object_in m c))) ≡ refuses Failure
+refuse_content : (t : Tree) (number : ℕ) (h : Handle) (m : Metadata) (c : Content) → is_directory_content c ≡ false → read_directory t number (Some (h, object_in m c)) ≡ refuses Failure
 refuse_content t number h m (content.Directory es) e = absurd (let x : ⊥ = cc in x)
 refuse_content t number h m (content.File contents) e = refl
 

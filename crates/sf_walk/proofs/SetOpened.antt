@@ -9,7 +9,7 @@ use Rattle.sf_reply.specs.declared.reply.StatusCode.TheVariants.{PermissionDenie
 use Rattle.sf_call.specs.declared.handle.Handle.{Handle}
 use Rattle.sf_call.specs.declared.metadata.Metadata.{Metadata}
 use Rattle.sf_call.specs.Tree.{Tree}
-use Rattle.sf_call.specs.Handles.{opened, opened_object}
+use Rattle.sf_call.specs.Handles.{opened}
 use Rattle.sf_call.specs.Calls.{Outcome, refuses, sets, set_opened}
 use Rattle.sf_inode.specs.declared.node.Node.{Node}
 use Rattle.sf_inode.specs.declared.node.Content.{Content}
@@ -25,7 +25,7 @@ use Rattle.sf_walk.proofs.OpenHandles.{IsOpen, directory_is}
 not_zero : (k : ℕ) → k ≢ 0 → nat_eq k 0 ≡ false
 not_zero k ne = grind (arith, nat_tests)
 
-set_content : (moment : ℕ) (attrs : Attrs) (handle : Handle) (m : Metadata) (c : Content) → set_opened moment attrs (opened_object handle (Some (object_in m c)))
+set_content : (moment : ℕ) (attrs : Attrs) (handle : Handle) (m : Metadata) (c : Content) → set_opened moment attrs (Some (handle, object_in m c))
     ≡ cond (is_directory_content c) (if nat_eq handle.label 0 then refuses Failure else sets moment handle.label attrs (object_in m c))
     (if is_some attrs.size && not handle.write then refuses PermissionDenied else sets moment handle.label attrs (object_in m c))
 set_content moment attrs handle m (content.Directory es) = refl

@@ -1,16 +1,11 @@
 -- Path resolution in the store.
-use Rattle.std.specs.Prelude.{◌≡◌, ℕ, ◌+◌, ◌-◌, if◌then◌else◌, List, [], ◌∷◌, length, Option, slice_index_or}
+use Rattle.std.specs.Prelude.{Some, ◌≡◌, ℕ, ◌+◌, ◌-◌, if◌then◌else◌, List, [], ◌∷◌, length, Option, slice_index_or}
 use Rattle.std.specs.Option.{option_map_or}
 use Rattle.sf_path.specs.Names.{Name, Path}
-use Rattle.sf_call.specs.declared.metadata.Metadata.{Metadata}
 use Rattle.sf_call.specs.declared.request.Request.{Request}
 use Rattle.sf_call.specs.Requests.{Target, target_of}
 use Rattle.sf_call.specs.Requests.Target.{ByHandle, OnPath, OnPaths}
-use Rattle.sf_call.specs.Tree.{FoundObject}
-use Rattle.sf_call.specs.Tree.FoundObject.{DirectoryAt, FileAt}
 use Rattle.sf_inode.specs.declared.node.Node.{Node}
-use Rattle.sf_inode.specs.declared.node.Content.{Content}
-use Rattle.sf_inode.specs.declared.node.Content.TheVariants as content
 use Rattle.sf_inode.specs.Stores.{StoreState, child_of, is_directory_at}
 use Rattle.sf_call.specs.Routes.{Route, route_kind, route_of}
 use Rattle.sf_call.specs.Routes.Route.{NoPath, Along, Between}
@@ -18,6 +13,8 @@ use Rattle.sf_call.specs.declared.route.RouteKind.TheVariants as kind
 use Rattle.sf_walk.specs.declared.finding.Ways.{Ways}
 use Rattle.sf_walk.specs.declared.finding.Located.{Located}
 use Rattle.sf_walk.specs.declared.finding.Located.TheVariants as located
+use Rattle.sf_call.specs.Attributes.{Object}
+use Rattle.sf_inode.specs.Nodes.{object_in}
 
 -- a component is missing: the last one of the path, or an earlier one
 abbrev pub missing : ℕ → Path → Located
@@ -35,13 +32,9 @@ way_from nodes above x (n ∷ p) =
 abbrev pub last_name_of : Path → Name
 last_name_of path = slice_index_or path (length path - 1) []
 
--- the object that is found at an inode
-abbrev pub found_content : ℕ → Metadata → Content → FoundObject
-found_content label m (content.Directory entries) = DirectoryAt label m
-found_content label m (content.File contents) = FileAt label m contents.bytes
-
-abbrev pub found_node : Node → FoundObject
-found_node node = found_content node.label node.metadata node.content
+-- the inode number and the object that are found at an inode
+abbrev pub found_node : Node → Option (ℕ × Object)
+found_node node = Some (node.label, object_in node.metadata node.content)
 
 -- the number of names in the paths
 abbrev pub target_names : Target → ℕ

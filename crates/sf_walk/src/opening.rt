@@ -11,7 +11,7 @@ ghost use Rattle.sf_call.specs.Attributes.Object.{File};
 ghost use Rattle.sf_call.specs.Changes.{changed};
 ghost use Rattle.sf_call.specs.Changes.Change.{SetObject};
 ghost use Rattle.sf_call.specs.Tree.{Tree, found_at, look_up};
-ghost use Rattle.sf_call.specs.Calls.{has_all_handles, open_directory, open_present, open_file, unless_root, opening, stamp};
+ghost use Rattle.sf_call.specs.Calls.{has_all_handles, open_directory, open_present, open_file, unless_root};
 ghost use Rattle.sf_inode.specs.declared.node.Node.{Node};
 ghost use Rattle.sf_inode.specs.Stores.{StoreState, node_in, child_of, shown_of, is_directory_at, blocks_left_at, bytes_set};
 ghost use Rattle.sf_keeps.specs.Steps.{walk};
@@ -115,8 +115,8 @@ pub(crate) fn open(
     requires settled { (parent node : ℕ) → located ≡ At parent node
         → (flags.truncate && flags.write) ≡ true → blocks_left_at store.old.nodes node ≡ 0 }
     ensures served { (t : Tree) → Keeps store.old t → IsUnused t number
-        → ServesOutcome store.new t (unless_root path.now (open_file t session (stamp number moment)
-        (opening path.now flags attrs.now) (look_up t path.now))) result }
+        → ServesOutcome store.new t (unless_root path.now (open_file t session number moment
+        path.now flags attrs.now (look_up t path.now))) result }
     ensures err { OnErr result (IsAlike store.old store.new) }
     ensures plain { IfOk result IsPlain }
     ensures look_ups { store.new.look_ups ≡ store.old.look_ups }
@@ -152,7 +152,7 @@ fn open_present(
     ensures served { (t : Tree) (it : Node) → Keeps store.old t → IsUnused t number
         → node_in store.old.nodes node ≡ Some it
         → ServesOutcome store.new t
-        (open_present t session (stamp number moment) flags (found_node it)) result }
+        (open_present t session number moment flags (found_node it)) result }
     ensures err { OnErr result (store.new ≡ store.old) }
     ensures plain { IfOk result IsPlain }
     ensures look_ups { store.new.look_ups ≡ store.old.look_ups }
@@ -210,8 +210,8 @@ fn open_absent(
     ensures served { (t : Tree) (front : Path) → Keeps store.old t → IsUnused t number
         → path.now ≡ front ++ last_name_of path.now ∷ []
         → walk (child_of store.old.nodes) store.old.root front ≡ Some parent
-        → ServesOutcome store.new t (open_file t session (stamp number moment)
-        (opening path.now flags attrs.now) Absent) result }
+        → ServesOutcome store.new t (open_file t session number moment
+        path.now flags attrs.now Absent) result }
     ensures err { OnErr result (IsAlike store.old store.new) }
     ensures plain { IfOk result IsPlain }
     ensures look_ups { store.new.look_ups ≡ store.old.look_ups }

@@ -5,7 +5,7 @@ ghost use Rattle.sf_path.specs.Names.{Path};
 ghost use Rattle.sf_reply.specs.Replies.{IsPlain};
 ghost use Rattle.sf_call.specs.Attributes.{modified_at};
 ghost use Rattle.sf_call.specs.Tree.{Tree, found_at, look_up};
-ghost use Rattle.sf_call.specs.Calls.{stat, set_stat, sets, make_directory, remove_directory, remove_file, goes, unless_root, stamp};
+ghost use Rattle.sf_call.specs.Calls.{stat, set_stat, sets, make_directory, remove_directory, remove_file, goes, unless_root};
 ghost use Rattle.sf_reply.specs.declared.reply.Reply.TheVariants.{Status};
 ghost use Rattle.sf_reply.specs.declared.reply.StatusCode.TheVariants.{Success};
 ghost use Rattle.sf_inode.specs.declared.node.Node.{Node};
@@ -108,7 +108,7 @@ pub(crate) fn mkdir(
     requires { located ≡ way_from store.old.nodes store.old.root store.old.root path.now }
     ensures served { (t : Tree) → Keeps store.old t → IsUnused t number
         → ServesOutcome store.new t (unless_root path.now (make_directory t
-        (stamp number moment) path.now attrs.now (look_up t path.now))) result }
+        number moment path.now attrs.now (look_up t path.now))) result }
     ensures err { OnErr result (IsAlike store.old store.new) }
     ensures plain { IfOk result IsPlain }
     ensures look_ups { store.new.look_ups ≡ store.old.look_ups }

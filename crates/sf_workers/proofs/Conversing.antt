@@ -5,7 +5,7 @@ use Rattle.std.specs.List.{flat_map, cons_option}
 use Rattle.std.proofs.lemmas.List.{map-append}
 use Rattle.sf_field.specs.Fields.{packet}
 use Rattle.sf_call.specs.declared.request.Request.{Request}
-use Rattle.sf_call.specs.declared.fault.CoreFault.{CoreFault}
+use Rattle.sf_call.specs.declared.fault.JoinFault.{JoinFault}
 use Rattle.sf_call.specs.declared.record.Record.{Record}
 use Rattle.sf_call.specs.declared.record.Record.TheVariants.{Did, Left}
 use Rattle.sf_core.specs.Cores.{LaneState}
@@ -116,7 +116,7 @@ conversing x from line history serves visit =
     )
 
 -- so it is of what a visit came of
-pub visit_converses : (Ends : Progress → Type 0) (visit : Result (ℕ × Page) CoreFault) (from line : LineView) → IsOutcomeOf visit from line Ends
+pub visit_converses : (Ends : Progress → Type 0) (visit : Result (ℕ × Page) JoinFault) (from line : LineView) → IsOutcomeOf visit from line Ends
     → (history : List Record) → IfOk visit (λ x. IsVisitIn history x → ConversesIn history x.0 from line)
 visit_converses Ends (Err refusal) from line outcome history = tt
 visit_converses Ends (Ok x) from line outcome history = λ visit. conversing x from line history outcome visit

@@ -1,6 +1,6 @@
 -- The sessions of a core, by all workers together.
 use Rattle.std.specs.Prelude.{◌≡◌, ◌≤◌, ◌⊎◌, ℕ, List, [], ◌∷◌, ◌++◌, length, map, Bool, Option, Result, Ok, Err, if◌then◌else◌}
-use Rattle.sf_call.specs.declared.fault.CoreFault.{CoreFault}
+use Rattle.sf_call.specs.declared.fault.JoinFault.{JoinFault}
 use Rattle.sf_session.specs.declared.cause.Cause.{Cause}
 use Rattle.sf_session.specs.declared.fault.ServeFault.{ServeFault}
 use Rattle.sf_session.specs.declared.fault.ServeFault.TheVariants as fault
@@ -43,7 +43,7 @@ IsSpentBy _ steps p = Unit {0}
 abbrev pub EndsServing : Result Unit ServeFault → (incoming : Option (List ℕ))
     → (failed failed' steps : ℕ) → Progress → Type 0
 EndsServing (Ok _) incoming failed failed' steps p = (cause : Cause) × IsServed incoming cause p
-EndsServing (Err fault) incoming failed failed' steps p = HasWrittenFor fault failed failed' p
+EndsServing (Err fault) incoming failed failed' steps p = HasWrittenFor fault p
     × IsLaneFault fault failed failed' × IsSpentBy fault steps p
 
 -- A session was served over a stream. The calls among its answers are those on its page. The output
@@ -58,7 +58,7 @@ pub record WasServed (x : ℕ × Page) (from line : LineView)
   pub ends : Ends progress
 
 -- nothing was read or written for a session that never joined
-abbrev pub IsOutcomeOf : Result (ℕ × Page) CoreFault → (from line : LineView)
+abbrev pub IsOutcomeOf : Result (ℕ × Page) JoinFault → (from line : LineView)
     → (Progress → Type 0) → Type 0
 IsOutcomeOf (Ok x) from line Ends = WasServed x from line Ends
 IsOutcomeOf (Err refusal) from line Ends = line ≡ from

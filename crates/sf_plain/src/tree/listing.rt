@@ -4,7 +4,7 @@ ghost use Rattle.std.specs.Prelude.{◌≡◌, map, nat_eq, IfOk, IfSome, OnOk, 
 ghost use Rattle.std.specs.Option.{option_copied, option_map};
 ghost use Rattle.sf_call.specs.Changes.{changed, done};
 ghost use Rattle.sf_call.specs.Changes.Change.{SetHandle};
-ghost use Rattle.sf_call.specs.Handles.{opened, with_listed};
+ghost use Rattle.sf_call.specs.Handles.{opened};
 ghost use Rattle.sf_call.specs.Listings.{path_of, is_past, name_past, entry_of, listed_entry, listing, listing_of, names_of, last_name};
 ghost use Rattle.sf_call.specs.Calls.{read_directory};
 
@@ -59,7 +59,7 @@ fn entry_of(alloc: Global, name: &Name, links: u64, node: &Node) -> Result<Entry
 
 /// The handle with the last name that was listed.
 fn with_listed(handle: &Handle, last: Option<Name>) -> Handle
-    ensures { result ≡ with_listed handle.now last }
+    ensures { result ≡ record handle.now { listed = last } }
 {
     Handle {
         session: handle.session,

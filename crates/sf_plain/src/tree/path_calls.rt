@@ -4,10 +4,11 @@ ghost use Rattle.std.specs.Option.{is_some};
 ghost use Rattle.std.specs.Ordering.{nat_cmp};
 ghost use Rattle.std.specs.BTreeMap.{get, is_at, IsOrdered};
 ghost use Rattle.std.specs.Prelude.{◌≡◌, ◌&&◌, ℕ, true, cond, nat_eq, count_by, IfOk, OnOk, OnErr};
-ghost use Rattle.sf_call.specs.Tree.{look_up, found_at, found_object, object_of, is_empty, label_at};
+ghost use Rattle.sf_call.specs.Tree.{look_up, found_at, found_place, is_empty, label_at};
+ghost use Rattle.sf_call.specs.declared.lookup.Lookup.TheVariants.{At};
 ghost use Rattle.sf_call.specs.Changes.{changed, done};
 ghost use Rattle.sf_call.specs.Changes.Change.{GonePath, NewPath, OpenHandle};
-ghost use Rattle.sf_call.specs.Calls.{stat, set_stat, make_directory, remove_directory, remove_file, goes, has_all_handles, directory_handle, new_file_handle, open_directory, open_present, open_file, unless_root, opening, stamp};
+ghost use Rattle.sf_call.specs.Calls.{stat, set_stat, make_directory, remove_directory, remove_file, goes, has_all_handles, directory_handle, new_file_handle, open_directory, open_present, open_file, unless_root};
 
 use super::PlainTree;
 use crate::node::{Node, Parts};
@@ -129,10 +130,10 @@ impl PlainTree {
     ) -> Result<Reply, AllocError>
         ensures reply { IfOk result (λ reply. reply
             ≡ (unless_root path.now (make_directory self.old
-            (stamp number moment) path.now attrs.now (look_up self.old path.now))).reply) }
+            number moment path.now attrs.now (look_up self.old path.now))).reply) }
         ensures tree { OnOk result (self.new
             ≡ done self.old (unless_root path.now (make_directory self.old
-            (stamp number moment) path.now attrs.now (look_up self.old path.now))).changes) }
+            number moment path.now attrs.now (look_up self.old path.now))).changes) }
         ensures err { OnErr result (self.new ≡ self.old) }
     {
         if path.is_root() {
@@ -275,11 +276,11 @@ impl PlainTree {
         flags: OpenFlags,
     ) -> Result<Reply, AllocError>
         ensures reply { IfOk result (λ reply. reply
-            ≡ (open_present self.old session (stamp number moment) flags
-            (found_object label (object_of self.old.objects label))).reply) }
+            ≡ (open_present self.old session number moment flags
+            (found_place self.old.objects (At label))).reply) }
         ensures tree { OnOk result (self.new
-            ≡ done self.old (open_present self.old session (stamp number moment) flags
-            (found_object label (object_of self.old.objects label))).changes) }
+            ≡ done self.old (open_present self.old session number moment flags
+            (found_place self.old.objects (At label))).changes) }
         ensures err { OnErr result (self.new ≡ self.old) }
     {
         let Some(node) = self.objects.get(&label) else {
@@ -310,11 +311,11 @@ impl PlainTree {
         attrs: &Attrs,
     ) -> Result<Reply, AllocError>
         ensures reply { IfOk result (λ reply. reply
-            ≡ (unless_root path.now (open_file self.old session (stamp number moment)
-            (opening path.now flags attrs.now) (look_up self.old path.now))).reply) }
+            ≡ (unless_root path.now (open_file self.old session number moment
+            path.now flags attrs.now (look_up self.old path.now))).reply) }
         ensures tree { OnOk result (self.new
-            ≡ done self.old (unless_root path.now (open_file self.old session (stamp number moment)
-            (opening path.now flags attrs.now) (look_up self.old path.now))).changes) }
+            ≡ done self.old (unless_root path.now (open_file self.old session number moment
+            path.now flags attrs.now (look_up self.old path.now))).changes) }
         ensures err { OnErr result (self.new ≡ self.old) }
     {
         if path.is_root() {

@@ -3,7 +3,8 @@
 ghost use Rattle.std.specs.Option.{is_some, option_map};
 ghost use Rattle.std.specs.Prelude.{◌≡◌, ◌||◌, ◌++◌, ℕ, cond, false, filter, IfOk, OnOk, OnErr};
 ghost use Rattle.sf_reply.specs.declared.reply.StatusCode.TheVariants.{Failure};
-ghost use Rattle.sf_call.specs.Tree.{after_front, look_up, found_object, object_of};
+ghost use Rattle.sf_call.specs.Tree.{after_front, is_faulty_way, look_up, found_place, object_of};
+ghost use Rattle.sf_call.specs.declared.lookup.Lookup.TheVariants.{At};
 ghost use Rattle.sf_call.specs.Moves.{is_outside, moved};
 ghost use Rattle.sf_call.specs.Changes.{changed, done};
 ghost use Rattle.sf_call.specs.Changes.Change.{Move};
@@ -159,9 +160,10 @@ impl PlainTree {
     /// Whether the object at `old` may replace another one at `new`.
     #[tactic(auto, using(crate::proofs::Calls::replaces_object))]
     fn gives_way(&self, at: u64, old: &Path, new: &Path) -> bool
-        ensures { (moment label : ℕ) → is_same_file self.now label at ≡ false
+        ensures { (moment label : ℕ) → is_faulty_way self.now new.now ≡ false
+            → is_same_file self.now label at ≡ false
             → replace_by self.now moment old.now new.now label
-            (found_object at (object_of self.now.objects at))
+            (found_place self.now.objects (At at))
             ≡ cond result (moves self.now moment old.now new.now) (refuses Failure) }
     {
         let Some(node) = self.objects.get(&at) else {

@@ -16,11 +16,11 @@ go_on-requires g c = c.loop-turn.invariant.sound
 
 pub returns-in_err-step-clause-stops : goal.returns-in_err-step-clause-stops
 returns-in_err-step-clause-stops g c = if_err_at c.from_residual.result c.in_err-step.field-0.0 _ c.from_residual.ensures.1 (λ start from n serves.
-    gone_stops _ _ _ c.in_err-step.ensures.fault
+    gone_stops _ _ c.in_err-step.ensures.fault
     (gone _ _ from _ n c.loop-turn.turn (Err c.in_err-step.field-0.0) (c.in_err-step.ensures.step start) (c.loop-turn.invariant.serves start from n serves)))
 
 pub returns-in_err-step-clause-fault : goal.returns-in_err-step-clause-fault
-returns-in_err-step-clause-fault g c = if_err_at c.from_residual.result c.in_err-step.field-0.0 _ c.from_residual.ensures.1 (host_stop c.in_err-step.field-0.0 _ _ _ _ c.in_err-step.ensures.fault)
+returns-in_err-step-clause-fault g c = if_err_at c.from_residual.result c.in_err-step.field-0.0 _ c.from_residual.ensures.1 (host_stop c.in_err-step.field-0.0 _ _ _ c.in_err-step.ensures.fault)
 
 pub returns-in_err-send-clause-stops : goal.returns-in_err-send-clause-stops
 returns-in_err-send-clause-stops g c = if_err_at c.from_residual-in_err-send.result Line _ c.from_residual-in_err-send.ensures.1 (λ start from n serves.

@@ -34,4 +34,4 @@ returns-clause-stops g c = if_err_more c.drain.result _ _ c.drain.ensures.stops 
     (c.read.auto.buffer ∙ c.deref_mut.ensures.len) (omega (arith, c.if-n-eq0.false)) (λ t tells is_open. c.in_ok-feed.ensures.fed start (g.C.Clock.moments c.args.clock.now) t tells is_open)))
 
 pub returns-clause-fault : goal.returns-clause-fault
-returns-clause-fault g c = if_err_more c.drain.result _ _ c.drain.ensures.fault (λ fault why. stop_since fault _ _ _ _ c.in_ok-n.ensures.failures c.drain.ensures.failures why)
+returns-clause-fault g c = if_err_more c.drain.result _ _ c.drain.ensures.fault (λ fault why. stop_since fault _ _ _ c.in_ok-n.ensures.failures c.drain.ensures.failures why)

@@ -23,7 +23,7 @@ pub returns-in-Err-clause-stops : goal.returns-in-Err-clause-stops
 returns-in-Err-clause-stops g c = λ start from serves. c.in-Err.ensures.stops start from c.loop-count.count (c.loop-count.invariant.serves start from serves)
 
 pub returns-in-Err-clause-fault : goal.returns-in-Err-clause-fault
-returns-in-Err-clause-fault g c = stop_since c.in-Err.fault _ _ _ _ c.loop-count.invariant.failures c.in-Err.ensures.failures c.in-Err.ensures.fault
+returns-in-Err-clause-fault g c = stop_since c.in-Err.fault _ _ _ c.loop-count.invariant.failures c.in-Err.ensures.failures c.in-Err.ensures.fault
 
 pub loop-count-preserved : goal.loop-count-preserved
 loop-count-preserved g c = record {

@@ -14,7 +14,7 @@ returns-in-Err-clause-stopped g c = λ start moments from serves.
     (c.in-Err.ensures.some start moments) (λ p h. h.0 c.in_default.not-Line) stopped_line serves
 
 pub returns-in-Ok-clause-fault : goal.returns-in-Ok-clause-fault
-returns-in-Ok-clause-fault g c = λ before earlier why. stop_until c.args.fault before _ _ _ _ c.send.ensures.failures c.send.ensures.strange why
+returns-in-Ok-clause-fault g c = λ before earlier why. stop_until c.args.fault before _ _ c.send.ensures.failures why
 
 pub returns-in-Err-clause-fault : goal.returns-in-Err-clause-fault
 returns-in-Err-clause-fault g c = λ before earlier why. rose_since before _ _ earlier c.send.ensures.failures c.in-Err.ensures.fault

@@ -9,7 +9,7 @@ use Rattle.sf_walk.proofs.opening.open_directory.Goals as goal
 
 pub returns-in-Err-clause-served : goal.returns-in-Err-clause-served
 returns-in-Err-clause-served c = λ t p k fresh is.
-    nowhere_served c.args.store.now c.args.store.now t p _ (looked_none c.args.store.now) k (open_directory t c.args.session c.args.number) refl refl c.args.located _ c.in-Err.ensures.nowhere is
+    nowhere_served c.args.store.now c.args.store.now t p _ (looked_none c.args.store.now) k (open_directory t c.args.session c.args.number) refl c.args.located _ c.in-Err.ensures.nowhere is
 
 pub returns-in-Err-clause-holders : goal.returns-in-Err-clause-holders
 returns-in-Err-clause-holders c = stays_looked _ _ _ (looked_none c.args.store.now)

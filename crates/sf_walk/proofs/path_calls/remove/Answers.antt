@@ -10,7 +10,7 @@ use Rattle.sf_walk.proofs.path_calls.remove.Goals as goal
 pub returns-in-Err-clause-served : goal.returns-in-Err-clause-served
 returns-in-Err-clause-served c = λ t h.
     past_root _ t c.args.path.now _ _ (not_root c.is_root.result c.args.path.now c.is_root.ensures c.if-is_root.false)
-    (nowhere_served _ _ t _ _ (looked_none c.args.store.now) h (remove_file t c.args.moment c.args.path.now) refl refl c.args.located _ c.in-Err.ensures.nowhere c.requires)
+    (nowhere_served _ _ t _ _ (looked_none c.args.store.now) h (remove_file t c.args.moment c.args.path.now) refl c.args.located _ c.in-Err.ensures.nowhere c.requires)
 
 pub returns-in-Err-clause-holders : goal.returns-in-Err-clause-holders
 returns-in-Err-clause-holders c = stays_looked _ _ _ (looked_none c.args.store.now)

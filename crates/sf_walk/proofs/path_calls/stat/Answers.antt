@@ -5,7 +5,7 @@ use Rattle.sf_walk.proofs.PathCalls.{nowhere_served, stat_served, stat_gone}
 use Rattle.sf_walk.proofs.path_calls.stat.Goals as goal
 
 pub returns-in-Err-clause-served : goal.returns-in-Err-clause-served
-returns-in-Err-clause-served c = λ t p h is. nowhere_served _ _ t p _ (looked_none c.args.store.now) h stat refl refl c.args.located _ c.in-Err.ensures.nowhere is
+returns-in-Err-clause-served c = λ t p h is. nowhere_served _ _ t p _ (looked_none c.args.store.now) h stat refl c.args.located _ c.in-Err.ensures.nowhere is
 
 pub returns-in-Some-clause-served : goal.returns-in-Some-clause-served
 returns-in-Some-clause-served c = λ t p h is. stat_served _ _ t p _ (looked_none c.args.store.now) h _ _ _ (sym c.in-Ok.ensures.at ∙ is) c.in-Some.ensures

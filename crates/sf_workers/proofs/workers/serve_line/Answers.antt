@@ -15,11 +15,11 @@ returns-clause-talk g c = visit_converses _ _ _ _ (served_or_stopped _ c.serve-o
 
 pub returns-clause-seen : goal.returns-clause-seen
 returns-clause-seen g c =
-    let through = seen_through _ c.serve-outcome.result _ _ _ _ _ _ _ _ c.end-ended.ensures.visit c.serve-outcome.ensures.served c.serve-outcome.ensures.stopped in
+    let through = seen_through _ c.serve-outcome.result _ _ _ _ _ _ c.end-ended.ensures.visit c.serve-outcome.ensures.served c.serve-outcome.ensures.stopped in
     subst (λ (h : List Record). IsPrefixOf c.args.seen h) (sym c.end-ended.ensures.seen) (subst (λ (h : List Record). IsPrefixOf h c.serve-outcome.new.lane.seen) c.new-lane.ensures.seen through.0)
 
 pub returns-clause-between : goal.returns-clause-between
 returns-clause-between g c =
-    let through = seen_through _ c.serve-outcome.result _ _ _ _ _ _ _ _ c.end-ended.ensures.visit c.serve-outcome.ensures.served c.serve-outcome.ensures.stopped in
+    let through = seen_through _ c.serve-outcome.result _ _ _ _ _ _ c.end-ended.ensures.visit c.serve-outcome.ensures.served c.serve-outcome.ensures.stopped in
     let visit = c.end-ended.result.0.visit in
     subst (λ (h : List Record). IfOk visit (IsVisitBetween c.args.seen h)) (sym c.end-ended.ensures.seen) (subst (λ (h : List Record). IfOk visit (IsVisitBetween h c.serve-outcome.new.lane.seen)) c.new-lane.ensures.seen through.1)

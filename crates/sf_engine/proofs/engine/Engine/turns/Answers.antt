@@ -6,7 +6,7 @@ use Rattle.sf_engine.specs.Views.{EngineView}
 use Rattle.sf_engine.specs.HasLog.{AppendsTurns}
 use Rattle.sf_engine.proofs.EventSteps.{unknown_log}
 use Rattle.sf_engine.proofs.Runs.{turns_log, last_turn}
-use Rattle.sf_engine.proofs.Base.{HostedChange, engine, changed}
+use Rattle.sf_engine.proofs.Base.{change_at, engine, changed}
 use Rattle.sf_engine.proofs.Runs.{stays_engine, turns_stay, is_placed, is_ready}
 use Rattle.sf_engine.proofs.engine.Engine.turns.Goals as goal
 
@@ -21,32 +21,16 @@ turns_hosted-requires c =
 pub invariant_of-self : goal.invariant_of-self
 invariant_of-self c =
     let i = c.self.inside in
-    let s : HostedChange = record {
-      old = engine i.core i.hosted.items;
-      at = c.in-Some.at;
-      session = c.args.session;
-      was = c.index_mut.result.now;
-      core = c.turns_hosted.new.core;
-      now = c.turns_hosted.new.hosted;
-      number = c.in-Some.ensures.some.0;
-      stood = slice_get_read i.hosted.items (length i.hosted.items) c.in-Some.at c.index_mut.result.now refl (omega (arith, c.in-Some.ensures.some.1, c.len.ensures, i.hosted.ok.0)) c.index_mut.ensures.value;
-    } in
+    let s = change_at c.in-Some.at i.core c.turns_hosted.new.core i.hosted.items c.turns_hosted.new.hosted c.in-Some.ensures.some.0
+    (slice_get_read i.hosted.items (length i.hosted.items) c.in-Some.at c.index_mut.result.now refl (omega (arith, c.in-Some.ensures.some.1, c.len.ensures, i.hosted.ok.0)) c.index_mut.ensures.value) in
     let k = c.turns_hosted.ensures.turns in
     turns_stay k.turns s c.args.moment c.turns_hosted.result c.turns_hosted.ensures.closed k.give c.self.invariant
 
 pub returns : goal.returns
 returns c =
     let i = c.self.inside in
-    let s : HostedChange = record {
-      old = engine i.core i.hosted.items;
-      at = c.in-Some.at;
-      session = c.args.session;
-      was = c.index_mut.result.now;
-      core = c.turns_hosted.new.core;
-      now = c.turns_hosted.new.hosted;
-      number = c.in-Some.ensures.some.0;
-      stood = slice_get_read i.hosted.items (length i.hosted.items) c.in-Some.at c.index_mut.result.now refl (omega (arith, c.in-Some.ensures.some.1, c.len.ensures, i.hosted.ok.0)) c.index_mut.ensures.value;
-    } in
+    let s = change_at c.in-Some.at i.core c.turns_hosted.new.core i.hosted.items c.turns_hosted.new.hosted c.in-Some.ensures.some.0
+    (slice_get_read i.hosted.items (length i.hosted.items) c.in-Some.at c.index_mut.result.now refl (omega (arith, c.in-Some.ensures.some.1, c.len.ensures, i.hosted.ok.0)) c.index_mut.ensures.value) in
     let P : EngineView → Type 0 = λ e. AppendsTurns e c.args.session c.args.moment c.turns_hosted.result (changed s) in
     let k = c.turns_hosted.ensures.turns in
     subst P c.self.view_is (λ log h.

@@ -2,9 +2,8 @@ use Rattle.std.proofs.Common.{◌≡◌, ◌≢◌, ◌<◌, ◌+◌, ℕ, List,
 use Rattle.std.specs.Prelude.{slice_set}
 use Rattle.sf_call.specs.declared.request.Request.{Request}
 use Rattle.sf_call.specs.declared.record.Record.{Record}
-use Rattle.sf_call.specs.declared.fault.CoreFault.{CoreFault}
-use Rattle.sf_call.specs.declared.fault.CoreFault.TheVariants.{Stranger}
 use Rattle.sf_call.specs.Histories.{IsNewNumber}
+use Rattle.sf_core.specs.declared.fault.CoreFault.{CoreFault}
 use Rattle.sf_core.specs.Lanes.{LaneView}
 use Rattle.sf_core.specs.Cores.{CoreView, lane_state}
 use Rattle.sf_core.specs.Cores.LaneState.{Idle, Busy}
@@ -17,24 +16,21 @@ use Rattle.sf_noted.proofs.Lanes.{own_place}
 use Rattle.sf_noted.proofs.Agreeing.{idle_there, begins, seen_at_rest}
 use Rattle.sf_noted.proofs.noted.NotedCore.begin.Goals as goal
 
-no_stranger : (v : CoreView) (lane : LaneView) (f : CoreFault) → RefusesBegin v lane f → lane_state v lane.session ≡ Idle → f ≢ Stranger
-no_stranger v lane f r idle e = (subst (RefusesBegin v lane) e r) idle
-
-pub returns-in-Err-clause-known : goal.returns-in-Err-clause-known
-returns-in-Err-clause-known g c =
+pub unreachable-requires : goal.unreachable-requires
+unreachable-requires g c =
     let n = c.self.invariant in
     let t = c.lane.inside.ticket in
     let lane = c.lane.inside.lane in
     let rests = ap (λ (x : ℕ × Page). x.1.state) c.lane.view_is ∙ c.requires.resting in
     let idle = idle_there c.self.inside.core c.self.inside.keeper c.self.inside.log n.0 t.0 t.1 c.agrees.ensures.known rests in
-    no_stranger c.self.inside.core lane c.in-Err.fault c.in-Err.ensures.fault (ap (lane_state c.self.inside.core) (own_place _ _ _ c.lane.invariant) ∙ idle)
+    subst (λ (f : CoreFault). RefusesBegin c.self.inside.core lane f) c.in-Err-Stranger.field-0-is c.in-Err-Stranger.ensures.fault (ap (lane_state c.self.inside.core) (own_place _ _ _ c.lane.invariant) ∙ idle)
 
 pub invariant_of-self-2 : goal.invariant_of-self-2
 invariant_of-self-2 g c =
     let n = c.self.invariant in
     let t = c.lane.inside.ticket in
     let a = c.agrees.ensures in
-    let e = c.in_default.ensures in
+    let e = c.in-Ok.ensures in
     let number = c.calls-number.result in
     let request = c.args.request in
     let rests = ap (λ (x : ℕ × Page). x.1.state) c.lane.view_is ∙ c.requires.resting in
@@ -45,8 +41,8 @@ invariant_of-self-2 g c =
       c.add.ensures.total ∙ (ap (λ k. k + 1) n.1 ∙ sym e.ok.drawn),
     )
 
-pub returns-in-Err-clause-own : goal.returns-in-Err-clause-own
-returns-in-Err-clause-own g c =
+pub returns-in-Err-Refused-clause-own : goal.returns-in-Err-Refused-clause-own
+returns-in-Err-Refused-clause-own g c =
     let n = c.self.invariant in
     let t = c.lane.inside.ticket in
     let rests = ap (λ (x : ℕ × Page). x.1.state) c.lane.view_is ∙ c.requires.resting in
@@ -62,6 +58,6 @@ returns-clause-own g c =
 pub returns-clause-new_number : goal.returns-clause-new_number
 returns-clause-new_number g c =
     let number = c.calls-number.result in
-    let drawn : number ≡ c.self.inside.core.drawn + 1 = c.calls-number.ensures ∙ c.in_default.ensures.ok.drawn in
+    let drawn : number ≡ c.self.inside.core.drawn + 1 = c.calls-number.ensures ∙ c.in-Ok.ensures.ok.drawn in
     let more : c.self.inside.core.drawn < number = omega arith in
     subst (λ (h : List Record). IsNewNumber number h) (sym c.show.ensures.seen) (c.self.invariant.0.history.later number more)
