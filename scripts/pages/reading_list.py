@@ -102,7 +102,7 @@ def rust_items(sources, definitions):
     crates = {}
     for (crate, _), those in by_file(sources, definitions, ".rt"):
         crates.setdefault(crate, []).extend(d.name for d in those)
-    return "; ".join(f"in `{crate}` {listed(sorted(names))}" for crate, names in crates.items())
+    return " ".join(f"In `{crate}`: {listed(sorted(names))}." for crate, names in crates.items())
 
 
 def size(definitions):
@@ -120,7 +120,7 @@ def contracts(names):
 
 
 def contracts_of(names):
-    if not any(":" in name for name in names):
+    if not any(": " in name for name in names):
         return listed(names)
     return ", ".join(f"`{name}` (clauses {clauses})" for name, clauses in map(parted, names))
 
@@ -137,7 +137,7 @@ def section(sources, made, is_first):
     yield from ["## " + made.title, "", *wrapped(reaches), ""]
     yield from [*table(["File", "Contents", "Read"], rows(sources, made.more)), ""]
     if rust_items(sources, made.more):
-        yield from [*wrapped(f"Rust declarations: {rust_items(sources, made.more)}."), ""]
+        yield from [*wrapped(f"Rust declarations. {rust_items(sources, made.more)}"), ""]
 
 
 def page(sources):
