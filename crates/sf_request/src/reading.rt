@@ -1,4 +1,5 @@
-//! Decoding of a request. Its strings are borrowed from the body.
+//! Decoding of a request. Its strings are borrowed from the body. The functions that return a
+//! request are inlined, as each call would move it.
 
 ghost use Rattle.std.specs.Prelude.{◌≡◌, option_map};
 ghost use Rattle.sf_request.specs.declared.request.Asked.{Asked};
@@ -62,6 +63,7 @@ fn string(bytes: &[u8]) -> Option<ByteStr<'_>>
 }
 
 #[tactic(auto, unfolding(crate::specs::Reading::fields))]
+#[inline(always)]
 fn two_strings(bytes: &[u8]) -> Option<(ByteStr<'_>, ByteStr<'_>)>
     ensures { result ≡ fields (both_at string_at string_at) bytes.now }
 {
@@ -71,6 +73,7 @@ fn two_strings(bytes: &[u8]) -> Option<(ByteStr<'_>, ByteStr<'_>)>
 }
 
 #[tactic(auto, unfolding(crate::specs::Reading::fields))]
+#[inline(always)]
 fn string_and_attrs(bytes: &[u8]) -> Option<(ByteStr<'_>, Attrs)>
     ensures { result ≡ fields (both_at string_at attrs_at) bytes.now }
 {
@@ -80,6 +83,7 @@ fn string_and_attrs(bytes: &[u8]) -> Option<(ByteStr<'_>, Attrs)>
 }
 
 #[tactic(auto, unfolding(crate::specs::Reading::fields, sf_field::specs::Reading::flags_at))]
+#[inline(always)]
 fn open(bytes: &[u8]) -> Option<WireRequest<'_>>
     ensures { result ≡ request_at OpenFields bytes.now }
 {
@@ -94,6 +98,7 @@ fn open(bytes: &[u8]) -> Option<WireRequest<'_>>
 }
 
 #[tactic(auto, unfolding(crate::specs::Reading::fields))]
+#[inline(always)]
 fn read(bytes: &[u8]) -> Option<WireRequest<'_>>
     ensures { result ≡ request_at ReadFields bytes.now }
 {
@@ -108,6 +113,7 @@ fn read(bytes: &[u8]) -> Option<WireRequest<'_>>
 }
 
 #[tactic(auto, unfolding(crate::specs::Reading::fields))]
+#[inline(always)]
 fn write(bytes: &[u8]) -> Option<WireRequest<'_>>
     ensures { result ≡ request_at WriteFields bytes.now }
 {
@@ -124,6 +130,7 @@ fn write(bytes: &[u8]) -> Option<WireRequest<'_>>
 /// The table of requests: the type, the name of an extension, and the shape of the fields. `None` for
 /// what has no row, and `Some(None)` for incomplete fields.
 #[tactic(auto, unfolding(crate::specs::Requests::shape_of))]
+#[inline(always)]
 fn request<'a>(kind: u8, name: &[u8], bytes: &'a [u8]) -> Option<Option<WireRequest<'a>>>
     ensures { result ≡ option_map (λ shape. request_at shape bytes.now) (shape_of kind name.now) }
 {
@@ -171,6 +178,7 @@ fn request<'a>(kind: u8, name: &[u8], bytes: &'a [u8]) -> Option<Option<WireRequ
 }
 
 /// The name of an extension, and the bytes after it. Other requests have no name.
+#[inline(always)]
 fn name_of(kind: u8, bytes: &[u8]) -> Option<(&[u8], &[u8])>
     ensures { Gives (λ x. (x.0.now, x.1.now)) result (name_at kind bytes.now) }
 {
@@ -181,6 +189,7 @@ fn name_of(kind: u8, bytes: &[u8]) -> Option<(&[u8], &[u8])>
     }
 }
 
+#[inline(always)]
 fn asked_named(kind: u8, id: u32, bytes: &[u8]) -> Asked<'_>
     ensures { result ≡ asked_named kind id (name_at kind bytes.now) }
 {

@@ -19,6 +19,7 @@ const TRIES_TO_LOCK: u32 = 500;
 /// After how long without a failure the next one is reported again.
 const QUIET_SECONDS: u64 = 10;
 
+/// Waits before the next try.
 pub(crate) fn pause(rt: &HostRuntime) {
     thread::sleep(rt, Duration::from_millis(PAUSE_MILLISECONDS));
 }
@@ -110,6 +111,7 @@ pub(crate) struct Connections<'a> {
 }
 
 impl<'a> Connections<'a> {
+    /// Connections to a listener at a path, of which none has failed.
     pub(crate) fn new(
         rt: &'a HostRuntime,
         listener: &'a UnixListener,
