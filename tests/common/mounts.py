@@ -4,6 +4,7 @@ import contextlib
 import os
 import signal
 import subprocess
+import tempfile
 import time
 
 from checks import same
@@ -21,12 +22,22 @@ def can_mount():
     return False
 
 
-class Mount:
-    """A tree that sshfs mounts at a folder, which it makes, by these words."""
+def device_of_mount(folder):
+    """The number of the device that is mounted at this folder, as `stat` prints it. None if
+    nothing is. The kernel lists it: sshfs may be too busy to reply."""
+    found = None
+    with open("/proc/self/mountinfo", encoding="utf-8") as mounts:
+        for fields in map(str.split, mounts):
+            if fields[4] == folder:
+                found = str(os.makedev(*map(int, fields[2].split(":"))))
+    return found
 
-    def __init__(self, folder, source, *words):
-        self.folder = os.path.realpath(folder)
-        os.mkdir(folder)
+
+class Mount:
+    """A tree that sshfs mounts, by these words, at a new folder in `room`."""
+
+    def __init__(self, room, source, *words):
+        self.folder = os.path.realpath(tempfile.mkdtemp(prefix="mount.", dir=room))
         words = ["sshfs", source, self.folder, "-f", *words]
         self.process = subprocess.Popen(words, stderr=subprocess.PIPE, text=True)
 
@@ -48,20 +59,29 @@ class Mount:
             time.sleep(0.05)
 
     def is_mounted(self):
-        """As the kernel lists its mounts: sshfs may be too busy to reply."""
-        with open("/proc/self/mounts", encoding="utf-8") as mounts:
-            return any(line.split()[1] == self.folder for line in mounts)
+        """Has the server replied through the mount? sshfs mounts before it connects, and unmounts
+        if it can't. Then a file that a check makes here would be a local one."""
+        device = device_of_mount(self.folder)
+        if device is None:
+            return False
+        words = ["stat", "-c", "%d", self.folder]
+        done = subprocess.run(words, capture_output=True, text=True, check=False, timeout=SECONDS)
+        return done.stdout == device + "\n"
 
     def __exit__(self, fault, *_):
+        ended_early = self.process.poll() is not None
         signalled = self.end()
+        text = self.process.stderr.read()
+        if ended_early:
+            raise AssertionError(f"sshfs ended during the check: {text}")
         if fault is None and not signalled:
             # sshfs may end before it reads its last reply, and then its command reports that.
-            text = self.process.stderr.read()
             quiet = text == "" or text.startswith("sftpd: stream: ")
             same((self.process.returncode, quiet), (0, True))
 
     def end(self):
-        """Unmounts, and ends sshfs by signals if it does not end. Has it got a signal?"""
+        """Unmounts, and ends sshfs by signals if it does not end. Has it got a signal? Afterwards
+        nothing is mounted at the folder."""
         try:
             for sent in (None, signal.SIGTERM, signal.SIGKILL):
                 if sent:
@@ -75,11 +95,15 @@ class Mount:
             # If sshfs was killed, its mount is still there.
             self.process.kill()
             self.unmount()
+            same(device_of_mount(self.folder), None)
         return True
 
     def unmount(self):
+        """Tries to, until nothing is mounted at the folder or the time is over."""
         words = ["fusermount3", "-u", "-z", self.folder]
-        subprocess.run(words, capture_output=True, check=False, timeout=SECONDS)
+        end = time.monotonic() + PATIENCE
+        while device_of_mount(self.folder) is not None and time.monotonic() < end:
+            subprocess.run(words, capture_output=True, check=False, timeout=SECONDS)
 
     def __call__(self, *names):
         return os.path.join(self.folder, *names)

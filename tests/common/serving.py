@@ -8,6 +8,7 @@ import shutil
 import socket
 import subprocess
 import sys
+import tempfile
 import time
 
 from checks import same
@@ -105,9 +106,10 @@ def processor_time(process):
 
 
 def bridge(room, path):
-    """A command that clients start in the place of `ssh`. It takes no notice of their words."""
-    command = os.path.join(room, "bridge")
-    with open(command, "w", encoding="utf-8") as file:
+    """A command that clients start in the place of `ssh`. It takes no notice of their words. Each
+    has a file of its own: a client may be about to start the one before."""
+    number, command = tempfile.mkstemp(prefix="bridge.", dir=room)
+    with open(number, "w", encoding="utf-8") as file:
         file.write(f"#!/bin/sh\nexec '{PROGRAM}' connect --socket '{path}'\n")
     os.chmod(command, 0o755)
     return command
