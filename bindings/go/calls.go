@@ -45,7 +45,7 @@ func (kind Kind) isRequest() bool {
 	return there
 }
 
-// isRecorded reports whether records have this kind: LSTAT is recorded as STAT, and REALPATH is not.
+// isRecorded reports whether records have this kind: LSTAT is recorded as STAT, REALPATH is not.
 func (kind Kind) isRecorded() bool {
 	return kind.isRequest() && kind != KindLstat && kind != KindRealpath
 }

@@ -113,8 +113,8 @@ func (races *Races) replay(schedule string) {
 }
 
 // Engine returns the engine, to write and inspect files before the clients run and after they have
-// ended, for rules and for callbacks. During the race calls may be in progress, and no other session
-// may have a turn.
+// ended, for rules and for callbacks. During the race calls may be in progress, and no other
+// session may have a turn.
 func (races *Races) Engine() *Engine { return races.engine }
 
 // Connect opens the session of the next client: 1, 2, 3 and so on. Connect all clients before any

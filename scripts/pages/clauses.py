@@ -2,7 +2,7 @@
 
 import re
 
-from pages.layout import wrapped
+from pages.layout import WIDTH, wrapped
 from pages.reach import exported
 from sources import contract, is_in_trait
 
@@ -10,6 +10,8 @@ PATH = "docs/generated/clauses.md"
 
 OUTER = re.compile(r"^(?:pub )?(?:impl(?:<.*?>)?|trait) (?:[\w:]+(?:<.*?>)? for )?(\w+)")
 FUNCTION = re.compile(r'^( *)(pub )?(?:extern "C" )?fn (\w+)')
+# A long line is broken before one of these.
+OPERATOR = re.compile(r"(?<=\S) [→×≡∷] ")
 
 
 class Function:
@@ -42,12 +44,38 @@ def described(lines, at, indent):
     above = at
     while above > 0 and lines[above - 1].strip().startswith(("///", "#[")):
         above -= 1
-    yield from (line for line in lines[above:at] if line.strip().startswith("///"))
+    yield from comment(it for it in lines[above:at] if it.strip().startswith("///"))
     text = list(contract(lines, at, indent))
     if not text:
         text = [lines[at]]
     text[-1] = re.sub(r" ?\{(\}|.*\})?$", "", text[-1]) if is_opened(text, indent) else text[-1]
-    yield from text
+    for line in text:
+        yield from broken(line)
+
+
+def comment(lines):
+    """A comment's lines. Words that do not fit in one go to the next."""
+    fitting, lines = [], list(lines)
+    while lines:
+        line = lines.pop(0)
+        slashes = line[: line.index("///") + 3]
+        if len(line) > WIDTH:
+            end = line.rindex(" ", 0, WIDTH + 1)
+            line, rest = line[:end], slashes + line[end:]
+            if lines and lines[0] != slashes:
+                rest += lines.pop(0).removeprefix(slashes)
+            lines.insert(0, rest)
+        fitting.append(line)
+    return fitting
+
+
+def broken(line):
+    """The parts of a clause's line that is too long."""
+    ends = [it.start() for it in OPERATOR.finditer(line) if it.start() <= WIDTH]
+    if len(line) <= WIDTH or not ends:
+        return [line]
+    indent = re.match(" *", line)[0] + "    "
+    return [line[: ends[-1]], *broken(indent + line[ends[-1] + 1 :])]
 
 
 def is_opened(text, indent):

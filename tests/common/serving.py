@@ -79,8 +79,8 @@ class Server:
         return connection
 
     def end(self, seconds=SECONDS, reported=()):
-        """The server has ended well, and its file is gone. Returns its count of calls. `reported` has
-        the lines that it may have written to standard error."""
+        """The server has ended well, and its file is gone. Returns its count of calls. `reported`
+        has the lines that it may have written to standard error."""
         printed, told = self.process.communicate(timeout=seconds)
         same((self.process.returncode, {*told.splitlines()} - {*reported}), (0, set()))
         found = re.fullmatch(rf"sessions {self.sessions} calls ([0-9]+)\naudit ok\n", printed)

@@ -5,11 +5,11 @@ often as a number behind `*` says, as `78*255`. `00..fa` stands for bytes that r
 `ENTRY_01..ENTRY_32` for what has these names.
 
 Requests: MKDIR, SETSTAT, LSETSTAT path attributes; OPEN path letters attributes; REMOVE, RMDIR,
-REALPATH, STAT, LSTAT, OPENDIR path; RENAME, POSIX_RENAME, LINK old new; CLOSE, FSTAT, READDIR, FSYNC
-handle; FSETSTAT handle attributes; READ handle offset count; WRITE handle offset bytes. The letters
-are `r` READ, `w` WRITE, `a` APPEND, `c` CREAT, `t` TRUNC and `x` EXCL, or `-` for none of them.
-Attributes, each where it is there: size=7 owner=1000:50 permissions=0o40700 times=3:4. A path with
-other bytes than those of a word stands in quotes: "/a b", "", "/"+"x"*255.
+REALPATH, STAT, LSTAT, OPENDIR path; RENAME, POSIX_RENAME, LINK old new; CLOSE, FSTAT, READDIR,
+FSYNC handle; FSETSTAT handle attributes; READ handle offset count; WRITE handle offset bytes. The
+letters are `r` READ, `w` WRITE, `a` APPEND, `c` CREAT, `t` TRUNC and `x` EXCL, or `-` for none of
+them. Attributes, each where it is there: size=7 owner=1000:50 permissions=0o40700 times=3:4. A path
+with other bytes than those of a word stands in quotes: "/a b", "", "/"+"x"*255.
 
 Replies: a status by its name, OUT_OF_MEMORY for that FAILURE; HANDLE number; DATA bytes;
 ATTRS size permissions atime mtime [uid:gid]; NAME and its entries with a comma behind each but the

@@ -126,7 +126,7 @@ class Engine(Refuses, Watches):
         """For each of these the library has a rule for `_lost`."""
         self._hooks: list[Hook] = []
         self._modes: Optional[Tree] = None
-        """A snapshot with the names and attributes of now, for permissions; None if there is none."""
+        """A snapshot with the names and attributes of now, for permissions, or None."""
         self._is_forked = False
         ENGINES.add(self)
 

@@ -213,8 +213,8 @@ class Refuses(Reaches):
             return engine._give(Rule(engine, matches, *words))
 
     def disk_full(self, after: int = 0) -> Rule:
-        """Simulates a disk with room for `after` more bytes: a WRITE that doesn't fit fails until the
-        rule ends, and takes no room."""
+        """Simulates a disk with room for `after` more bytes: a WRITE that doesn't fit fails until
+        the rule ends, and takes no room."""
         return self.refuse(kind=Kind.WRITE, after_bytes=after, times=None)
 
     def read_only(self, path: Optional[arguments.Path] = None) -> Rule:

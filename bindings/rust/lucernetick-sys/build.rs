@@ -1,6 +1,6 @@
 //! Finds the static library: in the folder LUCERNETICK_ARCHIVE, or beside this crate or the crate
-//! `lucernetick`, or in the repository, where `make library` builds it. Without it the build ends with
-//! a sentence.
+//! `lucernetick`, or in the repository, where `make library` builds it. Without it the build ends
+//! with a sentence.
 
 use std::env;
 use std::path::{Path, PathBuf};

@@ -209,7 +209,7 @@ fn a_sleeper_is_woken(rt: HostRuntime) -> Result<(), Fail> {
     Ok(())
 }
 
-/// Of three WRITEs the waker is held until three calls sleep, and the others until the scene is done.
+/// Of three WRITEs the waker is held until three calls sleep, the others until the scene ends.
 fn write_until(call: u64, waker: u64) -> Until {
     if call == waker {
         Until::Asleep(3)
@@ -249,8 +249,8 @@ fn each_of_three_sleepers_is_woken(rt: HostRuntime) -> Result<(), Fail> {
     Ok(())
 }
 
-/// A session that has made five calls keeps the lock behind its next one, a rename. The rename helps
-/// a call that sleeps, which is woken while the session's client is idle.
+/// A session that has made five calls keeps the lock behind its next one, a rename. The rename
+/// helps a call that sleeps, which is woken while the session's client is idle.
 #[test]
 fn an_idle_client_wakes_whom_it_helped(rt: HostRuntime) -> Result<(), Fail> {
     let script = Script {
@@ -314,8 +314,8 @@ fn one_call_beside_many(rt: HostRuntime) -> Result<(), Fail> {
     Ok(())
 }
 
-/// Counts the calls whose record comes after that of a call that began later. Both were under way at
-/// once.
+/// Counts the calls whose record comes after that of a call that began later. Both were under way
+/// at once.
 fn overtakings(core: &Core) -> usize {
     let mut latest = 0u64;
     let mut count = 0usize;
@@ -330,8 +330,8 @@ fn overtakings(core: &Core) -> usize {
     count
 }
 
-/// While one session looks up a path of four names, another one's calls begin and are answered. On a
-/// busy machine one session may end before the other one's worker begins, so there are several
+/// While one session looks up a path of four names, another one's calls begin and are answered. On
+/// a busy machine one session may end before the other one's worker begins, so there are several
 /// rounds.
 #[test]
 fn lookups_side_by_side(rt: HostRuntime) -> Result<(), Fail> {

@@ -1,5 +1,5 @@
-//! The functions of `lucernetick.h`, as they are. The header says what callers must ensure. The crate
-//! `lucernetick` is the safe interface.
+//! The functions of `lucernetick.h`, as they are. The header says what callers must ensure. The
+//! crate `lucernetick` is the safe interface.
 
 use std::os::raw::c_char;
 
