@@ -167,7 +167,7 @@ class Folder:
         if first != path:
             return Found(Link(first), status)
         descriptor = os.open(names[-1], TO_READ, dir_fd=directory)
-        with open(descriptor, "rb", buffering=0) as file:
+        try:
             opened = os.fstat(descriptor)
             if not stat.S_ISREG(opened.st_mode) or not os.path.samestat(status, opened):
                 raise ValueError(f"{self._place(names)}: it was replaced while it was read")
@@ -177,6 +177,8 @@ class Folder:
                 how = "shrank" if now < opened.st_size else "grew"
                 raise ValueError(f"{self._place(names)}: it {how} while it was read")
             return Found(Sparse(opened.st_size, pieces), opened)
+        finally:
+            os.close(descriptor)
 
 
 def kind_name(mode: int) -> str:

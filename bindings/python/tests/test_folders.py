@@ -9,7 +9,7 @@ import subprocess
 import threading
 import time
 from pathlib import Path
-from typing import Iterator
+from typing import Callable, Iterator
 
 import pytest
 
@@ -217,14 +217,88 @@ def swapped(tmp_path: Path) -> Iterator[Path]:
 def test_a_name_that_becomes_a_link(swapped: Path) -> None:
     """It is never followed, and never waited for."""
     found = set()
-    end = time.monotonic() + 3
-    while time.monotonic() < end:
+    begin = time.monotonic()
+    # On a busy machine the file is seldom the same one for two calls.
+    while time.monotonic() < begin + (3 if b"fine" in found else 60):
         try:
             with Engine.from_folder(swapped, skip=lambda *words: None) as engine:
                 found.add(engine.snapshot().get("/f", Entry(0, 0, 0, 0, 0, 0, (), None)).contents)
         except (OSError, ValueError):
             pass
     assert b"secret" not in found and b"fine" in found
+
+
+def listen(path: Path) -> None:
+    with socket.socket(socket.AF_UNIX) as listening:
+        listening.bind(str(path))
+
+
+MADE: dict[str, Callable[[Path], object]] = {
+    "file": lambda path: path.write_bytes(b"other"),
+    "directory": os.mkdir,
+    "link": lambda path: path.symlink_to(path.parent),
+    "FIFO": os.mkfifo,
+    "socket": listen,
+}
+
+
+def replace_at(monkeypatch: pytest.MonkeyPatch, call: str, kind: str, name: Path) -> None:
+    """The first call of this function of `os` replaces a file or an empty directory."""
+    called = getattr(os, call)
+    new = name.parent.parent / "new"
+    MADE[kind](new)
+
+    def swapping(*words: object, **named: object) -> object:
+        if os.path.lexists(new) and words[0] != str(name.parent):
+            if name.is_dir():
+                name.rmdir()
+            else:
+                name.unlink()
+            new.rename(name)
+        return called(*words, **named)
+
+    monkeypatch.setattr(f"lucernetick._folders.os.{call}", swapping)
+
+
+@pytest.mark.parametrize("kind", MADE)
+def test_a_file_that_is_replaced_before_it_is_opened(
+    tmp_path: Path, monkeypatch: pytest.MonkeyPatch, kind: str
+) -> None:
+    (tmp_path / "folder").mkdir()
+    (tmp_path / "folder" / "x").write_bytes(b"inside")
+    replace_at(monkeypatch, "open", kind, tmp_path / "folder" / "x")
+    told = {"link": "symbolic links", "socket": "No such device"}.get(kind, "x: it was replaced")
+    before = os.listdir("/proc/self/fd")
+    with pytest.raises((OSError, ValueError), match=told):
+        Engine.from_folder(tmp_path / "folder")
+    assert os.listdir("/proc/self/fd") == before
+
+
+@pytest.mark.parametrize("kind", MADE)
+def test_a_directory_that_is_replaced_before_it_is_opened(
+    tmp_path: Path, monkeypatch: pytest.MonkeyPatch, kind: str
+) -> None:
+    (tmp_path / "folder" / "x").mkdir(parents=True)
+    replace_at(monkeypatch, "open", kind, tmp_path / "folder" / "x")
+    if kind == "directory":
+        with Engine.from_folder(tmp_path / "folder") as engine:
+            assert list(engine.snapshot()) == ["/", "/x"]
+    else:
+        with pytest.raises(NotADirectoryError, match=f"{tmp_path}/folder/x"):
+            Engine.from_folder(tmp_path / "folder")
+
+
+@pytest.mark.parametrize("kind", MADE)
+def test_a_file_that_is_replaced_before_it_is_read(
+    tmp_path: Path, monkeypatch: pytest.MonkeyPatch, kind: str
+) -> None:
+    """What was opened is read."""
+    (tmp_path / "folder").mkdir()
+    (tmp_path / "folder" / "x").write_bytes(b"inside")
+    replace_at(monkeypatch, "pread", kind, tmp_path / "folder" / "x")
+    with Engine.from_folder(tmp_path / "folder") as engine:
+        assert engine.snapshot()["/x"].contents == b"inside"
+    assert not os.path.lexists(tmp_path / "new")
 
 
 @pytest.mark.parametrize(("size", "how"), [(10, "shrank"), (2**23, "grew")])

@@ -139,7 +139,9 @@ fn a_name_that_becomes_a_link() {
     thread::scope(|scope| {
         scope.spawn(swap);
         let begin = Instant::now();
-        while begin.elapsed() < Duration::from_secs(3) {
+        let fine = Some(b"fine".to_vec());
+        // On a busy machine the file is seldom the same one for two calls.
+        while begin.elapsed() < Duration::from_secs(if found.contains(&fine) { 3 } else { 60 }) {
             let mut engine = Engine::new().unwrap();
             let options = FolderOptions::default().skip(|_, _| ());
             if engine.write_folder(&folder, options).is_ok() {
