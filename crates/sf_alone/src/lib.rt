@@ -9,5 +9,5 @@
 mod on_engine;
 mod own_engine;
 
-pub use on_engine::serve_one;
+pub use on_engine::{EngineHost, serve_one};
 pub use own_engine::serve_alone;

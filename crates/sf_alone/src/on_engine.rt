@@ -131,12 +131,27 @@ fn tell_call<G: CallObserver>(observer: &G, engine: &Engine, session: u64, told:
 
 /// A session of an engine, the number of its turns, and the observer of its calls.
 #[derive(Drop)]
-struct EngineHost<'a, G> {
+pub struct EngineHost<'a, G> {
     session: u64,
     turns: u64,
     observer: &'a G,
     // The number of the last call reported to the observer; 0 if there is none.
     told: u64,
+}
+
+impl<'a, G> EngineHost<'a, G> {
+    /// A session that has taken no turn.
+    pub fn new(session: u64, observer: &'a G) -> EngineHost<'a, G>
+        ensures session { result.session ≡ session }
+        ensures turns { result.turns ≡ 0 }
+    {
+        EngineHost {
+            session,
+            turns: 0,
+            observer,
+            told: 0,
+        }
+    }
 }
 
 impl<G: CallObserver> Host<Engine> for EngineHost<'_, G> {
@@ -191,6 +206,8 @@ impl<G: CallObserver> Host<Engine> for EngineHost<'_, G> {
         }
         Err(ServeFault::NumbersSpent)
     }
+
+    fn rest(&mut self, _engine: &mut Engine) {}
 
     fn output<'a>(&'a self, engine: &'a Engine) -> &'a [u8] {
         waiting(engine, self.session)

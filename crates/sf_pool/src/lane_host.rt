@@ -195,6 +195,10 @@ impl<D: SessionLane, G: StepObserver> Host<D> for LaneHost<'_, G> {
         }
     }
 
+    fn rest(&mut self, lane: &mut D) {
+        self.room = let_go(lane);
+    }
+
     fn output<'b>(&'b self, _lane: &'b D) -> &'b [u8] {
         self.session.output()
     }

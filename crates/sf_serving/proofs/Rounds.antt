@@ -82,7 +82,7 @@ pub rose_since : (start old new : ℕ) → start ≤ old → old ≤ new → Ros
 rose_since start old new before more (inl rose) = inl (omega arith)
 rose_since start old new before more (inr most) = elim (cases_lt start new) [ inl lt ↦ inl lt | inr ge ↦ inr (omega arith) ]
 
-rose_until : (start old new : ℕ) → old ≤ new → Rose start old → Rose start new
+pub rose_until : (start old new : ℕ) → old ≤ new → Rose start old → Rose start new
 rose_until start old new more (inl rose) = inl (omega arith)
 rose_until start old new more (inr most) = inr most
 
@@ -108,7 +108,7 @@ spent_for serve.NumbersSpent w w' p p' same stream (inl h) = inl (subst (λ (b :
 spent_for serve.NumbersSpent w w' p p' same stream (inr h) = inr (subst (λ (k : ℕ). most_counted ≤ k) (sym same) h)
 spent_for f w w' p p' same stream h = tt
 
-host_spent : (f : ServeFault) (w : ℕ) (p : Progress) → IsHostFault f w → IsSpentFor f w p
+pub host_spent : (f : ServeFault) (w : ℕ) (p : Progress) → IsHostFault f w → IsSpentFor f w p
 host_spent serve.NumbersSpent w p h = inr h
 host_spent f w p h = tt
 

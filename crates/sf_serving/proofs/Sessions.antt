@@ -40,7 +40,7 @@ rest_left t at read = subst (λ (f : Phase). IsRest (has_begun t.bodies) f t.unr
 pub rest_stream : (t : SessionState) → t.phase ≡ Resting → (read : IsRead t) → t.stream ≡ flat_map packet t.bodies ++ t.unread
 rest_stream t at read = read.stream ∙ ap (λ (b : List ℕ). flat_map packet t.bodies ++ b) (sym (rest_left t at read))
 
-cuts_of : (bodies : List (List ℕ)) (rest : List ℕ) → AllByRecursion IsBody bodies → IsCut rest cut.More → Cuts (flat_map packet bodies ++ rest) bodies (More rest)
+pub cuts_of : (bodies : List (List ℕ)) (rest : List ℕ) → AllByRecursion IsBody bodies → IsCut rest cut.More → Cuts (flat_map packet bodies ++ rest) bodies (More rest)
 cuts_of [] rest bs c = (refl, c)
 cuts_of (body ∷ bodies) rest bs c = (flat_map packet bodies ++ rest, bs.0, append_assoc (packet body) (flat_map packet bodies) rest, cuts_of bodies rest bs.1 c)
 
@@ -73,7 +73,7 @@ pub read_new : IsRead new_state
 unfolding AreAsked
 read_new = record { rest = []; are_bodies = tt; stream = refl; left = refl; asked = tt }
 
-read_fed : (t : SessionState) (bytes : List ℕ) → t.phase ≡ Resting → IsRead t → IsRead (fed t bytes)
+pub read_fed : (t : SessionState) (bytes : List ℕ) → t.phase ≡ Resting → IsRead t → IsRead (fed t bytes)
 read_fed t bytes at read =
     let P : Phase → Type 0 = λ f. IsRest (has_begun t.bodies) f (t.unread ++ bytes) (read.rest ++ bytes) in
     record {
@@ -84,10 +84,10 @@ read_fed t bytes at read =
       asked = read.asked;
     }
 
-read_sent : (t : SessionState) → IsRead t → IsRead (with_sent t)
+pub read_sent : (t : SessionState) → IsRead t → IsRead (with_sent t)
 read_sent t read = record { rest = read.rest; are_bodies = read.are_bodies; stream = read.stream; left = read.left; asked = read.asked }
 
-read_closed : (t : SessionState) (f : Phase) → t.phase ≡ f → IsRead t → IsRead (closed_now t f)
+pub read_closed : (t : SessionState) (f : Phase) → t.phase ≡ f → IsRead t → IsRead (closed_now t f)
 read_closed t Resting at read = record {
   rest = read.rest;
   are_bodies = read.are_bodies;

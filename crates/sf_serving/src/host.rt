@@ -68,6 +68,16 @@ pub trait Host<P> {
         ensures rests { IfOk result (λ step. step ≡ SessionStep.Waits → rests self.new place.new) }
         ensures fault { IfErr result (λ fault. IsHostFault fault (work self.new place.new)) };
 
+    /// Releases everything that other sessions wait for.
+    fn rest(&mut self, place: &mut P)
+        requires { sound self.old place.old }
+        ensures sound { sound self.new place.new }
+        ensures rests { rests self.new place.new }
+        ensures serves { (start : Start) (moments : Option (List ℕ)) (t : SessionState)
+            → serves start self.old place.old moments t
+            → serves start self.new place.new moments t }
+        ensures work { work self.new place.new ≡ work self.old place.old };
+
     /// The unsent output.
     fn output<'a>(&'a self, place: &'a P) -> &'a [u8]
         ensures { (start : Start) (moments : Option (List ℕ)) (t : SessionState)
