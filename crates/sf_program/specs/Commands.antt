@@ -1,5 +1,5 @@
--- The requests of the client's commands, and what they print.
-use Rattle.std.specs.Prelude.{◌≡◌, ℕ, List, [], ◌∷◌, ◌++◌, false, Option, Ok, unwrap_or}
+-- The requests of the client's commands, what they print, and the lines of their faults.
+use Rattle.std.specs.Prelude.{◌≡◌, ◌⊎◌, ℕ, List, [], ◌∷◌, ◌++◌, false, Option, Ok, unwrap_or, codes}
 use Rattle.std.specs.Fmt.{decimal, digits}
 use Rattle.sf_field.specs.Attributes.{no_attrs}
 use Rattle.sf_field.specs.declared.attrs.Attrs.{Attrs}
@@ -9,10 +9,14 @@ use Rattle.sf_request.specs.declared.request.WireRequest.{WireRequest}
 use Rattle.sf_request.specs.declared.request.WireRequest.TheVariants as request
 use Rattle.sf_reply.specs.declared.reply.Entry.{Entry}
 use Rattle.sf_reply.specs.declared.reply.Reply.TheVariants as reply
+use Rattle.sf_reply.specs.declared.reply.StatusCode.{StatusCode}
 use Rattle.sf_reply.specs.declared.reply.StatusCode.TheVariants.{Success}
+use Rattle.sf_reply.specs.Replies.{number_of, message_of}
 use Rattle.sf_client.specs.Calls.{DoesCall, ByHandle, ReadsAll, WritesAll, ListsAll, to_read, to_write}
 use Rattle.sf_client.specs.Exchanges.{ClientView, Exchanged, IsStarted}
 use Rattle.sf_client.specs.Outcomes.{asked}
+use Rattle.sf_client.specs.declared.fault.ClientFault.{ClientFault}
+use Rattle.sf_client.specs.declared.fault.ClientFault.TheVariants as fault
 use Rattle.sf_program.specs.Terminal.{IsTerminalText}
 use Rattle.sf_words.specs.declared.command.ClientCommand.{ClientCommand}
 use Rattle.sf_words.specs.declared.command.ClientCommand.TheVariants as command
@@ -85,3 +89,36 @@ RunsCommand (command.Link old new) bytes printed v w =
 abbrev pub IsDoneOver : ClientCommand → List ℕ → List ℕ → Option (List ℕ) → Option (List ℕ) → Type 0
 IsDoneOver command bytes printed incoming outgoing =
     (v w : ClientView) × IsStarted incoming outgoing v × RunsCommand command bytes printed v w
+
+abbrev pub memory_line : List ℕ
+memory_line = codes "sftpd: out of memory" ++ 10 ∷ []
+
+abbrev pub status_start : StatusCode → List ℕ
+status_start code = codes "sftpd: status " ++ decimal (number_of code) ++ codes ": "
+
+-- the number and the message of the server's status, and the paths
+abbrev pub IsStatusLine : StatusCode → List ℕ → Type 0
+IsStatusLine code line = (paths : List ℕ)
+    × (line ≡ (status_start code ++ message_of code) ++ paths)
+
+abbrev pub size_start : ℕ → List ℕ
+size_start size = codes "sftpd: too large to get: " ++ decimal size
+
+abbrev pub size_end : List ℕ
+size_end = codes " bytes" ++ 10 ∷ []
+
+-- the line of a fault; a line that is made may need more memory than there is
+abbrev pub IsFaultLine : ClientFault → List ℕ → Type 0
+IsFaultLine fault.Stream line =
+    line ≡ codes "sftpd: stream: the connection or standard output failed" ++ 10 ∷ []
+IsFaultLine fault.Failed line =
+    line ≡ codes "sftpd: stream: the connection or standard output failed" ++ 10 ∷ []
+IsFaultLine fault.Protocol line =
+    line ≡ codes "sftpd: protocol: the server's reply is not one to the request" ++ 10 ∷ []
+IsFaultLine fault.OutOfMemory line = line ≡ memory_line
+IsFaultLine (fault.Status code) line = IsStatusLine code line ⊎ (line ≡ memory_line)
+IsFaultLine (fault.TooLarge size) line = (line ≡ size_start size ++ size_end) ⊎ (line ≡ memory_line)
+
+-- some fault's line
+abbrev pub IsFailureLine : List ℕ → Type 0
+IsFailureLine line = (f : ClientFault) × IsFaultLine f line

@@ -1,23 +1,25 @@
 //! The command `sftpd client`.
 
-ghost use Rattle.std.specs.Prelude.{◌≡◌, ◌<◌, ◌^◌, ◌⊎◌, ℕ, List, length, IfOk, OnOk};
-ghost use Rattle.std.specs.Io.KnownBytes.{Appends, Keeps};
+ghost use Rattle.std.specs.Prelude.{◌≡◌, ◌<◌, ◌^◌, ◌++◌, ◌⊎◌, ℕ, List, length, IfOk, OnOk, OnErr};
+ghost use Rattle.std.specs.Io.KnownBytes.{Appends};
+ghost use Rattle.std.specs.String.{string_bytes};
+ghost use Rattle.sf_line.specs.Lines.{Rose};
 ghost use Rattle.sf_words.specs.Words.{paths_len};
-ghost use Rattle.sf_program.specs.Commands.{AreLinesOf, stat_text, PrintsAttrs, Lists, RunsCommand, IsDoneOver};
+ghost use Rattle.sf_program.specs.Commands.{AreLinesOf, stat_text, PrintsAttrs, Lists, RunsCommand, IsDoneOver, IsFaultLine, IsFailureLine, IsStatusLine, status_start, size_start, size_end};
 
 use crate::terminal::terminal_text;
 use sf_client::{Client, ClientFault};
 use sf_field::{Attrs, Owner, Times};
 use sf_folder::shown;
-use sf_line::Line;
+use sf_line::{Line, LineFault, write_all};
 use sf_reply::{Entry, StatusCode};
 use sf_words::ClientCommand;
 use std::alloc::{AllocError, Global};
-use std::io::{self, Write};
+use std::io::Write;
 
 /// Runs the command on the server behind `line`. `put` sends `bytes`. Results are written to
 /// `output`, and the message of a fault to `errors`. Returns the exit status, 0 or 1.
-pub fn run_client<L: Line + Drop, O: Write, E: Write>(
+pub fn run_client<L: Line + Drop, O: Write, E: Line>(
     alloc: Global,
     line: L,
     command: ClientCommand<'_>,
@@ -29,7 +31,10 @@ pub fn run_client<L: Line + Drop, O: Write, E: Write>(
     ensures done { result ≡ 0 → (printed : List ℕ)
         × IsDoneOver command.entry bytes.now printed (L.incoming line) (L.outgoing line)
         × Appends (O.contents output.old) (O.contents output.new) printed }
-    ensures quiet { result ≡ 0 → Keeps (E.contents errors.old) (E.contents errors.new) }
+    ensures quiet { result ≡ 0 → E.outgoing errors.new ≡ E.outgoing errors.old }
+    ensures told { result ≡ 1 → ((line : List ℕ) × IsFailureLine line
+        × Appends (E.outgoing errors.old) (E.outgoing errors.new) line)
+        ⊎ Rose (E.failed errors.old) (E.failed errors.new) }
     ensures status { (result ≡ 0) ⊎ (result ≡ 1) }
 {
     match do_over(alloc, line, command, bytes, output) {
@@ -177,49 +182,85 @@ fn list_lines(alloc: Global, entries: &[Entry]) -> Result<Vec<u8>, AllocError>
 
 /// Writes the message of a fault. If the server refused the command, that is the status' number and
 /// message, and the paths.
-fn report<W: Write>(
+fn report<E: Line>(
     alloc: Global,
-    errors: &mut W,
+    errors: &mut E,
     command: ClientCommand<'_>,
     fault: ClientFault,
-) -> io::Result<()> {
+) -> Result<(), LineFault>
+    ensures told { OnOk result ((line : List ℕ) × IsFaultLine fault line
+        × Appends (E.outgoing errors.old) (E.outgoing errors.new) line) }
+    ensures fault { OnErr result (Rose (E.failed errors.old) (E.failed errors.new)) }
+{
     match fault {
-        ClientFault::Stream | ClientFault::Failed => {
-            writeln!(
-                errors,
-                "sftpd: stream: the connection or standard output failed"
-            )
-        }
-        ClientFault::Protocol => {
-            writeln!(
-                errors,
-                "sftpd: protocol: the server's reply is not one to the request"
-            )
-        }
+        ClientFault::Stream | ClientFault::Failed => write_all(
+            errors,
+            b"sftpd: stream: the connection or standard output failed\n",
+        ),
+        ClientFault::Protocol => write_all(
+            errors,
+            b"sftpd: protocol: the server's reply is not one to the request\n",
+        ),
+        ClientFault::OutOfMemory => write_all(errors, b"sftpd: out of memory\n"),
         ClientFault::Status(code) => match status_line(alloc, command, code) {
-            Ok(line) => writeln!(errors, "{line}"),
-            Err(_) => writeln!(errors, "sftpd: out of memory"),
+            Ok(line) => write_all(errors, &line),
+            Err(_) => write_all(errors, b"sftpd: out of memory\n"),
         },
-        ClientFault::OutOfMemory => writeln!(errors, "sftpd: out of memory"),
-        ClientFault::TooLarge(size) => writeln!(errors, "sftpd: too large to get: {size} bytes"),
+        ClientFault::TooLarge(size) => match size_line(alloc, size) {
+            Ok(line) => write_all(errors, &line),
+            Err(_) => write_all(errors, b"sftpd: out of memory\n"),
+        },
     }
 }
 
-/// The status' number and message, and the paths.
+/// The line of a file that is too large.
+fn size_line(alloc: Global, size: u64) -> Result<Vec<u8>, AllocError>
+    ensures { IfOk result (λ line. line.items ≡ size_start size ++ size_end) }
+{
+    let mut line = size_start(alloc, size)?.into_bytes();
+    line.extend_from_slice(b" bytes\n")?;
+    Ok(line)
+}
+
+/// The line of a file that is too large, up to its size.
+fn size_start(alloc: Global, size: u64) -> Result<String, AllocError>
+    ensures { IfOk result (λ text. string_bytes text ≡ size_start size) }
+{
+    format!(in alloc; "sftpd: too large to get: {size}")
+}
+
+/// The line of a status: its number and message, and the paths.
 fn status_line(
     alloc: Global,
     command: ClientCommand<'_>,
     code: StatusCode,
-) -> Result<String, AllocError> {
-    let (path, second) = paths_of(command);
+) -> Result<Vec<u8>, AllocError>
+    ensures { IfOk result (λ line. IsStatusLine code line.items) }
+{
+    let paths = paths_text(alloc, command)?;
+    let mut line = status_start(alloc, code)?.into_bytes();
+    line.extend_from_slice(code.message())?;
+    line.extend_from_slice(paths.as_bytes())?;
+    Ok(line)
+}
+
+/// The line of a status up to its number.
+fn status_start(alloc: Global, code: StatusCode) -> Result<String, AllocError>
+    ensures { IfOk result (λ text. string_bytes text ≡ status_start code) }
+{
     let number = code.number();
-    let message = shown(alloc, code.message())?;
+    format!(in alloc; "sftpd: status {number}: ")
+}
+
+/// The paths of a command, at the end of a line.
+fn paths_text(alloc: Global, command: ClientCommand<'_>) -> Result<String, AllocError> {
+    let (path, second) = paths_of(command);
     let path = shown(alloc, path)?;
     match second {
-        None => format!(in alloc; "sftpd: status {number}: {message}: {path}"),
+        None => format!(in alloc; ": {path}\n"),
         Some(second) => {
             let second = shown(alloc, second)?;
-            format!(in alloc; "sftpd: status {number}: {message}: {path} {second}")
+            format!(in alloc; ": {path} {second}\n")
         }
     }
 }

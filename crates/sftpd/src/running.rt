@@ -188,13 +188,14 @@ fn client(rt: &HostRuntime, socket: &str, command: ClientCommand<'_>) -> u8
         return 1;
     };
     let line = StreamLine::new(&stream, &stream);
+    let mut errors = StreamLine::new(io::empty(), rt.stderr());
     run_client(
         alloc,
         line,
         command,
         &data,
         &mut rt.stdout(),
-        &mut rt.stderr(),
+        &mut errors,
     )
 }
 
