@@ -1,16 +1,20 @@
 //! Sessions that wait for each other on one core: whoever waits is woken, and a client that is slow
 //! or busy delays nobody.
 
+ghost use Rattle.std.specs.Prelude.{◌≡◌, ◌-◌, ◌^◌};
+
 use client::{Client, ClientLine, StillClock, sends};
 use crossbeam_channel::{Receiver, Sender, unbounded};
 use script::{Director, FREE, Script, Signs, Until};
 use sf_call::Record;
 use sf_core::Core;
-use sf_workers::{Ended, serve_on_core};
+use sf_workers::{Ended, Receipts, Sent, Tickets, serve_on_core};
 use std::alloc::Global;
+use std::marker::Brand;
 use std::process::Abort;
 use std::sync::Wait;
 use std::sync::atomic::Ordering;
+use std::sync::ledger::{Blank, Ledger};
 use std::test::*;
 use std::thread::{self, Threads};
 
@@ -73,34 +77,39 @@ const TRIES: u64 = 64;
 /// The step at which a call sleeps whose path has two names.
 const SLEEPS: u64 = TRIES + 2;
 
-/// Sends the lines, each later one once one more wait has begun.
-fn send_in_turn<'a>(
+/// Sends the lines, each later one once one more wait has begun. Returns the tickets that are left.
+fn send_in_turn<'a, S: Ledger>(
     rt: &impl Wait,
-    sender: Sender<ClientLine<'a>>,
+    sender: Sender<Sent<ClientLine<'a>, S>>,
+    tickets: Tickets<S>,
     lines: Vec<ClientLine<'a>>,
     signs: &Signs,
-) -> bool {
+) -> Tickets<S> {
+    let mut tickets = tickets;
     let mut sent = 0u64;
     for line in lines {
         sent = sent.saturating_add(1);
         signs.wait_for(&signs.ready, sent);
-        if sender.send(rt, line).is_err() {
-            return false;
+        if !tickets.send(rt, &sender, line) {
+            return tickets;
         }
     }
-    true
+    tickets
 }
 
 /// Six workers serve the lines of a channel on a new core.
-fn serve<R: Threads + Wait + Sync>(
+fn serve<S: Ledger + Send + Sync, R: Threads + Wait + Sync>(
     rt: &R,
     alloc: Global,
-    lines: &Receiver<ClientLine<'_>>,
+    receipts: Receipts<S>,
+    lines: &Receiver<Sent<ClientLine<'_>, S>>,
     director: &Director<'_>,
-) -> Result<Ended, Fail> {
+) -> Result<(Ended, Receipts<S>), Fail>
+    requires { receipts ≡ 0 }
+{
     let core = Core::new(alloc)?;
     let clocks = vec![in alloc; StillClock; 6]?;
-    Ok(serve_on_core(rt, alloc, core, lines, clocks, director, true)?)
+    Ok(serve_on_core(rt, alloc, core, receipts, lines, clocks, director, true)?)
 }
 
 /// Serves these clients. Each has one session, together they make this number of calls, and no wait
@@ -113,6 +122,24 @@ fn play<R: Threads + Wait + Abort + Sync>(
     clients: &[Client<'_>],
     calls: u64,
 ) -> Result<(Core, u64), Fail> {
+    let blank = Blank::new(u64::MAX);
+    play_on::<Brand, R>(rt, alloc, blank, script, clients, calls)
+}
+
+/// As `play`, with tickets from a new ledger.
+fn play_on<S: Ledger + Send + Sync, R: Threads + Wait + Abort + Sync>(
+    rt: &R,
+    alloc: Global,
+    blank: Blank,
+    script: Script<'_>,
+    clients: &[Client<'_>],
+    calls: u64,
+) -> Result<(Core, u64), Fail>
+    requires name { blank.name ≡ S.name }
+    requires parts { (blank.parts ≡ S.parts) × (S.parts ≡ 2 ^ 64 - 1) }
+{
+    let mut tickets = Tickets::<S>::open(blank);
+    let receipts = tickets.no_receipts();
     let mut inputs = Vec::new(alloc);
     for client in clients {
         inputs.push(client.input(alloc)?)?;
@@ -130,13 +157,22 @@ fn play<R: Threads + Wait + Abort + Sync>(
         script,
     };
     let (sender, lines) = unbounded(alloc)?;
-    let (were_sent, ended) = thread::join(
+    let (tickets, ended) = thread::join(
         rt,
-        || send_in_turn(rt, sender, all, &signs),
-        || serve(rt, alloc, &lines, &director),
+        || send_in_turn(rt, sender, tickets, all, &signs),
+        || -> Result<(Ended, Receipts<S>), Fail>
+            requires { receipts ≡ 0 }
+        { serve(rt, alloc, receipts, &lines, &director) },
     );
-    let Ended { core, transcripts } = ended?;
-    assert!(rt; were_sent);
+    let (ended, receipts) = ended?;
+    let Ended {
+        core,
+        sessions,
+        transcripts,
+    } = ended;
+    let are_back = tickets.are_back(receipts, clients.len() as u64);
+    assert!(rt; are_back);
+    assert_eq!(rt; sessions, clients.len() as u64);
     assert_eq!(rt; signs.late.load(Ordering::SeqCst), 0);
     assert_eq!(rt; signs.done.load(Ordering::SeqCst), 1);
     assert_eq!(rt; (transcripts.len(), core.calls()), (clients.len(), calls));

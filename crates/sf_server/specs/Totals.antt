@@ -1,5 +1,5 @@
 -- What a server prints when it ends.
-use Rattle.std.specs.Prelude.{ℕ, nat_eq, if◌then◌else◌, Bool, Option, List, [], ◌∷◌, ◌++◌, codes}
+use Rattle.std.specs.Prelude.{◌≡◌, ◌+◌, ◌-◌, ℕ, nat_eq, if◌then◌else◌, Option, Some, None, is_some, List, [], ◌∷◌, ◌++◌, codes}
 use Rattle.std.specs.List.{count_by}
 use Rattle.std.specs.Fmt.{decimal}
 use Rattle.std.specs.Io.KnownBytes.{Appends}
@@ -9,7 +9,8 @@ use Rattle.sf_core.specs.Cores.{CoreView}
 use Rattle.sf_core.specs.Histories.{IsHistory}
 use Rattle.sf_audit.specs.declared.transcript.Transcript.{Transcript}
 use Rattle.sf_audit.specs.Audits.{AgreesWith}
-use Rattle.sf_workers.specs.Sessions.{HasServed}
+use Rattle.sf_workers.specs.declared.lines.Ended.{Ended}
+use Rattle.sf_workers.specs.Streams.{HasServed}
 use Rattle.sf_server.specs.declared.server.ServerFault.{ServerFault}
 use Rattle.sf_server.specs.declared.server.ServerFault.TheVariants as fault
 
@@ -29,6 +30,7 @@ abbrev pub IsTellFault : CoreView → List Transcript → ServerFault → Type 0
 IsTellFault core transcripts fault.Audit = ¬ AgreesWith core.records core.folded transcripts
 IsTellFault core transcripts fault.Reported = ⊥
 IsTellFault core transcripts fault.OutOfMemory = ⊥
+IsTellFault core transcripts fault.Unserved = ⊥
 IsTellFault core transcripts fault.Stream = Unit {0}
 
 -- the fault after which a part may have been written
@@ -36,12 +38,29 @@ abbrev pub IsStream : ServerFault → Type 0
 IsStream fault.Stream = Unit {0}
 IsStream _ = ⊥
 
--- A server has served its sessions on one core. Each received its calls in the core's history, all
--- transcripts agree with the records, and the totals were written.
-pub record HasWrittenTotals (keeps : Bool) (sessions : ℕ) (old new : Option (List ℕ)) : Type 0 where
-  pub core : CoreView
-  pub transcripts : List Transcript
-  pub told : HasServed keeps core transcripts
-  pub agree : AgreesWith core.records core.folded transcripts
-  pub wrote : (h : List Record) → IsHistory core h
-      → Appends old new (totals_text sessions (count_by is_call h) core.folded)
+-- the number of streams that load a folder: one, if there is a folder
+abbrev pub loads_of : {A : Type 0} → Option A → ℕ
+loads_of None = 0
+loads_of (Some folder) = 1
+
+-- as many streams as requested, besides those that load a folder
+abbrev pub AreAllStreams : (requested : Option ℕ) → (loads streams : ℕ) → Type 0
+AreAllStreams None loads streams = Unit {0}
+AreAllStreams (Some sessions) loads streams = streams ≡ sessions + loads
+
+-- A server has served all requested streams on one core.
+pub record HasServedAll (requested : Option ℕ) (loads : ℕ) (ended : Ended) : Type 0 where
+  pub streams : ℕ
+  pub served : HasServed (is_some requested) streams ended
+  pub all : AreAllStreams requested loads streams
+
+-- A server has served all requested streams. The transcripts of their sessions agree with the
+-- core's records. The totals were written. They count these sessions, but for the one that loads a
+-- folder, and the calls.
+pub record HasWrittenTotals (requested : Option ℕ) (loads : ℕ) (old new : Option (List ℕ)) : Type 0
+  where
+    pub ended : Ended
+    pub served : HasServedAll requested loads ended
+    pub agree : AgreesWith ended.core.records ended.core.folded ended.transcripts.items
+    pub wrote : (h : List Record) → IsHistory ended.core h → Appends old new
+        (totals_text (ended.sessions - loads) (count_by is_call h) ended.core.folded)

@@ -6,9 +6,7 @@ use Rattle.sf_session.specs.declared.fault.ServeFault.{ServeFault}
 use Rattle.sf_session.specs.declared.fault.ServeFault.TheVariants as fault
 use Rattle.sf_call.specs.declared.record.Record.{Record}
 use Rattle.sf_call.specs.Histories.{IsLegal}
-use Rattle.sf_core.specs.Cores.{CoreView}
 use Rattle.sf_core.specs.Cores.LaneState.{NoLane}
-use Rattle.sf_core.specs.Histories.{IsHistory}
 use Rattle.sf_audit.specs.declared.transcript.Transcript.{Transcript}
 use Rattle.sf_audit.specs.Audits.{CallRecord, call_record, call_records}
 use Rattle.sf_noted.specs.Pages.{Page}
@@ -92,12 +90,3 @@ HasTranscripts keeps sessions transcripts =
 pub record IsLinearization (history : List Record) (sessions : List (ℕ × Page)) : Type 0 where
   pub legal : IsLegal history
   pub calls : AreCallsOf history sessions
-
--- All sessions of a core have ended. Its history is a linearization of their calls, and the
--- transcripts are theirs.
-pub record HasServed (keeps : Bool) (core : CoreView) (transcripts : List Transcript) : Type 0 where
-  pub history : List Record
-  pub sessions : List (ℕ × Page)
-  pub whole : IsHistory core history
-  pub order : IsLinearization history sessions
-  pub kept : HasTranscripts keeps sessions transcripts

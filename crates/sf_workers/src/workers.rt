@@ -10,10 +10,11 @@ ghost use Rattle.sf_pool.specs.OnCores.{calls_begun_by};
 ghost use Rattle.sf_workers.specs.Conversations.{ConversesIn};
 ghost use Rattle.sf_noted.specs.Visits.{visit_calls};
 ghost use Rattle.sf_workers.specs.Sessions.{calls_on_page, calls_in_transcript, EndsServing, IsOutcomeOf, IsVisitBetween, AttendsLine};
-ghost use Rattle.sf_workers.specs.Streams.{stream_state, ServesStreams};
+ghost use Rattle.sf_workers.specs.Streams.{stream_state, ServesStreams, ServesEach};
 
 use crate::sessions::Sessions;
 use crate::streams::{ChannelStreams, StreamSource};
+use crate::tickets::{Receipts, Sent};
 use crossbeam_channel::Receiver;
 use sf_call::Record;
 use sf_core::Share;
@@ -60,26 +61,46 @@ fn job_of<B: RollName + Ledger, C>(
     }
 }
 
-/// A job for each clock.
-pub(crate) fn jobs<B: RollName + Ledger, C: Drop>(
+/// A worker that has received no stream yet.
+#[derive(Drop)]
+pub(crate) struct Worker<B: RollName + Ledger, S: Ledger, C> {
+    job: Job<B, C>,
+    receipts: Receipts<S>,
+    ghost no_streams: { receipts ≡ 0 },
+}
+
+fn worker_of<B: RollName + Ledger, S: Ledger, C>(
+    job: Job<B, C>,
+    receipts: Receipts<S>,
+) -> Worker<B, S, C>
+    requires { receipts ≡ 0 }
+{
+    Worker { job, receipts }
+}
+
+/// A worker for each clock.
+pub(crate) fn new_workers<B: RollName + Ledger, S: Ledger, C: Drop>(
     alloc: Global,
     clocks: Vec<C>,
     all: &mut ledger::Share<B>,
     core: &mut NotedCore<B>,
-) -> Result<Vec<Job<B, C>>, AllocError>
+    receipts: &mut Receipts<S>,
+) -> Result<Vec<Worker<B, S, C>>, AllocError>
     requires parts { all.old.parts ≡ 2 * vec_len clocks }
     requires none { all.old.amount ≡ 0 }
-    ensures jobs { IfOk result (λ jobs. vec_len jobs ≡ vec_len clocks) }
+    ensures workers { IfOk result (λ workers. vec_len workers ≡ vec_len clocks) }
     ensures rest { IfOk result (λ _. (all.new.parts ≡ 0) × (all.new.amount ≡ 0)) }
+    ensures receipts { IfOk result (λ _. receipts.new ≡ receipts.old) }
 {
     let mut clocks = clocks;
-    let mut jobs = Vec::new(alloc);
+    let mut workers = Vec::new(alloc);
     while let Some(clock) = clocks.pop() {
         let piece = new_piece(alloc)?;
         let share = all.split_off(2, 0);
-        jobs.push(job_of(clock, piece, share, core.token()))?;
+        let job = job_of(clock, piece, share, core.token());
+        workers.push(worker_of(job, receipts.no_more()))?;
     }
-    Ok(jobs)
+    Ok(workers)
 }
 
 /// The sessions of one worker, with the count of their calls and the worker's token.
@@ -90,6 +111,13 @@ pub(crate) struct Served<B: RollName + Ledger> {
     pub(crate) seen: Seen<Record, B>,
     ghost two_parts: { share.parts ≡ 2 },
     ghost counted: { share.amount ≡ visit_calls sessions.visits.items },
+}
+
+/// The sessions of one worker, and the tickets of the streams that it received.
+#[derive(Drop)]
+pub(crate) struct Worked<B: RollName + Ledger, S: Ledger> {
+    pub(crate) served: Served<B>,
+    pub(crate) receipts: Receipts<S>,
 }
 
 /// Where sessions are served: a shared core, and the queue of threads that wait for it.
@@ -270,7 +298,8 @@ fn work<
     ensures streams { ServesStreams
         (λ l. stream_state (line_view (L.incoming l) (L.outgoing l) (L.calls l)) (L.failed l))
         (S.received source.old) (S.received source.new)
-        (S.returned source.old) (S.returned source.new) result.sessions.visits.items }
+        (S.returned source.old) (S.returned source.new)
+        (S.count source.old) (S.count source.new) result.sessions.visits.items }
 {
     let Job {
         mut clock,
@@ -290,32 +319,63 @@ fn work<
     served
 }
 
-/// Runs all jobs, each in a thread if one can be started, until the channel is closed and empty.
+/// Serves one session over each stream of the channel, until it is closed and empty.
+fn work_on_channel<
+    B: RollName + Ledger,
+    S: Ledger,
+    R: Wait,
+    L: Line + Drop,
+    C: Clock + Drop,
+    G: StepObserver,
+>(
+    place: &Place<'_, R, B>,
+    channel: &Receiver<Sent<L, S>>,
+    worker: Worker<B, S, C>,
+    observer: &G,
+    keeps: bool,
+) -> Worked<B, S>
+    ensures keeps { result.served.sessions.keeps ≡ keeps }
+    ensures each { ServesEach result.receipts result.served.sessions.visits.items }
+{
+    let Worker { job, receipts } = worker;
+    let mut source = ChannelStreams {
+        rt: place.rt,
+        channel,
+        receipts,
+    };
+    let served = work(place, &mut source, job, observer, keeps);
+    Worked {
+        served,
+        receipts: source.receipts,
+    }
+}
+
+/// Runs all workers, each in a thread if one can be started, until the channel is closed and empty.
 pub(crate) fn work_all<
     B: RollName + Ledger + Send + Sync,
+    S: Ledger + Send + Sync,
     R: Threads + Wait + Sync,
     L: Line + Drop + Send,
     C: Clock + Drop + Send,
     G: StepObserver + Sync,
 >(
     place: &Place<'_, R, B>,
-    lines: &Receiver<L>,
-    jobs: Vec<Job<B, C>>,
+    channel: &Receiver<Sent<L, S>>,
+    workers: Vec<Worker<B, S, C>>,
     observer: &G,
     keeps: bool,
-) -> Result<Vec<Served<B>>, AllocError>
-    ensures workers { IfOk result (λ all. vec_len all ≡ vec_len jobs) }
-    ensures keeps { IfOk result (λ all. All (λ s. s.sessions.keeps ≡ keeps) all.items) }
+) -> Result<Vec<Worked<B, S>>, AllocError>
+    ensures workers { IfOk result (λ all. vec_len all ≡ vec_len workers) }
+    ensures keeps { IfOk result (λ all. All (λ w. w.served.sessions.keeps ≡ keeps) all.items) }
+    ensures each { IfOk result (λ all. All
+        (λ w. ServesEach w.receipts w.served.sessions.visits.items) all.items) }
 {
     thread::map_vec(
         place.rt,
-        jobs,
-        &|job| {
-            let mut source = ChannelStreams {
-                rt: place.rt,
-                channel: lines,
-            };
-            work(place, &mut source, job, observer, keeps)
-        },
+        workers,
+        &move |worker: Worker<B, S, C>| -> Worked<B, S>
+            ensures keeps { result.served.sessions.keeps ≡ keeps }
+            ensures each { ServesEach result.receipts result.served.sessions.visits.items }
+        { work_on_channel(place, channel, worker, observer, keeps) },
     )
 }

@@ -1,4 +1,4 @@
-use Rattle.std.proofs.Common.{ℕ, subst}
+use Rattle.std.proofs.Common.{ℕ, ◌-◌, ◌∙◌, ap, subst}
 use Rattle.std.specs.Prelude.{OnOk, Result, Ok, Err}
 use Rattle.std.specs.List.{count_by}
 use Rattle.std.specs.Io.KnownBytes.{Appends}
@@ -13,16 +13,15 @@ so_if_ok (Err e) f p = tt
 
 pub returns : goal.returns
 returns g c =
-    let core = c.in_ok-ended.ended.core in
-    let transcripts = c.in_ok-ended.ended.transcripts.items in
+    let ended = c.in_ok-ended.ended in
+    let core = ended.core in
     let old = g.W.Write.contents c.args.output.now in
     let new = g.W.Write.contents c.tell.new.output in
     so_if_ok c.tell.result
     (λ tells. record {
-      core = core;
-      transcripts = transcripts;
-      told = c.in_ok-ended.ensures;
+      ended = ended;
+      served = c.in_ok-ended.ensures;
       agree = subst (AgreesWith core.records core.folded) c.as_slice.ensures.value tells.0;
-      wrote = λ h is. subst (λ (sessions : ℕ). Appends old new (totals_text sessions (count_by is_call h) core.folded)) c.unwrap_or-sessions.ensures (tells.1 h is);
+      wrote = λ h is. subst (λ (sessions : ℕ). Appends old new (totals_text sessions (count_by is_call h) core.folded)) (c.saturating_sub-sessions.ensures ∙ ap (λ (loads : ℕ). ended.sessions - loads) c.loads.ensures) (tells.1 h is);
     })
     c.tell.ensures.told

@@ -4,4 +4,4 @@ pub returns : goal.returns
 returns g c =
     let o = c.in_ok-outcome.outcome in
     let e = c.in_ok-outcome.ensures in
-    record { history = o.log; sessions = o.sessions.value.items; whole = e.history; order = e.order; kept = e.kept }
+    record { history = o.log; sessions = o.sessions.value.items; whole = e.history; order = e.order; kept = e.kept; each = e.each; many = e.served }

@@ -7,7 +7,7 @@ pub loop-init : goal.loop-init
 loop-init g c = record {
   keeps = c.none-served.ensures.keeps;
   room = c.args.job.room;
-  streams = serves_none _ _ _ _ _ _ refl refl c.none-served.ensures.visits;
+  streams = serves_none _ _ _ _ _ _ _ _ refl refl refl c.none-served.ensures.visits;
 }
 
 pub loop-preserved : goal.loop-preserved
@@ -20,7 +20,8 @@ loop-preserved g c =
     record {
       keeps = c.serve-more.ensures.keeps ∙ i.keeps;
       room = c.serve-more.ensures.len ∙ i.room;
-      streams = serves_more _ c.serve-more.result.1 _ _ _ _ _ _ _ _ start finish _ i.streams
+      streams = serves_more _ c.serve-more.result.1 _ _ _ _ _ _ _ _ _ _ _ start finish _ i.streams
           (subst (λ x. Notes before x (Some start ∷ [])) (sym c.give_back.ensures.received) c.in-Some-receive.ensures.received)
-          (subst (λ x. Notes x after (finish ∷ [])) c.receive.ensures.returned c.give_back.ensures.returned) c.serve-more.ensures.line;
+          (subst (λ x. Notes x after (finish ∷ [])) c.receive.ensures.returned c.give_back.ensures.returned) c.serve-more.ensures.line
+          (c.give_back.ensures.count ∙ c.in-Some-receive.ensures.counted);
     }

@@ -10,5 +10,6 @@ invariant-loop g l = record {
   keeps : l.served.sessions.keeps ≡ l.keeps;
   room : vec_len l.piece ≡ 65536;
   streams : ServesSoFar (λ x. stream_state (line_view (g.L.Line.incoming x) (g.L.Line.outgoing x) (g.L.Line.calls x)) (g.L.Line.failed x))
-      (g.S.StreamSource.received l.initial.source) (g.S.StreamSource.received l.source) (g.S.StreamSource.returned l.initial.source) (g.S.StreamSource.returned l.source) l.served.sessions.visits.items;
+      (g.S.StreamSource.received l.initial.source) (g.S.StreamSource.received l.source) (g.S.StreamSource.returned l.initial.source) (g.S.StreamSource.returned l.source)
+      (g.S.StreamSource.count l.initial.source) (g.S.StreamSource.count l.source) l.served.sessions.visits.items;
 }
