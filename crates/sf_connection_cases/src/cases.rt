@@ -50,8 +50,13 @@ struct Outcome {
     writes: usize,
 }
 
-/// MakesProgress a new connection over the requests, so many times at most, until it has ended.
-fn outcome(alloc: Global, reads: &[Turn], writes: &[Turn], times: usize) -> Result<Outcome, Fail> {
+/// Advances a new connection over the requests, so many times at most, until it has ended.
+fn outcome_of(
+    alloc: Global,
+    reads: &[Turn],
+    writes: &[Turn],
+    times: usize,
+) -> Result<Outcome, Fail> {
     let input = hex_packets(alloc, &REQUESTS)?;
     let mut engine = Engine::new(alloc)?;
     let session = engine.open()?;
@@ -81,7 +86,7 @@ fn outcome(alloc: Global, reads: &[Turn], writes: &[Turn], times: usize) -> Resu
 #[test]
 fn replies_are_written_together_before_it_waits(rt: HostRuntime) -> Result<(), Fail> {
     let reads = [Turn::Some(usize::MAX), Turn::Blocks];
-    let got = outcome(rt.alloc(), &reads, &[], 1)?;
+    let got = outcome_of(rt.alloc(), &reads, &[], 1)?;
     assert_eq!(rt; got.wants.as_slice(), [Wants::Read].as_slice());
     assert_eq!(rt;
         got.output.as_slice(),
@@ -96,7 +101,7 @@ fn replies_are_written_together_before_it_waits(rt: HostRuntime) -> Result<(), F
 fn a_stream_may_block_anywhere(rt: HostRuntime) -> Result<(), Fail> {
     let one = [Turn::Some(1), Turn::Blocks];
     let few = [one, one, one, one, one, one, one, one, one, one].concat(rt.alloc())?;
-    let got = outcome(rt.alloc(), &few, &few, 1000)?;
+    let got = outcome_of(rt.alloc(), &few, &few, 1000)?;
     assert_eq!(rt; got.wants.last(), Some(&Wants::Ended(Ok(Cause::Closed))));
     assert_eq!(rt;
         got.output.as_slice(),
@@ -108,7 +113,7 @@ fn a_stream_may_block_anywhere(rt: HostRuntime) -> Result<(), Fail> {
 /// A client with much input doesn't keep its worker: a turn has at most 64 steps.
 #[test]
 fn a_turn_has_few_steps(rt: HostRuntime) -> Result<(), Fail> {
-    let got = outcome(rt.alloc(), &[Turn::Some(1); 64], &[], 9)?;
+    let got = outcome_of(rt.alloc(), &[Turn::Some(1); 64], &[], 9)?;
     assert_eq!(rt; got.wants.first(), Some(&Wants::Again));
     assert_eq!(rt; got.wants.last(), Some(&Wants::Ended(Ok(Cause::Closed))));
     assert_eq!(rt;
@@ -130,7 +135,7 @@ fn a_full_stream_is_read_ahead(rt: HostRuntime) -> Result<(), Fail> {
         Turn::Some(99),
     ];
     let full = [Turn::Blocks; 8];
-    let got = outcome(rt.alloc(), &reads, &full, 1000)?;
+    let got = outcome_of(rt.alloc(), &reads, &full, 1000)?;
     assert_eq!(rt; got.wants.last(), Some(&Wants::Ended(Ok(Cause::Closed))));
     assert!(rt; got.wants.contains(&Wants::Both));
     assert!(rt; got.wants.contains(&Wants::Write));
@@ -144,13 +149,13 @@ fn a_full_stream_is_read_ahead(rt: HostRuntime) -> Result<(), Fail> {
 /// A write that fails, and a read that fails, end the session with the fault of the stream.
 #[test]
 fn a_fault_ends_the_session(rt: HostRuntime) -> Result<(), Fail> {
-    let got = outcome(rt.alloc(), &[], &[Turn::Some(3), Turn::Fails], 9)?;
+    let got = outcome_of(rt.alloc(), &[], &[Turn::Some(3), Turn::Fails], 9)?;
     assert_eq!(rt;
         got.wants.last(),
         Some(&Wants::Ended(Err(ServeFault::Line)))
     );
     assert_eq!(rt; got.output.len(), 3);
-    let got = outcome(rt.alloc(), &[Turn::Some(9), Turn::Fails], &[], 9)?;
+    let got = outcome_of(rt.alloc(), &[Turn::Some(9), Turn::Fails], &[], 9)?;
     assert_eq!(rt;
         got.wants.last(),
         Some(&Wants::Ended(Err(ServeFault::Line)))

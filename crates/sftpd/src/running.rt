@@ -189,14 +189,7 @@ fn client(rt: &HostRuntime, socket: &str, command: ClientCommand<'_>) -> u8
     };
     let line = StreamLine::new(&stream, &stream);
     let mut errors = StreamLine::new(io::empty(), rt.stderr());
-    run_client(
-        alloc,
-        line,
-        command,
-        &data,
-        &mut rt.stdout(),
-        &mut errors,
-    )
+    run_client(alloc, line, command, &data, &mut rt.stdout(), &mut errors)
 }
 
 /// Reports that a stream failed, or that memory ran out.
