@@ -64,9 +64,9 @@ fn outcome_of(
     let host = EngineHost::new(session, &observer);
     let stream = ScriptedStream::new(alloc, &input, reads, writes);
     let mut connection = Connection::new(alloc, host, stream);
-    let mut piece = new_piece(alloc)?;
     let mut all = Vec::new(alloc);
     for _ in 0..times {
+        let mut piece = new_piece(alloc)?;
         let wants = connection.advance(&mut engine, &mut StillClock, &mut piece);
         all.push(wants)?;
         if let Wants::Ended(_) = wants {

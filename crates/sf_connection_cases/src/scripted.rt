@@ -1,6 +1,7 @@
 //! A stream over memory that blocks where a script says.
 
-ghost use Rattle.std.specs.Prelude.{◌≡◌, ◌≤◌, length};
+ghost use Rattle.std.specs.Prelude.{◌≡◌, ◌≤◌};
+ghost use Rattle.sf_line.specs.Lines.{Rose};
 
 use sf_connection::Stream;
 use sf_line::LineFault;
@@ -65,7 +66,13 @@ impl<'a> ScriptedStream<'a> {
         self.made
     }
 
-    fn fail(&mut self) -> LineFault {
+    /// Counts a failure and returns its error.
+    fn fail(&mut self) -> LineFault
+        ensures input { self.new.input.now ≡ self.old.input.now }
+        ensures output { self.new.output.items ≡ self.old.output.items }
+        ensures rose { Rose self.old.failures self.new.failures }
+        ensures more { self.old.failures ≤ self.new.failures }
+    {
         self.failures = self.failures.saturating_add(1);
         LineFault
     }
