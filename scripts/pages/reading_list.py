@@ -25,6 +25,7 @@ LISTS = [
         "How such a session and its server end",
         {"sf_workers": ["serve_lines", "serve_line", "one_promise"]},
     ),
+    ("The steps of a call, at the core", {"sf_core": ["Core::step"]}),
     (
         "The engine's steps and their work",
         {"sf_engine": [*(f"Engine::{name}" for name in ENGINE_CALLS), "determinism"]},
