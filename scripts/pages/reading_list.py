@@ -17,13 +17,13 @@ LISTS = [
     (
         "Many sessions by threads, as in `sftpd serve`",
         {
-            "sf_workers": ["serve_lines: order, kept", "serve_line: talk, seen, between"],
+            "sf_workers": ["serve_lines: order, kept", "end_session: talk, seen, between"],
             "sf_noted": ["in_real_time"],
         },
     ),
     (
         "How such a session and its server end",
-        {"sf_workers": ["serve_lines", "serve_line", "one_promise"]},
+        {"sf_workers": ["serve_lines", "end_session", "one_promise"]},
     ),
     ("The steps of a call, at the core", {"sf_core": ["Core::step"]}),
     (

@@ -46,7 +46,7 @@ def find_paramiko():
 
 
 class Server:
-    """`sftpd serve` with so many workers, which ends after so many sessions, where they are
+    """`sftpd serve` with so many workers, which ends after so many clients, where they are
     counted."""
 
     def __init__(

@@ -7,6 +7,7 @@
 
 use sf_alone::serve_one;
 use sf_clock::SystemClock;
+use sf_connection::LineStream;
 use sf_engine::Engine;
 use sf_line::StreamLine;
 use sf_serving::NoObserver;
@@ -25,9 +26,9 @@ fn serve(rt: &HostRuntime, path: &str) -> io::Result<()> {
     let listener = UnixListener::bind(rt, path)?;
     for stream in listener.incoming() {
         let stream = stream?;
-        let mut line = StreamLine::new(&stream, &stream);
+        let stream = LineStream::new(StreamLine::new(&stream, &stream));
         // An error of one session doesn't affect the next.
-        let _ = serve_one(alloc, &mut engine, &mut line, &mut clock, &NoObserver);
+        let _ = serve_one(alloc, &mut engine, stream, &mut clock, &NoObserver);
     }
     Ok(())
 }

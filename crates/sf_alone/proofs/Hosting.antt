@@ -1,7 +1,7 @@
 -- A session of an engine: open, feed, sent and close.
 use Rattle.std.proofs.Common.{◌≡◌, ◌<◌, ◌≤◌, ℕ, ◌+◌, ◌-◌, List, [], ◌∷◌, ◌++◌, Bool, true, false, Option, Result, Ok, Err, length, refl, ap, sym, ◌∙◌, subst, inl, inr, append-nil, length-append, arith}
 use Rattle.std.specs.Global.{Vec}
-use Rattle.std.specs.Prelude.{if◌then◌else◌}
+use Rattle.std.specs.Prelude.{if◌then◌else◌, IfOk, IfErr}
 use Rattle.std.proofs.KnownBytes.{Appends-nil}
 use Rattle.sf_call.specs.declared.fault.JoinFault.{JoinFault}
 use Rattle.sf_call.specs.declared.fault.JoinFault.TheVariants as join
@@ -21,9 +21,14 @@ use Rattle.sf_engine.specs.Promise.{Entry, SessionOpened, BytesFed, SessionClose
 use Rattle.sf_engine.specs.HasLog.{HasLog, engine_fault, AppendsEntry}
 use Rattle.sf_engine.proofs.Laws.{own_push, count_push}
 use Rattle.sf_serving.specs.Hosts.{IsFront, with_sent, ended}
-use Rattle.sf_serving.specs.Serving.{LineView, Progress, ServedSoFar, Serves, IsStopped, IsStop}
+use Rattle.sf_serving.specs.Serving.{Progress, IsStopped, IsStop}
 use Rattle.sf_serving.proofs.Laws.{none_written, ended_same}
-use Rattle.sf_alone.specs.OnEngine.{HasCall, IsOf, moment_of, AreTimed, IsLowAt, AreLow, has_left, IsStateOf, Since, since_at, IoState, IsTold, IsToldBy, Feeds, Applies, HasOutput, HasStoppedAt, MayNotOpen, IsServeFault}
+use Rattle.sf_connection.specs.declared.connection.Connection.{Connection}
+use Rattle.sf_connection.specs.declared.connection.Wants.TheVariants.{Ended}
+use Rattle.sf_connection.specs.Connections.{Returns}
+use Rattle.sf_connection.specs.Waits.{WaitsPromptly}
+use Rattle.sf_alone.specs.OnEngine.{HasCall, IsOf, moment_of, AreTimed, IsLowAt, AreLow, engine_held, has_left, IsStateOf, Since, since_at, IoState, IsToldBy, Feeds, Applies, HasOutput, ServesLine, HasStoppedAt, MayNotOpen, IsServeFault, StopsEarly}
+use Rattle.sf_session.specs.declared.cause.Cause.{Cause}
 use Rattle.sf_alone.proofs.Entries.{Added, extended}
 
 -- the event of an entry that is no turn
@@ -55,7 +60,7 @@ opened_state log s (SessionOpened z) e is lawful nobody =
     ((omega (arith, number), omega (arith, number, count_push is_opening log x)), subst (λ (z : SessionLog). IsStateOf z new_state) (sym l) state)
 opened_state log s x e is lawful nobody = absurd cc
 
-pub opened : (start : Since) (e' : EngineView) (s : ℕ) → AppendsEntry start.engine event.Open (Ok (happened.Opened s)) e' → IsToldBy 0 start s e' start.told new_state
+opened : (start : Since) (e' : EngineView) (s : ℕ) → AppendsEntry start.engine event.Open (Ok (happened.Opened s)) e' → IsToldBy 0 start s e' start.told new_state
 opened start e' s goes =
     let g = goes start.log start.has in
     let x = g.0 in
@@ -79,6 +84,10 @@ opened start e' s goes =
       omega arith,
     )
 
+pub opened_by : (start : Since) (e' : EngineView) (s turns s' : ℕ) → turns ≡ 0 → s' ≡ s → AppendsEntry start.engine event.Open (Ok (happened.Opened s)) e' → IsToldBy turns start s' e' start.told new_state
+opened_by start e' s turns s' none same goes =
+    subst (λ (n : ℕ). IsToldBy n start s' e' start.told new_state) (sym none) (subst (λ (n : ℕ). IsToldBy 0 start n e' start.told new_state) (sym same) (opened start e' s goes))
+
 -- why none opened
 may_not_open : (log : List Entry) (f : JoinFault) → MayBeRefused log event.Open (engine_fault f) → MayNotOpen log (join_refusal f)
 may_not_open log join.OutOfMemory may = tt
@@ -87,11 +96,6 @@ may_not_open log join.NumbersSpent may = may.1
 
 pub not_opened : (e e' : EngineView) (f : JoinFault) → AppendsEntry e event.Open (Err (engine_fault f)) e' → (log : List Entry) → HasLog e log → MayNotOpen log (join_refusal f)
 not_opened e e' f goes log has = let g = goes log has in may_not_open log f (refused_by log g.0 event.Open (engine_fault f) g.1 g.2 (g.3.kept.lawful log [] g.0 refl))
-
-pub open_fault : (f : JoinFault) (old new : ℕ) → IsServeFault (join_refusal f) old new
-open_fault join.OutOfMemory old new = tt
-open_fault join.Sessions old new = tt
-open_fault join.NumbersSpent old new = tt
 
 -- ---- one event that is no turn
 
@@ -243,11 +247,7 @@ sent_on {s = s} {n = n} {t = t} output T waits count applies =
     let all : length (transcript (of_session s log).wrote) ≡ (of_session s log).sent + n = omega (arith, ap (λ (b : List ℕ). length b) u.packets, length-append u.sent output, u.count_is, count) in
     sent_state s n t applies.0 log x e is known lawful all h)
 
--- ---- a transport
-
--- a session that an engine served to its end, or until an error
-pub told_alone : {held : ℕ} {turns : ℕ} {start : Since} {s : ℕ} {e : EngineView} {tl : Option (List ℕ)} {from now : LineView} {P : Progress → Type 0} → Serves held (IsToldBy turns start s e tl) from now P → Serves held (IsTold start s e tl) from now P
-told_alone serves = (serves.0, serves.1.0, serves.2, serves.3)
+-- ---- a stream
 
 stopped_at : (f : ServeFault) (failed failed' turns : ℕ) (p : Progress) (entries : List Entry) → turns ≤ length entries → IsStop f failed failed' → IsStopped f turns p → HasStoppedAt f entries p
 stopped_at serve.Line failed failed' turns p entries few why h = h.closed
@@ -255,11 +255,23 @@ stopped_at serve.OutOfMemory failed failed' turns p entries few why h = (h.writt
 stopped_at serve.NumbersSpent failed failed' turns p entries few why h = ((h.written (λ e. cc), h.closed), elim h.spent [ inl most ↦ inl most | inr most ↦ inr (omega (arith, most, few)) ])
 stopped_at f failed failed' turns p entries few why h = absurd why
 
-pub stops_so : {held : ℕ} (start now : IoState) {log : List Entry} {has : HasLog start.engine log} {f : ServeFault} (failed failed' : ℕ) {turns s : ℕ} → IsStop f failed failed' → Serves held (IsToldBy turns (since_at start log has) s now.engine now.told) start.line now.line (IsStopped f turns)
-    → (session : ℕ) × (p : Progress) × (tells : IsTold (since_at start log has) session now.engine now.told p.state) × ServedSoFar held start.line now.line p × HasStoppedAt f tells.later.entries p
-stops_so start now {f = f} failed failed' {turns = turns} {s = s} why serves =
-    (s, serves.0, serves.1.0, serves.2, stopped_at f failed failed' turns serves.0 serves.1.0.later.entries serves.1.1 why serves.3)
-
-pub serve_fault : (f : ServeFault) (failed failed' : ℕ) → IsStop f failed failed' → IsServeFault f failed failed'
+serve_fault : (f : ServeFault) (failed failed' : ℕ) → IsStop f failed failed' → IsServeFault f failed failed'
 serve_fault serve.Line failed failed' h = h
 serve_fault f failed failed' h = tt
+
+-- an engine served a session over a stream, with this outcome
+abbrev pub WasServed : {H S : Type 0} → Connection H S → Progress → (start now : IoState) → (turns s : ℕ) → Result Cause ServeFault → Type 0
+WasServed c p₀ start now turns s r = (log : List Entry) → (has : HasLog start.engine log)
+    → (p : Progress) × IsToldBy turns (since_at start log has) s now.engine now.told p.state × WaitsPromptly start.stream start.waits now.waits × Returns (Ended r) engine_held turns start.stream now.stream c p₀ p
+
+pub serves_line : {H S : Type 0} (c : Connection H S) (p₀ : Progress) (start now : IoState) (turns s : ℕ) (r : Result Cause ServeFault) → WasServed c p₀ start now turns s r → IfOk r (λ cause. ServesLine start now cause)
+serves_line c p₀ start now turns s (Ok cause) was = λ log has. let x = was log has in (s, x.0, x.1.0, x.3.0, x.3.1, x.2)
+serves_line c p₀ start now turns s (Err f) was = tt
+
+pub stops_early : {H S : Type 0} (c : Connection H S) (p₀ : Progress) (start now : IoState) (turns s : ℕ) (r : Result Cause ServeFault) → WasServed c p₀ start now turns s r → IfErr r (λ f. StopsEarly start now f)
+stops_early c p₀ start now turns s (Ok cause) was = tt
+stops_early c p₀ start now turns s (Err f) was = λ log has.
+    let x = was log has in
+    let failed = start.stream.failed in
+    let failed' = now.stream.failed in
+    inr (s, x.0, x.1.0, x.3.0, stopped_at f failed failed' turns x.0 x.1.0.later.entries x.1.1 x.3.2 x.3.1, serve_fault f failed failed' x.3.2, x.2)

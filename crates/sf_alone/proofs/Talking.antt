@@ -1,4 +1,4 @@
--- Serving a single transport yields a conversation.
+-- Serving a single stream yields a conversation.
 use Rattle.std.proofs.Common.{◌≡◌, ◌⊎◌, ◌<◌, ◌≤◌, ℕ, ◌+◌, ◌-◌, List, [], ◌∷◌, ◌++◌, Some, Bool, true, false, cond, length, map, slice_get, Result, Ok, Err, refl, ap, sym, ◌∙◌, subst, inl, inr, arith, append-nil, append_assoc, length-append}
 use Rattle.std.specs.Prelude.{if◌then◌else◌, IfOk, IfErr}
 use Rattle.std.specs.List.{AllByRecursion, flat_map}
@@ -22,10 +22,11 @@ use Rattle.sf_session.proofs.Laws.{all_push}
 use Rattle.sf_engine.specs.Promise.{Entry, SessionOpened, CallBegun, CallMoved, CallDecided, ReplyWritten, EventRefused, event_of, result_of, session_of, leaves_by, calls_by, added_by, is_beginning, begun_in, linearization, CallLog, SessionLog, of_session, IsPending, IsAnswered, IsKept, IsLawful, MayWrite}
 use Rattle.sf_engine.specs.HasLog.{HasLog}
 use Rattle.sf_engine.proofs.Laws.{own_push, other_push, count_push, order_push}
-use Rattle.sf_serving.specs.Serving.{Progress, ServedSoFar, IsServed}
+use Rattle.sf_serving.specs.Serving.{Progress, IsServed}
 use Rattle.sf_serving.proofs.Laws.{none_written}
+use Rattle.sf_connection.specs.Connections.{HasPassed}
 use Rattle.sf_alone.proofs.Entries.{all_join}
-use Rattle.sf_alone.specs.OnEngine.{IoState, IsEntryOf, IsTimed, AreTimed, engine_held, IsTold, since_at, ServesLine, StopsEarly}
+use Rattle.sf_alone.specs.OnEngine.{IoState, IsEntryOf, IsTimed, AreTimed, IsTold, since_at, ServesLine, StopsEarly}
 use Rattle.sf_alone.specs.Talks.{TalkView, talk_view, Passes, ConversesTo}
 use Rattle.sf_alone.proofs.Turning.{after}
 
@@ -65,9 +66,9 @@ nothing_said = record {
   fair = tt;
 }
 
--- what a transport and a clock expose
+-- what a stream and a clock expose
 abbrev pub talk_of : IoState → TalkView
-talk_of x = talk_view x.line.incoming x.told x.line.outgoing
+talk_of x = talk_view x.stream.incoming x.told x.stream.outgoing
 
 -- nothing was read and written
 pub says_nothing : (start now : TalkView) → now ≡ start → (read moments written : List ℕ) × Passes start now read moments written × IsConversation read moments written
@@ -262,13 +263,13 @@ module _ (s : ℕ) (pos : 0 < s) (whole : List Entry) (kept : IsKept whole) wher
         fair = subst (λ (n : ℕ). AllByRecursion (IsFair n) (of_session s whole).wrote) (sym it.begun ∙ g.begun) it.fair;
       }
 
--- ---- a transport
+-- ---- a stream
 
 none_due : (d : Due) → length (asked_due d) ≡ 0 → d ≡ NothingDue
 none_due NothingDue e = refl
 none_due d e = absurd (omega (arith, e))
 
-module _ (start now : IoState) (has : HasLog start.engine []) (s : ℕ) (p : Progress) (T : IsTold (since_at start [] has) s now.engine now.told p.state) (served : ServedSoFar engine_held start.line now.line p) where
+module _ (start now : IoState) (has : HasLog start.engine []) (s : ℕ) (p : Progress) (T : IsTold (since_at start [] has) s now.engine now.told p.state) (served : HasPassed start.stream now.stream p) where
   abbrev log : List Entry
   log = T.later.log
 
@@ -305,7 +306,7 @@ module _ (start now : IoState) (has : HasLog start.engine []) (s : ℕ) (p : Pro
       (read, T.later.moments, p.written, passes, conversation s T.later.known.0 log T.later.has.kept own read T.later.moments p.written served.begun.0 parts written timed)
 
   -- the session was served to its end
-  says_whole : (cause : Cause) → IsServed now.line.incoming cause p → ConversesTo (talk_of start) (talk_of now) (Ok cause)
+  says_whole : (cause : Cause) → IsServed now.stream.incoming cause p → ConversesTo (talk_of start) (talk_of now) (Ok cause)
   says_whole cause ends =
       let t = p.state in
       let l = of_session s log in
@@ -334,10 +335,10 @@ module _ (start now : IoState) (has : HasLog start.engine []) (s : ℕ) (p : Pro
         ends.at_end,
       )
 
--- a transport served to its end, on a new engine
+-- a stream served to its end, on a new engine
 pub talked_whole : (start now : IoState) (cause : Cause) → HasLog start.engine [] → ServesLine start now cause → ConversesTo (talk_of start) (talk_of now) (Ok cause)
 talked_whole start now cause has serves =
-    let x = serves [] has in says_whole start now has x.0 x.1.0 x.1.1 x.1.2 cause x.1.3
+    let x = serves [] has in says_whole start now has x.0 x.1 x.2 x.3 cause x.4
 
 -- and one for which serving stopped
 pub talked_some : (start now : IoState) (fault : ServeFault) → HasLog start.engine [] → StopsEarly start now fault → ConversesTo (talk_of start) (talk_of now) (Err fault)
@@ -346,7 +347,7 @@ talked_some start now fault has stops = elim (stops [] has) [
   | inr some ↦ says_some start now has some.0 some.1 some.2 some.3
 ]
 
--- the outcome of serving a transport
+-- the outcome of serving a stream
 pub talked : (start now : IoState) (outcome : Result Cause ServeFault) → HasLog start.engine [] → IfOk outcome (λ cause. ServesLine start now cause) → IfErr outcome (λ fault. StopsEarly start now fault) → ConversesTo (talk_of start) (talk_of now) outcome
 talked start now (Ok cause) has serves stops = talked_whole start now cause has serves
 talked start now (Err fault) has serves stops = talked_some start now fault has stops

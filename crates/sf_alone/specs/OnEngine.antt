@@ -1,4 +1,4 @@
--- A session of an engine, served over a transport.
+-- A session of an engine, served over a stream.
 use Rattle.std.specs.Prelude.{◌≡◌, ◌≢◌, ◌≤◌, ◌+◌, ◌⊎◌, ℕ, List, [], ◌∷◌, ◌++◌, length, Bool, true, false, Option, Result, Ok}
 use Rattle.std.specs.Global.{Vec}
 use Rattle.std.specs.List.{AllByRecursion}
@@ -18,7 +18,10 @@ use Rattle.sf_engine.specs.Views.{EngineView}
 use Rattle.sf_engine.specs.Promise.{Entry, event_of, result_of, opened_in, left_in, CallLog, SessionLog, of_session, IsKnown, IsUnsent}
 use Rattle.sf_engine.specs.HasLog.{HasLog, AppendsEntry, AppendsTurns}
 use Rattle.sf_serving.specs.Hosts.{IsFront, most_counted}
-use Rattle.sf_serving.specs.Serving.{LineView, Progress, ServedSoFar, Serves, HasWritten, IsServed}
+use Rattle.sf_serving.specs.Serving.{Progress, HasWritten, IsServed}
+use Rattle.sf_connection.specs.Streams.{StreamView, WaitsView}
+use Rattle.sf_connection.specs.Connections.{HasPassed}
+use Rattle.sf_connection.specs.Waits.{WaitsPromptly}
 
 -- the event is of the session: open, feed, turn, close or sent
 abbrev pub IsOf : ℕ → Event → Result Happened EngineFault → Type 0
@@ -134,28 +137,31 @@ abbrev pub IsToldBy : (turns : ℕ) → Since → ℕ → EngineView → Option 
 IsToldBy turns start session engine told t =
     (tells : IsTold start session engine told t) × (turns ≤ length tells.later.entries)
 
--- a transport, the timestamps read from a clock if exposed, and an engine
+-- a stream and the waits for it, the timestamps read from a clock if exposed, and an engine
 pub record IoState : Type 0 where
-  pub line : LineView
+  pub stream : StreamView
+  pub waits : WaitsView
   pub told : Option (List ℕ)
   pub engine : EngineView
 
-abbrev pub io_state : LineView → Option (List ℕ) → EngineView → IoState
-io_state line told engine = record { line = line; told = told; engine = engine }
+abbrev pub io_state : StreamView → WaitsView → Option (List ℕ) → EngineView → IoState
+io_state stream waits told engine =
+    record { stream = stream; waits = waits; told = told; engine = engine }
 
 -- since the engine had this log
 abbrev pub since_at : (start : IoState) (log : List Entry) → HasLog start.engine log → Since
 since_at start log has =
     record { engine = start.engine; log = log; has = has; told = start.told }
 
--- The effect of serving a transport to this end, whatever log the engine had. A new session was fed
+-- The effect of serving a stream to this end, whatever log the engine had. A new session was fed
 -- all bytes read, its whole transcript was sent, and it has ended. At the end of the input the
--- session is closed.
+-- session is closed. Whenever the server waited for input alone, all was answered.
 abbrev pub ServesLine : IoState → IoState → Cause → Type 0
 ServesLine start now cause = (log : List Entry) → (has : HasLog start.engine log)
-    → (session : ℕ) × Serves engine_held
-    (IsTold (since_at start log has) session now.engine now.told)
-    start.line now.line (IsServed now.line.incoming cause)
+    → (session : ℕ) × (p : Progress)
+    × IsTold (since_at start log has) session now.engine now.told p.state
+    × HasPassed start.stream now.stream p × IsServed now.stream.incoming cause p
+    × WaitsPromptly start.stream start.waits now.waits
 
 -- why no session opened: memory ran out, the maximum number of sessions exists, or session numbers
 -- are exhausted
@@ -165,7 +171,7 @@ MayNotOpen log fault.OutOfMemory = Unit {0}
 MayNotOpen log fault.Sessions = left_in log + 256 ≤ opened_in log
 MayNotOpen log fault.NumbersSpent = opened_in log ≡ most_calls
 
--- Serving has stopped and the session is closed. Unless the transport failed, all replies were
+-- Serving has stopped and the session is closed. Unless the stream failed, all replies were
 -- written. `NumbersSpent` occurs only after 2^64 - 1 bytes read or events.
 abbrev pub HasStoppedAt : ServeFault → List Entry → Progress → Type 0
 HasStoppedAt fault.Line entries p = TakesNone p.state
@@ -174,6 +180,13 @@ HasStoppedAt fault.Sessions entries p = ⊥
 HasStoppedAt fault.NumbersSpent entries p = (HasWritten p × TakesNone p.state)
     × ((most_counted ≤ length p.state.stream) ⊎ (most_counted ≤ length entries))
 
+-- why serving stops early; on `Line` the stream's error count rose
+abbrev pub IsServeFault : ServeFault → ℕ → ℕ → Type 0
+IsServeFault fault.Line failed failed' = Rose failed failed'
+IsServeFault fault.OutOfMemory failed failed' = Unit {0}
+IsServeFault fault.Sessions failed failed' = Unit {0}
+IsServeFault fault.NumbersSpent failed failed' = Unit {0}
+
 -- The effect of serving that stopped with this error: none, if no session could open; otherwise a
 -- new session progressed to `p`.
 abbrev pub StopsEarly : IoState → IoState → ServeFault → Type 0
@@ -181,14 +194,9 @@ StopsEarly start now f = (log : List Entry) → (has : HasLog start.engine log)
     → ((now ≡ start) × MayNotOpen log f)
     ⊎ ((session : ℕ) × (p : Progress)
     × (tells : IsTold (since_at start log has) session now.engine now.told p.state)
-    × ServedSoFar engine_held start.line now.line p × HasStoppedAt f tells.later.entries p)
-
--- why serving stops early; on `Line` the transport's error count rose
-abbrev pub IsServeFault : ServeFault → ℕ → ℕ → Type 0
-IsServeFault fault.Line failed failed' = Rose failed failed'
-IsServeFault fault.OutOfMemory failed failed' = Unit {0}
-IsServeFault fault.Sessions failed failed' = Unit {0}
-IsServeFault fault.NumbersSpent failed failed' = Unit {0}
+    × HasPassed start.stream now.stream p × HasStoppedAt f tells.later.entries p
+    × IsServeFault f start.stream.failed now.stream.failed
+    × WaitsPromptly start.stream start.waits now.waits)
 
 -- the session was fed these bytes
 abbrev pub Feeds : EngineView → ℕ → List ℕ → EngineView → Type 0

@@ -1,4 +1,4 @@
--- The input, output and timestamps of a single session, served over a transport.
+-- The input, output and timestamps of a single session, served over a stream.
 use Rattle.std.specs.Prelude.{◌≡◌, ℕ, List, Option, Result, Ok, Err}
 use Rattle.std.specs.Io.KnownBytes.{Appends, Consumes, IsAtEnd}
 use Rattle.sf_session.specs.declared.cause.Cause.{Cause}
@@ -6,7 +6,7 @@ use Rattle.sf_session.specs.declared.cause.Cause.TheVariants.{Closed}
 use Rattle.sf_session.specs.declared.fault.ServeFault.{ServeFault}
 use Rattle.sf_session.specs.Conversation.{IsConversation, IsWholeConversation}
 
--- a transport's input not yet read, the timestamps read from a clock, and the transport's output,
+-- a stream's input not yet read, the timestamps read from a clock, and the stream's output,
 -- if exposed
 pub record TalkView : Type 0 where
   pub incoming : Option (List ℕ)

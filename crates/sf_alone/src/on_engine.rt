@@ -6,13 +6,12 @@ ghost use Rattle.sf_session.specs.declared.fault.ServeFault.{ServeFault};
 ghost use Rattle.sf_session.specs.SessionStates.{SessionState, fed, IsRead};
 ghost use Rattle.sf_session.specs.Responses.{transcript};
 ghost use Rattle.sf_serving.specs.Hosts.{IsOpen, HasSent, IsFurther, IsSessionStep, with_sent, ended, IsHostFault};
-ghost use Rattle.sf_serving.specs.Serving.{line_view};
-ghost use Rattle.sf_alone.specs.OnEngine.{Since, IsToldBy, io_state, may_begin_after, Turns, Feeds, Applies, HasOutput, ServesLine, StopsEarly, IsServeFault};
+ghost use Rattle.sf_alone.specs.OnEngine.{Since, IsToldBy, io_state, may_begin_after, Turns, Feeds, Applies, HasOutput, ServesLine, StopsEarly};
 
 use sf_call::Record;
+use sf_connection::{Connection, WaitingStream};
 use sf_engine::{Engine, EngineFault, Event, Happened};
-use sf_line::Line;
-use sf_serving::{CallObserver, Host, ObservedCall, SessionStep, new_piece, serve_session};
+use sf_serving::{CallObserver, Host, ObservedCall, SessionStep, new_piece};
 use sf_session::{Cause, Clock, ServeFault};
 use std::alloc::{AllocError, Global};
 
@@ -223,38 +222,39 @@ impl<G: CallObserver> Host<Engine> for EngineHost<'_, G> {
     }
 }
 
-/// Serves one session over a transport until its input or the session ends, on an engine that may
-/// have other sessions. The observer receives the session's events.
-pub fn serve_one<L: Line, C: Clock, G: CallObserver>(
+/// Serves one session over a stream until its input or the session ends, on an engine that may
+/// have other sessions. Returns the stream too. The observer receives the session's events.
+pub fn serve_one<S: WaitingStream, C: Clock, G: CallObserver>(
     alloc: Global,
     engine: &mut Engine,
-    line: &mut L,
+    stream: S,
     clock: &mut C,
     observer: &G,
-) -> Result<Cause, ServeFault>
-    ensures served { IfOk result (λ cause. ServesLine
-        (io_state (line_view (L.incoming line.old) (L.outgoing line.old) (L.calls line.old))
-        (C.moments clock.old) engine.old)
-        (io_state (line_view (L.incoming line.new) (L.outgoing line.new) (L.calls line.new))
-        (C.moments clock.new) engine.new) cause) }
-    ensures stopped { IfErr result (λ fault. StopsEarly
-        (io_state (line_view (L.incoming line.old) (L.outgoing line.old) (L.calls line.old))
-        (C.moments clock.old) engine.old)
-        (io_state (line_view (L.incoming line.new) (L.outgoing line.new) (L.calls line.new))
-        (C.moments clock.new) engine.new) fault) }
-    ensures fault { IfErr result (λ fault. IsServeFault fault (L.failed line.old)
-        (L.failed line.new)) }
+) -> (Result<Cause, ServeFault>, S)
+    ensures served { IfOk result.0 (λ cause. ServesLine
+        (io_state (S.view stream) (S.waits stream) (C.moments clock.old) engine.old)
+        (io_state (S.view result.1) (S.waits result.1) (C.moments clock.new) engine.new) cause) }
+    ensures stopped { IfErr result.0 (λ fault. StopsEarly
+        (io_state (S.view stream) (S.waits stream) (C.moments clock.old) engine.old)
+        (io_state (S.view result.1) (S.waits result.1) (C.moments clock.new) engine.new) fault) }
 {
-    let mut piece = new_piece(alloc)?;
-    let session = engine.open()?;
+    let Ok(mut piece) = new_piece(alloc) else {
+        return (Err(ServeFault::OutOfMemory), stream);
+    };
+    let session = match engine.open() {
+        Ok(session) => session,
+        Err(refusal) => return (Err(ServeFault::from(refusal)), stream),
+    };
     observer.joined(session);
-    let mut host = EngineHost {
+    let host = EngineHost {
         session,
         turns: 0,
         observer,
         told: 0,
     };
-    let outcome = serve_session(&mut host, engine, line, clock, &mut piece);
+    let mut connection = Connection::new(alloc, host, stream);
+    let outcome = connection.serve(engine, clock, &mut piece);
     observer.left(session, outcome);
-    outcome
+    let (_, stream) = connection.into_parts();
+    (outcome, stream)
 }

@@ -1,8 +1,8 @@
 -- What passed over a stream, as a session progresses.
 use Rattle.std.proofs.Common.{◌≡◌, ◌≤◌, ℕ, ◌+◌, List, [], ◌++◌, Bool, Option, length, drop, refl, ap, sym, ◌∙◌, subst, append-nil, length-append, arith}
 use Rattle.std.proofs.Math.Seq.{drop-append_seam, drop-length}
-use Rattle.std.specs.Io.KnownBytes.{Appends, Consumes}
-use Rattle.std.proofs.KnownBytes.{Appends-trans, Consumes-trans}
+use Rattle.std.specs.Io.KnownBytes.{Appends, Consumes, Keeps}
+use Rattle.std.proofs.KnownBytes.{Appends-trans, Appends-kept, Consumes-trans}
 use Rattle.sf_call.specs.ReplyKinds.{longest_packet}
 use Rattle.sf_session.specs.Responses.{Response, transcript, has_begun}
 use Rattle.sf_session.specs.SessionStates.{Phase, Resting, UnderWay, Decided, Gone, SessionState, fed, unsent, IsRest, IsRead}
@@ -49,11 +49,11 @@ unsent_few {held = held} t t' e further =
 pub passed_sent : {from now : StreamView} {p : Progress} → HasPassed from now p → HasPassed from now (progress (with_sent p.state) p.unfed p.written)
 passed_sent {p = p} S = record { bodies = read_sent p.state S.bodies; read = S.read; wrote = S.wrote; begun = S.begun }
 
-pub passed_still : {from now now' : StreamView} {p : Progress} → now'.incoming ≡ now.incoming → now'.outgoing ≡ now.outgoing → HasPassed from now p → HasPassed from now' p
-passed_still {from = from} {p = p} i o S = record {
+pub passed_still : {from now now' : StreamView} {p : Progress} → now'.incoming ≡ now.incoming → Keeps now.outgoing now'.outgoing → HasPassed from now p → HasPassed from now' p
+passed_still {from = from} {now = now} {now' = now'} {p = p} i o S = record {
   bodies = S.bodies;
   read = subst (λ (x : Option (List ℕ)). Consumes from.incoming x (p.state.stream ++ p.unfed)) (sym i) S.read;
-  wrote = subst (λ (x : Option (List ℕ)). Appends from.outgoing x p.written) (sym o) S.wrote;
+  wrote = Appends-kept from.outgoing now.outgoing now'.outgoing p.written S.wrote o;
   begun = S.begun;
 }
 

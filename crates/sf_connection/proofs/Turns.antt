@@ -2,8 +2,8 @@
 use Rattle.std.proofs.Common.{◌≡◌, ◌≢◌, ◌<◌, ◌≤◌, ◌⊎◌, ℕ, ◌+◌, ◌-◌, ◌^◌, List, [], ◌++◌, Option, Some, None, Result, Ok, Err, length, take, drop, refl, ap, sym, ◌∙◌, subst, inl, inr, append-nil, append_assoc, length-append, length-drop, length-take, take-append-drop, arith}
 use Rattle.std.proofs.lemmas.List.{take_all, take_at, drop-drop}
 use Rattle.std.specs.Prelude.{IfErr}
-use Rattle.std.specs.Io.KnownBytes.{Appends, Consumes, IsAtEnd}
-use Rattle.std.proofs.KnownBytes.{Appends-nil, Consumes-nil}
+use Rattle.std.specs.Io.KnownBytes.{Appends, Consumes, Keeps, IsAtEnd}
+use Rattle.std.proofs.KnownBytes.{Appends-nil, Consumes-nil, Consumes-kept, Keeps-refl}
 use Rattle.sf_line.specs.Lines.{Rose}
 use Rattle.sf_session.specs.declared.cause.Cause.{Cause}
 use Rattle.sf_session.specs.declared.cause.Cause.TheVariants.{Closed}
@@ -99,8 +99,8 @@ served_same {work = work} {from = from} {now = now} {p = p} c c' g d a e i s = r
 }
 
 -- over a stream over which nothing passed since
-pub served_still : {H S H' S' : Type 0} {held work : ℕ} {from now now' : StreamView} {p : Progress} (c : Connection H S) (c' : Connection H' S') → c'.gathered ≡ c.gathered → c'.direct ≡ c.direct → c'.ahead ≡ c.ahead → c'.state ≡ c.state → c'.input ≡ c.input → now'.incoming ≡ now.incoming → now'.outgoing ≡ now.outgoing → now.failed ≤ now'.failed → IsServing held work from now c p → IsServing held work from now' c' p
-served_still {from = from} {now = now} {now' = now'} c c' g d a e n i o more s = served_same c c' g d a e n (record {
+pub served_kept : {H S H' S' : Type 0} {held work : ℕ} {from now now' : StreamView} {p : Progress} (c : Connection H S) (c' : Connection H' S') → c'.gathered ≡ c.gathered → c'.direct ≡ c.direct → c'.ahead ≡ c.ahead → c'.state ≡ c.state → c'.input ≡ c.input → now'.incoming ≡ now.incoming → Keeps now.outgoing now'.outgoing → now.failed ≤ now'.failed → IsServing held work from now c p → IsServing held work from now' c' p
+served_kept {from = from} {now = now} {now' = now'} c c' g d a e n i o more s = served_same c c' g d a e n (record {
   passed = passed_still i o s.passed;
   state = s.state;
   input = input_kept c.input from now now' i more s.input;
@@ -114,6 +114,12 @@ served_still {from = from} {now = now} {now' = now'} c c' g d a e n i o more s =
   waits = s.waits;
   failures = omega (arith, s.failures, more);
 })
+
+same_keeps : (a b : Option (List ℕ)) → b ≡ a → Keeps a b
+same_keeps a b e = subst (λ (o : Option (List ℕ)). Keeps a o) (sym e) (Keeps-refl a)
+
+pub served_still : {H S H' S' : Type 0} {held work : ℕ} {from now now' : StreamView} {p : Progress} (c : Connection H S) (c' : Connection H' S') → c'.gathered ≡ c.gathered → c'.direct ≡ c.direct → c'.ahead ≡ c.ahead → c'.state ≡ c.state → c'.input ≡ c.input → now'.incoming ≡ now.incoming → now'.outgoing ≡ now.outgoing → now.failed ≤ now'.failed → IsServing held work from now c p → IsServing held work from now' c' p
+served_still {now = now} {now' = now'} c c' g d a e n i o more s = served_kept c c' g d a e n i (same_keeps now.outgoing now'.outgoing o) more s
 
 -- ---- output is taken from the host
 
@@ -486,6 +492,10 @@ read_from now now' n len buffer old count consumes same more = record {
 pub some_read : (n len : ℕ) (buffer old : List ℕ) → length buffer ≡ len → 0 < n → n ≤ length buffer → 0 < length (take n (take len (buffer ++ drop (length buffer) old)))
 some_read n len buffer old count some fits =
     subst (λ (b : List ℕ). 0 < length (take n b)) (sym (take_at buffer (drop (length buffer) old) len count)) (omega (arith, length-take n buffer, some, fits))
+
+-- a read that failed read nothing
+pub none_read : (now now' : StreamView) → Keeps now.incoming now'.incoming → now'.outgoing ≡ now.outgoing → now.failed ≤ now'.failed → IsReadFrom now now' []
+none_read now now' kept same more = record { consumes = Consumes-kept now.incoming now.incoming now'.incoming [] (Consumes-nil now.incoming) kept; outgoing = same; failures = more }
 
 -- ---- a session that waits
 

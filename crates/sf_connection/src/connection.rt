@@ -1,6 +1,6 @@
 //! A session over a non-blocking stream.
 
-ghost use Rattle.std.specs.Prelude.{◌≡◌, ◌≢◌, ◌<◌, ◌≤◌, ◌+◌, ◌^◌, ℕ, List, [], length, take, true, false, Option, Ok, IfSome, vec_len};
+ghost use Rattle.std.specs.Prelude.{◌≡◌, ◌≢◌, ◌<◌, ◌≤◌, ◌+◌, ◌^◌, ℕ, List, [], length, take, true, false, Option, Ok, IfSome, IfNone, vec_len};
 ghost use Rattle.sf_serving.specs.Hosts.{IsOpen};
 ghost use Rattle.sf_session.specs.SessionStates.{new_state};
 ghost use Rattle.sf_serving.specs.Serving.{Progress, progress, Rests};
@@ -9,6 +9,7 @@ ghost use Rattle.sf_connection.specs.Steps.{state_after};
 
 use crate::gathered::Gathered;
 use crate::stream::Stream;
+use crate::waiting::WaitingStream;
 use sf_line::LineFault;
 use sf_serving::{Host, SessionStep};
 use sf_session::{Cause, Clock, ServeFault};
@@ -143,7 +144,8 @@ impl<H, S: Stream> Connection<H, S> {
     ghost use Rattle.sf_connection.specs.Connections.{IsServing, HasDue, amount, ReadsNoFurther, Returns, MakesProgress, BlocksFor, IfEnded};
     ghost use Rattle.sf_connection.specs.Steps.{StepsIf, IsClear, rank, HasStepped, HasSteppedBy, HasTurned, MayEnd, HasTried, HasRead, IsReadFrom, MayReadAhead, wants_of};
 
-    /// Takes the host's output if there is room for it.
+    /// Takes the host's output if there is room for it. A single batch is left to be written
+    /// directly.
     fn gather<P>(&mut self, place: &mut P)
     where
         H: Host<P>,
@@ -157,7 +159,11 @@ impl<H, S: Stream> Connection<H, S> {
             (S.view self.new.stream) self.new p'
             × (amount p' ≡ amount p)) }
         ensures rank { rank self.new ≡ rank self.old }
+        ensures stream { self.new.stream ≡ self.old.stream }
     {
+        if self.state != ServeState::Processing && self.gathered.as_slice().is_empty() {
+            return;
+        }
         if !self.gathered.add(self.host.output(place)) {
             return;
         }
@@ -179,6 +185,7 @@ impl<H, S: Stream> Connection<H, S> {
             (λ from p p'. IsServing H.held (H.work self.new.host place.new) from
             (S.view self.new.stream) self.new p'
             × HasStepped self.old self.new p p') }
+        ensures stream { self.new.stream ≡ self.old.stream }
     {
         self.state = state_after(self.host.go_on(place, clock));
         self.ahead = ahead_in(self.state, self.ahead);
@@ -200,6 +207,7 @@ impl<H, S: Stream> Connection<H, S> {
             × HasTried result from (S.view self.new.stream) p p') }
         ensures blocks { result ≡ Ok false → S.writes_block self.new.stream }
         ensures rank { rank self.new ≡ rank self.old }
+        ensures waits { S.waits self.new.stream ≡ S.waits self.old.stream }
     {
         let output = self.host.output(place);
         let len = output.len();
@@ -234,6 +242,7 @@ impl<H, S: Stream> Connection<H, S> {
             × HasTried result from (S.view self.new.stream) p p') }
         ensures blocks { result ≡ Ok false → S.writes_block self.new.stream }
         ensures rank { rank self.new ≡ rank self.old }
+        ensures waits { S.waits self.new.stream ≡ S.waits self.old.stream }
     {
         if self.gathered.as_slice().is_empty() {
             return self.write_output(place);
@@ -311,6 +320,7 @@ impl<H, S: Stream> Connection<H, S> {
         ensures len { vec_len piece.new ≡ vec_len piece.old }
         ensures blocks { result ≡ false → S.reads_block self.new.stream }
         ensures writes { S.writes_block self.old.stream → S.writes_block self.new.stream }
+        ensures waits { S.waits self.new.stream ≡ S.waits self.old.stream }
     {
         match self.stream.try_read(piece) {
             Ok(None) => false,
@@ -343,6 +353,7 @@ impl<H, S: Stream> Connection<H, S> {
             (S.view self.old.stream) self.old (H.serves start self.new.host place.new moments)
             (λ from p p'. Returns result H.held (H.work self.new.host place.new) from
             (S.view self.new.stream) self.new p p') }
+        ensures stream { self.new.stream ≡ self.old.stream }
     {
         self.host.end(place);
         Wants::Ended(outcome)
@@ -365,6 +376,7 @@ impl<H, S: Stream> Connection<H, S> {
         ensures len { vec_len piece.new ≡ vec_len piece.old }
         ensures blocks { IfSome result (λ wants. BlocksFor wants (S.reads_block self.new.stream)
             (S.writes_block self.new.stream)) }
+        ensures waits { S.waits self.new.stream ≡ S.waits self.old.stream }
     {
         match self.input {
             InputState::AtEnd => Some(self.end(place, Ok(Cause::Closed))),
@@ -410,6 +422,7 @@ impl<H, S: Stream> Connection<H, S> {
         ensures len { vec_len piece.new ≡ vec_len piece.old }
         ensures blocks { IfSome result (λ wants. BlocksFor wants (S.reads_block self.new.stream)
             (S.writes_block self.new.stream)) }
+        ensures waits { S.waits self.new.stream ≡ S.waits self.old.stream }
     {
         if !self.reads_ahead() {
             return Some(Wants::Write);
@@ -438,6 +451,7 @@ impl<H, S: Stream> Connection<H, S> {
         ensures len { vec_len piece.new ≡ vec_len piece.old }
         ensures blocks { IfSome result (λ wants. BlocksFor wants (S.reads_block self.new.stream)
             (S.writes_block self.new.stream)) }
+        ensures waits { S.waits self.new.stream ≡ S.waits self.old.stream }
     {
         match self.write(place) {
             Ok(true) => None,
@@ -469,6 +483,7 @@ impl<H, S: Stream> Connection<H, S> {
         ensures len { vec_len piece.new ≡ vec_len piece.old }
         ensures blocks { IfSome result (λ wants. BlocksFor wants (S.reads_block self.new.stream)
             (S.writes_block self.new.stream)) }
+        ensures waits { S.waits self.new.stream ≡ S.waits self.old.stream }
     {
         if self.has_due(place) {
             return self.write_turn(place, piece);
@@ -500,6 +515,7 @@ impl<H, S: Stream> Connection<H, S> {
         ensures len { vec_len piece.new ≡ vec_len piece.old }
         ensures blocks { BlocksFor result (S.reads_block self.new.stream)
             (S.writes_block self.new.stream) }
+        ensures waits { S.waits self.new.stream ≡ S.waits self.old.stream }
     {
         for steps in 0..STEPS {
             match self.turn(place, clock, piece) {
@@ -537,6 +553,7 @@ impl<H, S: Stream> Connection<H, S> {
         ensures blocks { BlocksFor result (S.reads_block self.new.stream)
             (S.writes_block self.new.stream) }
         ensures len { vec_len piece.new ≡ vec_len piece.old }
+        ensures waits { S.waits self.new.stream ≡ S.waits self.old.stream }
     {
         let wants = self.turns(place, clock, piece);
         if let Wants::Ended(_) = wants {
@@ -544,5 +561,78 @@ impl<H, S: Stream> Connection<H, S> {
         }
         self.host.rest(place);
         wants
+    }
+}
+
+impl<H, S: WaitingStream> Connection<H, S> {
+    ghost use Rattle.sf_connection.specs.Connections.{Returns, MakesProgress, IfEnded};
+    ghost use Rattle.sf_connection.specs.Waits.{WaitsPromptly, HasRounded};
+
+    /// Advances, and waits. Returns the outcome if the session has ended.
+    fn round<P, C: Clock>(
+        &mut self,
+        place: &mut P,
+        clock: &mut C,
+        piece: &mut Vec<u8>,
+    ) -> Option<Result<Cause, ServeFault>>
+    where
+        H: Host<P>,
+        requires sound { H.sound self.old.host place.old }
+        requires room { vec_len piece.old ≡ 65536 }
+        ensures going { IfNone result (H.sound self.new.host place.new) }
+        ensures left { IfSome result (λ _. H.left self.new.host place.new) }
+        ensures waits { IfNone result
+            ((S.waits self.new.stream).left < (S.waits self.old.stream).left) }
+        ensures served { (start : H.Start) → MakesProgress H.held
+            (H.serves start self.old.host place.old (C.moments clock.old))
+            (H.work self.old.host place.old) (S.view self.old.stream) self.old
+            (H.serves start self.new.host place.new (C.moments clock.new))
+            (λ from p p'. HasRounded result H.held (H.work self.new.host place.new) from
+            (S.view self.new.stream) self.new p p'
+            × WaitsPromptly from (S.waits self.old.stream) (S.waits self.new.stream)) }
+        ensures len { vec_len piece.new ≡ vec_len piece.old }
+    {
+        let wants = self.advance(place, clock, piece);
+        if let Wants::Ended(outcome) = wants {
+            return Some(outcome);
+        }
+        match self.stream.wait(wants) {
+            Ok(()) => None,
+            Err(_) => {
+                self.end(place, Err(ServeFault::Line));
+                Some(Err(ServeFault::Line))
+            }
+        }
+    }
+
+    /// Serves the session until its input or the session ends. It waits if the stream would block.
+    ///
+    /// Whenever it waits for input alone, all complete packets that were read are answered, and
+    /// their replies are written. A client that waits for a reply thus receives it.
+    pub fn serve<P, C: Clock>(
+        &mut self,
+        place: &mut P,
+        clock: &mut C,
+        piece: &mut Vec<u8>,
+    ) -> Result<Cause, ServeFault>
+    where
+        H: Host<P>,
+        requires sound { H.sound self.old.host place.old }
+        requires room { vec_len piece.old ≡ 65536 }
+        ensures left { H.left self.new.host place.new }
+        ensures served { (start : H.Start) → MakesProgress H.held
+            (H.serves start self.old.host place.old (C.moments clock.old))
+            (H.work self.old.host place.old) (S.view self.old.stream) self.old
+            (H.serves start self.new.host place.new (C.moments clock.new))
+            (λ from p p'. Returns (Wants.Ended result) H.held (H.work self.new.host place.new)
+            from (S.view self.new.stream) self.new p p'
+            × WaitsPromptly from (S.waits self.old.stream) (S.waits self.new.stream)) }
+    {
+        loop {
+            match self.round(place, clock, piece) {
+                Some(outcome) => return outcome,
+                None => {}
+            }
+        }
     }
 }

@@ -1,9 +1,9 @@
 //! Non-blocking byte streams.
 
 ghost use Rattle.std.specs.Prelude.{◌≡◌, ◌<◌, ◌≤◌, ℕ, length, take, IfOk, OnErr, IfSome, IfNone};
-ghost use Rattle.std.specs.Io.KnownBytes.{Consumes, Appends, IsAtEnd};
+ghost use Rattle.std.specs.Io.KnownBytes.{Consumes, Appends, Keeps, IsAtEnd};
 ghost use Rattle.sf_line.specs.Lines.{Rose};
-ghost use Rattle.sf_connection.specs.Streams.{StreamView};
+ghost use Rattle.sf_connection.specs.Streams.{StreamView, WaitsView, no_waits};
 
 use sf_line::LineFault;
 
@@ -18,6 +18,9 @@ pub trait Stream {
     /// A write would block.
     ghost writes_block: { Self → Type 0 } = { λ _. Unit {0} };
 
+    /// The waits for it.
+    ghost waits: { Self → WaitsView } = { λ _. no_waits };
+
     /// Reads some bytes into a prefix of the buffer. It returns `None` if it would block, and 0
     /// only at the end of input or for an empty buffer. On an error nothing was read.
     fn try_read(&mut self, buffer: &mut [u8]) -> Result<Option<usize>, LineFault>
@@ -28,11 +31,12 @@ pub trait Stream {
             → IsAtEnd (view self.new).incoming)) }
         ensures blocks { IfOk result (λ read. IfNone read
             (reads_block self.new × (view self.new ≡ view self.old))) }
-        ensures err { OnErr result ((view self.new).incoming ≡ (view self.old).incoming) }
+        ensures err { OnErr result (Keeps (view self.old).incoming (view self.new).incoming) }
         ensures outgoing { (view self.new).outgoing ≡ (view self.old).outgoing }
         ensures writes { writes_block self.old → writes_block self.new }
         ensures failures { (view self.old).failed ≤ (view self.new).failed }
-        ensures fault { OnErr result (Rose (view self.old).failed (view self.new).failed) };
+        ensures fault { OnErr result (Rose (view self.old).failed (view self.new).failed) }
+        ensures waits { waits self.new ≡ waits self.old };
 
     /// Writes a nonempty prefix of the bytes; 0 bytes only if there are none. It returns `None` if
     /// it would block. Then and on an error nothing was written.
@@ -43,8 +47,9 @@ pub trait Stream {
             Appends (view self.old).outgoing (view self.new).outgoing (take n bytes.now))) }
         ensures blocks { IfOk result (λ wrote. IfNone wrote
             (writes_block self.new × (view self.new ≡ view self.old))) }
-        ensures err { OnErr result ((view self.new).outgoing ≡ (view self.old).outgoing) }
+        ensures err { OnErr result (Keeps (view self.old).outgoing (view self.new).outgoing) }
         ensures incoming { (view self.new).incoming ≡ (view self.old).incoming }
         ensures failures { (view self.old).failed ≤ (view self.new).failed }
-        ensures fault { OnErr result (Rose (view self.old).failed (view self.new).failed) };
+        ensures fault { OnErr result (Rose (view self.old).failed (view self.new).failed) }
+        ensures waits { waits self.new ≡ waits self.old };
 }

@@ -1,7 +1,7 @@
 //! A session of an engine over a scripted stream.
 
 use crate::scripted::{ScriptedStream, Turn};
-use sf_alone::EngineHost;
+use sf_alone::{EngineHost, serve_one};
 use sf_connection::{Connection, Wants};
 use sf_engine::Engine;
 use sf_hex::hex_packets;
@@ -161,5 +161,20 @@ fn a_fault_ends_the_session(rt: HostRuntime) -> Result<(), Fail> {
         Some(&Wants::Ended(Err(ServeFault::Line)))
     );
     assert_eq!(rt; got.output.len(), 153);
+    Ok(())
+}
+
+/// A session that is served alone waits for what its stream blocks.
+#[test]
+fn a_session_waits_for_its_stream(rt: HostRuntime) -> Result<(), Fail> {
+    let alloc = rt.alloc();
+    let input = hex_packets(alloc, &REQUESTS)?;
+    let reads = [Turn::Blocks, Turn::Some(9), Turn::Blocks];
+    let stream = ScriptedStream::new(alloc, &input, &reads, &[Turn::Blocks]);
+    let mut engine = Engine::new(alloc)?;
+    let (outcome, stream) = serve_one(alloc, &mut engine, stream, &mut StillClock, &NoObserver);
+    assert_eq!(rt; outcome, Ok(Cause::Closed));
+    assert_eq!(rt; stream.waits(), [Wants::Read, Wants::Both].as_slice());
+    assert_eq!(rt; stream.output(), hex_packets(alloc, &REPLIES)?.as_slice());
     Ok(())
 }

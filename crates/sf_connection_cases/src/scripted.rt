@@ -1,9 +1,6 @@
 //! A stream over memory that blocks where a script says.
 
-ghost use Rattle.std.specs.Prelude.{◌≡◌, ◌≤◌};
-ghost use Rattle.sf_line.specs.Lines.{Rose};
-
-use sf_connection::Stream;
+use sf_connection::{Stream, StreamCounts, WaitingStream, Wants};
 use sf_line::LineFault;
 use std::alloc::Global;
 
@@ -25,7 +22,9 @@ pub(crate) struct ScriptedStream<'a> {
     writes: &'a [Turn],
     /// The number of writes.
     made: usize,
-    failures: u64,
+    /// What it was waited for.
+    waits: Vec<Wants>,
+    counts: StreamCounts,
 }
 
 /// Removes the first turn of a script.
@@ -52,7 +51,8 @@ impl<'a> ScriptedStream<'a> {
             reads,
             writes,
             made: 0,
-            failures: 0,
+            waits: Vec::new(alloc),
+            counts: StreamCounts::new(),
         }
     }
 
@@ -66,32 +66,29 @@ impl<'a> ScriptedStream<'a> {
         self.made
     }
 
-    /// Counts a failure and returns its error.
-    fn fail(&mut self) -> LineFault
-        ensures input { self.new.input.now ≡ self.old.input.now }
-        ensures output { self.new.output.items ≡ self.old.output.items }
-        ensures rose { Rose self.old.failures self.new.failures }
-        ensures more { self.old.failures ≤ self.new.failures }
-    {
-        self.failures = self.failures.saturating_add(1);
-        LineFault
+    /// What it was waited for.
+    pub(crate) fn waits(&self) -> &[Wants] {
+        self.waits.as_slice()
     }
 }
 
 impl Stream for ScriptedStream<'_> {
-    ghost use Rattle.std.specs.Prelude.{Some};
+    ghost use Rattle.std.specs.Prelude.{Some, None};
+    ghost use Rattle.sf_connection.specs.StreamCounts.{failures_of, waits_left_of};
 
     ghost view = { λ s. record {
       incoming = Some s.input.now;
       outgoing = Some s.output.items;
-      failed = s.failures;
+      failed = failures_of s.counts;
     } };
+
+    ghost waits = { λ s. record { made = None; left = waits_left_of s.counts } };
 
     fn try_read(&mut self, buffer: &mut [u8]) -> Result<Option<usize>, LineFault> {
         let most = match next_turn(&mut self.reads) {
             Turn::Some(most) => most.max(1),
             Turn::Blocks => return Ok(None),
-            Turn::Fails => return Err(self.fail()),
+            Turn::Fails => return Err(self.counts.fail()),
         };
         let n = buffer.len().min(self.input.len()).min(most);
         let (front, rest) = self.input.split_at(n);
@@ -104,13 +101,22 @@ impl Stream for ScriptedStream<'_> {
         let most = match next_turn(&mut self.writes) {
             Turn::Some(most) => most.max(1),
             Turn::Blocks => return Ok(None),
-            Turn::Fails => return Err(self.fail()),
+            Turn::Fails => return Err(self.counts.fail()),
         };
         let n = bytes.len().min(most);
         if self.output.extend_from_slice(&bytes[..n]).is_err() {
-            return Err(self.fail());
+            return Err(self.counts.fail());
         }
         self.made = self.made.saturating_add(1);
         Ok(Some(n))
+    }
+}
+
+impl WaitingStream for ScriptedStream<'_> {
+    fn wait(&mut self, wants: Wants) -> Result<(), LineFault> {
+        if self.waits.push(wants).is_err() {
+            return Err(self.counts.fail());
+        }
+        self.counts.wait()
     }
 }

@@ -59,15 +59,13 @@ fn a_session_of_two_calls(rt: HostRuntime) -> Result<(), Fail> {
     ];
     let input = hex_packets(alloc, &requests)?;
     let all = Pieces::new(usize::MAX, usize::MAX);
-    let mut line = MemoryLine::new(alloc, &input, all, all);
+    let line = MemoryLine::new(alloc, &input, all, all);
     let mut clock = KeepingClock {
         rt: &rt,
         given: Vec::new(alloc),
     };
-    assert_eq!(rt;
-        serve_alone(alloc, 256, &mut line, &mut clock)?,
-        Cause::Closed
-    );
+    let (outcome, line) = serve_alone(alloc, 256, line, &mut clock);
+    assert_eq!(rt; outcome, Ok(Cause::Closed));
     assert_eq!(rt; line.output(), hex_packets(alloc, &replies)?.as_slice());
     Ok(())
 }

@@ -10,6 +10,8 @@ use Rattle.sf_field.specs.declared.attrs.Times.{Times}
 use Rattle.sf_reply.specs.declared.reply.Reply.{Reply}
 use Rattle.sf_reply.specs.declared.reply.Reply.TheVariants as reply
 use Rattle.sf_reply.specs.Replies.{message_of}
+use Rattle.sf_call.specs.declared.fault.JoinFault.{JoinFault}
+use Rattle.sf_call.specs.declared.fault.JoinFault.TheVariants as refusal
 use Rattle.sf_call.specs.declared.request.Request.{Request}
 use Rattle.sf_call.specs.declared.request.Request.TheVariants as request
 use Rattle.sf_session.specs.declared.cause.Cause.{Cause}
@@ -17,7 +19,7 @@ use Rattle.sf_session.specs.declared.cause.Cause.TheVariants as cause
 use Rattle.sf_session.specs.declared.fault.ServeFault.{ServeFault}
 use Rattle.sf_session.specs.declared.fault.ServeFault.TheVariants as fault
 use Rattle.sf_log.specs.declared.line.LogLine.{LogLine}
-use Rattle.sf_log.specs.declared.line.LogLine.TheVariants.{Opened, Answered, Closed}
+use Rattle.sf_log.specs.declared.line.LogLine.TheVariants.{Opened, Answered, Closed, Refused}
 
 -- ---- paths
 
@@ -157,6 +159,12 @@ outcome_text (Err fault.OutOfMemory) = codes ": out of memory"
 outcome_text (Err fault.Sessions) = codes ": too many sessions"
 outcome_text (Err fault.NumbersSpent) = codes ": numbers are spent"
 
+-- why a session could not join
+abbrev pub refusal_text : JoinFault → List ℕ
+refusal_text refusal.OutOfMemory = codes ": out of memory"
+refusal_text refusal.Sessions = codes ": too many sessions"
+refusal_text refusal.NumbersSpent = codes ": numbers are spent"
+
 abbrev pub line_text : LogLine → List ℕ
 line_text (Opened session) = codes "session " ++ decimal session ++ codes " opened"
 line_text (Answered session number moment request reply) =
@@ -165,6 +173,7 @@ line_text (Answered session number moment request reply) =
     ++ codes " ->" ++ reply_text reply.now
 line_text (Closed session outcome) =
     codes "session " ++ decimal session ++ codes " closed" ++ outcome_text outcome
+line_text (Refused fault) = codes "client refused" ++ refusal_text fault
 
 -- The bytes of a line, with its newline.
 abbrev pub log_line_bytes : LogLine → List ℕ

@@ -2,11 +2,11 @@
 
 ghost use Rattle.std.specs.Prelude.{◌≡◌, OnOk};
 ghost use Rattle.std.specs.Io.KnownBytes.{Appends};
-ghost use Rattle.sf_log.specs.Lines.{outcome_text, log_line_bytes};
+ghost use Rattle.sf_log.specs.Lines.{outcome_text, refusal_text, log_line_bytes};
 
 use crate::reply::ReplyText;
 use crate::request::RequestText;
-use sf_call::Request;
+use sf_call::{JoinFault, Request};
 use sf_reply::Reply;
 use sf_session::{Cause, ServeFault};
 use std::alloc::Global;
@@ -34,6 +34,10 @@ pub enum LogLine<'a> {
         session: u64,
         outcome: Result<Cause, ServeFault>,
     },
+    /// A client's session could not join.
+    Refused {
+        fault: JoinFault,
+    },
 }
 
 /// Why a session ended; empty if its input ended.
@@ -52,6 +56,17 @@ fn words_of(outcome: Result<Cause, ServeFault>) -> &'static str
         Err(ServeFault::OutOfMemory) => ": out of memory",
         Err(ServeFault::Sessions) => ": too many sessions",
         Err(ServeFault::NumbersSpent) => ": numbers are spent",
+    }
+}
+
+/// Why a session could not join.
+fn refusal_words(fault: JoinFault) -> &'static str
+    ensures { result.now ≡ refusal_text fault }
+{
+    match fault {
+        JoinFault::OutOfMemory => ": out of memory",
+        JoinFault::Sessions => ": too many sessions",
+        JoinFault::NumbersSpent => ": numbers are spent",
     }
 }
 
@@ -77,6 +92,10 @@ impl fmt::Display for LogLine<'_> {
             LogLine::Closed { session, outcome } => {
                 let words = words_of(outcome);
                 write!(f, "session {session} closed{words}")
+            }
+            LogLine::Refused { fault } => {
+                let words = refusal_words(fault);
+                write!(f, "client refused{words}")
             }
         }
     }

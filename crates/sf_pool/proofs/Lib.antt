@@ -4,3 +4,4 @@ pub mod Leaving
 pub mod Seeing
 pub mod Transcribing
 pub mod Talking
+pub mod OnLane

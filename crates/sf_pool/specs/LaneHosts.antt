@@ -1,4 +1,3 @@
--- No public clause cites this module.
 -- A session whose calls a lane makes, between two of its packets.
 use Rattle.std.specs.Prelude.{◌≡◌, ◌<◌, ◌≤◌, ℕ, List, [], ◌∷◌, ◌++◌, length, Option, Some, None, Ok, IfSome}
 use Rattle.sf_call.specs.declared.request.Request.{Request}

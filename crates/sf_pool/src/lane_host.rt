@@ -34,6 +34,7 @@ pub(crate) enum Standing {
 }
 
 /// The host of a session whose lane has joined.
+#[derive(Drop)]
 pub(crate) struct LaneHost<'a, G> {
     number: u64,
     session: Session,

@@ -366,8 +366,10 @@ impl<'a, R: Wait, B: RollName + Ledger> SharedLane<'a, R, B> {
     {
         self.give_up();
         self.permit = None;
-        self.before = self.made;
-        self.made = 0;
+        if self.made != 0 {
+            self.before = self.made;
+            self.made = 0;
+        }
         self.vain = 0;
     }
 

@@ -1,3 +1,4 @@
 mod Carrying
+mod Known
 pub mod Lines
 mod Talks

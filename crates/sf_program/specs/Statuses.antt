@@ -7,7 +7,7 @@ use Rattle.sf_session.specs.declared.fault.ServeFault.{ServeFault}
 use Rattle.sf_session.specs.declared.fault.ServeFault.TheVariants as fault
 use Rattle.sf_engine.specs.Views.{EngineView}
 use Rattle.sf_engine.specs.HasLog.{HasLog}
-use Rattle.sf_alone.specs.OnEngine.{IoState, ServesLine, StopsEarly, IsServeFault}
+use Rattle.sf_alone.specs.OnEngine.{IoState, ServesLine, StopsEarly}
 
 -- the end of the input is no fault
 abbrev pub status_of_cause : Cause → ℕ
@@ -44,18 +44,16 @@ status_line (Err fault.Line) = codes "sftpd: stream: standard input or output fa
 status_line (Err fault.Sessions) = codes "sftpd: stream" ++ 10 ∷ []
 status_line (Err fault.NumbersSpent) = codes "sftpd: stream" ++ 10 ∷ []
 
--- the outcome of serving a line on an engine
-abbrev pub ServingComesTo : (start now : IoState) → (failed failed' : ℕ) → Result Cause ServeFault
-    → Type 0
-ServingComesTo start now failed failed' (Ok cause) = ServesLine start now cause
-ServingComesTo start now failed failed' (Err fault) =
-    StopsEarly start now fault × IsServeFault fault failed failed'
+-- the outcome of serving a stream on an engine
+abbrev pub ServingComesTo : (start now : IoState) → Result Cause ServeFault → Type 0
+ServingComesTo start now (Ok cause) = ServesLine start now cause
+ServingComesTo start now (Err fault) = StopsEarly start now fault
 
--- Memory ran out for an engine, and nothing was read or written; or a line was served on a new
+-- Memory ran out for an engine, and nothing was read or written; or a stream was served on a new
 -- engine that keeps `keep` records, with this outcome.
-abbrev pub SessionEnds : (keep : ℕ) → (start now : EngineView → IoState) → (failed failed' : ℕ)
+abbrev pub SessionEnds : (keep : ℕ) → (start now : EngineView → IoState)
     → Result Cause ServeFault → Type 0
-SessionEnds keep start now failed failed' outcome =
+SessionEnds keep start now outcome =
     ((outcome ≡ Err fault.OutOfMemory) × ((e : EngineView) → now e ≡ start e))
     ⊎ ((first last : EngineView) × HasLog first [] × (first.core.keep ≡ Some keep)
-    × ServingComesTo (start first) (now last) failed failed' outcome)
+    × ServingComesTo (start first) (now last) outcome)

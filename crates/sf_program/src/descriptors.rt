@@ -1,11 +1,11 @@
 //! Standard streams and sockets, read and written without blocking if `poll` says so.
 
-ghost use Rattle.std.specs.Prelude.{◌≡◌, ℕ, ◌<◌, ◌≤◌, List, length, take, Option, IfOk, OnErr};
+ghost use Rattle.std.specs.Prelude.{◌≡◌, ℕ, ◌<◌, ◌≤◌, List, length, take, Option, IfOk, IfSome, IfNone, OnErr};
 ghost use Rattle.std.specs.Io.KnownBytes.{IsAtEnd, prepend_known, append_known};
 
 use crate::output::{Output, asked, shown};
 use libc::net::{POLLIN, POLLOUT, poll};
-use sf_ahead::{Duplex, Ready};
+use sf_connection::{Stream, StreamCounts, WaitingStream, Wants};
 use sf_line::LineFault;
 use std::io::{self, ErrorKind, Read, Stdin};
 use std::os::fd::{AsRawFd, RawFd};
@@ -91,6 +91,9 @@ pub struct Descriptors<I, O> {
     is_full: bool,
     /// It has not waited for the output alone since the last write.
     is_patient: bool,
+    /// The next read would not block, or may block since nothing else is to be done.
+    may_read: bool,
+    counts: StreamCounts,
 }
 
 impl<I, O> Descriptors<I, O> {
@@ -106,6 +109,8 @@ impl<I, O> Descriptors<I, O> {
             output,
             is_full: false,
             is_patient: true,
+            may_read: false,
+            counts: StreamCounts::new(),
         }
     }
 }
@@ -125,14 +130,21 @@ impl Descriptors<UnixStream, Output> {
     }
 }
 
-impl<I: Inlet, O: Outlet> Duplex for Descriptors<I, O> {
-    ghost use Rattle.sf_program.specs.Descriptors.{input_of, output_of};
+impl<I: Inlet, O: Outlet> Descriptors<I, O> {
+    ghost use Rattle.sf_program.specs.Descriptors.{input_of, output_of, descriptor_counts};
 
-    ghost incoming = { λ d. I.incoming (input_of d) };
-
-    ghost outgoing = { λ d. O.outgoing (output_of d) };
-
-    fn read(&mut self, buffer: &mut [u8]) -> Result<usize, LineFault> {
+    /// Reads once, or again if a signal interrupts it.
+    fn read_some(&mut self, buffer: &mut [u8]) -> Result<usize, LineFault>
+        ensures within { IfOk result (λ n. n ≤ length buffer.new) }
+        ensures taken { IfOk result (λ n. I.incoming (input_of self.old)
+            ≡ prepend_known (take n buffer.new) (I.incoming (input_of self.new))) }
+        ensures ended { IfOk result (λ n. n ≡ 0 → 0 < length buffer.new
+            → IsAtEnd (I.incoming (input_of self.new))) }
+        ensures err { OnErr result (
+            I.incoming (input_of self.new) ≡ I.incoming (input_of self.old)) }
+        ensures output { output_of self.new ≡ output_of self.old }
+        ensures counts { descriptor_counts self.new ≡ descriptor_counts self.old }
+    {
         for _ in 0..TRIES_INTERRUPTED {
             match self.input.read_once(buffer) {
                 Ok(n) => return Ok(n),
@@ -143,7 +155,19 @@ impl<I: Inlet, O: Outlet> Duplex for Descriptors<I, O> {
         Err(LineFault)
     }
 
-    fn try_write(&mut self, bytes: &[u8]) -> Result<Option<usize>, LineFault> {
+    /// Writes once, or again if a signal interrupts it. Returns `None` if it would block.
+    fn write_some(&mut self, bytes: &[u8]) -> Result<Option<usize>, LineFault>
+        ensures within { IfOk result (λ wrote. IfSome wrote (λ n. n ≤ length bytes.now)) }
+        ensures some { 0 < length bytes.now → IfOk result (λ wrote. IfSome wrote (λ n. 0 < n)) }
+        ensures added { IfOk result (λ wrote. IfSome wrote (λ n. O.outgoing (output_of self.new)
+            ≡ append_known (O.outgoing (output_of self.old)) (take n bytes.now))) }
+        ensures none { IfOk result (λ wrote. IfNone wrote (
+            O.outgoing (output_of self.new) ≡ O.outgoing (output_of self.old))) }
+        ensures err { OnErr result (
+            O.outgoing (output_of self.new) ≡ O.outgoing (output_of self.old)) }
+        ensures input { input_of self.new ≡ input_of self.old }
+        ensures counts { descriptor_counts self.new ≡ descriptor_counts self.old }
+    {
         if self.is_full {
             return Ok(None);
         }
@@ -165,13 +189,18 @@ impl<I: Inlet, O: Outlet> Duplex for Descriptors<I, O> {
         Err(LineFault)
     }
 
-    fn wait(&mut self, reads: bool) -> Result<Ready, LineFault> {
+    /// Waits until the output is ready, or also the input if it `reads`.
+    fn poll_both(&mut self, reads: bool) -> Result<(), LineFault>
+        ensures input { input_of self.new ≡ input_of self.old }
+        ensures output { output_of self.new ≡ output_of self.old }
+        ensures counts { descriptor_counts self.new ≡ descriptor_counts self.old }
+    {
         let output = self.output.fd();
         if reads && self.is_patient {
             self.is_patient = false;
             if shown(output, PATIENCE_MILLISECONDS) != 0 {
                 self.is_full = false;
-                return Ok(Ready::Write);
+                return Ok(());
             }
         }
         let input = if reads { self.input.fd() } else { -1 };
@@ -179,16 +208,74 @@ impl<I: Inlet, O: Outlet> Duplex for Descriptors<I, O> {
         for _ in 0..TRIES_INTERRUPTED {
             if poll(&mut both, -1) >= 0 {
                 self.is_full = reads && both[0].revents == 0;
-                return Ok(if self.is_full {
-                    Ready::Read
-                } else {
-                    Ready::Write
-                });
+                self.may_read = both[1].revents != 0;
+                return Ok(());
             }
             if os::errno() != libc::EINTR {
                 return Err(LineFault);
             }
         }
         Err(LineFault)
+    }
+
+    /// Waits for what a connection wants.
+    fn poll_for(&mut self, wants: Wants) -> Result<(), LineFault>
+        ensures input { input_of self.new ≡ input_of self.old }
+        ensures output { output_of self.new ≡ output_of self.old }
+        ensures counts { descriptor_counts self.new ≡ descriptor_counts self.old }
+    {
+        match wants {
+            Wants::Read => {
+                // Nothing else is to be done, so the next read may block.
+                self.may_read = true;
+                Ok(())
+            }
+            Wants::Write => self.poll_both(false),
+            Wants::Both => self.poll_both(true),
+            Wants::Again | Wants::Ended(_) => Ok(()),
+        }
+    }
+}
+
+impl<I: Inlet, O: Outlet> Stream for Descriptors<I, O> {
+    ghost use Rattle.std.specs.Prelude.{None};
+    ghost use Rattle.sf_connection.specs.StreamCounts.{failures_of, waits_left_of};
+    ghost use Rattle.sf_program.specs.Descriptors.{input_of, output_of, descriptor_counts};
+
+    ghost view = { λ d. record {
+      incoming = I.incoming (input_of d);
+      outgoing = O.outgoing (output_of d);
+      failed = failures_of (descriptor_counts d);
+    } };
+
+    ghost waits = { λ d. record { made = None; left = waits_left_of (descriptor_counts d) } };
+
+    #[tactic(auto, using(crate::proofs::Known::read_known, crate::proofs::Known::same_known))]
+    fn try_read(&mut self, buffer: &mut [u8]) -> Result<Option<usize>, LineFault> {
+        if !self.may_read {
+            return Ok(None);
+        }
+        self.may_read = false;
+        match self.read_some(buffer) {
+            Ok(n) => Ok(Some(n)),
+            Err(_) => Err(self.counts.fail()),
+        }
+    }
+
+    #[tactic(auto, using(crate::proofs::Known::wrote_known, crate::proofs::Known::same_known))]
+    fn try_write(&mut self, bytes: &[u8]) -> Result<Option<usize>, LineFault> {
+        match self.write_some(bytes) {
+            Ok(wrote) => Ok(wrote),
+            Err(_) => Err(self.counts.fail()),
+        }
+    }
+}
+
+impl<I: Inlet, O: Outlet> WaitingStream for Descriptors<I, O> {
+    fn wait(&mut self, wants: Wants) -> Result<(), LineFault> {
+        match self.poll_for(wants) {
+            Ok(()) => self.counts.wait(),
+            Err(_) => Err(self.counts.fail()),
+        }
     }
 }

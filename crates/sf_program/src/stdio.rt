@@ -6,122 +6,109 @@ ghost use Rattle.sf_line.specs.Lines.{Rose};
 ghost use Rattle.sf_session.specs.declared.cause.Cause.{Cause};
 ghost use Rattle.sf_session.specs.declared.fault.ServeFault.{ServeFault};
 ghost use Rattle.sf_engine.specs.Views.{EngineView};
-ghost use Rattle.sf_serving.specs.Serving.{line_view};
 ghost use Rattle.sf_alone.specs.OnEngine.{io_state};
 ghost use Rattle.sf_alone.specs.Talks.{talk_view, ConversesTo};
 ghost use Rattle.sf_program.specs.Statuses.{exit_status, line_of_cause, status_line, ServingComesTo, SessionEnds};
 
 use sf_alone::serve_one;
+use sf_connection::WaitingStream;
 use sf_engine::Engine;
 use sf_line::{Line, LineFault, write_all};
 use sf_serving::CallObserver;
 use sf_session::{Cause, Clock, ServeFault};
 use std::alloc::Global;
 
-/// Serves one session over a line, on a new engine that keeps the last `keep` records. Writes the
-/// message of an early end to `errors`. Returns the exit status: 0 at the end of the input, else 1.
-/// The observer receives the session and its calls.
-pub fn run_stdio<L: Line, C: Clock, G: CallObserver, E: Line>(
+/// Serves one session over a stream, on a new engine that keeps the last `keep` records. Writes the
+/// message of an early end to `errors`. Returns the exit status, 0 at the end of the input and else
+/// 1, and the stream. The observer receives the session and its calls.
+pub fn run_stdio<S: WaitingStream, C: Clock, G: CallObserver, E: Line>(
     alloc: Global,
     keep: usize,
-    line: &mut L,
+    stream: S,
     clock: &mut C,
     observer: &G,
     errors: &mut E,
-) -> u8
+) -> (u8, S)
     requires { 0 < keep }
     ensures { (outcome : Result Cause ServeFault)
-        × SessionEnds keep
-        (io_state (line_view (L.incoming line.old) (L.outgoing line.old) (L.calls line.old))
-        (C.moments clock.old))
-        (io_state (line_view (L.incoming line.new) (L.outgoing line.new) (L.calls line.new))
-        (C.moments clock.new))
-        (L.failed line.old) (L.failed line.new) outcome
+        × SessionEnds keep (io_state (S.view stream) (S.waits stream) (C.moments clock.old))
+        (io_state (S.view result.1) (S.waits result.1) (C.moments clock.new)) outcome
         × ConversesTo
-        (talk_view (L.incoming line.old) (C.moments clock.old) (L.outgoing line.old))
-        (talk_view (L.incoming line.new) (C.moments clock.new) (L.outgoing line.new)) outcome
-        × (result ≡ exit_status outcome)
+        (talk_view (S.view stream).incoming (C.moments clock.old) (S.view stream).outgoing)
+        (talk_view (S.view result.1).incoming (C.moments clock.new) (S.view result.1).outgoing)
+        outcome
+        × (result.0 ≡ exit_status outcome)
         × (Appends (E.outgoing errors.old) (E.outgoing errors.new) (status_line outcome)
         ⊎ Rose (E.failed errors.old) (E.failed errors.new)) }
 {
-    let outcome = serve(alloc, keep, line, clock, observer);
+    let (outcome, stream) = serve(alloc, keep, stream, clock, observer);
     // If the message can't be written, the exit status still reports the failure.
     let _ = report(errors, outcome);
-    status(outcome)
+    (status(outcome), stream)
 }
 
 /// `run_stdio` on an engine that has served other sessions.
-pub fn run_stdio_on<L: Line, C: Clock, G: CallObserver, E: Line>(
+pub fn run_stdio_on<S: WaitingStream, C: Clock, G: CallObserver, E: Line>(
     alloc: Global,
     engine: &mut Engine,
-    line: &mut L,
+    stream: S,
     clock: &mut C,
     observer: &G,
     errors: &mut E,
-) -> u8
+) -> (u8, S)
     ensures { (outcome : Result Cause ServeFault)
         × ServingComesTo
-        (io_state (line_view (L.incoming line.old) (L.outgoing line.old) (L.calls line.old))
-        (C.moments clock.old) engine.old)
-        (io_state (line_view (L.incoming line.new) (L.outgoing line.new) (L.calls line.new))
-        (C.moments clock.new) engine.new)
-        (L.failed line.old) (L.failed line.new) outcome
-        × (result ≡ exit_status outcome)
+        (io_state (S.view stream) (S.waits stream) (C.moments clock.old) engine.old)
+        (io_state (S.view result.1) (S.waits result.1) (C.moments clock.new) engine.new) outcome
+        × (result.0 ≡ exit_status outcome)
         × (Appends (E.outgoing errors.old) (E.outgoing errors.new) (status_line outcome)
         ⊎ Rose (E.failed errors.old) (E.failed errors.new)) }
 {
-    let ended = serve_on(alloc, engine, line, clock, observer);
+    let (outcome, stream) = serve_on(alloc, engine, stream, clock, observer);
     // If the message can't be written, the exit status still reports the failure.
-    let _ = report(errors, ended);
-    status(ended)
+    let _ = report(errors, outcome);
+    (status(outcome), stream)
 }
 
 /// Serves the session on a new engine.
-fn serve<L: Line, C: Clock, G: CallObserver>(
+fn serve<S: WaitingStream, C: Clock, G: CallObserver>(
     alloc: Global,
     keep: usize,
-    line: &mut L,
+    stream: S,
     clock: &mut C,
     observer: &G,
-) -> Result<Cause, ServeFault>
+) -> (Result<Cause, ServeFault>, S)
     requires { 0 < keep }
     ensures ends { SessionEnds keep
-        (io_state (line_view (L.incoming line.old) (L.outgoing line.old) (L.calls line.old))
-        (C.moments clock.old))
-        (io_state (line_view (L.incoming line.new) (L.outgoing line.new) (L.calls line.new))
-        (C.moments clock.new))
-        (L.failed line.old) (L.failed line.new) result }
+        (io_state (S.view stream) (S.waits stream) (C.moments clock.old))
+        (io_state (S.view result.1) (S.waits result.1) (C.moments clock.new)) result.0 }
     ensures talk { ConversesTo
-        (talk_view (L.incoming line.old) (C.moments clock.old) (L.outgoing line.old))
-        (talk_view (L.incoming line.new) (C.moments clock.new) (L.outgoing line.new)) result }
+        (talk_view (S.view stream).incoming (C.moments clock.old) (S.view stream).outgoing)
+        (talk_view (S.view result.1).incoming (C.moments clock.new) (S.view result.1).outgoing)
+        result.0 }
 {
     match Engine::with_keep(alloc, keep) {
         Ok(engine) => {
             let mut engine = engine;
-            serve_on(alloc, &mut engine, line, clock, observer)
+            serve_on(alloc, &mut engine, stream, clock, observer)
         }
-        Err(_) => Err(ServeFault::OutOfMemory),
+        Err(_) => (Err(ServeFault::OutOfMemory), stream),
     }
 }
 
 /// Serves the session on this engine.
-fn serve_on<L: Line, C: Clock, G: CallObserver>(
+fn serve_on<S: WaitingStream, C: Clock, G: CallObserver>(
     alloc: Global,
     engine: &mut Engine,
-    line: &mut L,
+    stream: S,
     clock: &mut C,
     observer: &G,
-) -> Result<Cause, ServeFault>
+) -> (Result<Cause, ServeFault>, S)
     ensures { ServingComesTo
-        (io_state (line_view (L.incoming line.old) (L.outgoing line.old) (L.calls line.old))
-        (C.moments clock.old) engine.old)
-        (io_state (line_view (L.incoming line.new) (L.outgoing line.new) (L.calls line.new))
-        (C.moments clock.new) engine.new) (L.failed line.old) (L.failed line.new) result }
+        (io_state (S.view stream) (S.waits stream) (C.moments clock.old) engine.old)
+        (io_state (S.view result.1) (S.waits result.1) (C.moments clock.new) engine.new) result.0 }
 {
-    match serve_one(alloc, engine, line, clock, observer) {
-        Ok(cause) => Ok(cause),
-        Err(fault) => Err(fault),
-    }
+    serve_one(alloc, engine, stream, clock, observer)
 }
 
 /// The exit status.

@@ -1,14 +1,14 @@
 //! Sessions that wait for each other on one core: whoever waits is woken, and a client that is slow
 //! or busy delays nobody.
 
-ghost use Rattle.std.specs.Prelude.{◌≡◌, ◌-◌, ◌^◌};
+ghost use Rattle.std.specs.Prelude.{◌≡◌, ◌-◌, ◌^◌, vec_len, IfOk};
 
-use client::{Client, ClientLine, StillClock, sends};
+use client::{Client, ClientStream, OneStream, StillClock, sends};
 use crossbeam_channel::{Receiver, Sender, unbounded};
 use script::{Director, FREE, Script, Signs, Until};
 use sf_call::Record;
 use sf_core::Core;
-use sf_workers::{Ended, Receipts, Sent, Tickets, serve_on_core};
+use sf_workers::{Ended, Receipts, Sent, Tickets, Tools, serve_on_core};
 use std::alloc::Global;
 use std::marker::Brand;
 use std::process::Abort;
@@ -18,7 +18,7 @@ use std::sync::ledger::{Blank, Ledger};
 use std::test::*;
 use std::thread::{self, Threads};
 
-mod client;
+pub(crate) mod client;
 mod script;
 
 const INIT: &str = "00000005 01 00000003";
@@ -77,39 +77,54 @@ const TRIES: u64 = 64;
 /// The step at which a call sleeps whose path has two names.
 const SLEEPS: u64 = TRIES + 2;
 
-/// Sends the lines, each later one once one more wait has begun. Returns the tickets that are left.
+/// Sends the streams, each later one once one more wait has begun. Returns the tickets that are
+/// left.
 fn send_in_turn<'a, S: Ledger>(
     rt: &impl Wait,
-    sender: Sender<Sent<ClientLine<'a>, S>>,
+    sender: Sender<Sent<ClientStream<'a>, S>>,
     tickets: Tickets<S>,
-    lines: Vec<ClientLine<'a>>,
+    streams: Vec<ClientStream<'a>>,
     signs: &Signs,
 ) -> Tickets<S> {
     let mut tickets = tickets;
     let mut sent = 0u64;
-    for line in lines {
+    for stream in streams {
         sent = sent.saturating_add(1);
         signs.wait_for(&signs.ready, sent);
-        if !tickets.send(rt, &sender, line) {
+        if !tickets.send(rt, &sender, stream) {
             return tickets;
         }
     }
     tickets
 }
 
-/// Six workers serve the lines of a channel on a new core.
+/// A clock and a poller for each of six workers.
+fn tools(alloc: Global) -> Result<Vec<Tools<StillClock, OneStream>>, Fail>
+    ensures { IfOk result (λ tools. vec_len tools ≡ 6) }
+{
+    let mut tools = Vec::new(alloc);
+    for _ in 0..6u64 {
+        tools.push(Tools {
+            clock: StillClock,
+            poller: OneStream::none(),
+        })?;
+    }
+    Ok(tools)
+}
+
+/// Six workers serve the streams of a channel on a new core.
 fn serve<S: Ledger + Send + Sync, R: Threads + Wait + Sync>(
     rt: &R,
     alloc: Global,
     receipts: Receipts<S>,
-    lines: &Receiver<Sent<ClientLine<'_>, S>>,
+    streams: &Receiver<Sent<ClientStream<'_>, S>>,
     director: &Director<'_>,
 ) -> Result<(Ended, Receipts<S>), Fail>
     requires { receipts ≡ 0 }
 {
     let core = Core::new(alloc)?;
-    let clocks = vec![in alloc; StillClock; 6]?;
-    Ok(serve_on_core(rt, alloc, core, receipts, lines, clocks, director, true)?)
+    let tools = tools(alloc)?;
+    Ok(serve_on_core(rt, alloc, core, receipts, streams, tools, director, true)?)
 }
 
 /// Serves these clients. Each has one session, together they make this number of calls, and no wait
@@ -150,19 +165,19 @@ fn play_on<S: Ledger + Send + Sync, R: Threads + Wait + Abort + Sync>(
         let Some(input) = inputs.get(place) else {
             panic!(rt; "no input");
         };
-        all.push(ClientLine::new(alloc, client, input, &signs))?;
+        all.push(ClientStream::new(alloc, client, input, &signs))?;
     }
     let director = Director {
         signs: &signs,
         script,
     };
-    let (sender, lines) = unbounded(alloc)?;
+    let (sender, streams) = unbounded(alloc)?;
     let (tickets, ended) = thread::join(
         rt,
         || send_in_turn(rt, sender, tickets, all, &signs),
         || -> Result<(Ended, Receipts<S>), Fail>
             requires { receipts ≡ 0 }
-        { serve(rt, alloc, receipts, &lines, &director) },
+        { serve(rt, alloc, receipts, &streams, &director) },
     );
     let (ended, receipts) = ended?;
     let Ended {
@@ -328,7 +343,7 @@ fn one_call_beside_a_deaf_client(rt: HostRuntime) -> Result<(), Fail> {
     Ok(())
 }
 
-/// A session with 2000 packets in memory lets another one's call in before its replies fill a line,
+/// A session with 2000 packets in memory lets another one's call in before its replies fill 16 KiB,
 /// which 490 of them do.
 #[test]
 fn one_call_beside_many(rt: HostRuntime) -> Result<(), Fail> {

@@ -1,13 +1,13 @@
 //! The Unix socket at which a server listens.
 
 use crate::accepting::Acceptor;
-use crate::socket_line::{SocketLine, socket_line};
+use crate::outage::Outage;
 use sf_program::reporting::report;
 use std::fs::{File, Metadata, TryLockError};
 use std::io::{self, ErrorKind};
 use std::os::unix::fs::{FileTypeExt, MetadataExt};
 use std::os::unix::net::{UnixListener, UnixStream};
-use std::time::{Duration, Instant};
+use std::time::Duration;
 use std::{fs, thread};
 
 /// How long a server waits before it tries again.
@@ -15,9 +15,6 @@ const PAUSE_MILLISECONDS: u64 = 10;
 
 /// How often a server tries to lock the socket's directory: for some five seconds.
 const TRIES_TO_LOCK: u32 = 500;
-
-/// After how long without a failure the next one is reported again.
-const QUIET_SECONDS: u64 = 10;
 
 /// Waits before the next try.
 pub(crate) fn pause(rt: &HostRuntime) {
@@ -106,8 +103,7 @@ pub(crate) struct Connections<'a> {
     rt: &'a HostRuntime,
     listener: &'a UnixListener,
     path: &'a str,
-    /// When the last try failed.
-    failed: Option<Instant>,
+    failures: Outage,
 }
 
 impl<'a> Connections<'a> {
@@ -121,39 +117,34 @@ impl<'a> Connections<'a> {
             rt,
             listener,
             path,
-            failed: None,
+            failures: Outage::none(),
         }
     }
 
     /// Reports a failure, unless one was reported that lasts.
     fn report_failure(&mut self, error: &io::Error) {
-        let now = Instant::now(self.rt).ok();
-        let lasts = match (self.failed, now) {
-            (Some(last), Some(now)) => now.saturating_duration_since(last).as_secs()
-                < QUIET_SECONDS,
-            (last, _) => last.is_some(),
-        };
-        if !lasts {
+        if self.failures.is_news(self.rt) {
             report(self.rt, "cannot accept", self.path, error);
         }
-        self.failed = now.or(self.failed);
     }
 
-    fn try_accept(&self) -> io::Result<SocketLine> {
-        let (stream, _) = self.listener.accept()?;
-        socket_line(self.rt.alloc(), stream)
+    /// A connection, which does not block.
+    fn try_accept(&self) -> io::Result<UnixStream> {
+        let (socket, _) = self.listener.accept()?;
+        socket.set_nonblocking(true)?;
+        Ok(socket)
     }
 }
 
-impl Acceptor<SocketLine> for Connections<'_> {
+impl Acceptor<UnixStream> for Connections<'_> {
     ghost use Rattle.std.specs.Prelude.{None};
 
     // What the system returns is not known.
     ghost given = { λ _. None };
 
-    fn accept(&mut self) -> Option<SocketLine> {
+    fn accept(&mut self) -> Option<UnixStream> {
         match self.try_accept() {
-            Ok(line) => Some(line),
+            Ok(socket) => Some(socket),
             Err(error) => {
                 self.report_failure(&error);
                 None

@@ -1,6 +1,8 @@
 //! The log of what clients did (`--log`), with the lines of `sf_log`.
 
 use crate::log_output::LogOutput;
+use crate::refusals::ClientObserver;
+use sf_call::JoinFault;
 use sf_log::{LogLine, WaitingLines};
 use sf_pool::StepObserver;
 use sf_program::reporting::{report, report_lost};
@@ -17,9 +19,10 @@ struct LogState {
     failed: bool,
 }
 
-/// The log: a line for each client's session that joins or leaves, and for each of its calls, in
-/// the session's order. Whole lines are written, under a mutex. No session waits for the output:
-/// lines wait for it, and if too many do, further ones are lost and counted.
+/// The log: a line for each client that is refused, for each client's session that joins or leaves,
+/// and for each of its calls, in the session's order. Whole lines are written, under a mutex. No
+/// session waits for the output: lines wait for it, and if too many do, further ones are lost and
+/// counted.
 #[derive(Drop)]
 pub struct Log<'a, T> {
     rt: &'a HostRuntime,
@@ -108,11 +111,15 @@ impl<T: Wait> Log<'_, T> {
         }
     }
 
-    /// Writes a line of a client's session.
+    /// Writes a line of a session, if it is a client's.
     fn write(&self, session: u64, line: &LogLine<'_>) {
-        if session < self.first {
-            return;
+        if session >= self.first {
+            self.write_line(line);
         }
+    }
+
+    /// Writes a line.
+    fn write_line(&self, line: &LogLine<'_>) {
         let mut state = self.state.lock(self.threads);
         state.lines.add(line);
         self.write_waiting(&mut *state);
@@ -169,3 +176,9 @@ impl<T: Wait> CallObserver for Log<'_, T> {
 }
 
 impl<T: Wait> StepObserver for Log<'_, T> {}
+
+impl<T: Wait> ClientObserver for Log<'_, T> {
+    fn refused(&self, fault: JoinFault) {
+        self.write_line(&LogLine::Refused { fault });
+    }
+}

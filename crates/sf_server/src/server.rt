@@ -1,28 +1,31 @@
 //! The command `sftpd serve`.
 
-ghost use Rattle.std.specs.Prelude.{◌≡◌, ◌<◌, ◌-◌, ◌^◌, [], true, is_some, vec_len, IfOk, OnOk};
+ghost use Rattle.std.specs.Prelude.{◌≡◌, ◌<◌, ◌≤◌, ◌-◌, ◌^◌, [], true, is_some, vec_len, IfOk, OnOk};
 ghost use Rattle.sf_core.specs.Histories.{IsHistory};
 ghost use Rattle.sf_workers.specs.Streams.{HasServed};
 ghost use Rattle.sf_server.specs.Totals.{loads_of, AreAllStreams, HasServedAll, HasWrittenTotals};
 
 use crate::accepting::{Taker, accept_all};
 use crate::listening::{Connections, listen, pause};
-use crate::loading::load_by_line;
-use crate::socket_line::SocketLine;
+use crate::loading::load_by_stream;
+use crate::poller::SocketPoller;
+use crate::refusals::{ClientObserver, Refusals};
+use crate::socket_stream::SocketStream;
 use crate::totals::tell;
+use crate::worker_link::{WorkerLink, WorkerLinks};
 use crossbeam_channel::{Receiver, Sender, bounded};
+use mio::Poll;
 use sf_clock::SystemClock;
 use sf_core::Core;
 use sf_pool::StepObserver;
 use sf_program::loading::NotLoaded;
 use sf_program::reporting::report;
 use sf_words::Serving;
-use sf_workers::{Ended, Receipts, Sent, Tickets, serve_on_core};
+use sf_workers::{Ended, Receipts, Sent, Tickets, Tools, serve_on_core};
 use std::alloc::{AllocError, Global};
-use std::fs;
-use std::io::Write;
+use std::io::{self, Write};
 use std::marker::Brand;
-use std::os::unix::net::UnixListener;
+use std::os::unix::net::UnixStream;
 use std::sync::Wait;
 use std::sync::ledger::{Blank, Ledger};
 use std::thread::{self, Threads};
@@ -68,68 +71,78 @@ impl ServerFault {
     }
 }
 
-/// How many accepted connections wait for a worker at most. Further ones wait in the system's
+/// How many accepted connections wait for the workers at most. Further ones wait in the system's
 /// queue.
 const WAITING: usize = 256;
 
-/// The workers, which receive connections from a channel.
+/// The workers, which receive streams from a channel.
 #[derive(Drop)]
 struct Workers<'a, T, S: Ledger> {
+    rt: &'a HostRuntime,
     threads: &'a T,
-    lines: &'a Sender<Sent<SocketLine, S>>,
+    links: &'a WorkerLinks,
+    streams: Sender<Sent<SocketStream<'a>, S>>,
     tickets: Tickets<S>,
 }
 
-impl<T: Wait, S: Ledger> Taker<SocketLine> for Workers<'_, T, S> {
+impl<'a, T: Wait, S: Ledger> Workers<'a, T, S> {
+    /// A worker that has begun, with the fewest streams. Waits until one has begun, unless all have
+    /// ended.
+    fn next_worker(&self) -> Option<&'a WorkerLink> {
+        for _ in self.threads.forever() {
+            let found = self.links.least_busy();
+            if found.is_some() || self.links.have_ended() {
+                return found;
+            }
+            pause(self.rt);
+        }
+        unreachable!()
+    }
+
+    /// Closes the channel, so that each worker ends once its streams are served. Returns the
+    /// tickets that are left.
+    fn close(self) -> Tickets<S> {
+        let Workers {
+            rt: _,
+            threads: _,
+            links,
+            streams,
+            tickets,
+        } = self;
+        drop(streams);
+        links.close();
+        tickets
+    }
+}
+
+impl<T: Wait, S: Ledger> Taker<UnixStream> for Workers<'_, T, S> {
     ghost use Rattle.std.specs.Prelude.{None};
 
     // A contract can't say which connections pass through a channel. Their tickets show how many.
     ghost taken = { λ _. None };
 
-    fn take(&mut self, line: SocketLine) -> bool {
-        self.tickets.send(self.threads, self.lines, line)
+    fn take(&mut self, socket: UnixStream) -> bool {
+        let Some(worker) = self.next_worker() else {
+            return false;
+        };
+        let stream = SocketStream::new(socket, self.links);
+        let is_sent = self.tickets.send(self.threads, &self.streams, stream);
+        if is_sent {
+            worker.offer();
+        }
+        is_sent
     }
 }
-
-/// Accepts connections, and sends them to the workers, until `serving.sessions` were accepted or
-/// all workers have ended. Returns the tickets that are left.
-fn accept<T: Wait, S: Ledger>(
-    rt: &HostRuntime,
-    threads: &T,
-    listener: &UnixListener,
-    lines: &Sender<Sent<SocketLine, S>>,
-    tickets: Tickets<S>,
-    serving: Serving<'_>,
-) -> Tickets<S> {
-    let mut connections = Connections::new(rt, listener, serving.socket);
-    let mut workers = Workers {
-        threads,
-        lines,
-        tickets,
-    };
-    let most = serving.sessions.unwrap_or(u64::MAX);
-    accept_all(threads, &mut connections, &mut workers, most);
-    workers.tickets
-}
-
-/// The threads of a server besides its workers: the one that accepts.
-const OTHER_THREADS: u64 = 1;
 
 /// How often a server looks whether its workers have begun: for about a second.
 const LOOKS: u32 = 100;
 
-/// The number of workers that have begun, if the system reports it.
-fn begun_workers(rt: &HostRuntime) -> Option<u64> {
-    let threads = fs::read_dir(rt, "/proc/self/task").ok()?.count() as u64;
-    threads.checked_sub(OTHER_THREADS)
-}
-
 /// Reports that there are fewer workers than requested.
-fn report_fewer_workers(rt: &HostRuntime, workers: u32) {
-    let wanted = u64::from(workers);
+fn report_fewer_workers(rt: &HostRuntime, links: &WorkerLinks) {
+    let wanted = links.len() as u64;
     let mut begun = wanted;
     for _ in 0..LOOKS {
-        begun = begun_workers(rt).unwrap_or(wanted);
+        begun = links.begun();
         if begun >= wanted {
             return;
         }
@@ -141,15 +154,14 @@ fn report_fewer_workers(rt: &HostRuntime, workers: u32) {
     );
 }
 
-/// Listens, prints the socket's path on standard error, and accepts. Removes the socket's file at
-/// the end.
+/// Listens, prints the socket's path on standard error, and accepts until `serving.sessions` were
+/// accepted or all workers have ended. Removes the socket's file at the end.
 fn listen_and_accept<T: Wait, S: Ledger>(
     rt: &HostRuntime,
     threads: &T,
-    lines: &Sender<Sent<SocketLine, S>>,
-    tickets: Tickets<S>,
+    workers: &mut Workers<'_, T, S>,
     serving: Serving<'_>,
-) -> Result<Tickets<S>, ServerFault> {
+) -> Result<(), ServerFault> {
     let path = serving.socket;
     let bound = match listen(rt, path) {
         Ok(bound) => bound,
@@ -159,37 +171,105 @@ fn listen_and_accept<T: Wait, S: Ledger>(
         }
     };
     let _ = writeln!(rt.stderr(), "sftpd: listening at {path}");
-    report_fewer_workers(rt, serving.workers);
-    let tickets = accept(rt, threads, &bound.listener, lines, tickets, serving);
+    report_fewer_workers(rt, workers.links);
+    let mut connections = Connections::new(rt, &bound.listener, path);
+    let most = serving.sessions.unwrap_or(u64::MAX);
+    accept_all(threads, &mut connections, workers, most);
     bound.remove_file(rt, path);
-    Ok(tickets)
+    Ok(())
 }
 
-/// Loads the folder, if there is one, and then accepts connections. Returns the tickets that are
-/// left.
+/// Loads the folder, if there is one, and then accepts connections.
 fn load_and_accept<T: Wait, S: Ledger>(
     rt: &HostRuntime,
     threads: &T,
     serving: Serving<'_>,
-    lines: Sender<Sent<SocketLine, S>>,
-    tickets: Tickets<S>,
-) -> Result<Tickets<S>, ServerFault> {
-    let mut tickets = tickets;
+    workers: &mut Workers<'_, T, S>,
+) -> Result<(), ServerFault> {
     if let Some(tree) = serving.tree {
-        load_by_line(rt, threads, tree, serving.tree_strict, &lines, &mut tickets)?;
+        load_by_stream(rt, tree, serving.tree_strict, workers)?;
     }
-    listen_and_accept(rt, threads, &lines, tickets, serving)
+    listen_and_accept(rt, threads, workers, serving)
 }
 
-/// `count` clocks.
-fn clocks(rt: &HostRuntime, count: u32) -> Result<Vec<SystemClock<'_, HostRuntime>>, AllocError>
-    ensures { IfOk result (λ clocks. vec_len clocks ≡ count) }
-{
-    let mut clocks = Vec::new(rt.alloc());
-    for _ in 0..count {
-        clocks.push(SystemClock::new(rt))?;
+/// Sends the workers all streams, and then lets them end. Returns the tickets that are left.
+fn send_all<T: Wait, S: Ledger>(
+    rt: &HostRuntime,
+    threads: &T,
+    serving: Serving<'_>,
+    workers: Workers<'_, T, S>,
+) -> Result<Tickets<S>, ServerFault> {
+    let mut workers = workers;
+    let sent = load_and_accept(rt, threads, serving, &mut workers);
+    let tickets = workers.close();
+    sent?;
+    Ok(tickets)
+}
+
+/// The most workers that a server has by default. More of them gain nothing: the file system has
+/// one lock.
+const MOST_BY_DEFAULT: usize = 4;
+
+/// The number of workers: as requested, or one for each processor, up to four.
+fn worker_count<T: Threads>(threads: &T, serving: Serving<'_>) -> u32 {
+    match serving.workers {
+        Some(workers) => workers,
+        None => match thread::available_parallelism(threads) {
+            Ok(processors) => processors.get().min(MOST_BY_DEFAULT) as u32,
+            Err(_) => 1,
+        },
     }
-    Ok(clocks)
+}
+
+/// `count` pollers.
+fn new_polls(rt: &HostRuntime, count: u32) -> io::Result<Vec<Poll>>
+    ensures { IfOk result (λ polls. vec_len polls ≡ count) }
+{
+    let mut polls = Vec::new(rt.alloc());
+    for _ in 0..count {
+        polls.push(Poll::new(rt)?)?;
+    }
+    Ok(polls)
+}
+
+/// `count` pollers, and the links to their workers.
+fn new_workers(
+    rt: &HostRuntime,
+    count: u32,
+    idle_timeout: Option<u64>,
+) -> io::Result<(Vec<Poll>, WorkerLinks)>
+    ensures { IfOk result (λ r. vec_len r.0 ≡ count) }
+{
+    let polls = new_polls(rt, count)?;
+    let links = WorkerLinks::to_polls(rt, polls.as_slice(), idle_timeout)?;
+    Ok((polls, links))
+}
+
+/// A clock and a poller for a worker of a server.
+type ServerTools<'a, T, G> = Tools<SystemClock<'a, HostRuntime>, SocketPoller<'a, T, G>>;
+
+/// A clock and a poller for each worker.
+fn new_tools<'a, T: Wait, G: ClientObserver>(
+    rt: &'a HostRuntime,
+    path: &'a str,
+    links: &'a WorkerLinks,
+    refusals: &'a Refusals<'a, T, G>,
+    polls: Vec<Poll>,
+) -> Result<Vec<ServerTools<'a, T, G>>, AllocError>
+    ensures { IfOk result (λ tools. vec_len tools ≤ vec_len polls) }
+{
+    let mut polls = polls;
+    let mut tools = Vec::new(rt.alloc());
+    while let Some(poll) = polls.pop() {
+        let worker = polls.len();
+        let Some(link) = links.get(worker) else {
+            break;
+        };
+        let poller = SocketPoller::new(rt, path, links, link, worker, refusals, poll)?;
+        let clock = SystemClock::new(rt);
+        tools.push(Tools { clock, poller })?;
+    }
+    Ok(tools)
 }
 
 /// The number of streams that load a folder.
@@ -220,7 +300,11 @@ fn are_all<S: Ledger>(tickets: Tickets<S>, receipts: Receipts<S>, serving: Servi
 /// Serves connections on a core that no session has joined. Another thread accepts, and this one
 /// runs the workers. Transcripts are kept if the number of sessions is given. Also returns the
 /// tickets of the streams that were received, and those that are left.
-fn serve_streams<S: Ledger + Send + Sync, T: Threads + Wait + Sync, G: StepObserver + Sync>(
+fn serve_streams<
+    S: Ledger + Send + Sync,
+    T: Threads + Wait + Sync,
+    G: StepObserver + ClientObserver + Sync,
+>(
     rt: &HostRuntime,
     threads: &T,
     serving: Serving<'_>,
@@ -233,10 +317,27 @@ fn serve_streams<S: Ledger + Send + Sync, T: Threads + Wait + Sync, G: StepObser
     ensures { IfOk result (λ r. HasServed (is_some serving.entry.sessions) r.1 r.0) }
 {
     let alloc = rt.alloc();
+    let count = worker_count(threads, serving);
+    let (polls, links) = match new_workers(rt, count, serving.idle_timeout) {
+        Ok(both) => both,
+        Err(error) => {
+            report(rt, "cannot poll", serving.socket, &error);
+            return Err(ServerFault::Reported);
+        }
+    };
+    let links = &links;
+    let refusals = Refusals::none(rt, threads, observer);
+    let tools = new_tools(rt, serving.socket, links, &refusals, polls)?;
     let mut tickets = tickets;
     let receipts = tickets.no_receipts();
-    let (sender, lines) = bounded(alloc, WAITING)?;
-    let clocks = clocks(rt, serving.workers)?;
+    let (sender, streams) = bounded(alloc, WAITING)?;
+    let workers = Workers {
+        rt,
+        threads,
+        links,
+        streams: sender,
+        tickets,
+    };
     let keeps = serving.sessions.is_some();
     thread::scope(
         thread::scope_env(),
@@ -244,18 +345,17 @@ fn serve_streams<S: Ledger + Send + Sync, T: Threads + Wait + Sync, G: StepObser
         move |scope| -> Result<(Ended, Receipts<S>, Tickets<S>), ServerFault>
             requires new { IsHistory core [] }
             requires none { (core.joins ≡ 0) × (core.drawn ≡ 0) × (receipts ≡ 0) }
-            requires few { vec_len clocks < 2 ^ 32 }
+            requires few { vec_len tools < 2 ^ 32 }
             ensures { IfOk result (λ r. HasServed keeps r.1 r.0) }
         {
-            let accepting = scope.spawn(move || load_and_accept(
-                rt, threads, serving, sender, tickets,
-            ));
+            let accepting = scope.spawn(move || send_all(rt, threads, serving, workers));
             let Ok(accepting) = accepting else {
                 return Err(ServerFault::OutOfMemory);
             };
             let ended = serve_to_end(
-                threads, alloc, core, receipts, lines, clocks, observer, keeps,
+                threads, alloc, core, receipts, streams, tools, observer, keeps,
             );
+            links.end();
             let tickets = accepting.join(threads)?;
             let (ended, receipts) = ended?;
             Ok((ended, receipts, tickets))
@@ -264,29 +364,38 @@ fn serve_streams<S: Ledger + Send + Sync, T: Threads + Wait + Sync, G: StepObser
 }
 
 /// Serves the streams that a channel delivers, until it is closed. Drops the receiver then.
-fn serve_to_end<S: Ledger + Send + Sync, T: Threads + Wait + Sync, G: StepObserver + Sync>(
+fn serve_to_end<
+    'a,
+    S: Ledger + Send + Sync,
+    T: Threads + Wait + Sync,
+    G: StepObserver + ClientObserver + Sync,
+>(
     threads: &T,
     alloc: Global,
     core: Core,
     receipts: Receipts<S>,
-    lines: Receiver<Sent<SocketLine, S>>,
-    clocks: Vec<SystemClock<'_, HostRuntime>>,
+    streams: Receiver<Sent<SocketStream<'a>, S>>,
+    tools: Vec<ServerTools<'a, T, G>>,
     observer: &G,
     keeps: bool,
 ) -> Result<(Ended, Receipts<S>), ServerFault>
     requires new { IsHistory core [] }
     requires none { (core.joins ≡ 0) × (core.drawn ≡ 0) × (receipts ≡ 0) }
-    requires few { vec_len clocks < 2 ^ 32 }
+    requires few { vec_len tools < 2 ^ 32 }
     ensures { IfOk result (λ r. HasServed keeps r.1 r.0) }
 {
     Ok(serve_on_core(
-        threads, alloc, core, receipts, &lines, clocks, observer, keeps,
+        threads, alloc, core, receipts, &streams, tools, observer, keeps,
     )?)
 }
 
 /// Serves connections on a core that no session has joined, with tickets from a new ledger. If the
 /// number of sessions is given, that many connections were served.
-fn serve_core<S: Ledger + Send + Sync, T: Threads + Wait + Sync, G: StepObserver + Sync>(
+fn serve_core<
+    S: Ledger + Send + Sync,
+    T: Threads + Wait + Sync,
+    G: StepObserver + ClientObserver + Sync,
+>(
     rt: &HostRuntime,
     threads: &T,
     serving: Serving<'_>,
@@ -312,8 +421,8 @@ fn serve_core<S: Ledger + Send + Sync, T: Threads + Wait + Sync, G: StepObserver
 /// Serves connections at the socket's path, where it listens once the folder is loaded. If
 /// `serving.sessions` is given, it ends after that number of connections and writes the totals to
 /// `output`. They count the sessions that were served. The session that loads the folder is not
-/// counted, but its calls are. The observer receives all sessions and calls.
-pub fn serve<T: Threads + Wait + Sync, G: StepObserver + Sync, W: Write>(
+/// counted, but its calls are. The observer receives all sessions, calls and refused clients.
+pub fn serve<T: Threads + Wait + Sync, G: StepObserver + ClientObserver + Sync, W: Write>(
     rt: &HostRuntime,
     threads: &T,
     serving: Serving<'_>,

@@ -26,8 +26,11 @@ pub struct Stdio<'a> {
 pub struct Serving<'a> {
     /// The path of the Unix socket.
     pub socket: &'a str,
-    /// The maximum number of concurrent sessions.
-    pub workers: u32,
+    /// The number of worker threads; the server chooses it without a number.
+    pub workers: Option<u32>,
+    /// After how many seconds a session ends whose client neither sent nor read; never without a
+    /// number.
+    pub idle_timeout: Option<u64>,
     /// The server exits after this number of sessions; without a number it doesn't.
     pub sessions: Option<u64>,
     /// The number of call records retained.
@@ -120,11 +123,11 @@ fn stdio_words<'a>(alloc: Global) -> Result<Command<'a>, AllocError> {
         .arg(log_word(alloc))
 }
 
-/// The default number of workers. The next constants are the maximum numbers of workers and of
-/// sessions.
-const WORKERS: u32 = 64;
-
+/// The maximum number of workers. The next constants are the longest idle timeout, in seconds, and
+/// the maximum number of sessions.
 const MOST_WORKERS: u64 = 64;
+
+const LONGEST_TIMEOUT: u64 = 1_000_000_000;
 
 const MOST_SERVED: u64 = 1_000_000;
 
@@ -142,7 +145,15 @@ fn serve_words<'a>(alloc: Global) -> Result<Command<'a>, AllocError> {
         .long("workers")
         .value_name("N")
         .value_parser(ValueParser::unsigned(1, MOST_WORKERS))
-        .help("How many sessions are served at once: 1 to 64, by default 64");
+        .help(
+            "How many threads serve the sessions: 1 to 64, by default one for each processor, up \
+            to 4",
+        );
+    let idle_timeout = Arg::new(alloc, "idle-timeout")
+        .long("idle-timeout")
+        .value_name("SECONDS")
+        .value_parser(ValueParser::unsigned(1, LONGEST_TIMEOUT))
+        .help("Ends a session whose client sends and reads nothing for so long; by default none");
     let sessions = Arg::new(alloc, "sessions")
         .long("sessions")
         .value_name("K")
@@ -152,6 +163,7 @@ fn serve_words<'a>(alloc: Global) -> Result<Command<'a>, AllocError> {
         .about("Serves sessions at a Unix socket, many at once, on one tree")
         .arg(socket_word(alloc))?
         .arg(workers)?
+        .arg(idle_timeout)?
         .arg(sessions)?
         .arg(keep_word(alloc))?
         .arg(tree_word(alloc))?
@@ -233,7 +245,8 @@ fn serve_action<'a>(matches: &ArgMatches<'a>) -> Serving<'a>
 {
     Serving {
         socket: matches.get_str("socket").unwrap_or(""),
-        workers: matches.get_one::<u32>("workers").unwrap_or(WORKERS),
+        workers: matches.get_one::<u32>("workers"),
+        idle_timeout: matches.get_one::<u64>("idle-timeout"),
         sessions: matches.get_one::<u64>("sessions"),
         keep: matches.get_one::<usize>("keep").unwrap_or(KEEP).max(1),
         tree: matches.get_str("tree"),

@@ -1,11 +1,10 @@
--- What passed over a line that was served is its session's conversation, in each history that has
--- its visit.
-use Rattle.std.proofs.Common.{◌≡◌, ℕ, List, [], ◌∷◌, ◌++◌, Bool, true, false, refl, ap, sym, ◌∙◌, subst, inl, inr, append_assoc, map, ◌⊎◌, nat_eq, if◌then◌else◌, Some, None, Result, Ok, Err, IfOk}
+-- What passed over a stream that was served is its session's conversation, in each history that
+-- has its visit.
+use Rattle.std.proofs.Common.{◌≡◌, ℕ, List, [], ◌∷◌, ◌++◌, Bool, true, false, refl, ap, sym, ◌∙◌, subst, inl, inr, append_assoc, map, ◌⊎◌, nat_eq, if◌then◌else◌, Some, None}
 use Rattle.std.specs.List.{flat_map, cons_option}
 use Rattle.std.proofs.lemmas.List.{map-append}
 use Rattle.sf_field.specs.Fields.{packet}
 use Rattle.sf_call.specs.declared.request.Request.{Request}
-use Rattle.sf_call.specs.declared.fault.JoinFault.{JoinFault}
 use Rattle.sf_call.specs.declared.record.Record.{Record}
 use Rattle.sf_call.specs.declared.record.Record.TheVariants.{Did, Left}
 use Rattle.sf_core.specs.Cores.{LaneState}
@@ -16,12 +15,12 @@ use Rattle.sf_session.specs.SessionStates.{Phase, Resting, UnderWay, Decided, Go
 use Rattle.sf_audit.specs.Audits.{CallRecord, call_records}
 use Rattle.sf_noted.specs.Pages.{BegunCall, begun_call, Page}
 use Rattle.sf_noted.specs.Visits.{MayWait, IsVisitIn}
-use Rattle.sf_serving.specs.Serving.{LineView, Progress}
+use Rattle.sf_connection.specs.Streams.{StreamView}
 use Rattle.sf_pool.specs.SessionLanes.{Joined}
 use Rattle.sf_pool.specs.Scenes.{response_calls, phase_calls, IsInCall}
-use Rattle.sf_workers.specs.Sessions.{WasServed, IsOutcomeOf}
+use Rattle.sf_workers.specs.Sessions.{WasServed}
 use Rattle.sf_workers.specs.Conversations.{ConversesIn}
-use Rattle.sf_workers.proofs.Coming.{same_state}
+use Rattle.sf_workers.proofs.Ending.{same_state}
 
 -- ---- a session's calls, in the words of a conversation
 
@@ -85,11 +84,11 @@ due_of state phase waits (inr call) may =
 
 -- ---- what passed
 
-conversing : {Ends : Progress → Type 0} (x : ℕ × Page) (from line : LineView) (history : List Record) → WasServed x from line Ends → IsVisitIn history x → ConversesIn history x.0 from line
-conversing x from line history serves visit =
+pub conversing : (x : ℕ × Page) (from to : StreamView) (steps : ℕ) (history : List Record) → WasServed x from to steps → IsVisitIn history x → ConversesIn history x.0 from to
+conversing x from to steps history serves visit =
     let p = serves.progress in
     let t = p.state in
-    let served = serves.served in
+    let served = serves.passed in
     let waits = visit.0 in
     let d = due_of x.1.state t.phase waits serves.stands visit.2 in
     let calls = flat_map response_calls t.answers in
@@ -114,9 +113,3 @@ conversing x from line history serves visit =
             ∙ ap (λ (l : List RepliedCall). answered_in t.answers ++ l) d.calls;
       },
     )
-
--- so it is of what a visit came of
-pub visit_converses : (Ends : Progress → Type 0) (visit : Result (ℕ × Page) JoinFault) (from line : LineView) → IsOutcomeOf visit from line Ends
-    → (history : List Record) → IfOk visit (λ x. IsVisitIn history x → ConversesIn history x.0 from line)
-visit_converses Ends (Err refusal) from line outcome history = tt
-visit_converses Ends (Ok x) from line outcome history = λ visit. conversing x from line history outcome visit

@@ -1,5 +1,6 @@
-mod Coming
+mod Ending
 mod Conversing
 mod Kept
+mod Slabs
 mod Receiving
 mod OnePromise

@@ -6,7 +6,7 @@ use Rattle.sf_field.specs.Fields.{packet}
 use Rattle.sf_wire.specs.Packets.{IsBody}
 use Rattle.sf_call.specs.declared.record.Record.{Record}
 use Rattle.sf_session.specs.Responses.{Response, ask_behind, transcript, AreAsked, recorded_in, answered_in, Due, asked_due, recorded_due}
-use Rattle.sf_serving.specs.Serving.{LineView}
+use Rattle.sf_connection.specs.Streams.{StreamView}
 
 -- The input is packets and a rest. Each packet's body was answered what it asks for, in order, but
 -- for one at most, whose reply is due. The output is the answers' packets, but for those that are
@@ -25,8 +25,8 @@ pub record IsConversationIn (history : List Record) (session : ℕ)
   pub written : transcript answers ≡ output ++ unsent
   pub calls : recorded_in session history ≡ answered_in answers ++ recorded_due due
 
--- so much was read from a line and written to it, and that is the session's conversation
-abbrev pub ConversesIn : List Record → ℕ → (from line : LineView) → Type 0
-ConversesIn history session from line = (read written : List ℕ)
-    × Consumes from.incoming line.incoming read × Appends from.outgoing line.outgoing written
+-- so much was read from a stream and written to it, and that is the session's conversation
+abbrev pub ConversesIn : List Record → ℕ → (from to : StreamView) → Type 0
+ConversesIn history session from to = (read written : List ℕ)
+    × Consumes from.incoming to.incoming read × Appends from.outgoing to.outgoing written
     × IsConversationIn history session read written

@@ -1,3 +1,4 @@
 pub mod Sessions
 pub mod Streams
 pub mod Conversations
+pub mod LaneSessions

@@ -1,23 +1,38 @@
 -- The streams that workers serve, and what remains of them.
-use Rattle.std.specs.Prelude.{◌≡◌, ◌+◌, ℕ, List, [], ◌∷◌, ◌++◌, length, map, filter_map, Bool, Option, Some, None, Result, All}
+use Rattle.std.specs.Prelude.{◌≡◌, ◌+◌, ℕ, List, [], ◌∷◌, ◌++◌, length, map, filter_map, Bool, Option, Some, None, All, IsPermutation}
 use Rattle.sf_call.specs.declared.record.Record.{Record}
+use Rattle.sf_connection.specs.Streams.{StreamView}
 use Rattle.sf_core.specs.Histories.{IsHistory}
-use Rattle.sf_session.specs.declared.fault.ServeFault.{ServeFault}
 use Rattle.sf_noted.specs.Pages.{Page}
-use Rattle.sf_serving.specs.Serving.{LineView}
 use Rattle.sf_pool.specs.SessionLanes.{Notes}
 use Rattle.sf_workers.specs.declared.lines.Ended.{Ended}
-use Rattle.sf_workers.specs.Sessions.{EndsServing, WasServed, IsLinearization, HasTranscripts}
+use Rattle.sf_workers.specs.declared.streams.Event.{Event}
+use Rattle.sf_workers.specs.declared.streams.Event.TheVariants as event
+use Rattle.sf_workers.specs.declared.streams.Refusal.{Refusal}
+use Rattle.sf_workers.specs.declared.streams.Refusal.TheVariants as refusal
+use Rattle.sf_workers.specs.Sessions.{WasServed, IsLinearization, HasTranscripts}
 
--- what passed over a stream so far, and how often it failed
-pub record StreamState : Type 0 where
-  pub line : LineView
-  pub failed : ℕ
+-- the streams that arrived and those that were returned, in order, if they are known, and how many
+-- arrived
+pub record SourceView (L : Type 0) : Type 0 where
+  pub received : Option (List L)
+  pub returned : Option (List L)
+  pub count : ℕ
 
-abbrev pub stream_state : LineView → ℕ → StreamState
-stream_state line failed = record { line = line; failed = failed }
+-- the stream that arrived, if any
+abbrev pub arrived_by : {L : Type 0} → Event L → List L
+arrived_by (event.Arrived stream) = stream ∷ []
+arrived_by _ = []
 
--- a stream as it was received and as it was returned, and the session that was served over it
+-- A stream is refused before its session: the worker has its connections, or memory ran out. Only
+-- the core refuses a session.
+abbrev pub IsRefusedFor : Refusal → (full lacks : Type 0) → Type 0
+IsRefusedFor refusal.Full full lacks = full
+IsRefusedFor (refusal.OutOfMemory _) full lacks = lacks
+IsRefusedFor refusal.Unwatched full lacks = Unit {0}
+IsRefusedFor (refusal.NotJoined _) full lacks = Unit {0}
+
+-- a stream as it arrived and as it was returned, and the session that was served over it
 pub record Service (L : Type 0) : Type 0 where
   pub start : L
   pub finish : L
@@ -25,27 +40,33 @@ pub record Service (L : Type 0) : Type 0 where
 
 -- One session was served over the stream, from its first byte to its last. Without a session the
 -- stream is untouched.
-abbrev pub IsServedOnce : Option (ℕ × Page) → (from to : StreamState) → Type 0
-IsServedOnce None from to = to.line ≡ from.line
-IsServedOnce (Some x) from to = (outcome : Result Unit ServeFault) × (steps : ℕ)
-    × WasServed x from.line to.line
-    (EndsServing outcome to.line.incoming from.failed to.failed steps)
+abbrev pub IsServedOnce : Option (ℕ × Page) → (from to : StreamView) → Type 0
+IsServedOnce None from to = to ≡ from
+IsServedOnce (Some x) from to = (steps : ℕ) × WasServed x from to steps
 
--- A worker served each stream that it received once, and returned it. It received until there were
--- no more. The count grew by their number. These are its sessions.
-pub record ServesStreams {L : Type 0} (state : L → StreamState)
-    (received received' : Option (List (Option L))) (returned returned' : Option (List L))
-    (count count' : ℕ) (sessions : List (ℕ × Page)) : Type 0 where
+-- What a worker did with its streams. Those that were open before, and those that arrived since,
+-- were each served once and returned, or are open after. The sessions since are theirs.
+pub record ServesStreams {L : Type 0} (view : L → StreamView) (before arrived after : List L)
+    (returned returned' : Option (List L)) (sessions sessions' : List (ℕ × Page)) : Type 0 where
   pub services : List (Service L)
-  pub each : All (λ s. IsServedOnce s.session (state s.start) (state s.finish)) services
-  pub receives : Notes received received' (map (λ s. Some s.start) services ++ None ∷ [])
+  pub each : All (λ s. IsServedOnce s.session (view s.start) (view s.finish)) services
+  pub are : IsPermutation (before ++ arrived) (map (λ s. s.start) services ++ after)
   pub returns : Notes returned returned' (map (λ s. s.finish) services)
-  pub many : count' ≡ count + length services
-  pub are_all : filter_map (λ s. s.session) services ≡ sessions
+  pub are_all : sessions' ≡ sessions ++ filter_map (λ s. s.session) services
+
+-- What a worker did with its streams, if these arrived from a source since. The count grew by their
+-- number.
+pub record ServesSource {L : Type 0} (view : L → StreamView) (source source' : SourceView L)
+    (before after : List L) (sessions sessions' : List (ℕ × Page)) : Type 0 where
+  pub arrived : List L
+  pub receives : Notes source.received source'.received arrived
+  pub many : source'.count ≡ source.count + length arrived
+  pub streams : ServesStreams view before arrived after source.returned source'.returned
+      sessions sessions'
 
 -- This many streams were received, and each was served once. These are the sessions.
 pub record ServesEach (streams : ℕ) (sessions : List (ℕ × Page)) : Type 0 where
-  pub services : List (Service StreamState)
+  pub services : List (Service StreamView)
   pub each : All (λ s. IsServedOnce s.session s.start s.finish) services
   pub many : length services ≡ streams
   pub are_all : filter_map (λ s. s.session) services ≡ sessions

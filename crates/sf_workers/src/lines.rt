@@ -6,14 +6,16 @@ ghost use Rattle.sf_noted.specs.Visits.{visit_calls};
 ghost use Rattle.sf_workers.specs.Sessions.{HasTranscripts, IsLinearization};
 ghost use Rattle.sf_workers.specs.Streams.{HasServed, ServesEach};
 
+use crate::open_session::Place;
 use crate::sessions::Sessions;
+use crate::streams::Poller;
 use crate::tickets::{Receipts, Sent};
-use crate::workers::{Place, Served, Worked, new_workers, work_all};
+use crate::workers::{Served, Tools, Worked, new_workers, work_all};
 use crossbeam_channel::Receiver;
 use sf_audit::Transcript;
 use sf_call::Record;
+use sf_connection::Stream;
 use sf_core::Core;
-use sf_line::Line;
 use sf_noted::{NotedCore, Page, Visit};
 use sf_pool::{StepObserver, WaitQueue};
 use sf_roll::{Log, NewRoll, RollName};
@@ -62,7 +64,7 @@ fn together<B: RollName + Ledger, S: Ledger>(
     requires keeps { All (λ w. w.served.sessions.keeps ≡ keeps) all.items }
     requires each { All (λ w. ServesEach w.receipts w.served.sessions.visits.items) all.items }
     requires none { (rest.0.amount ≡ 0) × (rest.1 ≡ 0) }
-    ensures parts { IfOk result (λ t. t.share.parts ≡ rest.0.parts + 2 * vec_len all) }
+    ensures parts { IfOk result (λ t. t.share.parts ≡ rest.0.parts + 257 * vec_len all) }
     ensures keeps { IfOk result (λ t. t.sessions.keeps ≡ keeps) }
     ensures each { IfOk result (λ t. ServesEach t.receipts t.sessions.visits.items) }
 {
@@ -130,15 +132,16 @@ fn conclude<B: RollName + Ledger, S: Ledger>(
 /// Serves one session over each stream of the channel, until the channel is closed and empty. Then
 /// the core's history is a linearization of the sessions' calls.
 ///
-/// Each clock is for one worker: a thread that serves a stream to its end before it takes the next
-/// one. If not all threads start, the caller's thread also works. Transcripts are kept only with
-/// `keep`. Without it memory doesn't grow with the number of served sessions.
+/// Each clock and poller are for one worker: a thread that serves up to 256 streams at a time. If
+/// not all threads start, the caller's thread also works. Transcripts are kept only with `keep`.
+/// Without it memory doesn't grow with the number of served sessions.
 pub fn serve_lines<
     B: RollName + Ledger + Send + Sync,
     S: Ledger + Send + Sync,
     R: Threads + Wait + Sync,
-    L: Line + Drop + Send,
+    L: Stream + Drop + Send,
     C: Clock + Drop + Send,
+    P: Poller<L> + Drop + Send,
     G: StepObserver + Sync,
 >(
     rt: &R,
@@ -146,13 +149,13 @@ pub fn serve_lines<
     core: NotedCore<B>,
     all: Share<B>,
     receipts: Receipts<S>,
-    lines: &Receiver<Sent<L, S>>,
-    clocks: Vec<C>,
+    streams: &Receiver<Sent<L, S>>,
+    tools: Vec<Tools<C, P>>,
     observer: &G,
     keep: bool,
 ) -> Result<Outcome<B, S>, AllocError>
     requires all { all.parts ≡ B.parts }
-    requires parts { all.parts ≡ 2 * vec_len clocks }
+    requires parts { all.parts ≡ 257 * vec_len tools }
     requires none { (all.amount ≡ 0) × (receipts ≡ 0) }
     ensures history { IfOk result (λ o. IsHistory o.core o.log) }
     ensures order { IfOk result (λ o. IsLinearization o.log o.sessions.value.items) }
@@ -166,7 +169,7 @@ pub fn serve_lines<
     let mut rest = all;
     let mut core = core;
     let mut receipts = receipts;
-    let workers = new_workers(alloc, clocks, &mut rest, &mut core, &mut receipts)?;
+    let workers = new_workers(alloc, tools, &mut rest, &mut core, &mut receipts)?;
     let wait_queue = WaitQueue::new();
     let core = Mutex::new(core);
     let place = Place {
@@ -174,8 +177,9 @@ pub fn serve_lines<
         alloc,
         core: &core,
         wait_queue: &wait_queue,
+        observer,
     };
-    let all = work_all(&place, lines, workers, observer, keep)?;
+    let all = work_all(&place, streams, workers, keep)?;
     let all = together(alloc, all, (rest, receipts), keep)?;
     conclude(alloc, core.into_inner(), all)
 }
@@ -194,8 +198,9 @@ fn serve_named<
     B: RollName + Ledger + Send + Sync,
     S: Ledger + Send + Sync,
     R: Threads + Wait + Sync,
-    L: Line + Drop + Send,
+    L: Stream + Drop + Send,
     C: Clock + Drop + Send,
+    P: Poller<L> + Drop + Send,
     G: StepObserver + Sync,
 >(
     rt: &R,
@@ -203,8 +208,8 @@ fn serve_named<
     core: Core,
     tokens: (NewRoll<Page, Record>, Blank),
     receipts: Receipts<S>,
-    lines: &Receiver<Sent<L, S>>,
-    clocks: Vec<C>,
+    streams: &Receiver<Sent<L, S>>,
+    tools: Vec<Tools<C, P>>,
     observer: &G,
     keep: bool,
 ) -> Result<(Ended, Receipts<S>), AllocError>
@@ -212,7 +217,7 @@ fn serve_named<
     requires none { (core.joins ≡ 0) × (core.drawn ≡ 0) }
     requires roll { tokens.0 ≡ B.table }
     requires name { tokens.1.name ≡ B.name }
-    requires parts { (tokens.1.parts ≡ B.parts) × (tokens.1.parts ≡ 2 * vec_len clocks) }
+    requires parts { (tokens.1.parts ≡ B.parts) × (tokens.1.parts ≡ 257 * vec_len tools) }
     requires no_streams { receipts ≡ 0 }
     ensures { IfOk result (λ r. HasServed keep r.1 r.0) }
 {
@@ -220,7 +225,7 @@ fn serve_named<
     let (calls, all) = blank.open::<B>();
     let core = NotedCore::open(core, roll, calls);
     let outcome = serve_lines(
-        rt, alloc, core, all, receipts, lines, clocks, observer, keep,
+        rt, alloc, core, all, receipts, streams, tools, observer, keep,
     )?;
     let Outcome {
         core,
@@ -243,34 +248,35 @@ fn serve_named<
 pub fn serve_on_core<
     S: Ledger + Send + Sync,
     R: Threads + Wait + Sync,
-    L: Line + Drop + Send,
+    L: Stream + Drop + Send,
     C: Clock + Drop + Send,
+    P: Poller<L> + Drop + Send,
     G: StepObserver + Sync,
 >(
     rt: &R,
     alloc: Global,
     core: Core,
     receipts: Receipts<S>,
-    lines: &Receiver<Sent<L, S>>,
-    clocks: Vec<C>,
+    streams: &Receiver<Sent<L, S>>,
+    tools: Vec<Tools<C, P>>,
     observer: &G,
     keep: bool,
 ) -> Result<(Ended, Receipts<S>), AllocError>
     requires new { IsHistory core [] }
     requires none { (core.joins ≡ 0) × (core.drawn ≡ 0) × (receipts ≡ 0) }
-    requires few { vec_len clocks < 2 ^ 32 }
+    requires few { vec_len tools < 2 ^ 32 }
     ensures { IfOk result (λ r. HasServed keep r.1 r.0) }
 {
     let roll = NewRoll::new(alloc)?;
-    let blank = Blank::new(2 * clocks.len() as u64);
-    serve_named::<Brand, S, R, L, C, G>(
+    let blank = Blank::new(257 * tools.len() as u64);
+    serve_named::<Brand, S, R, L, C, P, G>(
         rt,
         alloc,
         core,
         (roll, blank),
         receipts,
-        lines,
-        clocks,
+        streams,
+        tools,
         observer,
         keep,
     )

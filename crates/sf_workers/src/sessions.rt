@@ -33,33 +33,43 @@ impl<B: RollName> Sessions<B> {
         }
     }
 
-    /// Reserves memory for one more session.
-    pub(crate) fn reserve(&mut self) -> Result<(), AllocError>
+    /// Reserves memory for so many more sessions.
+    pub(crate) fn reserve(&mut self, more: usize) -> Result<(), AllocError>
         ensures visits { self.new.visits.items ≡ self.old.visits.items }
         ensures keeps { self.new.keeps ≡ self.old.keeps }
-        ensures room { OnOk result ((vec_len self.new.visits < vec_capacity self.new.visits)
-            × (vec_len self.new.transcripts < vec_capacity self.new.transcripts)) }
-        ensures full { OnErr result ((vec_capacity self.old.visits ≤ vec_len self.old.visits)
-            ⊎ (vec_capacity self.old.transcripts ≤ vec_len self.old.transcripts)) }
+        ensures lens { (vec_len self.new.visits ≡ vec_len self.old.visits)
+            × (vec_len self.new.transcripts ≡ vec_len self.old.transcripts) }
+        ensures grows { (vec_capacity self.old.visits ≤ vec_capacity self.new.visits)
+            × (vec_capacity self.old.transcripts ≤ vec_capacity self.new.transcripts) }
+        ensures room { OnOk result ((vec_len self.new.visits + more ≤ vec_capacity self.new.visits)
+            × (vec_len self.new.transcripts + more ≤ vec_capacity self.new.transcripts)) }
+        ensures full { OnErr result ((vec_capacity self.old.visits
+            < vec_len self.old.visits + more)
+            ⊎ (vec_capacity self.old.transcripts < vec_len self.old.transcripts + more)) }
     {
         let Sessions {
             visits,
             transcripts,
             keeps: _,
         } = self;
-        visits.reserve(1)?;
-        transcripts.reserve(1)
+        visits.reserve(more)?;
+        transcripts.reserve(more)
     }
 
     /// Adds a session with its transcript.
     pub(crate) fn add(&mut self, visit: Visit<B>, transcript: Transcript)
         requires visits { vec_len self.old.visits < vec_capacity self.old.visits }
         requires transcripts { vec_len self.old.transcripts < vec_capacity self.old.transcripts }
-        requires calls { self.old.keeps ≡ true → calls_in_transcript transcript ≡ calls_on_page visit }
+        requires calls { self.old.keeps ≡ true
+            → calls_in_transcript transcript ≡ calls_on_page visit }
         ensures visits { self.new.visits.items ≡ self.old.visits.items ++ visit ∷ [] }
         ensures calls { visit_calls self.new.visits.items
             ≡ visit_calls self.old.visits.items + page_calls visit.1 }
         ensures keeps { self.new.keeps ≡ self.old.keeps }
+        ensures lens { (vec_len self.new.visits ≡ vec_len self.old.visits + 1)
+            × (vec_len self.new.transcripts ≤ vec_len self.old.transcripts + 1) }
+        ensures capacities { (vec_capacity self.new.visits ≡ vec_capacity self.old.visits)
+            × (vec_capacity self.new.transcripts ≡ vec_capacity self.old.transcripts) }
     {
         let Sessions {
             visits,

@@ -3,9 +3,9 @@
 //! A ticket is a part of a ledger. It takes no memory and can't be copied, and only a received
 //! stream brings one. So a worker has as many tickets as it received streams.
 
-ghost use Rattle.std.specs.Prelude.{◌≡◌, ◌+◌, ◌-◌, ◌^◌, ℕ, min, true, false, IfSome, IfNone};
+ghost use Rattle.std.specs.Prelude.{◌≡◌, ◌+◌, ◌-◌, ◌^◌, ℕ, min, true, false, OnOk, OnErr};
 
-use crossbeam_channel::{Receiver, Sender};
+use crossbeam_channel::{Receiver, Sender, TryRecvError};
 use std::marker::Model;
 use std::sync::Wait;
 use std::sync::ledger::{Blank, Ledger, Share};
@@ -146,18 +146,20 @@ impl<S: Ledger> Receipts<S> {
         *count = count.saturating_add(more);
     }
 
-    /// Receives a stream, and keeps its ticket. There is none if the channel is closed and empty.
-    pub fn receive<R: Wait, L: Drop>(&mut self, rt: &R, channel: &Receiver<Sent<L, S>>) -> Option<L>
-        ensures some { IfSome result (λ _. self.new ≡ self.old + 1) }
-        ensures none { IfNone result (self.new ≡ self.old) }
+    /// Receives a stream, and keeps its ticket. There may be none yet, or the channel is closed and
+    /// empty.
+    pub fn receive<R: Wait, L: Drop>(
+        &mut self,
+        rt: &R,
+        channel: &Receiver<Sent<L, S>>,
+    ) -> Result<L, TryRecvError>
+        ensures ok { OnOk result (self.new ≡ self.old + 1) }
+        ensures err { OnErr result (self.new ≡ self.old) }
     {
         let Receipts { count, share } = self;
-        let Ok(sent) = channel.recv(rt) else {
-            return None;
-        };
-        let Sent { stream, ticket } = sent;
+        let Sent { stream, ticket } = channel.try_recv(rt)?;
         share.merge(ticket);
         *count = count.saturating_add(1);
-        Some(stream)
+        Ok(stream)
     }
 }

@@ -1,104 +1,115 @@
-//! Worker threads, which receive streams and serve each to its end.
+//! Worker threads, which receive streams and serve many sessions each.
 
-ghost use Rattle.std.specs.Prelude.{◌≡◌, ◌≤◌, ◌⊎◌, ◌*◌, List, [], true, vec_len, All, IfOk};
-ghost use Rattle.std.specs.Vec.{vec_capacity};
-ghost use Rattle.sf_call.specs.declared.record.Record.{Record};
-ghost use Rattle.sf_noted.specs.Visits.{IsVisitIn};
-ghost use Rattle.sf_roll.specs.Seen.{IsPrefixOf};
-ghost use Rattle.sf_serving.specs.Serving.{line_view};
-ghost use Rattle.sf_pool.specs.OnCores.{calls_begun_by};
-ghost use Rattle.sf_workers.specs.Conversations.{ConversesIn};
+ghost use Rattle.std.specs.Prelude.{◌≡◌, ◌*◌, [], vec_len, All, IfOk};
+ghost use Rattle.slab.specs.Slab.{values};
 ghost use Rattle.sf_noted.specs.Visits.{visit_calls};
-ghost use Rattle.sf_workers.specs.Sessions.{calls_on_page, calls_in_transcript, EndsServing, IsOutcomeOf, IsVisitBetween, AttendsLine};
-ghost use Rattle.sf_workers.specs.Streams.{stream_state, ServesStreams, ServesEach};
+ghost use Rattle.sf_workers.specs.Streams.{ServesSource, ServesEach};
 
+use crate::connections::Connections;
+use crate::open_session::Place;
+use crate::ready::ReadyKeys;
 use crate::sessions::Sessions;
-use crate::streams::{ChannelStreams, StreamSource};
+use crate::streams::{ChannelStreams, Poller, StreamSource};
 use crate::tickets::{Receipts, Sent};
 use crossbeam_channel::Receiver;
 use sf_call::Record;
-use sf_core::Share;
-use sf_line::Line;
+use sf_connection::Stream;
 use sf_noted::NotedCore;
-use sf_pool::{EndedLane, NotJoined, SharedLane, StepObserver, WaitQueue, serve};
+use sf_pool::StepObserver;
 use sf_roll::{RollName, Seen};
 use sf_serving::new_piece;
-use sf_session::{Clock, ServeFault};
+use sf_session::Clock;
 use std::alloc::{AllocError, Global};
-use std::sync::ledger::{self, Ledger};
-use std::sync::{Mutex, Wait};
+use std::sync::Wait;
+use std::sync::ledger::{Ledger, Share};
 use std::thread;
 use std::thread::Threads;
 
-/// What a worker begins with: a clock, a read buffer, a share of the count for its sessions, and a
-/// token for a prefix of the history.
+/// What a worker begins with: a clock, a read buffer, a set for the keys of its connections, a
+/// share of the count for its sessions, and a token for a prefix of the history.
 #[derive(Drop)]
 pub(crate) struct Job<B: RollName + Ledger, C> {
     clock: C,
     piece: Vec<u8>,
-    share: ledger::Share<B>,
+    ready: ReadyKeys,
+    share: Share<B>,
     seen: Seen<Record, B>,
     ghost room: { vec_len piece ≡ 65536 },
-    ghost two_parts: { share.parts ≡ 2 },
+    ghost parts: { share.parts ≡ 257 },
     ghost none_yet: { share.amount ≡ 0 },
 }
 
-fn job_of<B: RollName + Ledger, C>(
+fn new_job<B: RollName + Ledger, C: Drop>(
+    alloc: Global,
     clock: C,
-    piece: Vec<u8>,
-    share: ledger::Share<B>,
+    share: Share<B>,
     seen: Seen<Record, B>,
-) -> Job<B, C>
-    requires room { vec_len piece ≡ 65536 }
-    requires two_parts { share.parts ≡ 2 }
+) -> Result<Job<B, C>, AllocError>
+    requires parts { share.parts ≡ 257 }
     requires none_yet { share.amount ≡ 0 }
 {
-    Job {
+    let piece = new_piece(alloc)?;
+    let ready = ReadyKeys::none(alloc)?;
+    Ok(Job {
         clock,
         piece,
+        ready,
         share,
         seen,
-    }
+    })
+}
+
+/// A clock and a poller for a worker.
+#[derive(Drop)]
+pub struct Tools<C, P> {
+    pub clock: C,
+    pub poller: P,
 }
 
 /// A worker that has received no stream yet.
 #[derive(Drop)]
-pub(crate) struct Worker<B: RollName + Ledger, S: Ledger, C> {
+pub(crate) struct Worker<B: RollName + Ledger, S: Ledger, C, P> {
     job: Job<B, C>,
+    poller: P,
     receipts: Receipts<S>,
     ghost no_streams: { receipts ≡ 0 },
 }
 
-fn worker_of<B: RollName + Ledger, S: Ledger, C>(
+fn worker_of<B: RollName + Ledger, S: Ledger, C, P>(
     job: Job<B, C>,
+    poller: P,
     receipts: Receipts<S>,
-) -> Worker<B, S, C>
+) -> Worker<B, S, C, P>
     requires { receipts ≡ 0 }
 {
-    Worker { job, receipts }
+    Worker {
+        job,
+        poller,
+        receipts,
+    }
 }
 
 /// A worker for each clock.
-pub(crate) fn new_workers<B: RollName + Ledger, S: Ledger, C: Drop>(
+pub(crate) fn new_workers<B: RollName + Ledger, S: Ledger, C: Drop, P: Drop>(
     alloc: Global,
-    clocks: Vec<C>,
-    all: &mut ledger::Share<B>,
+    tools: Vec<Tools<C, P>>,
+    all: &mut Share<B>,
     core: &mut NotedCore<B>,
     receipts: &mut Receipts<S>,
-) -> Result<Vec<Worker<B, S, C>>, AllocError>
-    requires parts { all.old.parts ≡ 2 * vec_len clocks }
+) -> Result<Vec<Worker<B, S, C, P>>, AllocError>
+    requires parts { all.old.parts ≡ 257 * vec_len tools }
     requires none { all.old.amount ≡ 0 }
-    ensures workers { IfOk result (λ workers. vec_len workers ≡ vec_len clocks) }
+    ensures workers { IfOk result (λ workers. vec_len workers ≡ vec_len tools) }
     ensures rest { IfOk result (λ _. (all.new.parts ≡ 0) × (all.new.amount ≡ 0)) }
     ensures receipts { IfOk result (λ _. receipts.new ≡ receipts.old) }
 {
-    let mut clocks = clocks;
+    let mut tools = tools;
     let mut workers = Vec::new(alloc);
-    while let Some(clock) = clocks.pop() {
-        let piece = new_piece(alloc)?;
-        let share = all.split_off(2, 0);
-        let job = job_of(clock, piece, share, core.token());
-        workers.push(worker_of(job, receipts.no_more()))?;
+    while let Some(own) = tools.pop() {
+        let Tools { clock, poller } = own;
+        let share = all.split_off(257, 0);
+        let job = new_job(alloc, clock, share, core.token())?;
+        workers.push(worker_of(job, poller, receipts.no_more()))?;
     }
     Ok(workers)
 }
@@ -107,9 +118,9 @@ pub(crate) fn new_workers<B: RollName + Ledger, S: Ledger, C: Drop>(
 #[derive(Drop)]
 pub(crate) struct Served<B: RollName + Ledger> {
     pub(crate) sessions: Sessions<B>,
-    pub(crate) share: ledger::Share<B>,
+    pub(crate) share: Share<B>,
     pub(crate) seen: Seen<Record, B>,
-    ghost two_parts: { share.parts ≡ 2 },
+    ghost parts: { share.parts ≡ 257 },
     ghost counted: { share.amount ≡ visit_calls sessions.visits.items },
 }
 
@@ -120,203 +131,55 @@ pub(crate) struct Worked<B: RollName + Ledger, S: Ledger> {
     pub(crate) receipts: Receipts<S>,
 }
 
-/// Where sessions are served: a shared core, and the queue of threads that wait for it.
-#[derive(Drop)]
-pub struct Place<'a, R, B: RollName + Ledger> {
-    pub rt: &'a R,
-    pub alloc: Global,
-    pub core: &'a Mutex<NotedCore<B>>,
-    pub wait_queue: &'a WaitQueue,
-}
-
-/// The outcome of a stream.
-#[derive(Drop)]
-pub(crate) enum Attended {
-    /// A session was served over it, to its end or to a fault.
-    Served(Result<(), ServeFault>),
-    /// Its session was refused.
-    NotJoined(NotJoined),
-    /// Memory ran out before the session.
-    NoRoom(AllocError),
-}
-
-/// Serves a session over a stream to its end. Returns the result of its lane, the token, and how
-/// the session ended. Its calls are counted in the lent share. The transcript is kept, or only the
-/// last call.
-///
-/// The session's calls are after the prefix of the token that is passed in, and within the prefix
-/// of the one that is returned. So the token carries real-time order to whoever gets it.
-///
-/// A fault ends only this session.
-pub fn serve_line<B: RollName + Ledger, R: Wait, L: Line, C: Clock, G: StepObserver>(
-    place: &Place<'_, R, B>,
-    lent: ledger::Share<B>,
-    seen: Seen<Record, B>,
-    keeps: bool,
-    line: &mut L,
-    clock: &mut C,
-    observer: &G,
-    piece: &mut Vec<u8>,
-) -> (EndedLane<B>, Seen<Record, B>, Result<(), ServeFault>)
-    requires part { lent.parts ≡ 1 }
-    requires none { lent.amount ≡ 0 }
-    requires room { vec_len piece.old ≡ 65536 }
-    ensures part { result.0.share.parts ≡ 1 }
-    ensures calls { result.0.share.amount ≡ calls_begun_by result.0.visit }
-    ensures transcript { keeps ≡ true → IfOk result.0.visit (λ visit.
-        calls_in_transcript result.0.transcript ≡ calls_on_page visit) }
-    ensures line { IsOutcomeOf result.0.visit
-        (line_view (L.incoming line.old) (L.outgoing line.old) (L.calls line.old))
-        (line_view (L.incoming line.new) (L.outgoing line.new) (L.calls line.new))
-        (EndsServing result.2 (L.incoming line.new) (L.failed line.old) (L.failed line.new)
-        result.0.steps) }
-    ensures talk { (history : List Record) → IfOk result.0.visit (λ visit. IsVisitIn history visit
-        → ConversesIn history visit.0
-        (line_view (L.incoming line.old) (L.outgoing line.old) (L.calls line.old))
-        (line_view (L.incoming line.new) (L.outgoing line.new) (L.calls line.new))) }
-    ensures seen { IsPrefixOf seen result.1 }
-    ensures between { IfOk result.0.visit (IsVisitBetween seen result.1) }
-    ensures len { vec_len piece.new ≡ vec_len piece.old }
+/// What a worker has served once no connection is open.
+fn served_by<R: Wait, B: RollName + Ledger, G: StepObserver, L: Stream + Drop>(
+    connections: Connections<'_, R, B, G, L>,
+) -> Served<B>
+    requires { values connections.active ≡ [] }
+    ensures { result.sessions ≡ connections.entry.sessions }
 {
-    let mut lane = SharedLane::new(
-        place.rt,
-        place.alloc,
-        place.core,
-        place.wait_queue,
-        keeps,
-        lent,
+    let (sessions, share, seen) = connections.into_parts();
+    Served {
+        sessions,
+        share,
         seen,
-    );
-    let mut share = Share::zero();
-    let outcome = serve(
-        place.alloc,
-        &mut lane,
-        line,
-        clock,
-        observer,
-        piece,
-        &mut share,
-    );
-    let (ended, seen) = lane.end();
-    (ended, seen, outcome)
-}
-
-impl<B: RollName + Ledger> Served<B> {
-    /// No sessions.
-    fn none(alloc: Global, keeps: bool, share: ledger::Share<B>, seen: Seen<Record, B>) -> Served<B>
-        requires two_parts { share.parts ≡ 2 }
-        requires none { share.amount ≡ 0 }
-        ensures keeps { result.sessions.keeps ≡ keeps }
-        ensures visits { result.sessions.visits.items ≡ [] }
-    {
-        Served {
-            sessions: Sessions::none(alloc, keeps),
-            share,
-            seen,
-        }
-    }
-
-    /// Serves one more session, over a stream, and returns the outcome. If memory runs out before
-    /// it, the stream is not used.
-    fn serve<R: Wait, L: Line, C: Clock, G: StepObserver>(
-        self,
-        place: &Place<'_, R, B>,
-        line: &mut L,
-        clock: &mut C,
-        observer: &G,
-        piece: &mut Vec<u8>,
-    ) -> (Served<B>, Attended)
-        requires room { vec_len piece.old ≡ 65536 }
-        ensures keeps { result.0.sessions.keeps ≡ self.sessions.keeps }
-        ensures seen { IsPrefixOf self.seen result.0.seen }
-        ensures line { AttendsLine result.1 self.sessions.visits.items
-            result.0.sessions.visits.items
-            ((vec_capacity self.sessions.visits ≤ vec_len self.sessions.visits)
-            ⊎ (vec_capacity self.sessions.transcripts ≤ vec_len self.sessions.transcripts))
-            (line_view (L.incoming line.old) (L.outgoing line.old) (L.calls line.old))
-            (line_view (L.incoming line.new) (L.outgoing line.new) (L.calls line.new))
-            (L.failed line.old) (L.failed line.new) }
-        ensures len { vec_len piece.new ≡ vec_len piece.old }
-    {
-        let Served {
-            mut sessions,
-            mut share,
-            seen,
-        } = self;
-        if let Err(error) = sessions.reserve() {
-            let served = Served {
-                sessions,
-                share,
-                seen,
-            };
-            return (served, Attended::NoRoom(error));
-        }
-        let lent = share.split_off(1, 0);
-        let (ended, seen, outcome) = serve_line(
-            place,
-            lent,
-            seen,
-            sessions.keeps,
-            line,
-            clock,
-            observer,
-            piece,
-        );
-        let EndedLane {
-            visit,
-            transcript,
-            share: own,
-            steps: _,
-        } = ended;
-        share.merge(own);
-        let attended = match visit {
-            Ok(visit) => {
-                sessions.add(visit, transcript);
-                Attended::Served(outcome)
-            }
-            Err(refusal) => Attended::NotJoined(refusal),
-        };
-        let served = Served {
-            sessions,
-            share,
-            seen,
-        };
-        (served, attended)
     }
 }
 
-/// Serves one session over each stream that the source has.
+/// Serves one session over each stream that the source has, many at once. In turn it handles what
+/// the source reports, and advances one connection.
 fn work<
     B: RollName + Ledger,
     R: Wait,
-    L: Line + Drop,
+    L: Stream + Drop,
     S: StreamSource<L>,
     C: Clock + Drop,
     G: StepObserver,
->(place: &Place<'_, R, B>, source: &mut S, job: Job<B, C>, observer: &G, keeps: bool) -> Served<B>
+>(place: &Place<'_, R, B, G>, source: &mut S, job: Job<B, C>, keeps: bool) -> Served<B>
     ensures keeps { result.sessions.keeps ≡ keeps }
-    ensures streams { ServesStreams
-        (λ l. stream_state (line_view (L.incoming l) (L.outgoing l) (L.calls l)) (L.failed l))
-        (S.received source.old) (S.received source.new)
-        (S.returned source.old) (S.returned source.new)
-        (S.count source.old) (S.count source.new) result.sessions.visits.items }
+    ensures streams { ServesSource L.view (S.view source.old) (S.view source.new) [] [] []
+        result.sessions.visits.items }
+    ensures closed { S.closed source.new }
 {
     let Job {
         mut clock,
         mut piece,
+        mut ready,
         share,
         seen,
     } = job;
-    let mut served = Served::none(place.alloc, keeps, share, seen);
+    let mut connections = Connections::none(place.alloc, keeps, share, seen);
     for _ in place.rt.forever() {
-        let Some(mut stream) = source.receive() else {
-            break;
-        };
-        let (more, _attended) = served.serve(place, &mut stream, &mut clock, observer, &mut piece);
-        source.give_back(stream);
-        served = more;
+        if source.is_closed() && connections.are_closed() {
+            return served_by(connections);
+        }
+        let turn = ready.take();
+        connections.handle_next(place, source, &mut ready, turn.is_none());
+        if let Some(key) = turn {
+            connections.advance(source, &mut ready, key, &mut clock, &mut piece);
+        }
     }
-    served
+    unreachable!()
 }
 
 /// Serves one session over each stream of the channel, until it is closed and empty.
@@ -324,29 +187,29 @@ fn work_on_channel<
     B: RollName + Ledger,
     S: Ledger,
     R: Wait,
-    L: Line + Drop,
+    L: Stream + Drop,
     C: Clock + Drop,
+    P: Poller<L> + Drop,
     G: StepObserver,
 >(
-    place: &Place<'_, R, B>,
+    place: &Place<'_, R, B, G>,
     channel: &Receiver<Sent<L, S>>,
-    worker: Worker<B, S, C>,
-    observer: &G,
+    worker: Worker<B, S, C, P>,
     keeps: bool,
 ) -> Worked<B, S>
     ensures keeps { result.served.sessions.keeps ≡ keeps }
     ensures each { ServesEach result.receipts result.served.sessions.visits.items }
 {
-    let Worker { job, receipts } = worker;
-    let mut source = ChannelStreams {
-        rt: place.rt,
-        channel,
+    let Worker {
+        job,
+        poller,
         receipts,
-    };
-    let served = work(place, &mut source, job, observer, keeps);
+    } = worker;
+    let mut source = ChannelStreams::new(place.rt, channel, poller, receipts);
+    let served = work(place, &mut source, job, keeps);
     Worked {
         served,
-        receipts: source.receipts,
+        receipts: source.into_receipts(),
     }
 }
 
@@ -355,14 +218,14 @@ pub(crate) fn work_all<
     B: RollName + Ledger + Send + Sync,
     S: Ledger + Send + Sync,
     R: Threads + Wait + Sync,
-    L: Line + Drop + Send,
+    L: Stream + Drop + Send,
     C: Clock + Drop + Send,
+    P: Poller<L> + Drop + Send,
     G: StepObserver + Sync,
 >(
-    place: &Place<'_, R, B>,
+    place: &Place<'_, R, B, G>,
     channel: &Receiver<Sent<L, S>>,
-    workers: Vec<Worker<B, S, C>>,
-    observer: &G,
+    workers: Vec<Worker<B, S, C, P>>,
     keeps: bool,
 ) -> Result<Vec<Worked<B, S>>, AllocError>
     ensures workers { IfOk result (λ all. vec_len all ≡ vec_len workers) }
@@ -373,9 +236,9 @@ pub(crate) fn work_all<
     thread::map_vec(
         place.rt,
         workers,
-        &move |worker: Worker<B, S, C>| -> Worked<B, S>
+        &move |worker: Worker<B, S, C, P>| -> Worked<B, S>
             ensures keeps { result.served.sessions.keeps ≡ keeps }
             ensures each { ServesEach result.receipts result.served.sessions.visits.items }
-        { work_on_channel(place, channel, worker, observer, keeps) },
+        { work_on_channel(place, channel, worker, keeps) },
     )
 }

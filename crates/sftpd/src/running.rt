@@ -4,7 +4,6 @@ ghost use Rattle.std.specs.Prelude.{◌<◌, ◌^◌};
 ghost use Rattle.sf_words.specs.Words.{paths_len};
 
 use clap::{Error, error};
-use sf_ahead::AheadLine;
 use sf_clock::SystemClock;
 use sf_line::StreamLine;
 use sf_pool::StepObserver;
@@ -15,6 +14,7 @@ use sf_program::loading::engine_of_folder;
 use sf_program::reporting::{report, report_out_of_memory};
 use sf_program::stdio::{run_stdio, run_stdio_on};
 use sf_server::log::open_log;
+use sf_server::refusals::ClientObserver;
 use sf_server::server::serve;
 use sf_serving::{CallObserver, NoObserver};
 use sf_words::{Action, ClientCommand, RefusedWords, Serving, Stdio, read_words};
@@ -84,30 +84,25 @@ fn serve_stdio<G: CallObserver>(rt: &HostRuntime, words: Stdio<'_>, observer: &G
     requires { 0 < words.keep }
 {
     let alloc = rt.alloc();
-    let mut line = AheadLine::new(alloc, Descriptors::standard(rt));
+    let stream = Descriptors::standard(rt);
     let mut errors = StreamLine::new(io::empty(), rt.stderr());
     let mut clock = SystemClock::new(rt);
     let Some(tree) = words.tree else {
-        return run_stdio(
-            alloc,
-            words.keep,
-            &mut line,
-            &mut clock,
-            observer,
-            &mut errors,
-        );
+        let (status, _) = run_stdio(alloc, words.keep, stream, &mut clock, observer, &mut errors);
+        return status;
     };
     let Ok(mut engine) = engine_of_folder(rt, words.keep, tree, words.tree_strict) else {
         return 1;
     };
-    run_stdio_on(
+    let (status, _) = run_stdio_on(
         alloc,
         &mut engine,
-        &mut line,
+        stream,
         &mut clock,
         observer,
         &mut errors,
-    )
+    );
+    status
 }
 
 /// Serves sessions at a socket, with a log if there is an option for it.
@@ -132,7 +127,7 @@ fn serve_sessions<T: Threads + Wait + Sync>(
 }
 
 /// Serves sessions at a socket.
-fn serve_socket<T: Threads + Wait + Sync, G: StepObserver + Sync>(
+fn serve_socket<T: Threads + Wait + Sync, G: StepObserver + ClientObserver + Sync>(
     rt: &HostRuntime,
     threads: &T,
     serving: Serving<'_>,

@@ -1,14 +1,17 @@
-//! Clients whose lines are in memory and wait, and a clock.
+//! Clients whose streams are in memory and block, their poller, and a clock.
 
 ghost use Rattle.std.specs.Prelude.{◌≡◌, ◌≤◌, None};
 ghost use Rattle.sf_line.specs.Lines.{Rose};
 
-use super::script::{Signs, Until};
+use super::script::{Pause, Signs, Until};
+use sf_connection::Stream;
 use sf_hex::hex_packets;
 use sf_line::{Line, LineFault, MemoryLine, Pieces};
 use sf_session::Clock;
+use sf_workers::{Polled, Poller, Refusal};
 use std::alloc::Global;
 use std::test::Fail;
+use std::thread;
 
 /// What a client sends, and when.
 #[derive(Clone, Copy)]
@@ -49,35 +52,38 @@ impl Client<'_> {
     }
 }
 
-/// A client's line. Contracts know none of its bytes.
+/// A client's stream. Contracts know none of its bytes.
 #[derive(Drop)]
-pub(super) struct ClientLine<'a> {
+pub(super) struct ClientStream<'a> {
     line: MemoryLine<'a>,
     signs: &'a Signs,
     waits: [Until; 3],
     room: usize,
     reads: usize,
-    written: usize,
+    /// The bytes of replies that it took since its last read.
+    taken: usize,
+    pause: Pause,
     failures: u64,
 }
 
-impl<'a> ClientLine<'a> {
+impl<'a> ClientStream<'a> {
     pub(super) fn new(
         alloc: Global,
         client: &Client<'_>,
         input: &'a [u8],
         signs: &'a Signs,
-    ) -> ClientLine<'a> {
+    ) -> ClientStream<'a> {
         let (first, later) = client.pieces;
         let reads = Pieces::new(first.max(1), later.max(1));
         let writes = Pieces::new(usize::MAX, usize::MAX);
-        ClientLine {
+        ClientStream {
             line: MemoryLine::new(alloc, input, reads, writes),
             signs,
             waits: client.reads,
             room: client.room,
             reads: 0,
-            written: 0,
+            taken: 0,
+            pause: Pause::none(),
             failures: 0,
         }
     }
@@ -91,46 +97,80 @@ impl<'a> ClientLine<'a> {
     }
 }
 
-impl Line for ClientLine<'_> {
-    ghost incoming = { λ _. None };
+impl Stream for ClientStream<'_> {
+    ghost view = { λ s. record { incoming = None; outgoing = None; failed = s.failures } };
 
-    ghost outgoing = { λ _. None };
-
-    ghost calls = { λ _. None };
-
-    ghost failed = { λ l. l.failures };
-
-    fn read(&mut self, buffer: &mut [u8]) -> Result<usize, LineFault> {
-        self.written = 0;
-        if let Some(until) = self.waits.get(self.reads) {
-            self.signs.wait(*until);
-            self.reads = self.reads.saturating_add(1);
+    fn try_read(&mut self, buffer: &mut [u8]) -> Result<Option<usize>, LineFault> {
+        let until = self.waits.get(self.reads).copied().unwrap_or(Until::Now);
+        if !self.pause.is_over(self.signs, until) {
+            return Ok(None);
         }
+        self.reads = self.reads.saturating_add(1);
+        self.taken = 0;
         match self.line.read(buffer) {
-            Ok(n) => Ok(n),
+            Ok(n) => Ok(Some(n)),
             Err(_) => Err(self.fail()),
         }
     }
 
-    fn write(&mut self, bytes: &[u8]) -> Result<usize, LineFault> {
-        self.written = self.written.saturating_add(bytes.len());
-        if self.written > self.room {
-            self.signs.wait(Until::Done);
+    fn try_write(&mut self, bytes: &[u8]) -> Result<Option<usize>, LineFault> {
+        let mut room = self.room.saturating_sub(self.taken);
+        if room == 0 {
+            if !self.pause.is_over(self.signs, Until::Done) {
+                return Ok(None);
+            }
+            room = usize::MAX;
         }
-        match self.line.write(bytes) {
-            Ok(n) if n > 0 || bytes.is_empty() => Ok(n),
+        let most = bytes.len().min(room);
+        self.taken = self.taken.saturating_add(most);
+        match self.line.write(&bytes[..most]) {
+            Ok(n) if n > 0 || bytes.is_empty() => Ok(Some(n)),
             _ => Err(self.fail()),
         }
     }
+}
 
-    fn failures(&self) -> u64 {
-        self.failures
+/// A worker's poller: for one stream at a time, which it polls again and again.
+#[derive(Drop)]
+pub(super) struct OneStream {
+    key: Option<usize>,
+}
+
+impl OneStream {
+    pub(super) fn none() -> OneStream {
+        OneStream { key: None }
+    }
+}
+
+impl Poller<ClientStream<'_>> for OneStream {
+    fn poll(&mut self, waits: bool) -> Polled {
+        if !waits {
+            return Polled::Nothing;
+        }
+        thread::yield_now();
+        match self.key {
+            Some(key) => Polled::Ready(key),
+            None => Polled::Woken,
+        }
+    }
+
+    fn takes_more(&self) -> bool {
+        self.key.is_none()
+    }
+
+    fn watch(&mut self, _stream: &ClientStream<'_>, key: usize) -> bool {
+        self.key = Some(key);
+        true
+    }
+
+    fn close(&mut self, _stream: ClientStream<'_>, _refusal: Option<Refusal>) {
+        self.key = None;
     }
 }
 
 /// A clock that gives the time 100.
 #[derive(Clone, Copy)]
-pub(super) struct StillClock;
+pub(crate) struct StillClock;
 
 impl Clock for StillClock {
     ghost moments = { λ _. None };

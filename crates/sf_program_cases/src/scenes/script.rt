@@ -71,20 +71,67 @@ impl Signs {
         self.late.store(1, Ordering::SeqCst);
     }
 
-    pub(super) fn wait(&self, until: Until) {
-        if let Until::Now = until {
-            return;
-        }
-        self.ready.fetch_add(1, Ordering::SeqCst);
+    /// Whether it has happened.
+    fn has(&self, until: Until) -> bool {
         match until {
-            Until::Now => {}
-            Until::Asleep(calls) => {
-                self.wait_for(&self.asleep, calls);
-                let_run(LONGER);
-            }
-            Until::Answers(calls) => self.wait_for(&self.answers, calls),
-            Until::Done => self.wait_for(&self.done, 1),
+            Until::Now => true,
+            Until::Asleep(calls) => self.asleep.load(Ordering::SeqCst) >= calls,
+            Until::Answers(calls) => self.answers.load(Ordering::SeqCst) >= calls,
+            Until::Done => self.done.load(Ordering::SeqCst) != 0,
         }
+    }
+
+    /// Waits, within a call.
+    pub(super) fn wait(&self, until: Until) {
+        let mut pause = Pause::none();
+        for _ in 0..MOST_YIELDS {
+            if pause.is_over(self, until) {
+                return;
+            }
+            thread::yield_now();
+        }
+    }
+}
+
+/// A wait that doesn't block: whoever waits tries again.
+#[derive(Drop)]
+pub(super) struct Pause {
+    has_begun: bool,
+    tries: u64,
+}
+
+impl Pause {
+    pub(super) fn none() -> Pause {
+        Pause {
+            has_begun: false,
+            tries: 0,
+        }
+    }
+
+    /// Whether the wait is over. Gives it up after many tries.
+    pub(super) fn is_over(&mut self, signs: &Signs, until: Until) -> bool {
+        if let Until::Now = until {
+            return true;
+        }
+        if !self.has_begun {
+            *self = Pause {
+                has_begun: true,
+                tries: 0,
+            };
+            signs.ready.fetch_add(1, Ordering::SeqCst);
+        }
+        if !signs.has(until) {
+            self.tries = self.tries.saturating_add(1);
+            if self.tries < MOST_YIELDS {
+                return false;
+            }
+            signs.late.store(1, Ordering::SeqCst);
+        }
+        if let Until::Asleep(_) = until {
+            let_run(LONGER);
+        }
+        self.has_begun = false;
+        true
     }
 }
 

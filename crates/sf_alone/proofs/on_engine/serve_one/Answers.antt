@@ -1,35 +1,40 @@
-use Rattle.std.proofs.Common.{inl, inr, ap}
-use Rattle.sf_session.specs.Sessions.{join_refusal}
+use Rattle.std.proofs.Common.{[], inl, ap, sym, subst}
+use Rattle.sf_session.specs.SessionStates.{new_state}
+use Rattle.sf_session.specs.declared.fault.ServeFault.{ServeFault}
 use Rattle.sf_engine.specs.Views.{EngineView}
-use Rattle.sf_serving.specs.Serving.{line_view}
-use Rattle.sf_alone.specs.OnEngine.{io_state, since_at, IsToldBy}
-use Rattle.sf_serving.proofs.Laws.{if_err_at, if_ok_more, if_err_more, if_err_both, rests_new}
-use Rattle.sf_alone.proofs.Hosting.{opened, not_opened, open_fault, told_alone, stops_so, serve_fault}
+use Rattle.sf_serving.specs.Serving.{progress}
+use Rattle.sf_alone.specs.OnEngine.{MayNotOpen, engine_held, io_state, since_at}
+use Rattle.sf_alone.proofs.Hosting.{WasServed, opened_by, not_opened, serves_line, stops_early}
 use Rattle.sf_alone.proofs.on_engine.serve_one.Goals as goal
 
-pub returns-in_err-session-clause-stopped : goal.returns-in_err-session-clause-stopped
-returns-in_err-session-clause-stopped g c = if_err_at c.from_residual-in_err-session.result (join_refusal c.in_err-session.field-0.0) _ c.from_residual-in_err-session.ensures.1 (λ log has.
-    inl (
-      ap (λ (e : EngineView). io_state (line_view (g.L.Line.incoming c.args.line.now) (g.L.Line.outgoing c.args.line.now) (g.L.Line.calls c.args.line.now)) (g.C.Clock.moments c.args.clock.now) e) c.in_err-session.ensures.err,
-      not_opened _ c.open.new.self c.in_err-session.field-0.0 c.in_err-session.ensures.log log has,
-    ))
+pub returns-in-Err-clause-stopped : goal.returns-in-Err-clause-stopped
+returns-in-Err-clause-stopped g c = λ log has. inl (
+  ap (λ (e : EngineView). io_state (g.S.Stream.view c.args.stream) (g.S.Stream.waits c.args.stream) (g.C.Clock.moments c.args.clock.now) e) c.in-Err.ensures.err,
+  subst (λ (f : ServeFault). MayNotOpen log f) (sym c.from.ensures) (not_opened _ c.open.new.self c.in-Err.refusal c.in-Err.ensures.log log has),
+)
 
-pub returns-in_err-session-clause-fault : goal.returns-in_err-session-clause-fault
-returns-in_err-session-clause-fault g c = if_err_at c.from_residual-in_err-session.result (join_refusal c.in_err-session.field-0.0) _ c.from_residual-in_err-session.ensures.1 (open_fault c.in_err-session.field-0.0 _ _)
-
-pub returns-clause-served : goal.returns-clause-served
-returns-clause-served g c = if_ok_more c.serve_session-outcome.result _ _ c.serve_session-outcome.ensures.served (λ cause served log has.
-    let from = line_view (g.L.Line.incoming c.args.line.now) (g.L.Line.outgoing c.args.line.now) (g.L.Line.calls c.args.line.now) in
-    let start = since_at (io_state from (g.C.Clock.moments c.args.clock.now) c.args.engine.now) log has in
-    let T = IsToldBy 0 start c.in_ok-session.session c.open.new.self (g.C.Clock.moments c.args.clock.now) in
-    (c.serve_session-outcome.new.host.session, told_alone (served start from (rests_new T from (opened start c.open.new.self c.in_ok-session.session c.in_ok-session.ensures.log)))))
-
-pub returns-clause-stopped : goal.returns-clause-stopped
-returns-clause-stopped g c = if_err_both c.serve_session-outcome.result _ _ _ c.serve_session-outcome.ensures.stopped c.serve_session-outcome.ensures.fault (λ fault stopped why log has.
-    let from = line_view (g.L.Line.incoming c.args.line.now) (g.L.Line.outgoing c.args.line.now) (g.L.Line.calls c.args.line.now) in
-    let start = since_at (io_state from (g.C.Clock.moments c.args.clock.now) c.args.engine.now) log has in
-    let T = IsToldBy 0 start c.in_ok-session.session c.open.new.self (g.C.Clock.moments c.args.clock.now) in
-    inr (stops_so _ _ _ _ why (stopped start from (rests_new T from (opened start c.open.new.self c.in_ok-session.session c.in_ok-session.ensures.log)))))
-
-pub returns-clause-fault : goal.returns-clause-fault
-returns-clause-fault g c = if_err_more c.serve_session-outcome.result _ _ c.serve_session-outcome.ensures.fault (λ fault why. serve_fault fault _ _ why)
+pub returns : goal.returns
+returns g c =
+    let new = progress new_state [] [] in
+    let first = c.new-connection.result in
+    let last = c.serve-outcome.new.self in
+    let outcome = c.serve-outcome.result in
+    let told = g.C.Clock.moments c.args.clock.now in
+    let told' = g.C.Clock.moments c.serve-outcome.new.clock in
+    let engine = c.args.engine.now in
+    let engine' = c.serve-outcome.new.place in
+    let at = λ (s : g.row.S.Denot). io_state (g.S.Stream.view s) (g.S.Stream.waits s) told engine in
+    let at' = λ (s : g.row.S.Denot). io_state (g.S.Stream.view s) (g.S.Stream.waits s) told' engine' in
+    let served : WasServed last new (at first.stream) (at' last.stream) last.host.turns last.host.session outcome = λ log has.
+    let start = since_at (at first.stream) log has in
+    let view = g.S.Stream.view first.stream in
+    let t = c.serve-outcome.ensures.served start view new (opened_by start c.open.new.self c.in-Ok-open.session _ _ (ap (λ h. h.turns) c.new-connection.ensures.host) (ap (λ h. h.session) c.new-connection.ensures.host) c.in-Ok-open.ensures.log)
+    (c.new-connection.ensures.begins engine_held _ view) in
+    (t.0, t.1, t.2.1, t.2.0) in
+    let on : WasServed last new (at first.stream) (at' c.into_parts-stream.result.1) last.host.turns last.host.session outcome =
+    subst (λ (s : g.row.S.Denot). WasServed last new (at first.stream) (at' s) last.host.turns last.host.session outcome) (sym c.into_parts-stream.ensures.stream) served in
+    let was = subst (λ (s : g.row.S.Denot). WasServed last new (at s) (at' c.into_parts-stream.result.1) last.host.turns last.host.session outcome) c.new-connection.ensures.stream on in
+    record {
+      served = serves_line last new (at c.args.stream) (at' c.into_parts-stream.result.1) last.host.turns last.host.session outcome was;
+      stopped = stops_early last new (at c.args.stream) (at' c.into_parts-stream.result.1) last.host.turns last.host.session outcome was;
+    }

@@ -37,7 +37,7 @@ loop-worked-preserved g c =
     let Each : Worked g.row.B.Denot g.row.S.Denot g.B.RollName → Type 0 = λ it. ServesEach it.receipts it.served.sessions.visits.items in
     record {
       counted = (let merged = c.merge.ensures.amount in let theirs = s.counted in let ours = i.counted in omega arith);
-      parts = (let merged = c.merge.ensures.parts in let two = s.two_parts in let ours = i.parts in omega arith);
+      parts = (let merged = c.merge.ensures.parts in let two = s.parts in let ours = i.parts in omega arith);
       keeps = c.in_ok-sessions.ensures.keeps ∙ i.keeps;
       each = each_both _ _ _ _ _ _ i.each (All-head Each w c.next.new.self.rest.items (subst (All Each) next i.left_each)) c.merge-in-loop-worked.ensures c.in_ok-sessions.ensures.visits;
       left = All-tail Keeps w c.next.new.self.rest.items (subst (All Keeps) next i.left);

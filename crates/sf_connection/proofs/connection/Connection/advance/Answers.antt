@@ -14,4 +14,5 @@ returns g c = record {
   rests = if_going c.turns-wants.result _ _ c.in_default.not-Ended c.rest.ensures.rests;
   blocks = c.turns-wants.ensures.blocks;
   len = c.turns-wants.ensures.len;
+  waits = c.turns-wants.ensures.waits;
 }

@@ -1,4 +1,4 @@
-use Rattle.std.proofs.Common.{◌∙◌, Option, subst, arith}
+use Rattle.std.proofs.Common.{refl, ◌∙◌, Option, subst, arith}
 use Rattle.sf_connection.specs.declared.connection.Wants.{Wants}
 use Rattle.sf_connection.specs.Connections.{IfEnded}
 use Rattle.sf_connection.specs.Steps.{HasTurned, wants_of}
@@ -10,6 +10,7 @@ loop-steps-init g c = record {
   sound = c.requires.sound;
   room = c.requires.room;
   served = λ start from p tells s. (p, tells, s, moved_none c.args.self.now p);
+  waits = refl;
 }
 
 pub returns-in-Some-clause-served : goal.returns-in-Some-clause-served
@@ -36,6 +37,7 @@ loop-steps-preserved g c = record {
       let t = c.turn.ensures.turned start from i.0 i.1 i.2 tt in
       let on = subst (λ (r : Option Wants). HasTurned r g.H.Host.held work from now before after i.0 t.0) c.in-None.is t.2 in
       (t.0, t.1, on.0, moved_by c.loop-steps.steps before after p i.0 t.0 i.3 on.1);
+  waits = c.turn.ensures.waits ∙ c.loop-steps.invariant.waits;
 }
 
 pub returns-clause-served : goal.returns-clause-served

@@ -16,4 +16,5 @@ invariant-loop-steps g l = record {
       → (p' : Progress) × g.H.Host.serves start l.self.host l.place (g.C.Clock.moments l.clock) p'.state
       × IsServing g.H.Host.held (g.H.Host.work l.self.host l.place) from (g.S.Stream.view l.self.stream) l.self p'
       × HasSteppedBy l.steps l.self p p';
+  waits : g.S.Stream.waits l.self.stream ≡ g.S.Stream.waits l.initial.self.stream;
 }

@@ -1,0 +1,11 @@
+use Rattle.std.proofs.Common.{◌≡◌}
+use Rattle.sf_program.specs.Descriptors.{input_of, output_of, descriptor_counts}
+use Rattle.sf_program.proofs.descriptors.Descriptors.poll_both.Given as goal
+
+-- no byte moves at a call that a signal interrupts
+abbrev pub invariant-loop : goal.invariant-loop
+invariant-loop g l = record {
+  input : input_of l.self ≡ input_of l.initial.self;
+  output : output_of l.self ≡ output_of l.initial.self;
+  counts : descriptor_counts l.self ≡ descriptor_counts l.initial.self;
+}

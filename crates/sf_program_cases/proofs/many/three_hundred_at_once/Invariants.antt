@@ -1,0 +1,4 @@
+use Rattle.sf_program_cases.proofs.many.three_hundred_at_once.Given as goal
+
+abbrev pub ghosts-serve_all : goal.ghosts-serve_all
+ghosts-serve_all g a = record { name = a.blank.name; parts = a.blank.parts }
