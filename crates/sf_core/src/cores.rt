@@ -19,7 +19,6 @@ ghost use Rattle.sf_core.specs.Events.{StepsOn, Walks, Joins, CallBegins, begun,
 use crate::fault::CoreFault;
 use crate::lane::{Lane, Share};
 use crate::parts::{Parts, WalkOutcome};
-use crate::room::Room;
 use crate::step::Step;
 use sf_book::Book;
 use sf_call::{Answer, BeginFault, JoinFault, Leaf, Record, Request};
@@ -39,7 +38,6 @@ pub struct Core {
     parts: Parts,
     // The numbers of the calls that a rename helps. It has room for all undecided calls.
     overtaken: Vec<u64>,
-    room: Room,
 }
 
 impl Drop for Core {
@@ -48,7 +46,6 @@ impl Drop for Core {
         let Core {
             parts: _parts,
             overtaken: _overtaken,
-            room: _room,
         } = self;
     }
 }
@@ -79,7 +76,6 @@ impl Core {
         Ok(Core {
             parts: Parts::new(alloc, Book::new(alloc))?,
             overtaken: Vec::new(alloc),
-            room: Room::new(),
         })
     }
 
@@ -92,7 +88,6 @@ impl Core {
         Ok(Core {
             parts: Parts::new(alloc, Book::with_keep(alloc, n))?,
             overtaken: Vec::new(alloc),
-            room: Room::new(),
         })
     }
 
@@ -143,7 +138,7 @@ impl Core {
 
     /// Begins a call of the lane, under the next number, at the timestamp `moment` (seconds since
     /// 1970). It takes no step yet. Room for its record is reserved, and in the list of helped
-    /// calls. A call that would leave too little memory for packets is refused.
+    /// calls.
     ///
     /// Errors: `Stranger` if the lane's session isn't joined and idle, `NumbersSpent` if all
     /// 2^63 - 1 call numbers are used, and `OutOfMemory`.
@@ -161,9 +156,6 @@ impl Core {
         }
         if self.parts.drawn() >= LAST_NUMBER {
             return Err(CoreFault::Refused(BeginFault::NumbersSpent));
-        }
-        if !self.room.allows(*self.overtaken.allocator(), &request) {
-            return Err(CoreFault::Refused(BeginFault::OutOfMemory));
         }
         let places = self.parts.unanswered() + 1;
         let Ok(()) = self.overtaken.reserve(places) else {

@@ -20,7 +20,6 @@ mod cores;
 mod fault;
 mod lane;
 mod parts;
-mod room;
 mod sessions;
 mod step;
 
