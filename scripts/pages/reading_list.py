@@ -23,7 +23,18 @@ LISTS = [
     ),
     (
         "How such a session and its server end",
-        {"sf_workers": ["serve_lines", "end_session", "one_promise"]},
+        {
+            "sf_workers": [
+                "serve_lines: each, served, calls, parts",
+                "end_session: session, transcript, part, calls",
+                "one_promise",
+            ],
+        },
+    ),
+    ("The core that such a server leaves", {"sf_workers": ["serve_lines: history"]}),
+    (
+        "A session that its caller advances beside others",
+        {"sf_workers": ["advance_session", "end_session"]},
     ),
     ("The steps of a call, at the core", {"sf_core": ["Core::step"]}),
     (
@@ -123,7 +134,10 @@ def contracts(names):
 def contracts_of(names):
     if not any(": " in name for name in names):
         return listed(names)
-    return ", ".join(f"`{name}` (clauses {clauses})" for name, clauses in map(parted, names))
+    return ", ".join(
+        f"`{name}` (clauses {clauses})" if clauses else f"`{name}`"
+        for name, clauses in map(parted, names)
+    )
 
 
 def section(sources, made, is_first):

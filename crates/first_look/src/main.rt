@@ -7,10 +7,9 @@
 
 use sf_alone::serve_one;
 use sf_clock::SystemClock;
-use sf_connection::LineStream;
+use sf_connection::{LineStream, NoObserver};
 use sf_engine::Engine;
 use sf_line::StreamLine;
-use sf_serving::NoObserver;
 use std::env;
 use std::io::{self, ErrorKind};
 use std::os::unix::net::UnixListener;

@@ -26,11 +26,11 @@ use Rattle.sf_engine.specs.declared.event.EngineFault.{EngineFault}
 use Rattle.sf_engine.specs.Views.{EngineView}
 use Rattle.sf_engine.specs.Promise.{Entry, ReplyWritten, SessionIdle, SessionEnded, EventRefused, event_of, result_of, linearization, CallLog, SessionLog, of_session, IsAnswered, IsUnsent, IsLawful}
 use Rattle.sf_engine.specs.HasLog.{WantsBytes}
-use Rattle.sf_serving.specs.Ends.{IsWhole}
-use Rattle.sf_serving.specs.Hosts.{IsFront, IsOpen, HasSent, IsBatch, IsFurther, IsSessionStep}
-use Rattle.sf_serving.specs.declared.host.SessionStep.{SessionStep}
-use Rattle.sf_serving.specs.declared.host.SessionStep.TheVariants as step
-use Rattle.sf_serving.proofs.Laws.{transcript_append, rest_asked, whole_left}
+use Rattle.sf_connection.specs.Ends.{IsWhole}
+use Rattle.sf_connection.specs.Hosts.{IsFront, IsOpen, HasSent, IsBatch, IsFurther, IsSessionStep}
+use Rattle.sf_connection.specs.declared.host.SessionStep.{SessionStep}
+use Rattle.sf_connection.specs.declared.host.SessionStep.TheVariants as step
+use Rattle.sf_connection.proofs.Laws.{transcript_append, rest_asked, whole_left}
 use Rattle.sf_alone.specs.OnEngine.{engine_held, has_left, HasCall, IsStateOf, Since, HasEntries, IsToldBy, HasOutput, Turns, may_begin_after}
 use Rattle.sf_alone.proofs.Entries.{all_join}
 use Rattle.sf_alone.proofs.Turning.{after, MayBegin, Turned, MayTurn, Stepped, turned_none, first_turn, turns_on, part_after, answers_after, lawful_after, turned_after, may_turn}

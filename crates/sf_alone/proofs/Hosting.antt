@@ -20,9 +20,9 @@ use Rattle.sf_engine.specs.Views.{EngineView}
 use Rattle.sf_engine.specs.Promise.{Entry, SessionOpened, BytesFed, SessionClosed, BytesSent, EventRefused, event_of, result_of, is_opening, opened_in, SessionLog, new_log, with_own, of_session, SessionPhase, WithoutCall, phase_at, phase, IsKnown, IsLawful, MayBeRefused}
 use Rattle.sf_engine.specs.HasLog.{HasLog, engine_fault, AppendsEntry}
 use Rattle.sf_engine.proofs.Laws.{own_push, count_push}
-use Rattle.sf_serving.specs.Hosts.{IsFront, with_sent, ended}
-use Rattle.sf_serving.specs.Serving.{Progress, IsStopped, IsStop}
-use Rattle.sf_serving.proofs.Laws.{none_written, ended_same}
+use Rattle.sf_connection.specs.Hosts.{IsFront, with_sent, ended}
+use Rattle.sf_connection.specs.Progress.{Progress, IsStopped, IsStop}
+use Rattle.sf_connection.proofs.Laws.{none_written, ended_same}
 use Rattle.sf_connection.specs.declared.connection.Connection.{Connection}
 use Rattle.sf_connection.specs.declared.connection.Wants.TheVariants.{Ended}
 use Rattle.sf_connection.specs.Connections.{Returns}

@@ -22,8 +22,8 @@ use Rattle.sf_session.proofs.Laws.{all_push}
 use Rattle.sf_engine.specs.Promise.{Entry, SessionOpened, CallBegun, CallMoved, CallDecided, ReplyWritten, EventRefused, event_of, result_of, session_of, leaves_by, calls_by, added_by, is_beginning, begun_in, linearization, CallLog, SessionLog, of_session, IsPending, IsAnswered, IsKept, IsLawful, MayWrite}
 use Rattle.sf_engine.specs.HasLog.{HasLog}
 use Rattle.sf_engine.proofs.Laws.{own_push, other_push, count_push, order_push}
-use Rattle.sf_serving.specs.Serving.{Progress, IsServed}
-use Rattle.sf_serving.proofs.Laws.{none_written}
+use Rattle.sf_connection.specs.Progress.{Progress, IsServed}
+use Rattle.sf_connection.proofs.Laws.{none_written}
 use Rattle.sf_connection.specs.Connections.{HasPassed}
 use Rattle.sf_alone.proofs.Entries.{all_join}
 use Rattle.sf_alone.specs.OnEngine.{IoState, IsEntryOf, IsTimed, AreTimed, IsTold, since_at, ServesLine, StopsEarly}

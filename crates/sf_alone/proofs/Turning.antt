@@ -12,8 +12,8 @@ use Rattle.sf_engine.specs.Views.{EngineView}
 use Rattle.sf_engine.specs.HasLog.{HasLog}
 use Rattle.sf_engine.specs.Promise.{Entry, BytesFed, CallBegun, CallMoved, CallBlocked, CallDecided, ReplyWritten, SessionIdle, SessionEnded, SessionClosed, BytesSent, EventRefused, event_of, result_of, linearization, SessionLog, with_own, of_session, IsKnown, IsAnswered, IsKept, IsLawful, continues}
 use Rattle.sf_engine.proofs.Laws.{own_push, other_push}
-use Rattle.sf_serving.specs.Hosts.{IsFront, IsOpen, HasSent}
-use Rattle.sf_serving.proofs.Laws.{transcript_append, front_same, all_but_last}
+use Rattle.sf_connection.specs.Hosts.{IsFront, IsOpen, HasSent}
+use Rattle.sf_connection.proofs.Laws.{transcript_append, front_same, all_but_last}
 use Rattle.sf_alone.specs.OnEngine.{IsOf, moment_of, IsTimed, AreTimed, may_begin_after, engine_held, IsLow, IsLowAt, AreLow, has_left, IsStateOf, Since, HasEntries, Turns}
 use Rattle.sf_alone.proofs.Entries.{known_more, Added, joined, extended}
 

@@ -17,8 +17,8 @@ use Rattle.sf_engine.specs.declared.event.EngineFault.{EngineFault}
 use Rattle.sf_engine.specs.Views.{EngineView}
 use Rattle.sf_engine.specs.Promise.{Entry, event_of, result_of, opened_in, left_in, CallLog, SessionLog, of_session, IsKnown, IsUnsent}
 use Rattle.sf_engine.specs.HasLog.{HasLog, AppendsEntry, AppendsTurns}
-use Rattle.sf_serving.specs.Hosts.{IsFront, most_counted}
-use Rattle.sf_serving.specs.Serving.{Progress, HasWritten, IsServed}
+use Rattle.sf_connection.specs.Hosts.{IsFront, most_counted}
+use Rattle.sf_connection.specs.Progress.{Progress, HasWritten, IsServed}
 use Rattle.sf_connection.specs.Streams.{StreamView, WaitsView}
 use Rattle.sf_connection.specs.Connections.{HasPassed}
 use Rattle.sf_connection.specs.Waits.{WaitsPromptly}

@@ -5,13 +5,14 @@ ghost use Rattle.std.specs.Io.KnownBytes.{Appends};
 ghost use Rattle.sf_session.specs.declared.fault.ServeFault.{ServeFault};
 ghost use Rattle.sf_session.specs.SessionStates.{SessionState, fed, IsRead};
 ghost use Rattle.sf_session.specs.Responses.{transcript};
-ghost use Rattle.sf_serving.specs.Hosts.{IsOpen, HasSent, IsFurther, IsSessionStep, with_sent, ended, IsHostFault};
+ghost use Rattle.sf_connection.specs.Hosts.{IsOpen, HasSent, IsFurther, IsSessionStep, with_sent, ended, IsHostFault};
 ghost use Rattle.sf_alone.specs.OnEngine.{Since, IsToldBy, io_state, may_begin_after, Turns, Feeds, Applies, HasOutput, ServesLine, StopsEarly};
 
 use sf_call::Record;
-use sf_connection::{Connection, WaitingStream};
+use sf_connection::{
+    CallObserver, Connection, Host, ObservedCall, SessionStep, WaitingStream, new_piece,
+};
 use sf_engine::{Engine, EngineFault, Event, Happened};
-use sf_serving::{CallObserver, Host, ObservedCall, SessionStep, new_piece};
 use sf_session::{Cause, Clock, ServeFault};
 use std::alloc::{AllocError, Global};
 

@@ -4,10 +4,9 @@ ghost use Rattle.std.specs.Prelude.{◌<◌};
 ghost use Rattle.sf_alone.specs.Talks.{talk_view, ConversesTo};
 
 use crate::on_engine::serve_one;
-use sf_connection::LineStream;
+use sf_connection::{LineStream, NoObserver};
 use sf_engine::Engine;
 use sf_line::Line;
-use sf_serving::NoObserver;
 use sf_session::{Cause, Clock, ServeFault};
 use std::alloc::Global;
 

@@ -5,6 +5,7 @@ ghost use Rattle.sf_block.specs.Blocks.{entry_in, row_in, block_in, byte_in, Has
 
 use crate::copies::{TryCopy, copy_of};
 use crate::row::Row;
+use crate::spare::{LONGEST, has_memory};
 use crate::{BLOCK, ROW};
 use sf_field::ByteString;
 use std::alloc::{AllocError, Global};
@@ -147,8 +148,21 @@ impl Blocks {
         }
     }
 
-    /// Zeros the bytes from an offset on. Allocates nothing.
+    /// Zeros the bytes from an offset on. The removed rows are freed at once if memory
+    /// is short.
     pub(crate) fn cut(&mut self, n: u64)
+        ensures bytes { (i : ℕ) → byte_in (block_in self.new) i
+            ≡ (if nat_lt i n then byte_in (block_in self.old) i else 0) }
+        ensures less { (k : ℕ) → length (block_in self.new k) ≤ length (block_in self.old k) }
+    {
+        self.shed_from(n);
+        if !self.shed.is_empty() && !has_memory(self.near.allocator(), LONGEST) {
+            self.shed.clear();
+        }
+    }
+
+    /// Zeros the bytes from an offset on. Removed rows go to the free list. Allocates nothing.
+    fn shed_from(&mut self, n: u64)
         ensures bytes { (i : ℕ) → byte_in (block_in self.new) i
             ≡ (if nat_lt i n then byte_in (block_in self.old) i else 0) }
         ensures less { (k : ℕ) → length (block_in self.new k) ≤ length (block_in self.old k) }

@@ -17,10 +17,12 @@ mod pending;
 mod queue;
 mod row;
 mod runs;
+mod spare;
 mod whole;
 
 pub use block_laws::{copied_whole, few_blocks};
 pub use contents::Contents;
+pub use spare::has_memory;
 pub use whole::WholeContents;
 
 /// Bytes of a whole block.

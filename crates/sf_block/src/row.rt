@@ -33,6 +33,11 @@ impl Row {
         }
     }
 
+    /// The allocator of its list.
+    pub(crate) fn allocator(&self) -> Global {
+        *self.list.allocator()
+    }
+
     /// Whether the row has no place.
     pub(crate) fn is_empty(&self) -> bool
         ensures { IsTrue result ↔ (self.now ≡ []) }

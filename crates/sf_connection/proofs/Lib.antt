@@ -1,3 +1,6 @@
+mod Fronts
+mod Sessions
 mod Passing
 mod Turns
 mod Rounds
+pub mod Laws

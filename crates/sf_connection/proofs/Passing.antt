@@ -6,12 +6,13 @@ use Rattle.std.proofs.KnownBytes.{Appends-trans, Appends-kept, Consumes-trans}
 use Rattle.sf_call.specs.ReplyKinds.{longest_packet}
 use Rattle.sf_session.specs.Responses.{Response, transcript, has_begun}
 use Rattle.sf_session.specs.SessionStates.{Phase, Resting, UnderWay, Decided, Gone, SessionState, fed, unsent, IsRest, IsRead}
-use Rattle.sf_serving.specs.Hosts.{IsFront, HasSent, IsFurther, with_sent, ended}
-use Rattle.sf_serving.specs.Serving.{Progress, progress}
+use Rattle.sf_connection.specs.Hosts.{IsFront, HasSent, IsFurther, with_sent, ended}
+use Rattle.sf_connection.specs.Progress.{Progress, progress}
 use Rattle.std.specs.List.{flat_map}
 use Rattle.std.proofs.lemmas.List.Concat.{flat_map-append}
 use Rattle.sf_field.specs.Fields.{packet}
-use Rattle.sf_serving.proofs.Laws.{rest_stream, transcript_append, begun_more, batch_most, read_fed, read_sent, read_closed, ended_same}
+use Rattle.sf_connection.proofs.Fronts.{transcript_append, begun_more, batch_most}
+use Rattle.sf_connection.proofs.Sessions.{rest_stream, read_fed, read_sent, read_closed, ended_same}
 use Rattle.sf_connection.specs.Streams.{StreamView}
 use Rattle.sf_connection.specs.Connections.{HasPassed}
 use Rattle.sf_connection.specs.Steps.{IsReadFrom}

@@ -3,7 +3,7 @@ use Rattle.std.proofs.Common.{◌≡◌, ◌≢◌, ◌≤◌, ℕ, List, [], �
 use Rattle.std.specs.List.{AllByRecursion}
 use Rattle.sf_session.specs.declared.cause.Cause.{Cause}
 use Rattle.sf_session.specs.declared.fault.ServeFault.{ServeFault}
-use Rattle.sf_serving.specs.Serving.{Progress}
+use Rattle.sf_connection.specs.Progress.{Progress}
 use Rattle.sf_connection.specs.declared.connection.Connection.{Connection}
 use Rattle.sf_connection.specs.declared.connection.Wants.{Wants}
 use Rattle.sf_connection.specs.declared.connection.Wants.TheVariants.{Read, Write, Both, Again, Ended}

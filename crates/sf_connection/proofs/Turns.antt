@@ -11,17 +11,18 @@ use Rattle.sf_session.specs.declared.fault.ServeFault.{ServeFault}
 use Rattle.sf_session.specs.declared.fault.ServeFault.TheVariants as fault
 use Rattle.sf_session.specs.Responses.{Response, transcript}
 use Rattle.sf_session.specs.SessionStates.{Resting, SessionState, new_state, fed, unsent, IsRead}
-use Rattle.sf_serving.specs.declared.host.SessionStep.{SessionStep}
-use Rattle.sf_serving.specs.declared.host.SessionStep.TheVariants as step
-use Rattle.sf_serving.specs.Hosts.{IsOpen, HasSent, IsFurther, IsSessionStep, with_sent, ended, IsHostFault}
-use Rattle.sf_serving.specs.Serving.{Progress, progress, IsInStep, Rests}
-use Rattle.sf_serving.specs.Rounds.{EndsByCause}
+use Rattle.sf_connection.specs.declared.host.SessionStep.{SessionStep}
+use Rattle.sf_connection.specs.declared.host.SessionStep.TheVariants as step
+use Rattle.sf_connection.specs.Ends.{IsWhole}
+use Rattle.sf_connection.specs.Hosts.{IsOpen, Waits, IsFurther, IsSessionStep, with_sent, ended, IsHostFault}
+use Rattle.sf_connection.specs.Progress.{Progress, progress, IsInStep, HasWritten, IsServed, IsStopped}
 use Rattle.std.specs.List.{flat_map}
 use Rattle.sf_field.specs.Fields.{be32, packet, max_body}
 use Rattle.sf_wire.specs.declared.cutting.Cut.TheVariants as cut
 use Rattle.sf_wire.specs.Packets.{IsCut, Cuts}
 use Rattle.sf_wire.specs.Packets.{More}
-use Rattle.sf_serving.proofs.Laws.{none_written, read_new, rest_stream, rest_asked, cuts_of, sent_whole, gone_whole, closed_whole, rose_until, host_spent, host_stop, served_over, stopped_ended}
+use Rattle.sf_connection.proofs.Fronts.{none_written}
+use Rattle.sf_connection.proofs.Sessions.{read_new, rest_stream, rest_asked, cuts_of, ended_none, written_ended, sent_whole, gone_whole, closed_whole, rose_until, host_spent, host_stop}
 use Rattle.sf_connection.specs.declared.connection.Connection.{Connection}
 use Rattle.sf_connection.specs.declared.connection.ServeState.{ServeState}
 use Rattle.sf_connection.specs.declared.connection.ServeState.TheVariants.{Processing, Waiting, Ending}
@@ -31,7 +32,7 @@ use Rattle.sf_connection.specs.declared.connection.Wants.{Wants}
 use Rattle.sf_connection.specs.declared.connection.Wants.TheVariants.{Read, Write, Both, Again, Ended}
 use Rattle.sf_connection.specs.Streams.{StreamView}
 use Rattle.sf_connection.specs.Connections.{HasPassed, IsInState, IsInput, pending_output, IsServing, HasDue, amount, AnswersAll, ReadsNoFurther, Returns, IfEnded}
-use Rattle.sf_connection.specs.Steps.{state_after, IsClear, state_rank, input_rank, rank, HasStepped, HasSteppedBy, HasTurned, MayEnd, IsReadFrom}
+use Rattle.sf_connection.specs.Steps.{state_after, IsClear, state_rank, input_rank, rank, HasStepped, HasSteppedBy, HasTurned, over, MayEnd, IsReadFrom}
 use Rattle.sf_connection.proofs.Passing.{unsent_is, unsent_none, unsent_sent, unsent_few, unsent_more, all_made, unread_less, passed_sent, passed_still, passed_wrote, passed_further, passed_read, passed_fed, passed_ended}
 
 -- ---- its state and its input
@@ -358,23 +359,26 @@ moved_over c c' p none was same other =
 
 -- ---- the session ends
 
-pub closed_may_end : (now : StreamView) (p : Progress) → IsRead p.state → Rests 0 p → IsAtEnd now.incoming → EndsByCause now.incoming Closed p
-closed_may_end now p read rests at_end = record { fed = rests.0.fed; whole = closed_whole p.state read rests.1; sent = rests.0.sent; in_step = rests.0.in_step; at_end = λ e. at_end }
+served_over : (now : StreamView) (cause : Cause) (p : Progress) → p.unfed ≡ [] → IsWhole (ended p.state) cause → HasWritten p → (cause ≡ Closed → IsAtEnd now.incoming) → IsServed now.incoming cause (over p)
+served_over now cause p none whole wrote at_end = let w = written_ended p wrote in record { fed = none; whole = whole; sent = w.0; in_step = w.1; at_end = at_end }
+
+pub closed_may_end : (work : ℕ) (from now : StreamView) (p : Progress) → IsRead p.state → HasWritten p → Waits p.state × (p.unfed ≡ []) → IsAtEnd now.incoming → MayEnd (Ok Closed) work from now p
+closed_may_end work from now p read wrote waits at_end = served_over now Closed p waits.1 (closed_whole p.state read waits.0) wrote (λ e. at_end)
 
 ending_not : (outcome : Result Cause ServeFault) → Ending outcome ≡ Processing → ⊥
 ending_not outcome e = cc
 
-ending_may : (work : ℕ) (from now : StreamView) (p : Progress) (outcome : Result Cause ServeFault) → HasSent p.state → IsInStep p → IsInState (Ending outcome) work p → MayEnd outcome work from now p
-ending_may work from now p (Ok cause) sent step h = record { fed = h.2; whole = gone_whole p.state cause h.0; sent = sent; in_step = step; at_end = λ e. absurd (h.1 e) }
-ending_may work from now p (Err f) sent step h = (((λ no. (sent, step)), host_spent f work p h), host_stop f work from.failed now.failed h)
+ending_may : (work : ℕ) (from now : StreamView) (p : Progress) (outcome : Result Cause ServeFault) → HasWritten p → IsInState (Ending outcome) work p → MayEnd outcome work from now p
+ending_may work from now p (Ok cause) wrote h = served_over now cause p h.2 (gone_whole p.state cause h.0) wrote (λ e. absurd (h.1 e))
+ending_may work from now p (Err f) wrote h = (record { written = λ no. written_ended p wrote; spent = host_spent f work (over p) h; closed = ended_none p.state }, host_stop f work from.failed now.failed h)
 
 pub may_end : {H S : Type 0} {held work : ℕ} {from now : StreamView} (c : Connection H S) (p : Progress) (outcome : Result Cause ServeFault) → IsServing held work from now c p → IsClear c p → c.state ≡ Ending outcome → MayEnd outcome work from now p
 may_end {work = work} {from = from} {now = now} c p outcome s clear is =
-    ending_may work from now p outcome clear.0 (written_all c p s clear (λ e. ending_not outcome (sym is ∙ e))) (subst (λ (x : ServeState). IsInState x work p) is s.state)
+    ending_may work from now p outcome (clear.0, written_all c p s clear (λ e. ending_not outcome (sym is ∙ e))) (subst (λ (x : ServeState). IsInState x work p) is s.state)
 
 pub ends : {H S : Type 0} (held : ℕ) {work work' : ℕ} {from now : StreamView} {p : Progress} (c : Connection H S) (p₀ : Progress) (outcome : Result Cause ServeFault) → MayEnd outcome work from now p → work' ≡ work → HasPassed from now p → Returns (Ended outcome) held work' from now c p₀ (progress (ended p.state) p.unfed p.written)
-ends held {now = now} {p = p} c p₀ (Ok cause) may same S = (passed_ended S, served_over now.incoming cause p may)
-ends held {p = p} c p₀ (Err f) may same S = (passed_ended S, stopped_ended p same may.0, may.1)
+ends held c p₀ (Ok cause) may same S = (passed_ended S, may)
+ends held {p = p} c p₀ (Err f) may same S = (passed_ended S, subst (λ (k : ℕ). IsStopped f k (over p)) (sym same) may.0, may.1)
 
 -- ---- output of the host is written
 
@@ -430,7 +434,7 @@ moved_at_last steps c p₀ p many (inl h) = h
 moved_at_last steps c p₀ p many (inr h) = absurd (omega (arith, h.1, many))
 
 pub line_may_end : (work : ℕ) (from now : StreamView) (p : Progress) → Rose from.failed now.failed → MayEnd (Err fault.Line) work from now p
-line_may_end work from now p rose = (((λ no. absurd (no refl)), tt), rose)
+line_may_end work from now p rose = (record { written = λ no. absurd (no refl); spent = tt; closed = ended_none p.state }, rose)
 
 -- the same, since an earlier time
 pub returns_since : {H S : Type 0} (held work : ℕ) (from now : StreamView) (w : Wants) (c : Connection H S) (p₀ p p' : Progress) → amount p₀ ≤ amount p → Returns w held work from now c p p' → Returns w held work from now c p₀ p'
@@ -499,15 +503,15 @@ none_read now now' kept same more = record { consumes = Consumes-kept now.incomi
 
 -- ---- a session that waits
 
-pub answers_all : (p : Progress) → IsRead p.state → Rests 0 p → AnswersAll p
-answers_all p read rests =
+pub answers_all : (p : Progress) → IsRead p.state → HasWritten p → Waits p.state × (p.unfed ≡ []) → AnswersAll p
+answers_all p read wrote waits =
     let t = p.state in
-    let at = rests.1.0.rests in
-    let whole : t.stream ++ p.unfed ≡ flat_map packet t.bodies ++ t.unread = ap (λ (b : List ℕ). t.stream ++ b) rests.0.fed ∙ append-nil t.stream ∙ rest_stream t at read in
+    let at = waits.0.0.rests in
+    let whole : t.stream ++ p.unfed ≡ flat_map packet t.bodies ++ t.unread = ap (λ (b : List ℕ). t.stream ++ b) waits.1 ∙ append-nil t.stream ∙ rest_stream t at read in
     record {
-      packets = subst (λ (b : List ℕ). Cuts b t.bodies (More t.unread)) (sym whole) (cuts_of t.bodies t.unread read.are_bodies rests.1.1);
+      packets = subst (λ (b : List ℕ). Cuts b t.bodies (More t.unread)) (sym whole) (cuts_of t.bodies t.unread read.are_bodies waits.0.1);
       answered = rest_asked t at read;
-      written = rests.0.in_step ∙ rests.0.sent;
+      written = wrote.1 ∙ wrote.0;
     }
 
 pub if_going : (w : Wants) (going gone : Type 0) → ((o : Result Cause ServeFault) → w ≢ Ended o) → going → IfEnded w going gone

@@ -9,9 +9,9 @@ use Rattle.sf_call.specs.ReplyKinds.{longest_packet}
 use Rattle.sf_session.specs.declared.cause.Cause.TheVariants.{Closed}
 use Rattle.sf_session.specs.Responses.{ask_behind, transcript, AreAsked}
 use Rattle.sf_session.specs.SessionStates.{SessionState, unsent, IsRead}
-use Rattle.sf_serving.specs.Ends.{IsWhole}
-use Rattle.sf_serving.specs.Hosts.{IsFront, IsOpen, Waits, IsHostFault}
-use Rattle.sf_serving.specs.Serving.{Progress, IsServed, IsStopped, IsStop}
+use Rattle.sf_connection.specs.Ends.{IsWhole}
+use Rattle.sf_connection.specs.Hosts.{IsFront, IsOpen, Waits, IsHostFault}
+use Rattle.sf_connection.specs.Progress.{Progress, IsServed, IsStopped, IsStop}
 use Rattle.sf_connection.specs.declared.connection.Connection.{Connection}
 use Rattle.sf_connection.specs.declared.connection.ServeState.{ServeState}
 use Rattle.sf_connection.specs.declared.connection.ServeState.TheVariants.{Processing, Waiting, Ending}

@@ -5,11 +5,10 @@ use Rattle.std.specs.Io.KnownBytes.{Consumes}
 use Rattle.sf_session.specs.declared.cause.Cause.{Cause}
 use Rattle.sf_session.specs.declared.fault.ServeFault.{ServeFault}
 use Rattle.sf_line.specs.Lines.{Rose}
-use Rattle.sf_serving.specs.declared.host.SessionStep.{SessionStep}
-use Rattle.sf_serving.specs.declared.host.SessionStep.TheVariants as step
-use Rattle.sf_serving.specs.Hosts.{HasSent}
-use Rattle.sf_serving.specs.Serving.{Progress, IsStop}
-use Rattle.sf_serving.specs.Rounds.{EndsByCause, HasStopped}
+use Rattle.sf_connection.specs.declared.host.SessionStep.{SessionStep}
+use Rattle.sf_connection.specs.declared.host.SessionStep.TheVariants as step
+use Rattle.sf_connection.specs.Hosts.{HasSent, ended}
+use Rattle.sf_connection.specs.Progress.{Progress, progress, IsServed, IsStopped, IsStop}
 use Rattle.sf_line.specs.declared.line.LineFault.{LineFault}
 use Rattle.sf_connection.specs.declared.connection.Connection.{Connection}
 use Rattle.sf_connection.specs.declared.connection.ServeState.{ServeState}
@@ -69,11 +68,15 @@ HasTurned None held work from now c c' p p' =
     IsServing held work from now c' p' × HasStepped c c' p p'
 HasTurned (Some wants) held work from now c c' p p' = Returns wants held work from now c' p p'
 
+-- the session once its host has ended it
+abbrev pub over : Progress → Progress
+over p = progress (ended p.state) p.unfed p.written
+
 -- a session that may end now for this reason
 abbrev pub MayEnd : Result Cause ServeFault → (work : ℕ) → (from now : StreamView) → Progress
     → Type 0
-MayEnd (Ok cause) work from now p = EndsByCause now.incoming cause p
-MayEnd (Err f) work from now p = HasStopped f work p × IsStop f from.failed now.failed
+MayEnd (Ok cause) work from now p = IsServed now.incoming cause (over p)
+MayEnd (Err f) work from now p = IsStopped f work (over p) × IsStop f from.failed now.failed
 
 -- what a write did: it wrote some bytes, it would block, or it failed
 abbrev pub HasTried : Result Bool LineFault → (from now : StreamView) → (p p' : Progress) → Type 0

@@ -8,25 +8,25 @@ use std::marker::Model;
 /// The maximum number of bytes that are gathered.
 const ROOM: usize = 16384;
 
-/// Bytes of replies that are not yet written, at most 16 KiB. It holds no memory while it is empty.
+/// The maximum capacity that is kept between two calls of `advance` while it is empty.
+const KEPT: usize = 8192;
+
+/// Bytes of replies that are not yet written, at most 16 KiB.
 #[derive(Debug, Drop)]
 pub(crate) struct Gathered {
-    alloc: Global,
     bytes: Vec<u8>,
     /// The length of the prefix that was written.
     sent: usize,
 }
 
 impl Model for Gathered {
-    ghost use Rattle.std.specs.Prelude.{◌≡◌, ◌<◌, ◌≤◌, List, ℕ, drop, vec_len, vec_capacity};
+    ghost use Rattle.std.specs.Prelude.{◌≤◌, List, ℕ, drop, vec_len};
 
     ghost Value = { List ℕ };
 
     ghost view = { λ g. drop g.sent g.bytes.items };
 
-    ghost invariant = { λ g. (g.sent ≤ vec_len g.bytes) × (vec_len g.bytes ≤ 16384)
-        × (vec_len g.bytes ≡ 0 → vec_capacity g.bytes ≡ 0)
-        × (0 < vec_len g.bytes → 16384 ≤ vec_capacity g.bytes) };
+    ghost invariant = { λ g. (g.sent ≤ vec_len g.bytes) × (vec_len g.bytes ≤ 16384) };
 }
 
 impl Gathered {
@@ -35,7 +35,6 @@ impl Gathered {
         ensures { result ≡ [] }
     {
         Gathered {
-            alloc,
             bytes: Vec::new(alloc),
             sent: 0,
         }
@@ -55,22 +54,7 @@ impl Gathered {
         ensures same { result ≡ false → self.new ≡ self.old }
         ensures few { length self.old ≤ 16384 → length self.new ≤ 16384 }
     {
-        if bytes.is_empty() {
-            return true;
-        }
-        if bytes.len() > ROOM - self.bytes.len() {
-            return false;
-        }
-        if self.bytes.is_empty() {
-            let Ok(room) = Vec::with_capacity(self.alloc, ROOM) else {
-                return false;
-            };
-            self.bytes = room;
-        }
-        if self.bytes.extend_from_slice(bytes).is_err() {
-            unreachable!();
-        }
-        true
+        bytes.len() <= ROOM - self.bytes.len() && self.bytes.extend_from_slice(bytes).is_ok()
     }
 
     /// Removes the first `n` bytes, which were written.
@@ -80,7 +64,17 @@ impl Gathered {
     {
         self.sent += n;
         if self.sent == self.bytes.len() {
-            *self = Gathered::new(self.alloc);
+            self.sent = 0;
+            self.bytes.clear();
+        }
+    }
+
+    /// Frees a large buffer, if no bytes are in it.
+    pub(crate) fn shrink(&mut self)
+        ensures { self.new ≡ self.old }
+    {
+        if self.bytes.is_empty() && self.bytes.capacity() > KEPT {
+            *self = Gathered::new(*self.bytes.allocator());
         }
     }
 }

@@ -15,11 +15,9 @@ pub struct LineStream<L> {
 }
 
 impl<L> LineStream<L> {
-    ghost use Rattle.sf_connection.specs.LineStreams.{line_of};
-
     /// A stream over this one.
     pub fn new(line: L) -> LineStream<L>
-        ensures { line_of result ≡ line }
+        ensures { result.line ≡ line }
     {
         LineStream {
             line,
@@ -29,7 +27,7 @@ impl<L> LineStream<L> {
 
     /// The blocking stream.
     pub fn into_line(self) -> L
-        ensures { result ≡ line_of self }
+        ensures { result ≡ self.line }
     {
         let LineStream { line, counts: _ } = self;
         line
@@ -38,16 +36,14 @@ impl<L> LineStream<L> {
 
 impl<L: Line> Stream for LineStream<L> {
     ghost use Rattle.std.specs.Prelude.{None};
-    ghost use Rattle.sf_connection.specs.StreamCounts.{failures_of, waits_left_of};
-    ghost use Rattle.sf_connection.specs.LineStreams.{line_of, counts_of};
 
     ghost view = { λ s. record {
-      incoming = L.incoming (line_of s);
-      outgoing = L.outgoing (line_of s);
-      failed = failures_of (counts_of s);
+      incoming = L.incoming s.line;
+      outgoing = L.outgoing s.line;
+      failed = s.counts.failures;
     } };
 
-    ghost waits = { λ s. record { made = None; left = waits_left_of (counts_of s) } };
+    ghost waits = { λ s. record { made = None; left = s.counts.waits_left } };
 
     fn try_read(&mut self, buffer: &mut [u8]) -> Result<Option<usize>, LineFault> {
         match self.line.read(buffer) {

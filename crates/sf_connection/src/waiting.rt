@@ -30,12 +30,10 @@ pub struct StreamCounts {
 }
 
 impl StreamCounts {
-    ghost use Rattle.sf_connection.specs.StreamCounts.{failures_of, waits_left_of};
-
     /// No errors and no waits.
     pub fn new() -> StreamCounts
-        ensures failures { failures_of result ≡ 0 }
-        ensures left { waits_left_of result ≡ 2 ^ 64 - 1 }
+        ensures failures { result.failures ≡ 0 }
+        ensures left { result.waits_left ≡ 2 ^ 64 - 1 }
     {
         StreamCounts {
             failures: 0,
@@ -45,9 +43,9 @@ impl StreamCounts {
 
     /// Counts an error.
     pub fn fail(&mut self) -> LineFault
-        ensures failures { failures_of self.old ≤ failures_of self.new }
-        ensures fault { Rose (failures_of self.old) (failures_of self.new) }
-        ensures left { waits_left_of self.new ≡ waits_left_of self.old }
+        ensures failures { self.old.failures ≤ self.new.failures }
+        ensures fault { Rose self.old.failures self.new.failures }
+        ensures left { self.new.waits_left ≡ self.old.waits_left }
     {
         self.failures = self.failures.saturating_add(1);
         LineFault
@@ -55,10 +53,10 @@ impl StreamCounts {
 
     /// Counts a wait, or an error if none is left.
     pub fn wait(&mut self) -> Result<(), LineFault>
-        ensures failures { failures_of self.old ≤ failures_of self.new }
-        ensures fault { OnErr result (Rose (failures_of self.old) (failures_of self.new)) }
-        ensures left { OnOk result (waits_left_of self.new < waits_left_of self.old) }
-        ensures spent { OnErr result (waits_left_of self.old ≡ 0) }
+        ensures failures { self.old.failures ≤ self.new.failures }
+        ensures fault { OnErr result (Rose self.old.failures self.new.failures) }
+        ensures left { OnOk result (self.new.waits_left < self.old.waits_left) }
+        ensures spent { OnErr result (self.old.waits_left ≡ 0) }
     {
         if self.waits_left == 0 {
             return Err(self.fail());

@@ -2,10 +2,9 @@
 
 use crate::scripted::{ScriptedStream, Turn};
 use sf_alone::{EngineHost, serve_one};
-use sf_connection::{Connection, Wants};
+use sf_connection::{Connection, NoObserver, Wants, new_piece};
 use sf_engine::Engine;
 use sf_hex::hex_packets;
-use sf_serving::{NoObserver, new_piece};
 use sf_session::{Cause, Clock, ServeFault};
 use std::alloc::Global;
 use std::test::*;

@@ -74,15 +74,14 @@ impl<'a> ScriptedStream<'a> {
 
 impl Stream for ScriptedStream<'_> {
     ghost use Rattle.std.specs.Prelude.{Some, None};
-    ghost use Rattle.sf_connection.specs.StreamCounts.{failures_of, waits_left_of};
 
     ghost view = { λ s. record {
       incoming = Some s.input.now;
       outgoing = Some s.output.items;
-      failed = failures_of s.counts;
+      failed = s.counts.failures;
     } };
 
-    ghost waits = { λ s. record { made = None; left = waits_left_of s.counts } };
+    ghost waits = { λ s. record { made = None; left = s.counts.waits_left } };
 
     fn try_read(&mut self, buffer: &mut [u8]) -> Result<Option<usize>, LineFault> {
         let most = match next_turn(&mut self.reads) {

@@ -19,6 +19,7 @@ ghost use Rattle.sf_core.specs.Events.{StepsOn, Walks, Joins, CallBegins, begun,
 use crate::fault::CoreFault;
 use crate::lane::{Lane, Share};
 use crate::parts::{Parts, WalkOutcome};
+use crate::room::Room;
 use crate::step::Step;
 use sf_book::Book;
 use sf_call::{Answer, BeginFault, JoinFault, Leaf, Record, Request};
@@ -38,6 +39,7 @@ pub struct Core {
     parts: Parts,
     // The numbers of the calls that a rename helps. It has room for all undecided calls.
     overtaken: Vec<u64>,
+    room: Room,
 }
 
 impl Drop for Core {
@@ -46,6 +48,7 @@ impl Drop for Core {
         let Core {
             parts: _parts,
             overtaken: _overtaken,
+            room: _room,
         } = self;
     }
 }
@@ -76,6 +79,7 @@ impl Core {
         Ok(Core {
             parts: Parts::new(alloc, Book::new(alloc))?,
             overtaken: Vec::new(alloc),
+            room: Room::new(),
         })
     }
 
@@ -88,6 +92,7 @@ impl Core {
         Ok(Core {
             parts: Parts::new(alloc, Book::with_keep(alloc, n))?,
             overtaken: Vec::new(alloc),
+            room: Room::new(),
         })
     }
 
@@ -138,7 +143,7 @@ impl Core {
 
     /// Begins a call of the lane, under the next number, at the timestamp `moment` (seconds since
     /// 1970). It takes no step yet. Room for its record is reserved, and in the list of helped
-    /// calls.
+    /// calls. A call that would leave too little memory for packets is refused.
     ///
     /// Errors: `Stranger` if the lane's session isn't joined and idle, `NumbersSpent` if all
     /// 2^63 - 1 call numbers are used, and `OutOfMemory`.
@@ -156,6 +161,9 @@ impl Core {
         }
         if self.parts.drawn() >= LAST_NUMBER {
             return Err(CoreFault::Refused(BeginFault::NumbersSpent));
+        }
+        if !self.room.allows(*self.overtaken.allocator(), &request) {
+            return Err(CoreFault::Refused(BeginFault::OutOfMemory));
         }
         let places = self.parts.unanswered() + 1;
         let Ok(()) = self.overtaken.reserve(places) else {

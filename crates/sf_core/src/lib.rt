@@ -20,6 +20,7 @@ mod cores;
 mod fault;
 mod lane;
 mod parts;
+mod room;
 mod sessions;
 mod step;
 

@@ -1,18 +1,17 @@
 //! Two sessions of one thread.
 
 ghost use Rattle.std.specs.Prelude.{◌≡◌, ◌*◌, vec_len, IfOk};
-ghost use Rattle.sf_serving.specs.Serving.{Progress};
+ghost use Rattle.sf_connection.specs.Progress.{Progress};
 ghost use Rattle.sf_pool.specs.LaneConnections.{scene_of, IsServingOnLane};
 
 use crate::memory_stream::MemoryStream;
 use sf_call::Record;
-use sf_connection::{Stream, Wants};
+use sf_connection::{NoObserver, Stream, Wants, new_piece};
 use sf_core::Core;
 use sf_hex::hex_packets;
 use sf_noted::{NotedCore, Page};
 use sf_pool::{LaneConnection, SessionLane, SharedLane, StepObserver, WaitQueue};
 use sf_roll::{NewRoll, RollName};
-use sf_serving::{NoObserver, new_piece};
 use sf_session::{Cause, Clock, ServeFault};
 use std::alloc::Global;
 use std::marker::Brand;

@@ -1,6 +1,5 @@
 pub mod Calls
 pub mod Laws
-pub mod Leaving
 pub mod Seeing
 pub mod Transcribing
 pub mod Talking

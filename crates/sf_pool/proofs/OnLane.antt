@@ -1,11 +1,9 @@
 -- A session over a lane and a non-blocking stream: it begins, goes on, and ends.
-use Rattle.std.proofs.Common.{◌≡◌, ◌≢◌, Option, None, List, [], Result, refl, sym, ap, ◌∙◌, subst, inl, inr}
+use Rattle.std.proofs.Common.{◌≡◌, Option, None, List, [], sym, ap, ◌∙◌, subst, inl, inr}
 use Rattle.sf_call.specs.declared.record.Record.{Record}
-use Rattle.sf_session.specs.declared.cause.Cause.{Cause}
-use Rattle.sf_session.specs.declared.fault.ServeFault.{ServeFault}
 use Rattle.sf_session.specs.Sessions.{SessionView, new_session}
 use Rattle.sf_session.specs.SessionStates.{SessionState, new_state}
-use Rattle.sf_serving.specs.Serving.{Progress, progress}
+use Rattle.sf_connection.specs.Progress.{Progress, progress}
 use Rattle.sf_connection.specs.declared.connection.Wants.{Wants}
 use Rattle.sf_connection.specs.declared.connection.Wants.TheVariants.{Read, Write, Both, Again, Ended}
 use Rattle.sf_connection.specs.Streams.{StreamView}
@@ -16,7 +14,7 @@ use Rattle.sf_pool.specs.declared.lane_host.Standing.TheVariants as standing
 use Rattle.sf_pool.specs.declared.lane_connection.LaneConnection.{LaneConnection}
 use Rattle.sf_pool.specs.SessionLanes.{SessionLaneView, IsResting}
 use Rattle.sf_pool.specs.Scenes.{LaneScene, lane_scene, lane_held}
-use Rattle.sf_pool.specs.LaneHosts.{IsPlaced, IsOver, IsCounted, IsToldAt}
+use Rattle.sf_pool.specs.LaneHosts.{IsPlaced, IsOver, LeavesCall, IsToldAt}
 use Rattle.sf_pool.specs.LaneConnections.{MayAdvance, IsServingOnLane, EndsOnLane, ReturnsOnLane}
 
 -- ---- it begins
@@ -33,27 +31,13 @@ begins_on_lane {D = D} scene view c lane stream e f g may told serving = record 
   serving = subst (λ (n : StreamView). IsServing lane_held (scene c.lane).lane.steps (view c.start_stream.value) n c.connection (progress new_state [] [])) (ap view (f ∙ sym g)) (serving (view c.start_stream.value));
 }
 
--- ---- it ends, or does not
+-- ---- it ends
 
-pub while_going : (w : Wants) (going gone : Type 0) → ((o : Result Cause ServeFault) → w ≢ Ended o) → IfEnded w going gone → going
-while_going Read going gone never h = h
-while_going Write going gone never h = h
-while_going Both going gone never h = h
-while_going Again going gone never h = h
-while_going (Ended o) going gone never h = absurd (never o refl)
-
-pub not_ended : (w : Wants) (going gone : Type 0) → ((o : Result Cause ServeFault) → w ≢ Ended o) → going → IfEnded w going gone
-not_ended Read going gone never h = h
-not_ended Write going gone never h = h
-not_ended Both going gone never h = h
-not_ended Again going gone never h = h
-not_ended (Ended o) going gone never h = absurd (never o refl)
-
-ends_on_lane : (at : Standing) (d : SessionLaneView) (t : SessionState) → IsOver at d → IsCounted at d t → EndsOnLane d t
-ends_on_lane standing.Joined d t over counts = absurd over
-ends_on_lane standing.Unanswered d t over counts = absurd over
-ends_on_lane standing.UnderWay d t over counts = inr (counts, over.1)
-ends_on_lane (standing.Left share) d t over counts = inl over
+ends_on_lane : (at : Standing) (d : SessionLaneView) (t : SessionState) → IsOver at d → LeavesCall at d t → EndsOnLane d t
+ends_on_lane standing.Joined d t over leaves = absurd over
+ends_on_lane standing.Unanswered d t over leaves = absurd over
+ends_on_lane standing.UnderWay d t over leaves = inr (leaves, over.1)
+ends_on_lane standing.Left d t over leaves = inl over
 
 -- ---- it goes on
 
@@ -75,7 +59,7 @@ returned_at Write scene view c p p' r told placed = (r, told.notes, record { may
 returned_at Both scene view c p p' r told placed = (r, told.notes, record { may = placed; told = told; serving = r.0 })
 returned_at Again scene view c p p' r told placed = (r, told.notes, record { may = placed; told = told; serving = r.0 })
 returned_at (Ended o) scene view c p p' r told over =
-    (r, told.notes, ends_on_lane c.connection.host.standing (scene c.lane).lane p'.state over told.counts)
+    (r, told.notes, ends_on_lane c.connection.host.standing (scene c.lane).lane p'.state over told.leaves)
 
 pub returned : {D G S : Type 0} (w : Wants) (scene : D → LaneScene) (view : S → StreamView) (c : LaneConnection D G S) (p p' : Progress) (now : LaneScene) → scene c.lane ≡ now → AdvancesOnLane w scene view c p p' now
 returned w scene view c p p' now e = subst (λ (n : LaneScene). AdvancesOnLane w scene view c p p' n) e (returned_at w scene view c p p')

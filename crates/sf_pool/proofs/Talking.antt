@@ -22,10 +22,10 @@ use Rattle.sf_session.specs.Sessions.{SessionView, Begins, NextGives, LocalPacke
 use Rattle.sf_session.specs.Responses.{Response, Version, Locally, ask_behind, packet_for, transcript, has_begun, AreAsked}
 use Rattle.sf_session.specs.SessionStates.{Phase, Resting, UnderWay, Decided, Gone, SessionState, new_state, fed, closed_now, pending, asks_of, IsRest, IsRead, HasShortPacket}
 use Rattle.sf_session.proofs.Laws.{all_push, begun_is, begun_push, asked_push, not_closed}
-use Rattle.sf_serving.specs.declared.host.SessionStep.{SessionStep}
-use Rattle.sf_serving.specs.declared.host.SessionStep.TheVariants as session_step
-use Rattle.sf_serving.specs.Hosts.{IsOpen, HasSent, IsBatch, IsFurther, IsSessionStep, with_sent, ended}
-use Rattle.sf_serving.proofs.Laws.{transcript_append, none_written, one_packet, front_all, rest_asked, rest_stream, ended_same, batch_none, batch_one}
+use Rattle.sf_connection.specs.declared.host.SessionStep.{SessionStep}
+use Rattle.sf_connection.specs.declared.host.SessionStep.TheVariants as session_step
+use Rattle.sf_connection.specs.Hosts.{IsOpen, HasSent, IsBatch, IsFurther, IsSessionStep, with_sent, ended}
+use Rattle.sf_connection.proofs.Laws.{transcript_append, none_written, one_packet, front_all, rest_asked, rest_stream, ended_same, batch_none, batch_one}
 use Rattle.sf_audit.specs.Audits.{CallRecord}
 use Rattle.sf_pool.specs.declared.calling.Stop.{Stop}
 use Rattle.sf_pool.specs.declared.calling.Stop.TheVariants as stop
@@ -33,25 +33,16 @@ use Rattle.sf_pool.specs.declared.session_lane.Begin.{Begin}
 use Rattle.sf_pool.specs.declared.lane_host.Standing.{Standing}
 use Rattle.sf_pool.specs.declared.lane_host.Standing.TheVariants as standing
 use Rattle.sf_roll.specs.Seen.{IsPrefixOf}
-use Rattle.sf_pool.specs.SessionLanes.{SessionLaneState, Joined, IsResting, SessionLaneView, Notes, share_of, HasSeenCalls, SeesOn}
+use Rattle.sf_pool.specs.SessionLanes.{SessionLaneState, Joined, IsResting, SessionLaneView, HasSeenCalls, SeesOn}
 use Rattle.sf_pool.specs.Scenes.{LaneScene, lane_scene, lane_held, response_calls, phase_calls, state_calls, Attempt, attempt_of, answer_attempts, phase_attempts, attempts_told, BeginsCalls, IsInCall}
-use Rattle.sf_pool.specs.LaneHosts.{standing_fault, MakesCall, talk, FailsCall, IsCounted, IsToldAt, standing_after, stop_fault}
+use Rattle.sf_pool.specs.LaneHosts.{standing_fault, MakesCall, talk, FailsCall, LeavesCall, IsToldAt, standing_after, stop_fault}
+use Rattle.sf_pool.proofs.Laws.{notes_none, notes_more}
 use Rattle.sf_pool.proofs.Seeing.{sees_same, stands_on, stands_new}
 
 -- ---- lists
 
-pub notes_none : {T : Type 0} (a : Option (List T)) → Notes a a []
-notes_none None = tt
-notes_none (Some x) = sym (append-nil x)
-
-notes_more : {T : Type 0} (a b c : Option (List T)) (xs ys : List T) → Notes a b xs → Notes b c ys → Notes a c (xs ++ ys)
-notes_more None b c xs ys p q = tt
-notes_more (Some x) None c xs ys p q = absurd p
-notes_more (Some x) (Some y) None xs ys p q = absurd q
-notes_more (Some x) (Some y) (Some z) xs ys p q = q ∙ ap (λ l. l ++ ys) p ∙ append_assoc x xs ys
-
 begins_none : (tl : Option (List ℕ)) (b : Option (List Begin)) → BeginsCalls tl tl b b []
-begins_none tl b = ([], notes_none b, Appends-nil tl, refl)
+begins_none tl b = ([], notes_none b b refl, Appends-nil tl, refl)
 
 begins_more : (x y z : LaneScene) {xs ys : List Attempt} → BeginsCalls x.moments y.moments x.begins y.begins xs → BeginsCalls y.moments z.moments y.begins z.begins ys → BeginsCalls x.moments z.moments x.begins z.begins (xs ++ ys)
 begins_more x y z {xs = xs} p q =
@@ -84,17 +75,17 @@ told_new {start = start} {d = d} {b = b} {seen = seen} {v = v} session none join
   };
   stands = λ at. record { unread = ap (λ (x : SessionView). x.unread) new; begun = ap (λ (x : SessionView). x.begun) new; ended = ap (λ (x : SessionView). x.ended) new };
   waits = none_written ∙ sym (ap (λ (x : SessionView). x.output) new);
-  counts = tt;
+  leaves = tt;
 })
 
 -- ---- it is fed, and told what was sent
 
--- what is counted of a session is the same where the same calls were told
-counts_same : (at : Standing) (d : SessionLaneView) (t t' : SessionState) → state_calls t' ≡ state_calls t → (IsInCall d.place t.phase → IsInCall d.place t'.phase) → IsCounted at d t → IsCounted at d t'
-counts_same standing.Joined d t t' same to h = tt
-counts_same standing.Unanswered d t t' same to h = tt
-counts_same standing.UnderWay d t t' same to h = to h
-counts_same (standing.Left share) d t t' same to h = h ∙ ap (λ (l : List CallRecord). share_of (length l)) (sym same)
+-- a call under way is still under way
+leaves_same : (at : Standing) (d : SessionLaneView) (t t' : SessionState) → (IsInCall d.place t.phase → IsInCall d.place t'.phase) → LeavesCall at d t → LeavesCall at d t'
+leaves_same standing.Joined d t t' to h = tt
+leaves_same standing.Unanswered d t t' to h = tt
+leaves_same standing.UnderWay d t t' to h = to h
+leaves_same standing.Left d t t' to h = tt
 
 pub told_fed : {start now : LaneScene} {at : Standing} {v w : SessionView} {t : SessionState} (bytes : List ℕ) → IsToldAt start at v now t → IsOpen t → w ≡ record v { unread = v.unread ++ bytes } → IsToldAt start at w now (fed t bytes)
 told_fed {now = now} {at = at} {t = t} bytes h is_open is =
@@ -107,7 +98,7 @@ told_fed {now = now} {at = at} {t = t} bytes h is_open is =
         ended = ap (λ (x : SessionView). x.ended) is ∙ s.ended;
       };
       waits = h.waits ∙ ap (λ (x : SessionView). t.sent ++ x.output) (sym is);
-      counts = counts_same at now.lane t (fed t bytes) refl (λ i. i) h.counts;
+      leaves = leaves_same at now.lane t (fed t bytes) (λ i. i) h.leaves;
     }
 
 drop_whole : (xs : List ℕ) → drop (length xs) xs ≡ []
@@ -123,7 +114,7 @@ told_sent {now = now} {at = at} {v = v} {w = w} {t = t} h count is =
           let s = h.stands rests in
           record { unread = ap (λ (x : SessionView). x.unread) is ∙ s.unread; begun = ap (λ (x : SessionView). x.begun) is ∙ s.begun; ended = ap (λ (x : SessionView). x.ended) is ∙ s.ended };
       waits = sym (append-nil (transcript t.answers)) ∙ ap (λ (b : List ℕ). transcript t.answers ++ b) (sym none);
-      counts = counts_same at now.lane t (with_sent t) refl (λ i. i) h.counts;
+      leaves = leaves_same at now.lane t (with_sent t) (λ i. i) h.leaves;
     }
 
 -- a lane that rests is where it was
@@ -152,7 +143,7 @@ never_rests t f at e = let no : f ≡ Resting = sym at ∙ e in cc
 
 -- it stands otherwise, or as it did
 pub told_ended : {start : LaneScene} {at at' : Standing} {v : SessionView} {d d' : SessionLaneView} {b b' : Option (List Begin)} {tl : Option (List ℕ)} {s s' : List Record} {t : SessionState} → IsToldAt start at v (lane_scene d b tl s) t → d'.calls ≡ d.calls → d'.keeps ≡ d.keeps → b' ≡ b → SeesOn s d s' d'
-    → (d.calls ≡ state_calls t → IsCounted at d t → IsCounted at' d' t) → IsToldAt start at' v (lane_scene d' b' tl s') (ended t)
+    → (LeavesCall at d t → LeavesCall at' d' t) → IsToldAt start at' v (lane_scene d' b' tl s') (ended t)
 told_ended {start = start} {at' = at'} {v = v} {d' = d'} {b' = b'} {tl = tl} {t = t} h calls keeps begins sees count =
     let same = ended_same t in
     let asked : BeginsCalls start.moments tl start.begins b' (attempts_told t) = subst (λ (x : Option (List Begin)). BeginsCalls start.moments tl start.begins x (attempts_told t)) (sym begins) h.notes.asked in
@@ -165,7 +156,7 @@ told_ended {start = start} {at' = at'} {v = v} {d' = d'} {b' = b'} {tl = tl} {t 
       };
       stands = λ rests. absurd (never_rests t t.phase refl rests);
       waits = ap transcript same.answers ∙ h.waits ∙ ap (λ (b : List ℕ). b ++ v.output) (sym same.sent);
-      counts = counts_same at' d' t (ended t) (closed_calls t t.phase refl) (closed_in_call d'.place t t.phase refl) (count h.notes.noted h.counts);
+      leaves = leaves_same at' d' t (ended t) (closed_in_call d'.place t t.phase refl) (count h.leaves);
     }
 
 -- ---- it goes on
@@ -231,7 +222,7 @@ goes_ended {start = start} {now = now} {v = v} {w = w} {cause = cause} {t = t} g
         };
         stands = λ rests. absurd (let no : Gone cause ≡ Resting = rests in cc);
         waits = h.waits ∙ ap (λ (b : List ℕ). t.sent ++ b) (sym (ends_output v w cause gives));
-        counts = tt;
+        leaves = tt;
       },
       record {
         stream = refl;
@@ -287,7 +278,7 @@ after_body t body rest more f = record t { unread = rest; bodies = t.bodies ++ b
 
 -- a body more was read
 goes_body : {start now now' : LaneScene} {at : Standing} {v w : SessionView} {t : SessionState} {asked : Ask} {more : List Response} {f : Phase} (r : Result SessionStep ServeFault) → MayGo start now v t → (b : Body t asked) → Noted now now' asked more f
-    → w ≡ record w { unread = b.rest; output = v.output ++ transcript more; begun = true; ended = None } → IsBatch lane_held more → IsCounted at now'.lane (after_body t b.body b.rest more f) → IsSessionStep r t (after_body t b.body b.rest more f) → Goes start at w now' r t
+    → w ≡ record w { unread = b.rest; output = v.output ++ transcript more; begun = true; ended = None } → IsBatch lane_held more → LeavesCall at now'.lane (after_body t b.body b.rest more f) → IsSessionStep r t (after_body t b.body b.rest more f) → Goes start at w now' r t
 goes_body {start = start} {now = now} {now' = now'} {v = v} {t = t} {asked = asked} {more = more} {f = f} r go b n shows batch counts to =
     let h = go.told in
     let rests = go.is_open.rests in
@@ -314,7 +305,7 @@ goes_body {start = start} {now = now} {now' = now'} {v = v} {t = t} {asked = ask
         };
         stands = λ e. record { unread = ap (λ (x : SessionView). x.unread) shows; begun = ap (λ (x : SessionView). x.begun) shows ∙ sym (begun_push t.bodies b.body); ended = ap (λ (x : SessionView). x.ended) shows };
         waits = transcript_append t.answers more ∙ ap (λ (x : List ℕ). x ++ transcript more) h.waits ∙ append_assoc t.sent v.output (transcript more) ∙ ap (λ (x : SessionView). t.sent ++ x.output) (sym shows);
-        counts = counts;
+        leaves = counts;
       },
       record {
         stream = refl;
@@ -396,7 +387,7 @@ called_ready Asked d d' v m w request rests gives made =
 
 -- how many moves its phase tells is of no account
 goes_pended : {start now now' : LaneScene} {at : Standing} {v m w : SessionView} {request : Request} {t : SessionState} {f : Phase} (g : ServeFault) → MayGo start now v t → (gives : NextGives v (next.Call request) m) → w ≡ m → Noted now now' (ask.Call gives.1.id request) [] f
-    → ((t' : SessionState) → t'.phase ≡ f → IsCounted at now'.lane t') → Goes start at w now' (Err g) t
+    → ((t' : SessionState) → t'.phase ≡ f → LeavesCall at now'.lane t') → Goes start at w now' (Err g) t
 goes_pended {v = v} {w = w} {t = t} {f = f} g go gives same n counts =
     let x = gives.1 in
     let b = body_at go x.begins x.asks in

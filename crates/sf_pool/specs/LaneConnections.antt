@@ -4,8 +4,8 @@ use Rattle.std.specs.Prelude.{◌≡◌, ◌≤◌, ◌⊎◌, List, Option, Non
 use Rattle.sf_call.specs.declared.record.Record.{Record}
 use Rattle.sf_core.specs.Cores.LaneState.{NoLane}
 use Rattle.sf_session.specs.SessionStates.{SessionState}
-use Rattle.sf_serving.specs.Hosts.{most_counted}
-use Rattle.sf_serving.specs.Serving.{Progress}
+use Rattle.sf_connection.specs.Hosts.{most_counted}
+use Rattle.sf_connection.specs.Progress.{Progress}
 use Rattle.sf_connection.specs.declared.connection.Wants.{Wants}
 use Rattle.sf_connection.specs.Streams.{StreamView}
 use Rattle.sf_connection.specs.Connections.{IsServing, Returns, IfEnded}

@@ -11,15 +11,15 @@ use Rattle.sf_session.specs.declared.fault.ServeFault.TheVariants as fault
 use Rattle.sf_session.specs.Sessions.{SessionView, reply_room}
 use Rattle.sf_session.specs.Responses.{Response, ask_behind, packet_for, transcript, has_begun}
 use Rattle.sf_session.specs.SessionStates.{Resting, SessionState, HasShortPacket}
-use Rattle.sf_serving.specs.Hosts.{most_counted}
+use Rattle.sf_connection.specs.Hosts.{most_counted}
 use Rattle.sf_audit.specs.Audits.{CallRecord}
 use Rattle.sf_noted.specs.Pages.{begun_call}
 use Rattle.sf_pool.specs.declared.calling.Stop.{Stop}
 use Rattle.sf_pool.specs.declared.calling.Stop.TheVariants as stop
 use Rattle.sf_pool.specs.declared.lane_host.Standing.{Standing}
 use Rattle.sf_pool.specs.declared.lane_host.Standing.TheVariants as standing
-use Rattle.sf_pool.specs.SessionLanes.{Joined, IsResting, HasCallUnderWay, share_of, SessionLaneView, session_answered}
-use Rattle.sf_pool.specs.Scenes.{LaneScene, NotesCalls, IsShared, IsInCall, state_calls, response_calls, Attempt, attempt, answer_attempts}
+use Rattle.sf_pool.specs.SessionLanes.{Joined, IsResting, HasCallUnderWay, SessionLaneView, session_answered}
+use Rattle.sf_pool.specs.Scenes.{LaneScene, NotesCalls, IsInCall, response_calls, Attempt, attempt, answer_attempts}
 
 -- A lane, and the session that asks it.
 pub record Talk : Type 0 where
@@ -84,21 +84,19 @@ abbrev pub IsPlaced : Standing → SessionView → SessionLaneView → Type 0
 IsPlaced standing.Joined v d = IsResting d.place × (v.waiting ≡ None)
 IsPlaced standing.Unanswered v d = IsResting d.place
 IsPlaced standing.UnderWay v d = HasCallUnderWay d.place × (most_counted ≤ d.steps)
-IsPlaced (standing.Left share) v d = d.place ≡ Joined NoLane
+IsPlaced standing.Left v d = d.place ≡ Joined NoLane
 
 -- and where the session has ended
 abbrev pub IsOver : Standing → SessionLaneView → Type 0
 IsOver standing.Joined d = ⊥
 IsOver standing.Unanswered d = ⊥
 IsOver standing.UnderWay d = HasCallUnderWay d.place × (most_counted ≤ d.steps)
-IsOver (standing.Left share) d = d.place ≡ Joined NoLane
+IsOver standing.Left d = d.place ≡ Joined NoLane
 
--- the share is of all calls that the session was told, and one that was left under way has no reply
-abbrev pub IsCounted : Standing → SessionLaneView → SessionState → Type 0
-IsCounted standing.Joined d t = Unit {0}
-IsCounted standing.Unanswered d t = Unit {0}
-IsCounted standing.UnderWay d t = IsInCall d.place t.phase
-IsCounted (standing.Left share) d t = share ≡ share_of (length (state_calls t))
+-- the session waits for a call that has no reply after 2^64 - 1 steps
+abbrev pub LeavesCall : Standing → SessionLaneView → SessionState → Type 0
+LeavesCall standing.UnderWay d t = IsInCall d.place t.phase
+LeavesCall _ d t = Unit {0}
 
 -- since the start the session was told this, by its host
 pub record IsToldAt (start : LaneScene) (at : Standing) (v : SessionView) (now : LaneScene)
@@ -106,14 +104,14 @@ pub record IsToldAt (start : LaneScene) (at : Standing) (v : SessionView) (now :
   pub notes : NotesCalls start now t
   pub stands : t.phase ≡ Resting → GoesOnAs v t
   pub waits : transcript t.answers ≡ t.sent ++ v.output
-  pub counts : IsCounted at now.lane t
+  pub leaves : LeavesCall at now.lane t
 
 -- why it goes on no more
 abbrev pub standing_fault : Standing → Option ServeFault
 standing_fault standing.Joined = None
 standing_fault standing.Unanswered = Some fault.OutOfMemory
 standing_fault standing.UnderWay = Some fault.NumbersSpent
-standing_fault (standing.Left share) = Some fault.OutOfMemory
+standing_fault standing.Left = Some fault.OutOfMemory
 
 abbrev pub standing_after : Stop → Standing
 standing_after stop.OutOfMemory = standing.Unanswered
@@ -122,10 +120,3 @@ standing_after stop.UnderWay = standing.UnderWay
 abbrev pub stop_fault : Stop → ServeFault
 stop_fault stop.OutOfMemory = fault.OutOfMemory
 stop_fault stop.UnderWay = fault.NumbersSpent
-
--- the share of a session that has left was added
-abbrev pub IsAdded : Standing → (old new : ℕ) → Type 0
-IsAdded standing.Joined old new = new ≡ old
-IsAdded standing.Unanswered old new = new ≡ old
-IsAdded standing.UnderWay old new = new ≡ old
-IsAdded (standing.Left share) old new = IsShared share old new

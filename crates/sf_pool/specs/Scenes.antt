@@ -1,26 +1,18 @@
 -- How a session is served whose calls a lane makes.
-use Rattle.std.specs.Prelude.{◌≡◌, ◌+◌, ◌≤◌, ◌⊎◌, ℕ, List, [], ◌∷◌, ◌++◌, length, map, Option, Result, Ok, Err}
+use Rattle.std.specs.Prelude.{◌≡◌, ◌+◌, ℕ, List, [], ◌∷◌, ◌++◌, map, Option, Result, Ok, Err}
 use Rattle.std.specs.List.{flat_map}
 use Rattle.std.specs.Io.KnownBytes.{Appends}
-use Rattle.sf_line.specs.Lines.{Rose}
 use Rattle.sf_call.specs.declared.request.Request.{Request}
 use Rattle.sf_call.specs.declared.fault.BeginFault.{BeginFault}
-use Rattle.sf_call.specs.declared.fault.JoinFault.{JoinFault}
-use Rattle.sf_core.specs.Cores.LaneState.{NoLane, Busy}
-use Rattle.sf_session.specs.declared.cause.Cause.{Cause}
-use Rattle.sf_session.specs.declared.fault.ServeFault.{ServeFault}
-use Rattle.sf_session.specs.declared.fault.ServeFault.TheVariants as fault
-use Rattle.sf_session.specs.Sessions.{join_refusal}
+use Rattle.sf_core.specs.Cores.LaneState.{Busy}
 use Rattle.sf_session.specs.Responses.{Response, Version, Locally, ByCall, Refused}
 use Rattle.sf_session.specs.SessionStates.{Phase, Resting, UnderWay, Decided, Gone, SessionState}
-use Rattle.sf_serving.specs.Hosts.{most_counted}
-use Rattle.sf_serving.specs.Serving.{LineView, Progress, Serves, IsServed, HasWrittenFor}
 use Rattle.sf_call.specs.declared.record.Record.{Record}
 use Rattle.sf_audit.specs.Audits.{CallRecord, call_records}
 use Rattle.sf_roll.specs.Seen.{IsPrefixOf}
 use Rattle.sf_noted.specs.Pages.{begun_call}
 use Rattle.sf_pool.specs.declared.session_lane.Begin.{Begin}
-use Rattle.sf_pool.specs.SessionLanes.{SessionLaneState, JoinRefused, Joined, SessionLaneView, Notes, share_of, HasSeenCalls}
+use Rattle.sf_pool.specs.SessionLanes.{SessionLaneState, Joined, SessionLaneView, Notes, HasSeenCalls}
 
 -- A lane, the calls that it was asked to begin and the timestamps of the clock, if they are known,
 -- and the prefix of the core's history that the lane's token has.
@@ -108,25 +100,9 @@ pub record NotesCalls (start now : LaneScene) (t : SessionState) : Type 0 where
   pub asked : BeginsCalls start.moments now.moments start.begins now.begins (attempts_told t)
   pub stands : IsSessionBetween start.seen now.seen now.lane
 
--- n calls were added to a share, up to 2^64 - 1
-abbrev pub IsShared : ℕ → ℕ → ℕ → Type 0
-IsShared n old new = new ≡ share_of (old + n)
-
 -- no other reply is pending when such a session receives one
 abbrev pub lane_held : ℕ
 lane_held = 0
-
--- A session was served to its end, with at most one pending reply. It has left, and its answered
--- calls were added to a share.
-abbrev pub ServesLane : (start now : LaneScene) → (from line : LineView) → (old new : ℕ) → Type 0
-ServesLane start now from line old new = Serves lane_held (NotesCalls start now) from line
-    (λ p. ((cause : Cause) × IsServed line.incoming cause p) × (now.lane.place ≡ Joined NoLane)
-    × IsShared (length (state_calls p.state)) old new)
-
--- the session never joined, for this refusal
-abbrev pub NeverJoins : SessionLaneView → SessionLaneView → ServeFault → Type 0
-NeverJoins start now f = (refusal : JoinFault) × (f ≡ join_refusal refusal)
-    × (now ≡ record start { place = JoinRefused refusal })
 
 -- A call is under way, and its session waits for it.
 pub record IsInCall (place : SessionLaneState) (phase : Phase) : Type 0 where
@@ -137,35 +113,3 @@ pub record IsInCall (place : SessionLaneState) (phase : Phase) : Type 0 where
   pub moves : ℕ
   pub placed : place ≡ Joined (Busy (begun_call number moment request))
   pub waits : phase ≡ UnderWay id number moment request moves
-
--- How a joined lane ends. It has left, and its answered calls were added to a share. Or its call
--- has no reply after 2^64 - 1 steps.
-abbrev pub HasLeftLane : SessionLaneView → SessionState → (old new : ℕ) → Type 0
-HasLeftLane lane t old new =
-    ((lane.place ≡ Joined NoLane) × IsShared (length (state_calls t)) old new)
-    ⊎ (IsInCall lane.place t.phase × (most_counted ≤ lane.steps) × (new ≡ old))
-
--- numbers run out only after that many bytes or steps
-abbrev pub LeavesFor : ServeFault → SessionLaneView → Progress → (old new : ℕ) → Type 0
-LeavesFor fault.Line lane p old new = HasLeftLane lane p.state old new
-LeavesFor fault.OutOfMemory lane p old new = HasLeftLane lane p.state old new
-LeavesFor fault.Sessions lane p old new = ⊥
-LeavesFor fault.NumbersSpent lane p old new = HasLeftLane lane p.state old new
-    × ((most_counted ≤ length p.state.stream) ⊎ (most_counted ≤ lane.steps))
-
--- What serving did before this fault. If the session never joined, nothing. Otherwise it served the
--- session so far, and wrote its replies, unless the stream failed.
-abbrev pub StopsLane : ServeFault → (start now : LaneScene) → (from line : LineView)
-    → (old new : ℕ) → Type 0
-StopsLane f start now from line old new =
-    (NeverJoins start.lane now.lane f × (now.begins ≡ start.begins) × (now.moments ≡ start.moments)
-    × (line ≡ from) × (new ≡ old) × IsPrefixOf start.seen now.seen)
-    ⊎ Serves lane_held (NotesCalls start now) from line (λ p. HasWrittenFor f p
-    × LeavesFor f now.lane p old new)
-
--- a stream fault is reported only if the stream failed
-abbrev pub IsLaneFault : ServeFault → ℕ → ℕ → Type 0
-IsLaneFault fault.Line failed failed' = Rose failed failed'
-IsLaneFault fault.OutOfMemory failed failed' = Unit {0}
-IsLaneFault fault.Sessions failed failed' = Unit {0}
-IsLaneFault fault.NumbersSpent failed failed' = Unit {0}

@@ -41,12 +41,9 @@ Notes None new more = Unit {0}
 Notes (Some old) None more = ⊥
 Notes (Some old) (Some new) more = new ≡ old ++ more
 
--- a count up to 2^64 - 1, and the next one
-abbrev pub share_of : ℕ → ℕ
-share_of n = min n (2 ^ 64 - 1)
-
+-- the next count, up to 2^64 - 1
 abbrev pub next_count : ℕ → ℕ
-next_count n = share_of (n + 1)
+next_count n = min (n + 1) (2 ^ 64 - 1)
 
 -- The number of a lane's session, 0 before it joins. Its state. Its answered calls, in order, and
 -- whether the lane retains them all. The number of steps made.

@@ -1,7 +1,7 @@
 //! One call of a session, made by its lane.
 
 ghost use Rattle.std.specs.Prelude.{◌≡◌, ◌≢◌, ◌≤◌, [], true, false, IsSome, OnOk, IfErr};
-ghost use Rattle.sf_serving.specs.Hosts.{most_counted};
+ghost use Rattle.sf_connection.specs.Hosts.{most_counted};
 ghost use Rattle.sf_pool.specs.SessionLanes.{IsResting, HasCallUnderWay, SeesOn};
 ghost use Rattle.sf_pool.specs.Scenes.{BeginsCalls};
 ghost use Rattle.sf_pool.specs.LaneHosts.{MakesCall, talk, after_steps, IsAnsweredAt, FailsCall};
@@ -10,7 +10,7 @@ use crate::observer::StepObserver;
 use crate::session_lane::{SessionLane, StepResult};
 use sf_audit::AnsweredCall;
 use sf_call::Request;
-use sf_serving::{CallObserver, ObservedCall};
+use sf_connection::{CallObserver, ObservedCall};
 use sf_session::{Clock, Session};
 
 /// Why a call has no reply.

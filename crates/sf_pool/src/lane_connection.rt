@@ -3,7 +3,7 @@
 ghost use Rattle.std.specs.Prelude.{◌≡◌, None, [], vec_len, IfOk, IfErr};
 ghost use Rattle.sf_session.specs.SessionStates.{new_state};
 ghost use Rattle.sf_roll.specs.Seen.{IsPrefixOf};
-ghost use Rattle.sf_serving.specs.Serving.{Progress, progress};
+ghost use Rattle.sf_connection.specs.Progress.{Progress, progress};
 ghost use Rattle.sf_pool.specs.SessionLanes.{New, JoinRefused};
 
 use crate::lane_host::LaneHost;

@@ -5,17 +5,15 @@ ghost use Rattle.sf_session.specs.declared.fault.ServeFault.{ServeFault};
 ghost use Rattle.sf_session.specs.Sessions.{new_session};
 ghost use Rattle.sf_session.specs.SessionStates.{SessionState, fed, IsRead};
 ghost use Rattle.sf_session.specs.Responses.{transcript};
-ghost use Rattle.sf_serving.specs.Hosts.{IsOpen, HasSent, IsFurther, IsSessionStep, with_sent, ended, IsHostFault};
-ghost use Rattle.sf_pool.specs.LaneHosts.{standing_fault, standing_after, stop_fault, IsAdded};
+ghost use Rattle.sf_connection.specs.Hosts.{IsOpen, HasSent, IsFurther, IsSessionStep, with_sent, ended, IsHostFault};
+ghost use Rattle.sf_pool.specs.LaneHosts.{standing_fault, standing_after, stop_fault};
 
 use crate::calling::{Stop, make_call};
 use crate::observer::StepObserver;
 use crate::session_lane::SessionLane;
-use sf_core::Share;
-use sf_serving::{Host, SessionStep};
+use sf_connection::{Host, SessionStep};
 use sf_session::{Clock, Next, ServeFault, Session};
 use std::alloc::{AllocError, Global};
-use std::mem;
 
 /// The bytes of replies that a stream buffers before a write may block. A worker's stream buffers
 /// as many.
@@ -29,8 +27,7 @@ pub(crate) enum Standing {
     Unanswered,
     /// Its call has no reply after 2^64 - 1 steps.
     UnderWay,
-    /// It has left, with its share of the calls.
-    Left(Share),
+    Left,
 }
 
 /// The host of a session whose lane has joined.
@@ -89,7 +86,7 @@ impl<'a, G> LaneHost<'a, G> {
     {
         match &self.standing {
             Standing::Joined => None,
-            Standing::Unanswered | Standing::Left(_) => Some(ServeFault::OutOfMemory),
+            Standing::Unanswered | Standing::Left => Some(ServeFault::OutOfMemory),
             Standing::UnderWay => Some(ServeFault::NumbersSpent),
         }
     }
@@ -119,23 +116,6 @@ impl<'a, G> LaneHost<'a, G> {
         };
         self.standing = standing;
         fault
-    }
-
-    /// Adds the share of a session that has left.
-    pub(crate) fn add_share(self, share: &mut Share)
-        ensures { IsAdded self.entry.standing share.old share.new }
-    {
-        let LaneHost {
-            number: _,
-            session: _session,
-            observer: _,
-            room: _,
-            standing,
-        } = self;
-        if let Standing::Left(own) = standing {
-            let others = mem::replace(share, Share::zero());
-            *share = others.merge(own);
-        }
     }
 }
 
@@ -211,9 +191,10 @@ impl<D: SessionLane, G: StepObserver> Host<D> for LaneHost<'_, G> {
 
     fn end(&mut self, lane: &mut D) {
         match &self.standing {
-            Standing::UnderWay | Standing::Left(_) => return,
+            Standing::UnderWay | Standing::Left => return,
             Standing::Joined | Standing::Unanswered => {}
         }
-        self.standing = Standing::Left(lane.leave());
+        lane.leave();
+        self.standing = Standing::Left;
     }
 }

@@ -1,6 +1,6 @@
 //! Observers of the steps of a session's calls.
 
-use sf_serving::{CallObserver, NoObserver};
+use sf_connection::{CallObserver, NoObserver};
 
 /// Observes each reply of a session, and each step that it wants to see.
 pub trait StepObserver: CallObserver {

@@ -1,6 +1,6 @@
 //! The calls of one session on a shared core.
 
-ghost use Rattle.std.specs.Prelude.{◌≡◌, ◌≢◌, ◌<◌, List, [], ◌∷◌, length, Option, None, OnErr, IfOk, IfErr};
+ghost use Rattle.std.specs.Prelude.{◌≡◌, ◌≢◌, ◌<◌, List, [], ◌∷◌, Option, None, OnErr, IfOk, IfErr};
 ghost use Rattle.sf_call.specs.declared.record.Record.{Record};
 ghost use Rattle.sf_call.specs.Histories.{IsNewNumber};
 ghost use Rattle.sf_core.specs.Cores.LaneState.{NoLane, Idle, Busy};
@@ -8,11 +8,10 @@ ghost use Rattle.sf_audit.specs.Audits.{call_record};
 ghost use Rattle.sf_roll.specs.Seen.{IsPrefixOf};
 ghost use Rattle.sf_noted.specs.Pages.{begun_call};
 ghost use Rattle.sf_pool.specs.declared.session_lane.Begin.{Begin};
-ghost use Rattle.sf_pool.specs.SessionLanes.{New, JoinRefused, Joined, IsResting, HasCallUnderWay, IsLast, Notes, share_of, SessionLaneView, Steps, HasSeenCalls, SeesOn};
+ghost use Rattle.sf_pool.specs.SessionLanes.{New, JoinRefused, Joined, IsResting, HasCallUnderWay, IsLast, Notes, SessionLaneView, Steps, HasSeenCalls, SeesOn};
 
 use sf_audit::AnsweredCall;
 use sf_call::{BeginFault, JoinFault, Request};
-use sf_core::Share;
 
 /// The outcome of a step.
 #[derive(Clone, Copy, Debug, PartialEq, Eq)]
@@ -99,11 +98,10 @@ pub trait SessionLane {
         requires { (at self.now).calls ≢ [] }
         ensures { IsLast (at self.now).calls (call_record result.now) };
 
-    /// The session leaves. Returns its number of answered calls. It holds nothing then.
-    fn leave(&mut self) -> Share
+    /// The session leaves. It holds nothing then.
+    fn leave(&mut self)
         requires { IsResting (at self.old).place }
         ensures at { at self.new ≡ record (at self.old) { place = Joined NoLane } }
-        ensures share { result ≡ share_of (length (at self.old).calls) }
         ensures rests { rests self.new }
         ensures begins { begins self.new ≡ begins self.old }
         ensures seen { seen self.new ≡ seen self.old };

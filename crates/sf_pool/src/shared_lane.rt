@@ -10,7 +10,6 @@ use crate::transcript_lane::{EndedLane, TranscriptLane};
 use crate::wait_queue::{LOOKS, WaitQueue};
 use sf_audit::AnsweredCall;
 use sf_call::{BeginFault, JoinFault, Record, Request};
-use sf_core::Share;
 use sf_noted::NotedCore;
 use sf_roll::{RollName, Seen};
 use std::alloc::Global;
@@ -438,12 +437,11 @@ impl<R: Wait, B: RollName + Ledger> SessionLane for SharedLane<'_, R, B> {
         self.transcript_lane.last_call()
     }
 
-    fn leave(&mut self) -> Share {
+    fn leave(&mut self) {
         self.let_go();
         let mut core = self.lock();
-        let share = self.transcript_lane.leave(&mut core);
+        self.transcript_lane.leave(&mut core);
         self.moved = true;
         self.release(core);
-        share
     }
 }

@@ -1,6 +1,6 @@
 //! A session's lane with a transcript of its calls.
 
-ghost use Rattle.std.specs.Prelude.{◌≡◌, ◌≢◌, ◌<◌, ◌+◌, ◌++◌, ◌∷◌, List, [], true, false, length, map, vec_len, if◌then◌else◌, OnErr, IfOk, IfErr};
+ghost use Rattle.std.specs.Prelude.{◌≡◌, ◌≢◌, ◌<◌, ◌+◌, ◌++◌, ◌∷◌, List, [], true, false, map, vec_len, if◌then◌else◌, OnErr, IfOk, IfErr};
 ghost use Rattle.std.specs.Vec.{vec_capacity};
 ghost use Rattle.sf_call.specs.declared.record.Record.{Record};
 ghost use Rattle.sf_call.specs.declared.record.Record.TheVariants.{Left};
@@ -13,12 +13,12 @@ ghost use Rattle.sf_roll.specs.Seen.{IsPrefixOf};
 ghost use Rattle.sf_noted.specs.Pages.{begun_call};
 ghost use Rattle.sf_pool.specs.OnCores.{BeginsAt, RefusesAt, StepsAt, stepped_to, IsVisitOf, calls_begun_by};
 ghost use Rattle.sf_pool.specs.TranscriptLanes.{lane_in, WasAsked, EndsAs};
-ghost use Rattle.sf_pool.specs.SessionLanes.{New, JoinRefused, Joined, IsResting, HasCallUnderWay, IsLast, new_session_lane, share_of, Steps, HasSeenCalls, SeesOn};
+ghost use Rattle.sf_pool.specs.SessionLanes.{New, JoinRefused, Joined, IsResting, HasCallUnderWay, IsLast, new_session_lane, Steps, HasSeenCalls, SeesOn};
 
 use crate::session_lane::StepResult;
 use sf_audit::{AnsweredCall, Transcript};
 use sf_call::{Answer, BeginFault, JoinFault, Record, Request};
-use sf_core::{Share, Step};
+use sf_core::Step;
 use sf_noted::{NotedCore, NotedLane, Visit};
 use sf_roll::{RollName, Seen};
 use std::alloc::Global;
@@ -295,11 +295,10 @@ impl<B: RollName + Ledger> TranscriptLane<B> {
         }
     }
 
-    /// The session leaves. Returns its number of answered calls.
-    pub fn leave(&mut self, core: &mut NotedCore<B>) -> Share
+    /// The session leaves.
+    pub fn leave(&mut self, core: &mut NotedCore<B>)
         requires { IsResting self.old.place }
         ensures at { self.new ≡ record self.old { place = Joined NoLane } }
-        ensures share { result ≡ share_of (length self.old.calls) }
         ensures leaves { SessionLeaves core.old.0 core.new.0 self.old.session }
         ensures history { (h : List Record) → IsHistory core.old.0 h
             → IsHistory core.new.0 (h ++ Left self.old.session ∷ []) }
@@ -308,9 +307,8 @@ impl<B: RollName + Ledger> TranscriptLane<B> {
         let Some(lane) = place.into_lane() else {
             unreachable!();
         };
-        let (share, visit) = core.leave(lane);
+        let (_share, visit) = core.leave(lane);
         self.place = Place::Left(visit);
-        share
     }
 
     /// Ends the lane, and returns its result. Abandons a session that hasn't left.

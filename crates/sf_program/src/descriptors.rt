@@ -1,4 +1,4 @@
-//! Standard streams and sockets, read and written without blocking if `poll` says so.
+//! Standard streams, read and written without blocking if `poll` says so.
 
 ghost use Rattle.std.specs.Prelude.{◌≡◌, ℕ, ◌<◌, ◌≤◌, List, length, take, Option, IfOk, IfSome, IfNone, OnErr};
 ghost use Rattle.std.specs.Io.KnownBytes.{IsAtEnd, prepend_known, append_known};
@@ -9,7 +9,6 @@ use sf_connection::{Stream, StreamCounts, WaitingStream, Wants};
 use sf_line::LineFault;
 use std::io::{self, ErrorKind, Read, Stdin};
 use std::os::fd::{AsRawFd, RawFd};
-use std::os::unix::net::UnixStream;
 
 /// How often a call that a signal interrupts is retried.
 const TRIES_INTERRUPTED: u32 = 1024;
@@ -67,21 +66,6 @@ impl Inlet for Stdin {
     }
 }
 
-impl Inlet for UnixStream {
-    ghost use Rattle.std.specs.Prelude.{None};
-
-    // A descriptor's bytes are not known.
-    ghost incoming = { λ _. None };
-
-    fn read_once(&mut self, buffer: &mut [u8]) -> io::Result<usize> {
-        self.read(buffer)
-    }
-
-    fn fd(&self) -> RawFd {
-        self.as_raw_fd()
-    }
-}
-
 /// A source and a destination of bytes.
 #[derive(Drop)]
 pub struct Descriptors<I, O> {
@@ -119,14 +103,6 @@ impl Descriptors<Stdin, Output> {
     /// Standard input and output.
     pub fn standard(rt: &HostRuntime) -> Descriptors<Stdin, Output> {
         Descriptors::new(rt.stdin(), Output::standard(rt))
-    }
-}
-
-impl Descriptors<UnixStream, Output> {
-    /// Both halves of a socket.
-    pub fn of_socket(socket: UnixStream) -> io::Result<Descriptors<UnixStream, Output>> {
-        let input = socket.try_clone()?;
-        Ok(Descriptors::new(input, Output::Socket(socket)))
     }
 }
 
@@ -239,16 +215,15 @@ impl<I: Inlet, O: Outlet> Descriptors<I, O> {
 
 impl<I: Inlet, O: Outlet> Stream for Descriptors<I, O> {
     ghost use Rattle.std.specs.Prelude.{None};
-    ghost use Rattle.sf_connection.specs.StreamCounts.{failures_of, waits_left_of};
     ghost use Rattle.sf_program.specs.Descriptors.{input_of, output_of, descriptor_counts};
 
     ghost view = { λ d. record {
       incoming = I.incoming (input_of d);
       outgoing = O.outgoing (output_of d);
-      failed = failures_of (descriptor_counts d);
+      failed = (descriptor_counts d).failures;
     } };
 
-    ghost waits = { λ d. record { made = None; left = waits_left_of (descriptor_counts d) } };
+    ghost waits = { λ d. record { made = None; left = (descriptor_counts d).waits_left } };
 
     #[tactic(auto, using(crate::proofs::Known::read_known, crate::proofs::Known::same_known))]
     fn try_read(&mut self, buffer: &mut [u8]) -> Result<Option<usize>, LineFault> {

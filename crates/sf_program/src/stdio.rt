@@ -11,10 +11,9 @@ ghost use Rattle.sf_alone.specs.Talks.{talk_view, ConversesTo};
 ghost use Rattle.sf_program.specs.Statuses.{exit_status, line_of_cause, status_line, ServingComesTo, SessionEnds};
 
 use sf_alone::serve_one;
-use sf_connection::WaitingStream;
+use sf_connection::{CallObserver, WaitingStream};
 use sf_engine::Engine;
 use sf_line::{Line, LineFault, write_all};
-use sf_serving::CallObserver;
 use sf_session::{Cause, Clock, ServeFault};
 use std::alloc::Global;
 

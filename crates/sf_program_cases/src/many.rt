@@ -5,11 +5,10 @@ ghost use Rattle.sf_line.specs.Lines.{Rose};
 
 use super::scenes::client::StillClock;
 use crossbeam_channel::unbounded;
-use sf_connection::Stream;
+use sf_connection::{NoObserver, Stream};
 use sf_core::Core;
 use sf_hex::hex_packets;
 use sf_line::{Line, LineFault, MemoryLine, Pieces};
-use sf_serving::NoObserver;
 use sf_workers::{Ended, Polled, Poller, Refusal, Tickets, Tools, serve_on_core};
 use std::alloc::Global;
 use std::marker::Brand;

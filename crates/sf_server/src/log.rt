@@ -3,10 +3,10 @@
 use crate::log_output::LogOutput;
 use crate::refusals::ClientObserver;
 use sf_call::JoinFault;
+use sf_connection::{CallObserver, ObservedCall};
 use sf_log::{LogLine, WaitingLines};
 use sf_pool::StepObserver;
 use sf_program::reporting::{report, report_lost};
-use sf_serving::{CallObserver, ObservedCall};
 use sf_session::{Cause, ServeFault};
 use std::io;
 use std::sync::{Mutex, Wait};

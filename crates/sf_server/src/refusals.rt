@@ -2,8 +2,8 @@
 
 use crate::outage::Outage;
 use sf_call::JoinFault;
+use sf_connection::NoObserver;
 use sf_program::output::shown;
-use sf_serving::NoObserver;
 use std::io::Write;
 use std::os::fd::AsRawFd;
 use std::sync::{Mutex, Wait};

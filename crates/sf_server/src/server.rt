@@ -194,13 +194,11 @@ fn load_and_accept<T: Wait, S: Ledger>(
 
 /// Sends the workers all streams, and then lets them end. Returns the tickets that are left.
 fn send_all<T: Wait, S: Ledger>(
-    rt: &HostRuntime,
-    threads: &T,
     serving: Serving<'_>,
     workers: Workers<'_, T, S>,
 ) -> Result<Tickets<S>, ServerFault> {
     let mut workers = workers;
-    let sent = load_and_accept(rt, threads, serving, &mut workers);
+    let sent = load_and_accept(workers.rt, workers.threads, serving, &mut workers);
     let tickets = workers.close();
     sent?;
     Ok(tickets)
@@ -233,7 +231,7 @@ fn new_polls(rt: &HostRuntime, count: u32) -> io::Result<Vec<Poll>>
 }
 
 /// `count` pollers, and the links to their workers.
-fn new_workers(
+fn polls_and_links(
     rt: &HostRuntime,
     count: u32,
     idle_timeout: Option<u64>,
@@ -243,6 +241,23 @@ fn new_workers(
     let polls = new_polls(rt, count)?;
     let links = WorkerLinks::to_polls(rt, polls.as_slice(), idle_timeout)?;
     Ok((polls, links))
+}
+
+/// A poller for each of `count` workers, and the links to these. A fault was reported.
+fn new_workers(
+    rt: &HostRuntime,
+    count: u32,
+    serving: Serving<'_>,
+) -> Result<(Vec<Poll>, WorkerLinks), ServerFault>
+    ensures { IfOk result (λ r. vec_len r.0 ≡ count) }
+{
+    match polls_and_links(rt, count, serving.idle_timeout) {
+        Ok(both) => Ok(both),
+        Err(error) => {
+            report(rt, "cannot poll", serving.socket, &error);
+            Err(ServerFault::Reported)
+        }
+    }
 }
 
 /// A clock and a poller for a worker of a server.
@@ -272,6 +287,18 @@ fn new_tools<'a, T: Wait, G: ClientObserver>(
     Ok(tools)
 }
 
+/// What the workers of a server begin with: a channel from which they receive streams, and a clock
+/// and a poller for each one. No stream was received.
+#[derive(Drop)]
+struct Receiving<'a, T, S: Ledger, G> {
+    alloc: Global,
+    receipts: Receipts<S>,
+    streams: Receiver<Sent<SocketStream<'a>, S>>,
+    tools: Vec<ServerTools<'a, T, G>>,
+    ghost none: { receipts ≡ 0 },
+    ghost few: { vec_len tools < 2 ^ 32 },
+}
+
 /// The number of streams that load a folder.
 fn loads(serving: Serving<'_>) -> u64
     ensures { result ≡ loads_of serving.entry.tree }
@@ -297,9 +324,76 @@ fn are_all<S: Ledger>(tickets: Tickets<S>, receipts: Receipts<S>, serving: Servi
     }
 }
 
-/// Serves connections on a core that no session has joined. Another thread accepts, and this one
-/// runs the workers. Transcripts are kept if the number of sessions is given. Also returns the
-/// tickets of the streams that were received, and those that are left.
+/// Serves the streams of the channel until it is closed. Drops the receiver then.
+fn serve_to_end<
+    S: Ledger + Send + Sync,
+    T: Threads + Wait + Sync,
+    G: StepObserver + ClientObserver + Sync,
+>(
+    threads: &T,
+    core: Core,
+    channel: Receiving<'_, T, S, G>,
+    observer: &G,
+    keeps: bool,
+) -> Result<(Ended, Receipts<S>), ServerFault>
+    requires new { IsHistory core [] }
+    requires none { (core.joins ≡ 0) × (core.drawn ≡ 0) }
+    ensures { IfOk result (λ r. HasServed keeps r.1 r.0) }
+{
+    let Receiving {
+        alloc,
+        receipts,
+        streams,
+        tools,
+    } = channel;
+    Ok(serve_on_core(
+        threads, alloc, core, receipts, &streams, tools, observer, keeps,
+    )?)
+}
+
+/// Accepts connections in another thread, and runs the workers in this one. Transcripts are kept if
+/// the number of sessions is given.
+fn accept_and_serve<
+    'a,
+    S: Ledger + Send + Sync,
+    T: Threads + Wait + Sync,
+    G: StepObserver + ClientObserver + Sync,
+>(
+    serving: Serving<'_>,
+    core: Core,
+    workers: Workers<'a, T, S>,
+    channel: Receiving<'a, T, S, G>,
+    observer: &G,
+) -> Result<(Ended, Receipts<S>, Tickets<S>), ServerFault>
+    requires new { IsHistory core [] }
+    requires none { (core.joins ≡ 0) × (core.drawn ≡ 0) }
+    ensures { IfOk result (λ r. HasServed (is_some serving.entry.sessions) r.1 r.0) }
+{
+    let keeps = serving.sessions.is_some();
+    let threads = workers.threads;
+    thread::scope(
+        thread::scope_env(),
+        threads,
+        move |scope| -> Result<(Ended, Receipts<S>, Tickets<S>), ServerFault>
+            requires new { IsHistory core [] }
+            requires none { (core.joins ≡ 0) × (core.drawn ≡ 0) }
+            ensures { IfOk result (λ r. HasServed keeps r.1 r.0) }
+        {
+            let links = workers.links;
+            let Ok(accepting) = scope.spawn(move || send_all(serving, workers)) else {
+                return Err(ServerFault::OutOfMemory);
+            };
+            let ended = serve_to_end(threads, core, channel, observer, keeps);
+            links.end();
+            let tickets = accepting.join(threads)?;
+            let (ended, receipts) = ended?;
+            Ok((ended, receipts, tickets))
+        },
+    )
+}
+
+/// Serves connections on a core that no session has joined. Also returns the tickets of the streams
+/// that were received, and those that are left.
 fn serve_streams<
     S: Ledger + Send + Sync,
     T: Threads + Wait + Sync,
@@ -316,77 +410,26 @@ fn serve_streams<
     requires none { (core.joins ≡ 0) × (core.drawn ≡ 0) }
     ensures { IfOk result (λ r. HasServed (is_some serving.entry.sessions) r.1 r.0) }
 {
-    let alloc = rt.alloc();
-    let count = worker_count(threads, serving);
-    let (polls, links) = match new_workers(rt, count, serving.idle_timeout) {
-        Ok(both) => both,
-        Err(error) => {
-            report(rt, "cannot poll", serving.socket, &error);
-            return Err(ServerFault::Reported);
-        }
-    };
-    let links = &links;
+    let (polls, links) = new_workers(rt, worker_count(threads, serving), serving)?;
     let refusals = Refusals::none(rt, threads, observer);
-    let tools = new_tools(rt, serving.socket, links, &refusals, polls)?;
+    let tools = new_tools(rt, serving.socket, &links, &refusals, polls)?;
     let mut tickets = tickets;
     let receipts = tickets.no_receipts();
-    let (sender, streams) = bounded(alloc, WAITING)?;
+    let (sender, streams) = bounded(rt.alloc(), WAITING)?;
     let workers = Workers {
         rt,
         threads,
-        links,
+        links: &links,
         streams: sender,
         tickets,
     };
-    let keeps = serving.sessions.is_some();
-    thread::scope(
-        thread::scope_env(),
-        threads,
-        move |scope| -> Result<(Ended, Receipts<S>, Tickets<S>), ServerFault>
-            requires new { IsHistory core [] }
-            requires none { (core.joins ≡ 0) × (core.drawn ≡ 0) × (receipts ≡ 0) }
-            requires few { vec_len tools < 2 ^ 32 }
-            ensures { IfOk result (λ r. HasServed keeps r.1 r.0) }
-        {
-            let accepting = scope.spawn(move || send_all(rt, threads, serving, workers));
-            let Ok(accepting) = accepting else {
-                return Err(ServerFault::OutOfMemory);
-            };
-            let ended = serve_to_end(
-                threads, alloc, core, receipts, streams, tools, observer, keeps,
-            );
-            links.end();
-            let tickets = accepting.join(threads)?;
-            let (ended, receipts) = ended?;
-            Ok((ended, receipts, tickets))
-        },
-    )
-}
-
-/// Serves the streams that a channel delivers, until it is closed. Drops the receiver then.
-fn serve_to_end<
-    'a,
-    S: Ledger + Send + Sync,
-    T: Threads + Wait + Sync,
-    G: StepObserver + ClientObserver + Sync,
->(
-    threads: &T,
-    alloc: Global,
-    core: Core,
-    receipts: Receipts<S>,
-    streams: Receiver<Sent<SocketStream<'a>, S>>,
-    tools: Vec<ServerTools<'a, T, G>>,
-    observer: &G,
-    keeps: bool,
-) -> Result<(Ended, Receipts<S>), ServerFault>
-    requires new { IsHistory core [] }
-    requires none { (core.joins ≡ 0) × (core.drawn ≡ 0) × (receipts ≡ 0) }
-    requires few { vec_len tools < 2 ^ 32 }
-    ensures { IfOk result (λ r. HasServed keeps r.1 r.0) }
-{
-    Ok(serve_on_core(
-        threads, alloc, core, receipts, &streams, tools, observer, keeps,
-    )?)
+    let channel = Receiving {
+        alloc: rt.alloc(),
+        receipts,
+        streams,
+        tools,
+    };
+    accept_and_serve(serving, core, workers, channel, observer)
 }
 
 /// Serves connections on a core that no session has joined, with tickets from a new ledger. If the

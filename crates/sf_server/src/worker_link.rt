@@ -68,6 +68,7 @@ impl WorkerLink {
         self.wake();
     }
 
+    /// Whether the worker is to take a stream of the channel.
     pub(crate) fn has_offers(&self) -> bool {
         self.offered.load(Ordering::SeqCst) > 0
     }
@@ -174,6 +175,7 @@ impl WorkerLinks {
         self.links.iter().filter(|link| link.has_begun()).count() as u64
     }
 
+    /// Whether idle clients are disconnected.
     pub(crate) fn has_idle_timeout(&self) -> bool {
         self.idle_timeout.is_some()
     }
@@ -208,6 +210,7 @@ impl WorkerLinks {
         }
     }
 
+    /// Whether no more streams will be sent.
     pub(crate) fn are_all_sent(&self) -> bool {
         self.all_sent.load(Ordering::SeqCst)
     }
@@ -217,6 +220,7 @@ impl WorkerLinks {
         self.have_ended.store(true, Ordering::SeqCst);
     }
 
+    /// Whether no worker takes a stream any more.
     pub(crate) fn have_ended(&self) -> bool {
         self.have_ended.load(Ordering::SeqCst)
     }

@@ -7,7 +7,7 @@ use Rattle.sf_core.specs.Cores.LaneState.{NoLane}
 use Rattle.sf_session.specs.declared.cause.Cause.{Cause}
 use Rattle.sf_session.specs.declared.fault.ServeFault.{ServeFault}
 use Rattle.sf_session.specs.SessionStates.{SessionState}
-use Rattle.sf_serving.specs.Serving.{Progress}
+use Rattle.sf_connection.specs.Progress.{Progress}
 use Rattle.sf_connection.specs.Streams.{StreamView}
 use Rattle.sf_connection.specs.declared.connection.Connection.{Connection}
 use Rattle.sf_connection.specs.declared.connection.Wants.{Wants}

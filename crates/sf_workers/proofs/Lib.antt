@@ -2,5 +2,6 @@ mod Ending
 mod Conversing
 mod Kept
 mod Slabs
+mod Queues
 mod Receiving
 mod OnePromise

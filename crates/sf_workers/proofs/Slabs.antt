@@ -6,7 +6,7 @@ use Rattle.std.proofs.lemmas.Bool.{cases_eq}
 use Rattle.std.proofs.lemmas.List.{get_or-set_same, get_or-set_other}
 use Rattle.std.proofs.lemmas.List.Sums.{sum_by-cons}
 use Rattle.std.proofs.lemmas.List.Sorted.{IsPermutation-refl, IsPermutation-sym, IsPermutation-trans, IsPermutation-cons, IsPermutation-middle}
-use Rattle.slab.specs.Slab.{Slab, get, values, slab_len, Updates}
+use Rattle.slab.specs.Slab.{Slab, get, values, slab_len, Updates, with_value}
 use Rattle.slab.proofs.SlabLemmas.{ContainsKey-within}
 
 module _ {T : Type 0} where
@@ -39,6 +39,29 @@ module _ {T : Type 0} where
         | inr other ↦ get_or-set_other s'.slots key k None None other ∙ updates.others k other
       ]) in
       IsPermutation-sym _ _ (subst (λ (l : List T). IsPermutation (values s') (x ∷ l)) same (taken s'.slots key x updates.changed))
+
+  set_twice : (slots : List (Option T)) (key : ℕ) (a b : Option T) → set (set slots key a) key b ≡ set slots key b
+  set_twice [] key a b = refl
+  set_twice (o ∷ slots) zero a b = refl
+  set_twice (o ∷ slots) (suc key) a b = ap (λ (l : List (Option T)). o ∷ l) (set_twice slots key a b)
+
+  -- a value is replaced, and the others stay
+  pub replaced : (s : Slab T) (key : ℕ) (x y : T) → get s key ≡ Some x → (others : List T) × IsPermutation (values s) (x ∷ others) × IsPermutation (y ∷ others) (values (with_value s key y))
+  replaced s key x y found =
+      let slots = set s.slots key (Some y) in
+      let others = filled (set s.slots key None) in
+      let found' = get_or-set_same s.slots key (Some y) None (ContainsKey-within s key (rw found refl)) in (
+        others,
+        taken s.slots key x found,
+        IsPermutation-sym _ _ (subst (λ (l : List (Option T)). IsPermutation (filled slots) (y ∷ filled l)) (set_twice s.slots key (Some y) None) (taken slots key y found')),
+      )
+
+  -- and then it is removed
+  pub replaced_and_removed : (s s' : Slab T) (key : ℕ) (x y : T) → get s key ≡ Some x → s'.slots ≡ set (set s.slots key (Some y)) key None → IsPermutation (values s) (x ∷ values s')
+  replaced_and_removed s s' key x y found left = removed s s' key x found (left ∙ set_twice s.slots key (Some y) None)
+
+  pub same_value : (s : Slab T) (key : ℕ) (x y z : T) → get s key ≡ Some x → get (with_value s key y) key ≡ Some z → z ≡ y
+  same_value s key x y z found now = let put = get_or-set_same s.slots key (Some y) None (ContainsKey-within s key (rw found refl)) in cc
 
   length_filled : (slots : List (Option T)) → length (filled slots) ≡ count_by is_some slots
   length_filled [] = refl

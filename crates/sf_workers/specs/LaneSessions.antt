@@ -4,7 +4,7 @@ use Rattle.sf_connection.specs.declared.connection.Wants.TheVariants.{Ended}
 use Rattle.sf_connection.specs.Streams.{StreamView}
 use Rattle.sf_session.specs.declared.cause.Cause.{Cause}
 use Rattle.sf_session.specs.declared.fault.ServeFault.{ServeFault}
-use Rattle.sf_serving.specs.Serving.{Progress}
+use Rattle.sf_connection.specs.Progress.{Progress}
 use Rattle.sf_pool.specs.declared.lane_connection.LaneConnection.{LaneConnection}
 use Rattle.sf_pool.specs.declared.shared_lane.SharedLane.{SharedLane}
 use Rattle.sf_pool.specs.LaneConnections.{IsServingOnLane, ReturnsOnLane, HasEnded}

@@ -2,3 +2,4 @@ pub mod Sessions
 pub mod Streams
 pub mod Conversations
 pub mod LaneSessions
+pub mod Ready

@@ -10,7 +10,7 @@ use Rattle.sf_audit.specs.Audits.{CallRecord, call_record, call_records}
 use Rattle.sf_noted.specs.Pages.{Page}
 use Rattle.sf_noted.specs.Visits.{AreCallsOf}
 use Rattle.sf_noted.specs.Seen.{HasSeen}
-use Rattle.sf_serving.specs.Serving.{Progress, IsServed, IsStopped, IsStop}
+use Rattle.sf_connection.specs.Progress.{Progress, IsServed, IsStopped, IsStop}
 use Rattle.sf_connection.specs.Streams.{StreamView}
 use Rattle.sf_connection.specs.Connections.{HasPassed}
 use Rattle.sf_pool.specs.SessionLanes.{Joined}

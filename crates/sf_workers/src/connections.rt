@@ -169,7 +169,7 @@ impl<'a, R: Wait, B: RollName + Ledger, G: StepObserver, L: Stream> Connections<
         ensures count { (S.view source.new).count ≡ (S.view source.old).count }
     {
         match self.begin(place, source, stream) {
-            Ok(key) => ready.set(key, true),
+            Ok(key) => ready.add(key),
             Err((stream, why)) => source.give_back(stream, Some(why)),
         }
     }
@@ -194,7 +194,7 @@ impl<'a, R: Wait, B: RollName + Ledger, G: StepObserver, L: Stream> Connections<
     {
         match source.next(waits) {
             Event::Arrived(stream) => self.accept(place, source, ready, stream),
-            Event::Ready(key) => ready.set(key, true),
+            Event::Ready(key) => ready.add(key),
             Event::Nothing => {}
         }
     }
@@ -221,10 +221,10 @@ impl<'a, R: Wait, B: RollName + Ledger, G: StepObserver, L: Stream> Connections<
             self.old.sessions.visits.items self.new.sessions.visits.items }
         ensures len { vec_len piece.new ≡ vec_len piece.old }
     {
-        let Some(mut session) = self.active.try_remove(key) else {
+        let Some(session) = self.active.get_mut(key) else {
             return;
         };
-        let wants = advance_session(&mut session, clock, piece);
+        let wants = advance_session(session, clock, piece);
         if let Wants::Ended(_) = wants {
             let EndedSession {
                 visit,
@@ -233,15 +233,16 @@ impl<'a, R: Wait, B: RollName + Ledger, G: StepObserver, L: Stream> Connections<
                 steps: _,
                 seen,
                 stream,
-            } = end_session(session);
+            } = end_session(self.active.remove(key));
             self.share.merge(share);
             self.seen = seen;
             self.sessions.add(visit, transcript);
             source.give_back(stream, None);
             return;
         }
-        self.active.insert_reserved(session);
-        ready.set(key, wants == Wants::Again);
+        if wants == Wants::Again {
+            ready.add(key);
+        }
     }
 
     /// The sessions, once no connection is open.

@@ -2,9 +2,10 @@
 //!
 //! Start with `serve_lines` in `lines.rt`. Each worker (`work` in `workers.rt`) has a source of
 //! streams (`streams.rt`): streams of a channel, and a poller that reports which may be read or
-//! written. In turn the worker handles what the source reports, and advances one open connection
-//! (`connections.rt`). It serves one session over each stream (`specs/Streams.antt`). Each stream
-//! comes with a ticket, so the number of streams that were received is known (`tickets.rt`).
+//! written. In turn the worker handles what the source reports, and advances the open connection
+//! (`connections.rt`) that became ready first (`ready.rt`). It serves one session over each stream
+//! (`specs/Streams.antt`). Each stream comes with a ticket, so the number of streams that were
+//! received is known (`tickets.rt`).
 //!
 //! At the end the core's history is a linearization of the sessions' calls
 //! (`specs/Sessions.antt`). The bytes of a stream are its session's conversation in that history

@@ -1,79 +1,71 @@
 //! Which connections of a worker are advanced next.
 
-ghost use Rattle.std.specs.Prelude.{◌≡◌, ◌<◌, ◌≤◌, ◌+◌, ◌⊎◌, ℕ, true, false, vec_len, slice_get, slice_set, Some, IfSome, IfNone, IfOk};
+ghost use Rattle.std.specs.Prelude.{◌≡◌, ◌≤◌, ◌<◌, ◌⊎◌, ◌==◌, ◌++◌, [], ◌∷◌, ℕ, length, Contains, option_to_list, IfNone, IfOk};
 
 use std::alloc::{AllocError, Global};
+use std::collections::VecDeque;
+use std::marker::Model;
 
 /// The number of keys.
 pub(crate) const KEYS: usize = 256;
 
-/// The keys of connections to advance: each once, in turn.
+/// The keys of connections to advance: each at most once, in the order in which they were added.
 #[derive(Drop)]
 pub(crate) struct ReadyKeys {
-    is_ready: Vec<bool>,
-    /// The key whose turn is next.
-    next: usize,
-    ghost keys: { vec_len is_ready ≡ 256 },
-    ghost within: { next ≤ 256 },
+    queue: VecDeque<usize>,
+    /// The flags of the keys that are in the queue.
+    is_queued: Vec<bool>,
+}
+
+impl Model for ReadyKeys {
+    ghost use Rattle.std.specs.Prelude.{◌≡◌, ◌≤◌, List, ℕ, vec_len};
+    ghost use Rattle.std.specs.VecDeque.{deque_capacity};
+    ghost use Rattle.sf_workers.specs.Ready.{IsKeyQueue};
+
+    ghost Value = { List ℕ };
+
+    ghost view = { λ r. r.queue.items };
+
+    ghost invariant = { λ r. IsKeyQueue r.queue.items r.is_queued.items
+        × (vec_len r.is_queued ≡ 256) × (256 ≤ deque_capacity r.queue) };
 }
 
 impl ReadyKeys {
     /// No keys.
-    pub(crate) fn none(alloc: Global) -> Result<ReadyKeys, AllocError> {
+    pub(crate) fn none(alloc: Global) -> Result<ReadyKeys, AllocError>
+        ensures { IfOk result (λ ready. ready ≡ []) }
+    {
         Ok(ReadyKeys {
-            is_ready: vec![in alloc; false; KEYS]?,
-            next: 0,
+            queue: VecDeque::with_capacity(alloc, KEYS)?,
+            is_queued: vec![in alloc; false; KEYS]?,
         })
     }
 
-    /// Adds a key, or removes it.
-    pub(crate) fn set(&mut self, key: usize, is_ready: bool)
-        ensures set { key < 256 → self.new.is_ready.items
-            ≡ slice_set self.old.is_ready.items key is_ready }
-        ensures next { self.new.next ≡ self.old.next }
+    /// Whether there are no keys.
+    pub(crate) fn is_empty(&self) -> bool
+        ensures { result ≡ (length self.now == 0) }
     {
-        if key < KEYS {
-            self.is_ready[key] = is_ready;
+        self.queue.is_empty()
+    }
+
+    /// Adds a key as the last one, unless it is there.
+    pub(crate) fn add(&mut self, key: usize)
+        ensures added { key < 256 → ¬ Contains self.old key → self.new ≡ self.old ++ key ∷ [] }
+        ensures same { Contains self.old key ⊎ (256 ≤ key) → self.new ≡ self.old }
+    {
+        if key < KEYS && !self.is_queued[key] {
+            self.is_queued[key] = true;
+            self.queue.push_back_reserved(key);
         }
     }
 
-    /// The first ready key in a range.
-    fn first_ready(&self, start: usize, end: usize) -> Option<usize>
-        requires { end ≤ 256 }
-        ensures some { IfSome result (λ key. (start ≤ key) × (key < end)
-            × (slice_get self.now.is_ready.items key ≡ Some true)) }
-        ensures before { IfSome result (λ key. (k : ℕ) → start ≤ k → k < key
-            → slice_get self.now.is_ready.items k ≡ Some false) }
-        ensures none { IfNone result ((k : ℕ) → start ≤ k → k < end
-            → slice_get self.now.is_ready.items k ≡ Some false) }
-    {
-        for key in start..end {
-            if self.is_ready[key] {
-                return Some(key);
-            }
-        }
-        None
-    }
-
-    /// Removes the key whose turn it is: the first one from `next` on, or else the first one.
+    /// Removes the first key.
     pub(crate) fn take(&mut self) -> Option<usize>
-        ensures taken { IfSome result (λ key. self.new.is_ready.items
-            ≡ slice_set self.old.is_ready.items key false) }
-        ensures ready { IfSome result (λ key. slice_get self.old.is_ready.items key ≡ Some true) }
-        ensures next { IfSome result (λ key. self.new.next ≡ key + 1) }
-        ensures turn { IfSome result (λ key. (k : ℕ) → self.old.next ≤ k → k < 256
-            → (k < key) ⊎ (key < self.old.next)
-            → slice_get self.old.is_ready.items k ≡ Some false) }
-        ensures none { IfNone result ((k : ℕ) → k < 256
-            → slice_get self.old.is_ready.items k ≡ Some false) }
-        ensures same { IfNone result (self.new.is_ready.items ≡ self.old.is_ready.items) }
+        ensures first { self.old ≡ option_to_list result ++ self.new }
+        ensures none { IfNone result (self.old ≡ []) }
     {
-        let key = match self.first_ready(self.next, KEYS) {
-            Some(key) => key,
-            None => self.first_ready(0, self.next)?,
-        };
-        self.is_ready[key] = false;
-        self.next = key + 1;
+        let key = self.queue.pop_front()?;
+        self.is_queued[key] = false;
         Some(key)
     }
 }

@@ -108,6 +108,7 @@ pub(crate) struct ChannelStreams<'a, R, L, S: Ledger, P> {
 }
 
 impl<'a, R: Wait, L: Drop, S: Ledger, P> ChannelStreams<'a, R, L, S, P> {
+    /// The streams that are still in the channel. `receipts` are the tickets of earlier ones.
     pub(crate) fn new(
         rt: &'a R,
         channel: &'a Receiver<Sent<L, S>>,

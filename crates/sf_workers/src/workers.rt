@@ -13,11 +13,10 @@ use crate::streams::{ChannelStreams, Poller, StreamSource};
 use crate::tickets::{Receipts, Sent};
 use crossbeam_channel::Receiver;
 use sf_call::Record;
-use sf_connection::Stream;
+use sf_connection::{Stream, new_piece};
 use sf_noted::NotedCore;
 use sf_pool::StepObserver;
 use sf_roll::{RollName, Seen};
-use sf_serving::new_piece;
 use sf_session::Clock;
 use std::alloc::{AllocError, Global};
 use std::sync::Wait;
@@ -25,7 +24,7 @@ use std::sync::ledger::{Ledger, Share};
 use std::thread;
 use std::thread::Threads;
 
-/// What a worker begins with: a clock, a read buffer, a set for the keys of its connections, a
+/// What a worker begins with: a clock, a read buffer, a queue for the keys of its connections, a
 /// share of the count for its sessions, and a token for a prefix of the history.
 #[derive(Drop)]
 pub(crate) struct Job<B: RollName + Ledger, C> {
@@ -147,7 +146,7 @@ fn served_by<R: Wait, B: RollName + Ledger, G: StepObserver, L: Stream + Drop>(
 }
 
 /// Serves one session over each stream that the source has, many at once. In turn it handles what
-/// the source reports, and advances one connection.
+/// the source reports, and advances the connection that became ready first.
 fn work<
     B: RollName + Ledger,
     R: Wait,
@@ -173,9 +172,9 @@ fn work<
         if source.is_closed() && connections.are_closed() {
             return served_by(connections);
         }
-        let turn = ready.take();
-        connections.handle_next(place, source, &mut ready, turn.is_none());
-        if let Some(key) = turn {
+        let waits = ready.is_empty();
+        connections.handle_next(place, source, &mut ready, waits);
+        if let Some(key) = ready.take() {
             connections.advance(source, &mut ready, key, &mut clock, &mut piece);
         }
     }

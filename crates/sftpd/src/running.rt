@@ -5,6 +5,7 @@ ghost use Rattle.sf_words.specs.Words.{paths_len};
 
 use clap::{Error, error};
 use sf_clock::SystemClock;
+use sf_connection::{CallObserver, NoObserver};
 use sf_line::StreamLine;
 use sf_pool::StepObserver;
 use sf_program::client::run_client;
@@ -16,7 +17,6 @@ use sf_program::stdio::{run_stdio, run_stdio_on};
 use sf_server::log::open_log;
 use sf_server::refusals::ClientObserver;
 use sf_server::server::serve;
-use sf_serving::{CallObserver, NoObserver};
 use sf_words::{Action, ClientCommand, RefusedWords, Serving, Stdio, read_words};
 use std::env;
 use std::io::{self, ErrorKind, Input, Read};

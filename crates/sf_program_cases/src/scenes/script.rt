@@ -1,7 +1,7 @@
 //! What the threads of a scene wait for, and how far they are.
 
+use sf_connection::CallObserver;
 use sf_pool::StepObserver;
-use sf_serving::CallObserver;
 use std::sync::atomic::{AtomicU64, Ordering};
 use std::thread;
 

@@ -1,11 +1,16 @@
-use Rattle.std.proofs.Common.{ℕ, List, ◌≤◌, take, Result, refl, arith, ap, sym, ◌∙◌, subst, length-take}
+use Rattle.std.proofs.Common.{◌≡◌, ℕ, List, ◌≤◌, take, Result, Ok, Err, false, refl, arith, ap, sym, ◌∙◌, subst, length-take}
 use Rattle.std.specs.Global.{Vec}
+use Rattle.std.specs.Result.{is_err}
 use Rattle.sf_engine.specs.declared.event.Event.TheVariants as event
 use Rattle.sf_engine.specs.declared.event.Happened.{Happened}
 use Rattle.sf_engine.specs.declared.event.EngineFault.{EngineFault}
 use Rattle.sf_engine.specs.HasLog.{AppendsEntry}
-use Rattle.sf_serving.proofs.Laws.{some_ok}
 use Rattle.sf_alone.proofs.on_engine.feed.Goals as goal
+
+-- the result of an event that succeeded
+some_ok : {T E : Type 0} (r : Result T E) → is_err r ≡ false → (x : T) × (r ≡ Ok x)
+some_ok (Ok x) e = (x, refl)
+some_ok (Err f) e = absurd (cc)
 
 -- a vector of the first elements of another, at the same address
 abbrev front : (v : Vec ℕ) (n : ℕ) → n ≤ v.len → Vec ℕ

@@ -2,7 +2,7 @@ use Rattle.std.proofs.Common.{[], inl, ap, sym, subst}
 use Rattle.sf_session.specs.SessionStates.{new_state}
 use Rattle.sf_session.specs.declared.fault.ServeFault.{ServeFault}
 use Rattle.sf_engine.specs.Views.{EngineView}
-use Rattle.sf_serving.specs.Serving.{progress}
+use Rattle.sf_connection.specs.Progress.{progress}
 use Rattle.sf_alone.specs.OnEngine.{MayNotOpen, engine_held, io_state, since_at}
 use Rattle.sf_alone.proofs.Hosting.{WasServed, opened_by, not_opened, serves_line, stops_early}
 use Rattle.sf_alone.proofs.on_engine.serve_one.Goals as goal

@@ -1,5 +1,5 @@
 use Rattle.std.proofs.Common.{◌≡◌, vec_len, IfOk}
-use Rattle.sf_serving.specs.Serving.{Progress}
+use Rattle.sf_connection.specs.Progress.{Progress}
 use Rattle.sf_pool.specs.LaneConnections.{scene_of, IsServingOnLane}
 use Rattle.sf_lane_cases.proofs.turns.serve_both.Given as goal
 

@@ -27,8 +27,8 @@ loop-preserved g c =
       streams = source_then g.L.Stream.view _ _ _ _ _ _ _ _ _ i.streams handled.streams;
     }
 
-pub loop-preserved-in-Some-turn : goal.loop-preserved-in-Some-turn
-loop-preserved-in-Some-turn g c =
+pub loop-preserved-in-Some-take : goal.loop-preserved-in-Some-take
+loop-preserved-in-Some-take g c =
     let i = c.loop.invariant in
     let handled = c.handle_next.ensures in
     let advanced = c.advance.ensures in

@@ -1,7 +1,7 @@
 use Rattle.std.proofs.Common.{◌∙◌, Ok, Err, refl, ap}
 use Rattle.sf_session.specs.declared.fault.ServeFault.TheVariants.{OutOfMemory, NumbersSpent}
 use Rattle.sf_engine.specs.declared.event.Happened.{Happened}
-use Rattle.sf_serving.specs.declared.host.SessionStep.TheVariants as session_step
+use Rattle.sf_connection.specs.declared.host.SessionStep.TheVariants as session_step
 use Rattle.sf_alone.proofs.Turning.{still_turns}
 use Rattle.sf_alone.proofs.Ending.{may_start, goes_turn, low_turn, begin_as, gone, gone_spent}
 use Rattle.sf_alone.proofs.on_engine.EngineHostHostEngine.go_on.Goals.{in-Wrote+else-wants_bytes+else-waiting-ge-BATCH, in_default}

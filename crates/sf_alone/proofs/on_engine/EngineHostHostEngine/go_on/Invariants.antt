@@ -1,6 +1,6 @@
 use Rattle.std.proofs.Common.{◌≡◌, ◌-◌, ◌^◌}
 use Rattle.sf_session.specs.SessionStates.{SessionState}
-use Rattle.sf_serving.specs.Hosts.{IsOpen, HasSent}
+use Rattle.sf_connection.specs.Hosts.{IsOpen, HasSent}
 use Rattle.sf_alone.specs.OnEngine.{Since, IsToldBy}
 use Rattle.sf_alone.proofs.Turning.{MayTurn}
 use Rattle.sf_alone.proofs.on_engine.EngineHostHostEngine.go_on.Given as goal

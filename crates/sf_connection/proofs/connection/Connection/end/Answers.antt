@@ -1,5 +1,5 @@
-use Rattle.sf_serving.specs.Hosts.{ended}
-use Rattle.sf_serving.specs.Serving.{progress}
+use Rattle.sf_connection.specs.Hosts.{ended}
+use Rattle.sf_connection.specs.Progress.{progress}
 use Rattle.sf_connection.proofs.Turns.{ends}
 use Rattle.sf_connection.proofs.connection.Connection.end.Goals as goal
 

@@ -1,6 +1,6 @@
 use Rattle.std.proofs.Common.{◌≡◌, ◌≤◌, ◌+◌, length, take, refl, length-take, arith}
 use Rattle.sf_session.specs.SessionStates.{fed}
-use Rattle.sf_serving.specs.Serving.{progress}
+use Rattle.sf_connection.specs.Progress.{progress}
 use Rattle.std.proofs.Common.{[]}
 use Rattle.sf_connection.proofs.Turns.{was_fed, was_not_fed, amount_fed, amount_not_fed}
 use Rattle.sf_connection.proofs.connection.Connection.feed.Goals as goal

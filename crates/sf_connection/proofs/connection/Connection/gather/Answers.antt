@@ -1,6 +1,6 @@
 use Rattle.std.proofs.Common.{refl}
-use Rattle.sf_serving.specs.Hosts.{with_sent}
-use Rattle.sf_serving.specs.Serving.{progress}
+use Rattle.sf_connection.specs.Hosts.{with_sent}
+use Rattle.sf_connection.specs.Progress.{progress}
 use Rattle.sf_connection.proofs.Turns.{gathers}
 use Rattle.sf_connection.proofs.connection.Connection.gather.Goals as goal
 

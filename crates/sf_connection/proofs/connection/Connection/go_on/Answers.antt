@@ -2,7 +2,7 @@ use Rattle.std.proofs.Common.{◌≡◌, ◌≢◌, refl, sym, ◌∙◌, subst}
 use Rattle.sf_connection.specs.declared.connection.Connection.{Connection}
 use Rattle.sf_connection.specs.declared.connection.ServeState.{ServeState}
 use Rattle.sf_connection.specs.declared.connection.ServeState.TheVariants.{Processing, Waiting}
-use Rattle.sf_serving.specs.Serving.{progress}
+use Rattle.sf_connection.specs.Progress.{progress}
 use Rattle.sf_connection.specs.Connections.{IsInState}
 use Rattle.sf_connection.specs.Steps.{state_after}
 use Rattle.sf_connection.proofs.Turns.{went, moved_to, moved_same}

@@ -2,7 +2,7 @@ use Rattle.std.proofs.Common.{◌<◌, refl, sym, subst}
 use Rattle.sf_connection.specs.declared.connection.Connection.{Connection}
 use Rattle.sf_connection.specs.Waits.{WaitsPromptly}
 use Rattle.sf_connection.specs.Streams.{WaitsView}
-use Rattle.sf_serving.proofs.Laws.{rose_since}
+use Rattle.sf_connection.proofs.Sessions.{rose_since}
 use Rattle.sf_connection.proofs.Turns.{line_may_end}
 use Rattle.sf_connection.proofs.Rounds.{going_of, serving_of, waits_once, serving_on, ended_as}
 use Rattle.sf_connection.proofs.connection.Connection.round.Goals as goal

@@ -1,4 +1,4 @@
-use Rattle.std.proofs.Common.{◌∙◌, Option, Result, refl, subst}
+use Rattle.std.proofs.Common.{◌∙◌, Option, Result, refl, sym, subst}
 use Rattle.sf_session.specs.declared.cause.Cause.{Cause}
 use Rattle.sf_session.specs.declared.fault.ServeFault.{ServeFault}
 use Rattle.sf_connection.specs.Waits.{HasRounded}
@@ -35,3 +35,6 @@ returns-in-Some-clause-served g c = λ start from p tells s.
     let t = c.round.ensures.served start from i.0 i.1 i.2 in
     let ended = subst (λ (r : Option (Result Cause ServeFault)). HasRounded r g.H.Host.held work from now after i.0 t.0) c.in-Some.is t.2.0 in
     (t.0, t.1, (returns_ended g.H.Host.held work from now c.in-Some.outcome after i.0 p t.0 ended, waits_on from (g.S.Stream.waits c.args.self.now.stream) (g.S.Stream.waits c.loop-outcome.self.stream) (g.S.Stream.waits after.stream) i.3 t.2.1))
+
+pub returns-in-Some-clause-len : goal.returns-in-Some-clause-len
+returns-in-Some-clause-len g c = c.round.ensures.len ∙ c.loop-outcome.invariant.room ∙ sym c.requires.room

@@ -2,7 +2,7 @@ use Rattle.std.proofs.Common.{◌≡◌, vec_len}
 use Rattle.sf_connection.specs.Streams.{StreamView}
 use Rattle.sf_connection.specs.Connections.{IsServing}
 use Rattle.sf_connection.specs.Waits.{WaitsPromptly}
-use Rattle.sf_serving.specs.Serving.{Progress}
+use Rattle.sf_connection.specs.Progress.{Progress}
 use Rattle.sf_connection.proofs.connection.Connection.serve.Given as goal
 
 -- the session is served so far

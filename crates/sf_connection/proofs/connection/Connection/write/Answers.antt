@@ -1,7 +1,7 @@
 use Rattle.std.proofs.Common.{◌≡◌, ◌<◌, ◌≤◌, ◌++◌, ℕ, List, length, take, refl, ap, subst, length-take, length-drop, arith}
 use Rattle.std.proofs.lemmas.Bool.Decides.{nat_tests}
 use Rattle.std.specs.Io.KnownBytes.{Appends}
-use Rattle.sf_serving.specs.Serving.{progress}
+use Rattle.sf_connection.specs.Progress.{progress}
 use Rattle.sf_connection.proofs.Turns.{gathered_left, wrote_some, more_written}
 use Rattle.sf_connection.proofs.connection.Connection.write.Goals as goal
 

@@ -1,8 +1,8 @@
 use Rattle.std.proofs.Common.{◌≡◌, ◌<◌, ◌≤◌, ◌+◌, ◌++◌, ℕ, List, length, take, drop, refl, ap, sym, ◌∙◌, subst, inr, length-drop, arith}
 use Rattle.std.proofs.lemmas.List.{take_all}
 use Rattle.std.specs.Io.KnownBytes.{Appends}
-use Rattle.sf_serving.specs.Hosts.{with_sent}
-use Rattle.sf_serving.specs.Serving.{progress}
+use Rattle.sf_connection.specs.Hosts.{with_sent}
+use Rattle.sf_connection.specs.Progress.{progress}
 use Rattle.sf_connection.specs.Connections.{pending_output}
 use Rattle.sf_connection.proofs.Passing.{unsent_is}
 use Rattle.sf_connection.proofs.Turns.{direct_within, due_direct, due_some, part_of, direct_left, took_some, wrote_some, wrote_all, more_written}

@@ -2,7 +2,7 @@ use Rattle.std.proofs.Common.{◌≡◌, Ok, Result, Bool, subst, sym, ap, ◌�
 use Rattle.sf_line.specs.declared.line.LineFault.{LineFault}
 use Rattle.sf_connection.specs.Connections.{HasDue}
 use Rattle.sf_connection.specs.Steps.{HasTried}
-use Rattle.sf_serving.specs.Serving.{Progress}
+use Rattle.sf_connection.specs.Progress.{Progress}
 use Rattle.sf_connection.proofs.Turns.{line_may_end, turned_since, returns_same}
 use Rattle.sf_connection.proofs.connection.Connection.write_turn.Goals as goal
 

@@ -13,7 +13,7 @@ use Rattle.sf_core.proofs.Turns.{sound_of}
 use Rattle.sf_core.proofs.cores.Core.begin.Goals as goal
 
 pub invariant_of-self : goal.invariant_of-self
-invariant_of-self c = let places = c.self.invariant.1 in (c.self.invariant.0, omega (arith, places, c.reserve.ensures.capacity))
+invariant_of-self c = c.self.invariant
 
 pub invariant_of-self-in_default-begin : goal.invariant_of-self-in_default-begin
 invariant_of-self-in_default-begin c =

@@ -1,7 +1,8 @@
 use Rattle.std.proofs.Common.{refl}
 use Rattle.sf_connection.specs.declared.connection.Wants.TheVariants.{Ended}
 use Rattle.sf_pool.specs.LaneConnections.{scene_of, HasEnded}
-use Rattle.sf_pool.proofs.OnLane.{while_going, not_ended, scene_same, returned}
+use Rattle.sf_connection.proofs.Laws.{if_going, going_of}
+use Rattle.sf_pool.proofs.OnLane.{scene_same, returned}
 use Rattle.sf_pool.proofs.lane_connection.LaneConnection.advance.Goals as goal
 
 pub returns-in_default-clause-served : goal.returns-in_default-clause-served
@@ -14,10 +15,10 @@ returns-in_default-clause-served g c = λ p s.
     (a.0, returned c.advance-wants.result scene g.S.Stream.view new p a.0 (scene new.lane) refl a.2 a.1 e.ended)
 
 pub returns-in_default-clause-ended : goal.returns-in_default-clause-ended
-returns-in_default-clause-ended g c = not_ended c.advance-wants.result (Unit {0}) (HasEnded (g.D.SessionLane.at c.advance-wants.new.place).place) c.in_default.not-Ended tt
+returns-in_default-clause-ended g c = if_going c.advance-wants.result (Unit {0}) (HasEnded (g.D.SessionLane.at c.advance-wants.new.place).place) c.in_default.not-Ended tt
 
 pub returns-in_default-clause-rests : goal.returns-in_default-clause-rests
-returns-in_default-clause-rests g c = while_going c.advance-wants.result (g.D.SessionLane.rests c.advance-wants.new.place) (Unit {0}) c.in_default.not-Ended c.advance-wants.ensures.rests
+returns-in_default-clause-rests g c = going_of c.advance-wants.result (g.D.SessionLane.rests c.advance-wants.new.place) (Unit {0}) c.in_default.not-Ended c.advance-wants.ensures.rests
 
 pub returns-clause-served : goal.returns-clause-served
 returns-clause-served g c = λ p s.

@@ -3,8 +3,8 @@ use Rattle.sf_session.specs.declared.fault.ServeFault.{ServeFault}
 use Rattle.sf_session.specs.declared.fault.ServeFault.TheVariants.{OutOfMemory}
 use Rattle.sf_session.specs.declared.session.Next.{Next}
 use Rattle.sf_session.specs.Sessions.{NextGives}
-use Rattle.sf_serving.specs.declared.host.SessionStep.{SessionStep}
-use Rattle.sf_serving.specs.declared.host.SessionStep.TheVariants as session_step
+use Rattle.sf_connection.specs.declared.host.SessionStep.{SessionStep}
+use Rattle.sf_connection.specs.declared.host.SessionStep.TheVariants as session_step
 use Rattle.sf_pool.specs.Scenes.{lane_scene}
 use Rattle.sf_pool.specs.LaneHosts.{stop_fault}
 use Rattle.sf_pool.proofs.Talking.{goes_not, goes_more, goes_ended, goes_local, goes_called, goes_stopped, joined, may_go, goes_still}

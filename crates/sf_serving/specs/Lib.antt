@@ -1,4 +1,0 @@
-pub mod Ends
-pub mod Hosts
-pub mod Serving
-pub mod Rounds
