@@ -38,7 +38,7 @@ struct leaf {
     uint64_t path;
 };
 
-/* A record as in the crate's `src/told.rt`. */
+/* A record as in the crate's `src/record_parts.rt`. */
 struct asked {
     lt_attributes attributes;
     uint64_t handle;

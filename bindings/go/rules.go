@@ -45,7 +45,7 @@ const Always = math.MaxUint64
 // value rejects the next request of any kind with StatusFailure.
 type Rule struct {
 	Session uint64 // its number; 0 is any, including later ones
-	Kind    Kind   // 0 is any
+	Kind    Kind   // 0 is any. Kinds are not bits: When selects several
 	// Path selects requests for this path, in any spelling; "" is any. A request by handle, as
 	// WRITE, is for the path that the handle was opened with. A name may have the wildcards of
 	// path.Match ([!a] is [^a]), and the name ** is any number of names. Escape escapes them.

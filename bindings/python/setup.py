@@ -3,7 +3,6 @@
 from __future__ import annotations
 
 import pathlib
-import re
 import shutil
 
 from setuptools import Distribution, setup
@@ -24,18 +23,11 @@ NO_SOURCES = (
 )
 
 
-def newest_glibc(library: pathlib.Path) -> tuple[int, int]:
-    """The newest version of glibc that the library has a symbol of: it needs this version."""
-    versions = re.findall(rb"GLIBC_(\d+)\.(\d+)", library.read_bytes())
-    return max((int(major), int(minor)) for major, minor in versions)
-
-
-def linux_tag(library: pathlib.Path, machine: str) -> str:
-    """The tag by which pip decides whether the library runs on a machine: 2.17 is manylinux2014,
-    the oldest tag."""
-    major, minor = max(newest_glibc(library), (2, 17))
-    tag = f"manylinux_{major}_{minor}_{machine}"
-    return f"{tag}.manylinux2014_{machine}" if (major, minor) == (2, 17) else tag
+def linux_tags(machine: str) -> str:
+    """The tags by which pip decides whether the library runs on a machine: with any glibc or musl
+    that has a tag."""
+    tags = "manylinux_2_17", "manylinux2014", "musllinux_1_1"
+    return ".".join(f"{tag}_{machine}" for tag in tags)
 
 
 class WithLibrary(build_py):
@@ -67,7 +59,7 @@ class ForEachPython(bdist_wheel):
     def get_tag(self) -> tuple[str, str, str]:
         platform = super().get_tag()[2]
         if BUILT.is_file() and platform.startswith("linux_"):
-            platform = linux_tag(BUILT, platform[len("linux_") :])
+            platform = linux_tags(platform[len("linux_") :])
         return "py3", "none", platform
 
 

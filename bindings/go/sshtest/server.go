@@ -121,10 +121,17 @@ func NewUnstartedServer(engine *lucernetick.Engine) *Server {
 	return server
 }
 
-// Start starts the server. It panics if a root cannot be made, or Races have other clients.
+// Start starts the server. It panics if two users have the same name, a root cannot be made, or
+// Races have other clients.
 func (server *Server) Start() {
 	if server.Addr != "" {
 		panic("sshtest: the server was started before")
+	}
+	if server.engine == nil {
+		panic("sshtest: the engine must not be nil")
+	}
+	if err := server.checkNames(); err != nil {
+		panic(err)
 	}
 	server.Config.AddHostKey(server.HostSigner)
 	for _, user := range server.Users {
@@ -277,6 +284,18 @@ func check(isGood bool) error {
 func (server *Server) users() []User {
 	first := User{Name: server.User, Password: server.Password, UID: server.UID, GID: server.GID}
 	return append([]User{first}, server.Users...)
+}
+
+// checkNames checks that each user has a name of its own.
+func (server *Server) checkNames() error {
+	seen := map[string]bool{"": true}
+	for _, user := range server.users() {
+		if seen[user.Name] {
+			return fmt.Errorf("sshtest: users must have different names, not %q", user.Name)
+		}
+		seen[user.Name] = true
+	}
+	return nil
 }
 
 // find returns the user of this name, or nil.

@@ -272,7 +272,29 @@ func TestUsersWithRoots(t *testing.T) {
 	}
 }
 
-// The same host key in each run.
+// What a server panics with at its start.
+func TestUsersThatAreRejected(t *testing.T) {
+	started := func(engine *lucernetick.Engine, users ...sshtest.User) (told string) {
+		server := sshtest.NewUnstartedServer(engine)
+		defer server.Close()
+		defer func() { told = fmt.Sprint(recover()) }()
+		server.Users = users
+		server.Start()
+		return ""
+	}
+	engine, ann := lucernetick.NewT(t).Engine, sshtest.User{Name: "ann"}
+	for says, told := range map[string]string{
+		`different names, not "ann"`:  started(engine, ann, ann),
+		`different names, not "user"`: started(engine, sshtest.User{Name: "user"}),
+		`different names, not ""`:     started(engine, sshtest.User{Password: "1"}),
+		"engine must not be nil":      started(nil),
+	} {
+		if !strings.Contains(told, says) {
+			t.Errorf("wanted %q, got %q", says, told)
+		}
+	}
+}
+
 // Ann owns the root that is made for her. Others see her files by their modes.
 func TestUsersWithPermissions(t *testing.T) {
 	server := sshtest.NewServerT(t, func(server *sshtest.Server) {
@@ -307,6 +329,7 @@ func TestUsersWithPermissions(t *testing.T) {
 	}
 }
 
+// The same host key in each run.
 func TestAFixedHostKey(t *testing.T) {
 	_, private, err := ed25519.GenerateKey(rand.Reader)
 	must(t, err)

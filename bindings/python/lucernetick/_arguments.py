@@ -6,6 +6,7 @@ to its lowest bits.
 
 from __future__ import annotations
 
+import inspect
 import math
 import operator
 import os
@@ -44,6 +45,14 @@ def seconds(name: str, value: Any, least: float = 0.0) -> float:
     return float(value)
 
 
+def function(name: str, value: Any) -> None:
+    """Checks that `value` is None or a function that isn't async: nobody would await its result."""
+    if value is not None and not callable(value):
+        raise TypeError(f"{name} must be a function, not {type(value).__name__}")
+    if inspect.iscoroutinefunction(value):
+        raise TypeError(f"{name} must be a function that is not async")
+
+
 def data(name: str, value: Any) -> bytes:
     """`value`, a bytes-like object, as bytes."""
     if isinstance(value, bytes):
@@ -57,13 +66,15 @@ def data(name: str, value: Any) -> bytes:
 
 def path(name: str, value: Any) -> bytes:
     """`value`, a path of the tree, as bytes. Text is encoded as UTF-8. The limits are the
-    protocol's."""
+    protocol's, in which the empty path is the root."""
     try:
         text = os.fspath(value)
     except TypeError:
         why = f"{name} must be a str, bytes or a path, not {type(value).__name__}"
         raise TypeError(why) from None
     encoded: bytes = text.encode("utf-8", "surrogateescape") if isinstance(text, str) else text
+    if not encoded:
+        raise ValueError(f"{name} is empty, and / is the root")
     if b"\0" in encoded:
         raise ValueError(f"{name} {text!r} has a NUL byte")
     if len(encoded) > LONGEST_PATH:

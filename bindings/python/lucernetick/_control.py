@@ -10,7 +10,8 @@
                             client writes, and returns its entry; or for a call, as by
                             {"call": {"kind": "RENAME", "path": "/in/*", "session": 1}}, that was
                             made since the start or a reset. After the timeout the status is 504
-    POST /rules             the parameters of `refuse`, as {"kind": "WRITE"}: {"rule": n};
+    POST /rules             the parameters of `refuse`, as {"kind": "WRITE"}: {"rule": n}; several
+                            kinds or flags are a list, or joined as in "READ|WRITE";
                             or a rule with its parameters: {"rule": "disk_full", "after": 1000},
                             {"rule": "read_only", "path": "/in/**"},
                             {"rule": "enforce_permissions", "uid": 1000, "gid": 100}
@@ -27,8 +28,10 @@ from __future__ import annotations
 import base64
 import contextlib
 import dataclasses
+import functools
 import http.server
 import json
+import operator
 import os
 import socket
 import socketserver
@@ -184,8 +187,7 @@ class Control(Closes):
             raise ValueError('wait takes {"path": "/a"} or {"call": {"kind": "RENAME"}}')
         given = words["call"]
         check_names("a call", given, {"kind", "path", "session"})
-        if isinstance(given.get("kind"), str):
-            given["kind"] = by_name("kind", Kind, given["kind"])
+        replace_names(given)
         found = self.server.wait_for_call(
             **given, when=lambda call: call.number > self._after, timeout=timeout
         )
@@ -196,9 +198,7 @@ class Control(Closes):
         if rule not in RULES:
             raise ValueError(f"rule must be one of {', '.join(RULES)}, not {rule}")
         check_names("a rule" if rule == "refuse" else rule, words, RULES[rule])
-        for name, names in (("kind", Kind), ("status", Status), ("flags", OpenFlag)):
-            if isinstance(words.get(name), str):
-                words[name] = by_name(name, names, words[name])
+        replace_names(words)
         number = len(self._rules) + 1
         self._rules[number] = getattr(self.server, rule)(**words)
         return {"rule": number}
@@ -212,6 +212,7 @@ class Control(Closes):
         return {"refused": rule.refused}
 
     def _set_faults(self, words: dict[str, Any]) -> dict[str, Any]:
+        check_names("a fault", words, {one.name for one in dataclasses.fields(Faults)})
         self.ssh.faults = Faults(**words)
         return dataclasses.asdict(self.ssh.faults)
 
@@ -252,20 +253,38 @@ def as_attributes(path: str, words: Any) -> Attributes:
     if not isinstance(words, dict):
         raise ValueError(f"{path} must have a JSON object")
     check_names(path, words, ATTRIBUTES)
-    return Attributes(permissions=words.pop("mode", None), **words)
+    mode = words.pop("mode", None)
+    if mode is not None:
+        arguments.integer("mode", mode, 0, 2**32 - 1)
+    return Attributes(permissions=mode, **words)
 
 
-def by_name(name: str, names: Any, value: str) -> Any:
-    """Several flags are joined by `|`."""
+def replace_names(words: dict[str, Any]) -> None:
+    """Puts values in the place of names."""
+    if "kind" in words:
+        words["kind"] = several("kind", Kind, words["kind"])
+    if "status" in words:
+        words["status"] = by_name("status", Status, words["status"])
+    if words.get("flags"):
+        flags = several("flags", OpenFlag, words["flags"])
+        words["flags"] = functools.reduce(operator.or_, flags) if isinstance(flags, list) else flags
+
+
+def several(name: str, names: Any, words: Any) -> Any:
+    """Those of a list, or of names that are joined by `|`."""
+    words = words.split("|") if isinstance(words, str) else words
+    return [by_name(name, names, word) for word in words] if isinstance(words, list) else words
+
+
+def by_name(name: str, names: Any, word: Any) -> Any:
+    """The value of a name. A number stays."""
+    if not isinstance(word, str):
+        return word
     try:
-        found = [names[word.strip().upper()] for word in value.split("|")]
+        return names[word.strip().upper()]
     except KeyError:
         known = ", ".join(one.name for one in names)
-        raise ValueError(f"{name} must be one of {known}, not {value}") from None
-    result = found[0]
-    for one in found[1:]:
-        result |= one
-    return result
+        raise ValueError(f"{name} must be one of {known}, not {word}") from None
 
 
 def as_contents(path: str, words: Any) -> Contents:

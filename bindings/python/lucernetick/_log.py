@@ -2,9 +2,15 @@
 
 from __future__ import annotations
 
-from typing import Optional, TextIO, Union
+import io
+from typing import Any, Optional, TextIO, Union
 
 from ._calls import Call
+
+
+def is_text(file: Any) -> bool:
+    """Whether it takes text, as far as it shows."""
+    return hasattr(file, "write") and not isinstance(file, (io.RawIOBase, io.BufferedIOBase))
 
 
 class Log:
@@ -26,7 +32,7 @@ class Log:
 
     def __init__(self, file: Optional[TextIO] = None) -> None:
         """Writes to this text file. Without one it only counts."""
-        if file is not None and not hasattr(file, "write"):
+        if file is not None and not is_text(file):
             raise TypeError(f"file must be a text file, not {type(file).__name__}")
         self.sessions = self.calls = 0
         self._file = file

@@ -59,7 +59,7 @@ class Drawn:
     """Draws from a seed, see `Races`."""
 
     def __init__(self, seed: int) -> None:
-        self.state = seed % WORD
+        self.state = seed
 
     def draw(self) -> int:
         """The next number of SplitMix64."""
@@ -87,7 +87,7 @@ class Given:
 def chooser(seed: Union[int, str]) -> Chooser:
     if isinstance(seed, str):
         return Given(seed)
-    return Drawn(arguments.integer("seed", seed, -(WORD // 2), WORD))
+    return Drawn(arguments.integer("seed", seed, 0, WORD - 1))
 
 
 def read_schedule(schedule: str) -> Iterator[int]:

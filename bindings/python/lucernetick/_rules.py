@@ -188,11 +188,9 @@ class Refuses(Reaches):
         request that the server has begun to read are never rejected.
         """
         kinds = as_kinds(kind, flags, after_bytes)
-        number = session_number(session)
         pattern = None if path is None else as_pattern(path)
         bits = 0 if flags is None else arguments.integer("flags", flags, 1, 2**32 - 1)
-        if when is not None and not callable(when):
-            raise TypeError(f"when must be a function, not {type(when).__name__}")
+        arguments.function("when", when)
 
         def matches(request: Request) -> bool:
             return (
@@ -210,6 +208,7 @@ class Refuses(Reaches):
             as_status(status),
         )
         with self._reach() as engine:
+            number = session_number(session, engine)
             return engine._give(Rule(engine, matches, *words))
 
     def disk_full(self, after: int = 0) -> Rule:
@@ -248,8 +247,8 @@ class Refuses(Reaches):
         owner = Owner(
             arguments.integer("uid", uid, 0, KEPT - 1), arguments.integer("gid", gid, 0, KEPT - 1)
         )
-        number = session_number(session)
         with self._reach() as engine:
+            number = session_number(session, engine)
             return engine._give(PermissionRule(engine, owner, number))
 
 
@@ -260,20 +259,26 @@ def would_change(request: Request) -> bool:
 def as_kinds(kind: Any, flags: Any, after_bytes: Any) -> Optional[frozenset[Kind]]:
     """The kinds that a rule matches; None for all. Flags are those of OPEN, and bytes are those of
     WRITE."""
+    kinds = None if kind is None else given_kinds(kind)
     needs = ("flags", flags, Kind.OPEN), ("after_bytes", after_bytes, Kind.WRITE)
     for name, value, only in needs:
         if value is None:
             continue
-        if kind not in (None, only):
+        if kinds not in (None, {only}):
             raise ValueError(f"{name} needs kind=Kind.{only.name}, or no kind")
-        kind = only
-    if kind is None:
-        return None
-    kinds = [kind] if isinstance(kind, int) else kind
+        kinds = frozenset((only,))
+    return kinds
+
+
+def given_kinds(kind: Any) -> frozenset[Kind]:
+    """A kind, or several. A number may be two that were joined like flags."""
     try:
-        return frozenset(map(Kind, kinds))
+        kinds = frozenset([kind] if isinstance(kind, (int, str)) else kind)
     except TypeError:
-        raise TypeError(f"kind must be a Kind or some Kinds, not {type(kind).__name__}") from None
+        kinds = frozenset()
+    if not kinds or not all(isinstance(one, Kind) for one in kinds):
+        raise TypeError(f"kind must be a Kind or some Kinds, not {kind!r}")
+    return kinds
 
 
 def as_status(status: Any) -> Status:
@@ -284,17 +289,18 @@ def as_status(status: Any) -> Status:
         raise ValueError(f"status must be one of {names}, not {status!r}") from None
 
 
-def session_number(session: Any) -> int:
-    """The number of a session or a connection; 0 for all."""
+def session_number(session: Any, engine: Engine) -> int:
+    """The number of a session or a connection of this engine; 0 for all."""
     if session is None:
         return 0
     session = getattr(session, "session", session)
+    if getattr(session, "engine", engine) is not engine:
+        raise ValueError("session must be of this engine, and is of another one")
     return arguments.integer("session", getattr(session, "number", session), 1)
 
 
 def as_pattern(path: arguments.Path) -> list[str]:
-    """The names of a path, which may have wildcards. The empty path is the root, as in the
-    protocol."""
+    """The names of a path, which may have wildcards."""
     return as_names(text(arguments.normal(arguments.path("path", path))))
 
 

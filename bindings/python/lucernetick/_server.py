@@ -25,7 +25,7 @@ from ._closing import Closes
 from ._engine import Engine, Session, Turn
 from ._faults import Refusal, RefusedError
 from ._lines import PIECE, REPLIES, Faults, FaultyLine, Line
-from ._log import Log
+from ._log import Log, is_text
 from ._permissions import names_of
 from ._reaching import Shows
 from ._rules import Refuses
@@ -113,7 +113,7 @@ def as_log(log: Union[None, Log, TextIO]) -> Optional[Log]:
     """A log, or a log on a text file."""
     if log is None or isinstance(log, Log):
         return log
-    if not hasattr(log, "write"):
+    if not is_text(log):
         raise TypeError(f"log must be a Log or a text file, not {type(log).__name__}")
     return Log(log)
 

@@ -121,6 +121,11 @@ class SshServer(Closes):
             raise TypeError("a User has a password already")
         self.user, self.password = user.name, user.password
         everybody = [user, *users]
+        for one in everybody:
+            if not isinstance(one, User):
+                raise TypeError(f"users must be Users, not {type(one).__name__}")
+        if isinstance(public_keys, (str, bytes, os.PathLike)):
+            raise TypeError("public_keys must be a list of paths, not one path")
         names = [one.name for one in everybody]
         if len(set(names)) < len(names):
             raise ValueError(f"users must have different names, not {', '.join(names)}")

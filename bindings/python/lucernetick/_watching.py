@@ -61,9 +61,8 @@ class Watches(Reaches):
         (`snapshot`, `refuse`), but must not wait for a client. If a callback raises an exception,
         the server closes all its connections, and its next method raises `StoppedError`.
         """
-        for name, value in (("before", before), ("after", after)):
-            if value is not None and not callable(value):
-                raise TypeError(f"{name} must be a function, not {type(value).__name__}")
+        arguments.function("before", before)
+        arguments.function("after", after)
         with self._reach() as engine:
             return engine._hook(Hook(engine, before, after))
 
@@ -96,7 +95,10 @@ class Watches(Reaches):
         """Waits for a call, and returns its record: the first one with this kind, path (a pattern,
         as in `refuse`) and session for which `when` returns true. Earlier calls count too. Raises
         `TimeoutError` after `timeout` seconds."""
-        kinds, number = as_kinds(kind, None, None), session_number(session)
+        kinds = as_kinds(kind, None, None)
+        arguments.function("when", when)
+        with self._reach() as engine:
+            number = session_number(session, engine)
         pattern = None if path is None else as_pattern(path)
         found: list[Call] = []
 

@@ -2,6 +2,7 @@
 
 from __future__ import annotations
 
+import io
 import socket
 import sys
 from pathlib import PurePosixPath
@@ -31,6 +32,11 @@ def session() -> Session:
     return Engine().open()
 
 
+async def late(_: object) -> bool:
+    """Nobody would await its result."""
+    return False
+
+
 TIMES = r"moment must be from 0 to 4294967295, not"
 
 
@@ -50,6 +56,7 @@ TIMES = r"moment must be from 0 to 4294967295, not"
         (lambda: Engine.from_files({"/a\0": b""}), ValueError, r"a path '/a\\x00' has a NUL byte"),
         (lambda: Engine.from_files({"/" + "x" * 256: b""}), ValueError, "a name of 256 bytes"),
         (lambda: Engine.from_files({"/x" * 3000: b""}), ValueError, "6000 bytes, and at most 4096"),
+        (lambda: Engine.from_files({"": b""}), ValueError, "a path is empty, and / is the root"),
         (lambda: Engine.from_files({"/": b""}), ValueError, "/ is a directory"),
         (lambda: Engine.from_files({"/f/g/h": b"", "f/": b""}), ValueError, "/f is a file"),
         (lambda: Engine.from_files({"/a": Link(3)}), TypeError, "the path of a Link must be"),
@@ -60,14 +67,18 @@ TIMES = r"moment must be from 0 to 4294967295, not"
         (lambda: Server("x"), TypeError, "engine must be an Engine, not str"),
         (lambda: Server(clock=5), TypeError, "clock must be a function .*, not int"),
         (lambda: Server(log=5), TypeError, "log must be a Log or a text file, not int"),
+        (lambda: Server(log=io.BytesIO()), TypeError, "log must be a Log or a text file, not Byt"),
         (lambda: SshServer(None), TypeError, "server must be a Server or a Races, not NoneType"),
         (lambda: SshServer(Engine()), TypeError, "server must be a Server or a Races, not Engine"),
         (lambda: SshServer(Server(), user=5), TypeError, "a user's name must be a str, not int"),
         (lambda: SshServer(Server(), port=99999), ValueError, "port must be from 0 to 65535"),
         (lambda: SshServer(Server(), host=5), TypeError, "host must be a str, not int"),
         (lambda: SshServer(Server(), cut_after=-1), ValueError, "cut_after must be from 0 to"),
+        (lambda: SshServer(Server(), users=["ann"]), TypeError, "users must be Users, not str"),
+        (lambda: SshServer(Server(), public_keys="/k"), TypeError, "public_keys must be a list"),
         (lambda: User("a", "b", "/x\0"), ValueError, "a user's root .* has a NUL byte"),
         (lambda: Races(1.5, 2), TypeError, "seed must be an int, not float"),
+        (lambda: Races(2**64, 2), ValueError, "seed must be from 0 to 18446744073709551615"),
         (lambda: Races("1 2,", 2), ValueError, "seed: '2,' is no part of a schedule"),
         (lambda: Races(1, "2"), TypeError, "clients must be an int, not str"),
         (lambda: Races(1, 1000), ValueError, "clients must be from 1 to 256, not 1000"),
@@ -77,6 +88,9 @@ TIMES = r"moment must be from 0 to 4294967295, not"
         (lambda: Races(1, 2, clock=3), TypeError, "clock must be a function"),
         (lambda: Races(1, 2, engine="x"), TypeError, "engine must be an Engine, not str"),
         (lambda: seeds(-1), ValueError, "count must be from 0"),
+        (lambda: Engine().on_call(before=5), TypeError, "before must be a function, not int"),
+        (lambda: Engine().on_call(after=late), TypeError, "after must be .* that is not async"),
+        (lambda: Engine().wait_for_call(when=5), TypeError, "when must be a function, not int"),
     ],
 )
 def test_what_is_rejected(action: Callable[[], object], error: type[Exception], says: str) -> None:
@@ -130,11 +144,14 @@ def test_faults_that_are_rejected(
     ("words", "error", "says"),
     [
         ({"path": 5}, TypeError, "path must be a str, bytes or a path, not int"),
+        ({"path": ""}, ValueError, "path is empty, and / is the root"),
         ({"path": "/a\0"}, ValueError, "path '/a.x00' has a NUL byte"),
         ({"path": "/" + "a" * 256}, ValueError, "path .* has a name of 256 bytes"),
         ({"path": "/a/" * 2000}, ValueError, "path has 6000 bytes"),
-        ({"kind": 1}, ValueError, "1 is not a valid Kind"),
-        ({"kind": 1.5}, TypeError, "kind must be a Kind or some Kinds, not float"),
+        ({"kind": 1.5}, TypeError, "kind must be a Kind or some Kinds, not 1.5"),
+        ({"kind": "WRITE"}, TypeError, "kind must be a Kind or some Kinds, not 'WRITE'"),
+        ({"kind": []}, TypeError, "kind must be a Kind or some Kinds, not .."),
+        ({"kind": Kind.READ | Kind.WRITE}, TypeError, "kind must be a Kind or some Kinds, not 7"),
         ({"kind": Kind.STAT, "flags": 2}, ValueError, "flags needs kind=Kind.OPEN"),
         ({"kind": Kind.OPEN, "after_bytes": 2}, ValueError, "after_bytes needs kind=Kind.WRITE"),
         ({"flags": 0}, ValueError, "flags must be from 1"),
@@ -144,7 +161,9 @@ def test_faults_that_are_rejected(
         ({"times": 2**63}, ValueError, "times must be from 0"),
         ({"session": -1}, ValueError, "session must be from 1"),
         ({"session": "x"}, TypeError, "session must be an int, not str"),
+        ({"session": Engine().open()}, ValueError, "session must be of this engine"),
         ({"when": 5}, TypeError, "when must be a function, not int"),
+        ({"when": late}, TypeError, "when must be a function that is not async"),
     ],
 )
 def test_rules_that_are_rejected(

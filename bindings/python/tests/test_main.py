@@ -341,6 +341,12 @@ def test_control_at_a_port() -> None:
         assert control.ask("GET", f"/rules/{rule['rule']}") == {"refused": 1}
         control.ask("DELETE", f"/rules/{rule['rule']}")
         files.mkdir("/x1")
+        for kinds in ("rmdir|stat", ["STAT", "RMDIR"]):
+            rule = control.ask("POST", "/rules", {"kind": kinds, "times": None})
+            for action in (files.stat, files.rmdir):
+                with pytest.raises(OSError):
+                    action("/x1")
+            assert control.ask("DELETE", f"/rules/{rule['rule']}") == {"refused": 2}
         control.ask("POST", "/rules", {"flags": "write|create", "status": "PERMISSION_DENIED"})
         with pytest.raises(PermissionError):
             files.open("/z", "w")
@@ -431,8 +437,14 @@ def test_control_of_permissions_and_rules() -> None:
         control.ask("POST", "/rules", {"rule": "read_only", "path": "/in/**"})
         with pytest.raises(PermissionError):
             files.remove("/in/f")
-        control.ask("POST", "/rules", {"rule": "disk_full", "after": 10})
+        words = {"kind": "WRITE", "path": "/f", "after_bytes": 10, "times": None}
+        control.ask("POST", "/rules", words)
         with files.open("/f", "w") as file:
+            file.write(bytes(10))
+            with pytest.raises(OSError, match="Failure"):
+                file.write(b"1")
+        control.ask("POST", "/rules", {"rule": "disk_full", "after": 10})
+        with files.open("/g", "w") as file:
             file.write(bytes(10))
             with pytest.raises(OSError, match="Failure"):
                 file.write(b"1")
@@ -450,6 +462,9 @@ def test_control_of_permissions_and_rules() -> None:
         ("PUT", "/tree", b'{"/a": 3}', 400, "/a must be a text"),
         ("PUT", "/tree", b'{"/a": {"link": "/none"}}', 400, "No such file"),
         ("POST", "/rules", b'{"kind": "x"}', 400, "kind must be one of OPEN, CLOSE"),
+        ("POST", "/rules", b'{"kind": []}', 400, "kind must be a Kind or some Kinds, not []"),
+        ("POST", "/rules", b'{"status": "OK|EOF"}', 400, "status must be one of OK, EOF"),
+        ("POST", "/rules", b'{"flags": []}', 400, "flags must be an int, not list"),
         ("POST", "/rules", b'{"when": 1}', 400, "a rule has no when"),
         ("POST", "/rules", b'{"rule": "x"}', 400, "rule must be one of refuse, disk_full"),
         ("POST", "/rules", b'{"rule": "disk_full", "uid": 1}', 400, "disk_full has no uid"),
@@ -463,7 +478,9 @@ def test_control_of_permissions_and_rules() -> None:
         ("PUT", "/attributes", b'{"/": {"mode": 1}}', 400, "SETSTAT /: Failure"),
         ("PUT", "/attributes", b'{"/f": 5}', 400, "/f must have a JSON object"),
         ("PUT", "/attributes", b'{"/f": {"x": 5}}', 400, "/f has no x"),
+        ("PUT", "/attributes", b'{"/f": {"mode": "x"}}', 400, "mode must be an int, not str"),
         ("PUT", "/faults", b'{"delay": -1}', 400, "delay must be at least 0"),
+        ("PUT", "/faults", b'{"cut": 5}', 400, "a fault has no cut"),
         ("PUT", "/clock", b'{"set": -1}', 400, "moment must be from 0"),
         ("PUT", "/clock", b"{}", 400, "the clock takes"),
     ],

@@ -148,7 +148,7 @@ def test_after_so_many_so_many(after: int, times: Optional[int], wanted: list[in
 
 @pytest.mark.parametrize(
     ("path", "is_for"),
-    [("/a", 1), (b"a", 1), ("/b/.././/a/", 1), ("/b", 0), ("/a/b", 0), ("", 0), ("/", 0)],
+    [("/a", 1), (b"a", 1), ("/b/.././/a/", 1), ("/b", 0), ("/a/b", 0), ("/", 0)],
 )
 def test_a_path_in_any_spelling(path: Union[str, bytes], is_for: int) -> None:
     assert refused_of(1, path=path, status=Status.PERMISSION_DENIED)[1] == is_for
@@ -271,7 +271,6 @@ def test_a_rule_ends() -> None:
         (glob.escape("/[x]"), {"/[x]"}),
         ("/in/../d", {"/d"}),
         ("/", {"/"}),
-        ("", {"/"}),
         (b"/i*/a", {"/in/a"}),
     ],
 )

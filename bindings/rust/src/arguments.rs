@@ -38,16 +38,20 @@ pub(crate) fn in_range(name: &str, value: u64, least: u64, most: u64) -> Result<
     Err(Error::Argument(format!("{} must be from {} to {}, not {}", name, least, most, value)))
 }
 
-/// A path of the tree in the server's normal form: absolute, without `.`, `..` and empty names. The
-/// empty path is the root, as in the protocol.
+/// A path of the tree in the server's normal form: absolute, without `.`, `..` and empty names. In
+/// the protocol the empty path is the root.
 pub(crate) fn path(name: &str, path: &[u8]) -> Result<Vec<u8>, Error> {
+    let (length, text) = (path.len(), path.escape_ascii());
     let longest = path.split(|byte| *byte == b'/').map(<[u8]>::len).max().unwrap_or(0);
-    let why = if path.contains(&0) {
-        "must not have a byte 0"
-    } else if path.len() > LONGEST_PATH {
-        "must have at most 4096 bytes"
+    let allowed = |most| format!("and at most {} are allowed", most);
+    let why = if path.is_empty() {
+        "is empty, and / is the root".to_string()
+    } else if path.contains(&0) {
+        format!("\"{}\" has a NUL byte", text)
+    } else if length > LONGEST_PATH {
+        format!("has {} bytes, {}", length, allowed(LONGEST_PATH))
     } else if longest > LONGEST_NAME {
-        "must have no name of more than 255 bytes"
+        format!("\"{}\" has a name of {} bytes, {}", text, longest, allowed(LONGEST_NAME))
     } else {
         return Ok(normal(path));
     };
@@ -75,7 +79,6 @@ mod tests {
     fn normal_forms() {
         for (path, wanted) in [
             ("/", "/"),
-            ("", "/"),
             ("a", "/a"),
             ("/a//b/./c/", "/a/b/c"),
             ("/a/../../b", "/b"),

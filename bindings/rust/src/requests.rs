@@ -41,7 +41,10 @@ pub struct Request {
 
 /// A path in normal form. The server rejects some texts itself.
 fn path(fields: &mut Fields<'_>) -> Option<Vec<u8>> {
-    arguments::path("path", fields.string()?).ok()
+    match fields.string()? {
+        b"" => Some(b"/".to_vec()),
+        path => arguments::path("path", path).ok(),
+    }
 }
 
 fn handle(fields: &mut Fields<'_>) -> Option<u64> {

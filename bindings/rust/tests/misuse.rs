@@ -50,11 +50,11 @@ type Row = (fn() -> String, &'static str);
 #[test]
 fn misuse() {
     let rows: Vec<Row> = vec![
-        (|| file("/a\0b"), "path must not have a byte 0"),
-        (|| file(&"a".repeat(256)), "path must have no name of more than 255 bytes"),
-        (|| file(&"/aaaaa".repeat(1000)), "path must have at most 4096 bytes"),
-        (|| file("/"), "path must not be the root"),
-        (|| file(""), "path must not be the root"),
+        (|| file("/a\0b"), "path \"/a\\x00b\" has a NUL byte"),
+        (|| file(&"a".repeat(256)), "aaa\" has a name of 256 bytes, and at most 255 are allowed"),
+        (|| file(&"/aaaaa".repeat(1000)), "path has 6000 bytes, and at most 4096 are allowed"),
+        (|| file("/a/.."), "path must not be the root"),
+        (|| file(""), "path is empty, and / is the root"),
         (
             || Engine::from_files([("/f", ""), ("/f/g", "")], at(0)).unwrap_err().to_string(),
             "path \"/f/g\" must not be below the file \"/f\"",

@@ -438,7 +438,7 @@ fn users_that_are_rejected() {
         (User::new("ann", "1\nbob:2"), password),
         (User::new("ann", "1".repeat(1025)), password),
         (User::new("bob", "1"), "bob is a user already"),
-        (User::new("ann", "1").root("/a\0b"), "root must not have a byte 0"),
+        (User::new("ann", "1").root("/a\0b"), "root \"/a\\x00b\" has a NUL byte"),
     ] {
         let options = SshOptions::default().users([User::new("bob", "1"), user]);
         let refused = SshServer::with_options(&server, options).unwrap_err().to_string();

@@ -296,7 +296,7 @@ fn what_is_rejected() {
             ),
             "mtime must be from 1970",
         ),
-        (engine.set_attributes("/\0", &mode(0), at(0)), "path must not have a byte 0"),
+        (engine.set_attributes("/\0", &mode(0), at(0)), "path \"/\\x00\" has a NUL byte"),
     ] {
         let text = fault.unwrap_err().to_string();
         assert!(text.contains(wanted), "{}", text);
