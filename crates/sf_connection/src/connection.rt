@@ -20,7 +20,7 @@ use std::alloc::{AllocError, Global};
 const PIECE: usize = 65536;
 
 /// How many steps `advance` makes: each one processes a packet, or reads, or writes.
-const STEPS: u32 = 64;
+const STEPS: u32 = 128;
 
 /// Allocates a read buffer.
 pub fn new_piece(alloc: Global) -> Result<Vec<u8>, AllocError>
@@ -155,7 +155,7 @@ impl<H, S: Stream> Connection<H, S> {
         Wants::Again
     }
 
-    /// Does all that is possible without blocking on the stream, but at most 64 steps. `piece` is a
+    /// Does all that is possible without blocking on the stream, but at most 128 steps. `piece` is a
     /// read buffer, which the caller may use for other connections between two calls.
     ///
     /// If it returns `Read`, no reply is pending: all complete packets that were read are answered,

@@ -108,7 +108,7 @@ impl<'a, D: SessionLane, G: StepObserver, S: Stream> LaneConnection<'a, D, G, S>
         self.connection.stream()
     }
 
-    /// Does all that is possible without blocking on the stream, but at most 64 steps. It may wait
+    /// Does all that is possible without blocking on the stream, but at most 128 steps. It may wait
     /// for other threads, whose calls block its own. `piece` is a read buffer, which the caller may
     /// use for other connections between two calls.
     ///

@@ -204,16 +204,15 @@ fn send_all<T: Wait, S: Ledger>(
     Ok(tickets)
 }
 
-/// The most workers that a server has by default. More of them gain nothing: the file system has
-/// one lock.
-const MOST_BY_DEFAULT: usize = 4;
+/// Further processors get no workers by default, since the file system has one lock.
+const MOST_PROCESSORS: usize = 4;
 
-/// The number of workers: as requested, or one for each processor, up to four.
+/// The number of workers: as requested, or two for each processor, up to eight.
 fn worker_count<T: Threads>(threads: &T, serving: Serving<'_>) -> u32 {
     match serving.workers {
         Some(workers) => workers,
         None => match thread::available_parallelism(threads) {
-            Ok(processors) => processors.get().min(MOST_BY_DEFAULT) as u32,
+            Ok(processors) => processors.get().min(MOST_PROCESSORS) as u32 * 2,
             Err(_) => 1,
         },
     }

@@ -146,8 +146,8 @@ fn serve_words<'a>(alloc: Global) -> Result<Command<'a>, AllocError> {
         .value_name("N")
         .value_parser(ValueParser::unsigned(1, MOST_WORKERS))
         .help(
-            "How many threads serve the sessions: 1 to 64, by default one for each processor, up \
-            to 4",
+            "How many threads serve the sessions: 1 to 64, by default two for each processor, up \
+            to 8",
         );
     let idle_timeout = Arg::new(alloc, "idle-timeout")
         .long("idle-timeout")

@@ -118,7 +118,7 @@ impl<'a, R: Wait, B: RollName + Ledger, G: StepObserver> Place<'a, R, B, G> {
     }
 }
 
-/// Does all that is possible without blocking on the session's stream, but at most 64 steps.
+/// Does all that is possible without blocking on the session's stream, but at most 128 steps.
 /// `piece` is a read buffer.
 pub fn advance_session<R: Wait, B: RollName + Ledger, G: StepObserver, L: Stream, C: Clock>(
     session: &mut OpenSession<'_, R, B, G, L>,
