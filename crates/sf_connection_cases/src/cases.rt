@@ -109,10 +109,11 @@ fn a_stream_may_block_anywhere(rt: HostRuntime) -> Result<(), Fail> {
     Ok(())
 }
 
-/// A client with much input doesn't keep its worker: a turn has at most 128 steps.
+/// A client with much input does not keep its worker: a turn has at most 128 steps.
 #[test]
 fn a_turn_has_few_steps(rt: HostRuntime) -> Result<(), Fail> {
-    let got = outcome_of(rt.alloc(), &[Turn::Some(1); 128], &[], 9)?;
+    let one = [Turn::Some(1); 128];
+    let got = outcome_of(rt.alloc(), &one, &one, 9)?;
     assert_eq!(rt; got.wants.first(), Some(&Wants::Again));
     assert_eq!(rt; got.wants.last(), Some(&Wants::Ended(Ok(Cause::Closed))));
     assert_eq!(rt;
