@@ -285,7 +285,7 @@ low_turn {s0 = s0} {e = e} {t = t} {r = r} output wrote same waits few g =
   where
     wrote_here : (x : Entry) → event_of x ≡ event.Turn s0 g.moment → result_of x ≡ Ok happened.Wrote → IsLawful g.is_last.front x → (after (of_session s0 g.is_last.front) x).left ≡ false
     wrote_here (ReplyWritten z k answer leaves) by is lawful = still_here e s0 g.moment t g.is_last.front [] g.is_last.turned g.is_last.has.left z k answer leaves by lawful
-    wrote_here x by is lawful = absurd cc
+    wrote_here _ by is lawful = cc
 
 -- the same, for an equal flag
 pub begin_as : {turns : ℕ} {start : Since} {s : ℕ} {e : EngineView} {tl : Option (List ℕ)} {t : SessionState} {b b' : Bool} → b' ≡ b → MayTurn turns start s e tl b t → MayTurn turns start s e tl b' t

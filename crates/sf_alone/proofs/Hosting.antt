@@ -2,6 +2,7 @@
 use Rattle.std.proofs.Common.{◌≡◌, ◌<◌, ◌≤◌, ℕ, ◌+◌, ◌-◌, List, [], ◌∷◌, ◌++◌, Bool, true, false, Option, Result, Ok, Err, length, refl, ap, sym, ◌∙◌, subst, inl, inr, append-nil, length-append, arith}
 use Rattle.std.specs.Global.{Vec}
 use Rattle.std.specs.Prelude.{if◌then◌else◌, IfOk, IfErr}
+use Rattle.std.specs.Result.{is_ok}
 use Rattle.std.proofs.KnownBytes.{Appends-nil}
 use Rattle.sf_call.specs.declared.fault.JoinFault.{JoinFault}
 use Rattle.sf_call.specs.declared.fault.JoinFault.TheVariants as join
@@ -45,7 +46,7 @@ refused_by : (log : List Entry) (x : Entry) (ev : Event) (f : EngineFault) → e
 refused_by log (EventRefused ev' f') ev f e is lawful =
     let same : f' ≡ f = cc in
     subst (λ (z : Event). MayBeRefused log z f) e (subst (λ (z : EngineFault). MayBeRefused log ev' z) same lawful)
-refused_by log x ev f e is lawful = absurd cc
+refused_by log _ ev f e is lawful = cc
 
 -- ---- open
 
@@ -58,7 +59,7 @@ opened_state log s (SessionOpened z) e is lawful nobody =
     let l : of_session s (log ++ x ∷ []) ≡ with_own new_log x = own_push s log x own ∙ ap (λ (l : SessionLog). with_own l x) (nobody s (omega (arith, number)) (omega (arith, number))) in
     let state : IsStateOf (with_own new_log x) new_state = record { stream = refl; answers = refl; sent = refl; front = ([], none_written); closed = λ left. refl; left = refl; begun = refl; call = tt } in
     ((omega (arith, number), omega (arith, number, count_push is_opening log x)), subst (λ (z : SessionLog). IsStateOf z new_state) (sym l) state)
-opened_state log s x e is lawful nobody = absurd cc
+opened_state log s _ e is lawful nobody = cc
 
 opened : (start : Since) (e' : EngineView) (s : ℕ) → AppendsEntry start.engine event.Open (Ok (happened.Opened s)) e' → IsToldBy 0 start s e' start.told new_state
 opened start e' s goes =
@@ -120,7 +121,7 @@ fed_state s t bytes r log (BytesFed z b) e is h =
     let stream : t.stream ++ bytes.items ≡ l.fed ++ b.items = ap (λ (f : List ℕ). f ++ bytes.items) h.stream ∙ ap (λ (v : Vec ℕ). l.fed ++ v.items) (sym same) in
     let now : IsStateOf (with_own l (BytesFed z b)) (fed t bytes.items) = record { stream = stream; answers = h.answers; sent = h.sent; front = h.front; closed = h.closed; left = h.left; begun = h.begun; call = h.call } in
     subst (λ (z : SessionLog). IsStateOf z (fed t bytes.items)) (sym (own_push s log (BytesFed z b) own)) now
-fed_state s t bytes r log x e is h = absurd cc
+fed_state s t bytes r log _ e is h = cc
 
 pub fed_on : {turns : ℕ} {start : Since} {s : ℕ} {e e' : EngineView} {tl : Option (List ℕ)} {t : SessionState} {bytes : List ℕ} → IsToldBy turns start s e tl t → Feeds e s bytes e' → IsToldBy turns start s e' tl (fed t bytes)
 fed_on {turns} {start} {s} {e} {e'} {tl} {t} T feeds =
@@ -128,6 +129,11 @@ fed_on {turns} {start} {s} {e} {e'} {tl} {t} T feeds =
     (event_on (event.Feed s feeds.0) (Ok feeds.2) T feeds.3 refl refl (λ l. tt) (λ log x e is known lawful has h. fed_state s t feeds.0 feeds.2 log x e is h))
 
 -- ---- close
+
+-- the event of an entry is not refused, if it may not be
+not_refused : (log : List Entry) (x : Entry) (ev : Event) → event_of x ≡ ev → IsLawful log x → ((f : EngineFault) → MayBeRefused log ev f → ⊥) → is_ok (result_of x) ≡ true
+not_refused log (EventRefused ev' f) ev e lawful never = absurd (never f (subst (λ (z : Event). MayBeRefused log z f) e lawful))
+not_refused log _ ev e lawful never = refl
 
 not_closed_off : (log : List Entry) (s : ℕ) (f : EngineFault) → IsKnown log s → MayBeRefused log (event.Close s) f → ⊥
 not_closed_off log s fault.NoSuchSession known h = h known
@@ -194,25 +200,23 @@ module _ (l : SessionLog) (t : SessionState) (h : IsStateOf l t) (s : ℕ) (leav
         call = at.call;
       }
 
-closed_state : (s : ℕ) (t : SessionState) (r : Result Happened EngineFault) (log : List Entry) (x : Entry) → event_of x ≡ event.Close s → result_of x ≡ r → IsKnown log s → IsLawful log x → IsStateOf (of_session s log) t → IsStateOf (of_session s (log ++ x ∷ [])) (ended t)
-closed_state s t r log (SessionClosed z leaves) e is known lawful h =
+closed_state : (s : ℕ) (t : SessionState) (log : List Entry) (x : Entry) → event_of x ≡ event.Close s → is_ok (result_of x) ≡ true → IsLawful log x → IsStateOf (of_session s log) t → IsStateOf (of_session s (log ++ x ∷ [])) (ended t)
+closed_state s t log (SessionClosed z leaves) e ok lawful h =
     let own : z ≡ s = cc in
     let rests : leaves ≡ is_at_rest (phase (of_session s log)) = leaves_by log z leaves lawful ∙ ap (λ (n : ℕ). is_at_rest (phase (of_session n log))) own in
     subst (λ (l : SessionLog). IsStateOf l (ended t)) (sym (own_push s log (SessionClosed z leaves) own)) (ended_state (of_session s log) t h z leaves rests)
-closed_state s t r log (EventRefused ev f) e is known lawful h = absurd (not_closed_off log s f known (subst (λ (z : Event). MayBeRefused log z f) e lawful))
-closed_state s t r log x e is known lawful h = absurd cc
+closed_state s t log _ e ok lawful h = cc
 
 pub closed_on : {turns : ℕ} {start : Since} {s : ℕ} {e e' : EngineView} {tl : Option (List ℕ)} {t : SessionState} → IsToldBy turns start s e tl t → Applies e (event.Close s) e' → IsToldBy turns start s e' tl (ended t)
-closed_on {s = s} {t = t} T applies = event_on (event.Close s) applies.0 T applies.1 refl refl (λ l. tt) (λ log x e is known lawful has h. closed_state s t applies.0 log x e is known lawful h)
+closed_on {s = s} {t = t} T applies = event_on (event.Close s) applies.0 T applies.1 refl refl (λ l. tt) (λ log x e is known lawful has h. closed_state s t log x e (not_refused log x (event.Close s) e lawful (λ f. not_closed_off log s f known)) lawful h)
 
 -- ---- sent
 
 -- what is unsent follows what was sent
 same_front : (a b c d : List ℕ) → length a ≡ length b → a ++ c ≡ b ++ d → c ≡ d
 same_front [] [] c d n e = e
-same_front [] (y ∷ b) c d n e = absurd cc
-same_front (x ∷ a) [] c d n e = absurd cc
 same_front (x ∷ a) (y ∷ b) c d n e = same_front a b c d (omega (arith, n)) cc
+same_front _ _ c d n e = cc
 
 -- the unsent output of a session that is served
 pub output_here : {turns : ℕ} {start : Since} {s : ℕ} {e : EngineView} {tl : Option (List ℕ)} {t : SessionState} (output : List ℕ) → IsToldBy turns start s e tl t → HasOutput e s output → transcript t.answers ≡ t.sent ++ output
@@ -227,17 +231,16 @@ not_unsent log s n fault.NoSuchSession known few h = h known
 not_unsent log s n fault.NotSent known few h = omega (arith, few, h.1)
 not_unsent log s n f known few h = h
 
-sent_state : (s n : ℕ) (t : SessionState) (r : Result Happened EngineFault) (log : List Entry) (x : Entry) → event_of x ≡ event.Sent s n → result_of x ≡ r → IsKnown log s → IsLawful log x → length (transcript (of_session s log).wrote) ≡ (of_session s log).sent + n → IsStateOf (of_session s log) t
+sent_state : (s n : ℕ) (t : SessionState) (log : List Entry) (x : Entry) → event_of x ≡ event.Sent s n → is_ok (result_of x) ≡ true → length (transcript (of_session s log).wrote) ≡ (of_session s log).sent + n → IsStateOf (of_session s log) t
     → IsStateOf (of_session s (log ++ x ∷ [])) (with_sent t)
-sent_state s n t r log (BytesSent z k) e is known lawful all h =
+sent_state s n t log (BytesSent z k) e ok all h =
     let own : z ≡ s = cc in
     let count : k ≡ n = cc in
     let l = of_session s log in
     let sent : length (transcript t.answers) ≡ l.sent + k = ap (λ (w : List Response). length (transcript w)) h.answers ∙ all ∙ ap (λ (i : ℕ). l.sent + i) (sym count) in
     let now : IsStateOf (with_own l (BytesSent z k)) (with_sent t) = record { stream = h.stream; answers = h.answers; sent = sent; front = ([], sym (append-nil (transcript t.answers))); closed = h.closed; left = h.left; begun = h.begun; call = h.call } in
     subst (λ (z : SessionLog). IsStateOf z (with_sent t)) (sym (own_push s log (BytesSent z k) own)) now
-sent_state s n t r log (EventRefused ev f) e is known lawful all h = absurd (not_unsent log s n f known (omega (arith, all)) (subst (λ (z : Event). MayBeRefused log z f) e lawful))
-sent_state s n t r log x e is known lawful all h = absurd cc
+sent_state s n t log _ e ok all h = cc
 
 pub sent_on : {turns : ℕ} {start : Since} {s n : ℕ} {e e' : EngineView} {tl : Option (List ℕ)} {t : SessionState} (output : List ℕ) → IsToldBy turns start s e tl t → HasOutput e s output → n ≡ length output → Applies e (event.Sent s n) e'
     → IsToldBy turns start s e' tl (with_sent t)
@@ -245,7 +248,7 @@ sent_on {s = s} {n = n} {t = t} output T waits count applies =
     event_on (event.Sent s n) applies.0 T applies.1 refl refl (λ l. tt) (λ log x e is known lawful has h.
     let u = waits log has known in
     let all : length (transcript (of_session s log).wrote) ≡ (of_session s log).sent + n = omega (arith, ap (λ (b : List ℕ). length b) u.packets, length-append u.sent output, u.count_is, count) in
-    sent_state s n t applies.0 log x e is known lawful all h)
+    sent_state s n t log x e (not_refused log x (event.Sent s n) e lawful (λ f. not_unsent log s n f known (omega (arith, all)))) all h)
 
 -- ---- a stream
 
@@ -253,7 +256,7 @@ stopped_at : (f : ServeFault) (failed failed' turns : ℕ) (p : Progress) (entri
 stopped_at serve.Line failed failed' turns p entries few why h = h.closed
 stopped_at serve.OutOfMemory failed failed' turns p entries few why h = (h.written (λ e. cc), h.closed)
 stopped_at serve.NumbersSpent failed failed' turns p entries few why h = ((h.written (λ e. cc), h.closed), elim h.spent [ inl most ↦ inl most | inr most ↦ inr (omega (arith, most, few)) ])
-stopped_at f failed failed' turns p entries few why h = absurd why
+stopped_at _ failed failed' turns p entries few why h = why
 
 serve_fault : (f : ServeFault) (failed failed' : ℕ) → IsStop f failed failed' → IsServeFault f failed failed'
 serve_fault serve.Line failed failed' h = h

@@ -267,7 +267,7 @@ module _ (s : ℕ) (pos : 0 < s) (whole : List Entry) (kept : IsKept whole) wher
 
 none_due : (d : Due) → length (asked_due d) ≡ 0 → d ≡ NothingDue
 none_due NothingDue e = refl
-none_due d e = absurd (omega (arith, e))
+none_due _ e = cc
 
 module _ (start now : IoState) (has : HasLog start.engine []) (s : ℕ) (p : Progress) (T : IsTold (since_at start [] has) s now.engine now.told p.state) (served : HasPassed start.stream now.stream p) where
   abbrev log : List Entry

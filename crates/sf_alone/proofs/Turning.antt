@@ -65,12 +65,12 @@ goes_busy begin l (CallMoved s m added) rs call a h = record { left = h.left; lo
 goes_busy begin l (CallBlocked s m holder) rs call a h = record { left = h.left; low = h.low; may = any_begin begin (with_own l (CallBlocked s m holder)) (omega (arith, a.begun, due_one a.due a.after_last)) }
 goes_busy begin l (CallDecided s m added) rs call a h =
     record { left = h.left; low = h.low; may = any_begin begin (with_own l (CallDecided s m added)) (omega (arith, a.begun, ap (λ (d : Due). length (asked_due d)) a.after_last.2)) }
-goes_busy begin l x rs call a h = absurd cc
+goes_busy begin l _ rs call a h = cc
 
 -- a session with a pending call begins no call
 not_begun : (l : SessionLog) (x : Entry) (rs : List RepliedCall) → length (answered_in l.wrote) < l.begun → IsAnswered (after l x) rs → result_of x ≢ Ok happened.Begun
 not_begun l (CallBegun s m n) rs busy a e = omega (arith, busy, a.begun, due_few a.due)
-not_begun l x rs busy a e = absurd cc
+not_begun l _ rs busy a e = cc
 
 continues_call : (x : Entry) → continues (result_of x) ≡ true → is_call x ≡ true
 continues_call (CallBegun s m n) e = refl
@@ -109,9 +109,9 @@ after_turn s m t l (ReplyWritten z k a leaves) e low h = record {
   few = λ before last same. omega (arith, low, ap (λ (w : List Response). length (transcript w)) (all_but_last before l.wrote last a same));
   closed = h.closed;
 }
-after_turn s m t l (BytesFed z bytes) e low h = absurd cc
-after_turn s m t l (SessionClosed z leaves) e low h = absurd cc
-after_turn s m t l (BytesSent z n) e low h = absurd cc
+after_turn s m t l (BytesFed z bytes) e low h = cc
+after_turn s m t l (SessionClosed z leaves) e low h = cc
+after_turn s m t l (BytesSent z n) e low h = cc
 after_turn s m t l x e low h = record { fed = h.fed; sent = h.sent; wrote = h.wrote; few = h.few; closed = h.closed }
 
 -- if all was sent, nothing is unsent
@@ -243,7 +243,7 @@ still_call s m (CallBegun z k n) r e is idle ended wrote = refl
 still_call s m (CallMoved z k added) r e is idle ended wrote = refl
 still_call s m (CallBlocked z k holder) r e is idle ended wrote = refl
 still_call s m (CallDecided z k added) r e is idle ended wrote = refl
-still_call s m x r e is idle ended wrote = absurd cc
+still_call s m _ r e is idle ended wrote = cc
 
 pub still_turns : {turns : ℕ} {start : Since} {s : ℕ} {e : EngineView} {tl : Option (List ℕ)} {r : Happened} {t : SessionState} → Stepped turns start s e tl (Ok r) t → (r ≡ happened.Idle → ⊥) → ((cause : Cause) → r ≡ happened.Ended cause → ⊥) → (r ≡ happened.Wrote → ⊥)
     → MayTurn turns start s e tl (may_begin_after r) t

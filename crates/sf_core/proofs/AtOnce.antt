@@ -22,7 +22,7 @@ use Rattle.sf_walk.specs.declared.finding.Located.TheVariants as located
 use Rattle.sf_walk.specs.declared.walking.Walk.TheVariants as walk
 use Rattle.sf_call.specs.Routes.{Route, route_of, walks_nothing}
 use Rattle.sf_walk.specs.Routes.{HoldsWay}
-use Rattle.sf_call.specs.Routes.Route.{NoPath, Along, Between}
+use Rattle.sf_call.specs.Routes.Route.{NoPath}
 use Rattle.sf_walk.specs.Files.{IsFileFree, IsSettled, file_handle, file_holder_of, holder_by}
 use Rattle.sf_walk.specs.Steps.{walker, DecidesNow}
 use Rattle.sf_walk.specs.Ways.{no_path, AreWays, IsLocated}
@@ -38,8 +38,8 @@ use Rattle.sf_core.specs.Finishing.{IsSettledWhereFree}
 use Rattle.sf_core.specs.Stepping.{SameButRoom, ServesCall, Walked, Overtakes, AtOnceState, session_set, session_set_by}
 use Rattle.sf_core.proofs.FreeFiles.{left_where}
 use Rattle.sf_core.proofs.OneBlock.{no_block}
-use Rattle.sf_core.proofs.Passing.{both_true}
-use Rattle.sf_core.proofs.Maps.{none_some, reply_is, put_same, set_same, set_twice, put_removed}
+use Rattle.sf_call.proofs.Laws.{both_true}
+use Rattle.sf_core.proofs.Maps.{none_some, not_true, none_of, reply_is, put_same, set_same, set_twice, put_removed}
 use Rattle.sf_core.proofs.Starting.{begun_sound, begun_told}
 use Rattle.sf_core.proofs.Turns.{IsStep, IsTurn, core_after, sound_of, steps_on, turn_of}
 use Rattle.sf_core.proofs.Deciding.{decided_step, decided_given}
@@ -47,16 +47,7 @@ use Rattle.sf_core.proofs.Deciding.{decided_step, decided_given}
 -- ---- a call that isn't blocked
 is_no_path : (r : Route) → walks_nothing r ≡ true → r ≡ NoPath
 is_no_path NoPath e = refl
-is_no_path (Along path) e = absurd (let z : ⊥ = cc in z)
-is_no_path (Between old new) e = absurd (let z : ⊥ = cc in z)
-
-is_not : (b : Bool) → not b ≡ true → b ≡ false
-is_not false e = refl
-is_not true e = absurd (let z : ⊥ = cc in z)
-
-is_nobody : (o : Option ℕ) → is_none o ≡ true → o ≡ None
-is_nobody None e = refl
-is_nobody (Some n) e = absurd (let z : ⊥ = cc in z)
+is_no_path _ e = cc
 
 module _ (s : StoreState) (session : ℕ) (request : Request) (once : is_at_once s session request ≡ true) where
   pub at_once_route : route_of request ≡ NoPath
@@ -66,10 +57,10 @@ module _ (s : StoreState) (session : ℕ) (request : Request) (once : is_at_once
   at_once_located t ways e = subst (λ (r : Route). AreWays t r ways) (sym at_once_route) (ap (λ (w : Ways). w.kind) e, tt)
 
   pub at_once_silent : is_write request ≡ false
-  at_once_silent = is_not (is_write request) (both_true (not (is_write request)) (is_none (holder_by s session request)) (both_true (walks_nothing (route_of request)) (not (is_write request) && is_none (holder_by s session request)) once).1).0
+  at_once_silent = not_true (is_write request) (λ e. let x = sym (ap not e) ∙ (both_true (not (is_write request)) (is_none (holder_by s session request)) (both_true (walks_nothing (route_of request)) (not (is_write request) && is_none (holder_by s session request)) once).1).0 in cc)
 
   nobody : holder_by s session request ≡ None
-  nobody = is_nobody (holder_by s session request) (both_true (not (is_write request)) (is_none (holder_by s session request)) (both_true (walks_nothing (route_of request)) (not (is_write request) && is_none (holder_by s session request)) once).1).1
+  nobody = none_of (holder_by s session request) (both_true (not (is_write request)) (is_none (holder_by s session request)) (both_true (walks_nothing (route_of request)) (not (is_write request) && is_none (holder_by s session request)) once).1).1
 
   -- no call holds the file that its handle opens
   unheld : (number : ℕ) (h : OpenHandle) → file_handle request ≡ Some number → open_handle_at s session number ≡ Some h → is_file_at s.nodes h.node ≡ true → holder_of s.nodes h.node ≡ None
@@ -85,7 +76,7 @@ module _ (s : StoreState) (session : ℕ) (request : Request) (once : is_at_once
   pub at_once_settled : IsSettledWhereFree s → IsSettled s session request located.NoWay
   at_once_settled free = record {
     by_handle = λ number h by opens. left_where s h.node (λ file. free h.node (ap (λ (b : Bool). if b then holder_of s.nodes h.node else None) file ∙ unheld number h by opens file));
-    on_path = λ parent node cuts there. absurd (let z : ⊥ = cc in z);
+    on_path = λ parent node cuts there. cc;
   }
 
 -- a session that gets a call, and then none, is as before

@@ -56,7 +56,7 @@ use Rattle.sf_core.specs.Events.{AreRecordsOf, HasCut}
 use Rattle.sf_core.specs.Parts.{PartsView}
 use Rattle.sf_core.specs.Sound.{walker_of, held_paths_at, held_paths_in, Sound}
 use Rattle.sf_core.specs.Stepping.{all_set_back, HelpsAll, Overtakes}
-use Rattle.sf_core.proofs.Maps.{some_eq, none_some, reply_is}
+use Rattle.sf_core.proofs.Maps.{by_test, some_eq, none_some, not_true, no_value, some_value, there_is, none_of, reply_is}
 use Rattle.sf_core.proofs.Walkers.{walker_holds, rests_none}
 use Rattle.sf_core.proofs.Finished.{IsStill, still_undecided}
 use Rattle.sf_core.proofs.Spared.{located_at, label_after, label_by_handle, label_still}
@@ -96,40 +96,12 @@ pub record Prepared (p m : PartsView) (h : List Record) (c : Call) (ways : Ways)
 
 -- a rename and a link change no file's bytes
 no_handle_by : (r : Request) (number : ℕ) (old new : Path) → target_of r ≡ OnPaths old new → file_handle r ≡ Some number → ⊥
-no_handle_by (request.Read handle offset len) number old new e f = let z : ⊥ = cc in z
-no_handle_by (request.Write handle offset bytes) number old new e f = let z : ⊥ = cc in z
-no_handle_by (request.FSetStat handle attrs) number old new e f = let z : ⊥ = cc in z
-no_handle_by (request.Stat path) number old new e f = none_some number f
-no_handle_by (request.SetStat path attrs) number old new e f = none_some number f
-no_handle_by (request.Mkdir path attrs) number old new e f = none_some number f
-no_handle_by (request.Rmdir path) number old new e f = none_some number f
-no_handle_by (request.Remove path) number old new e f = none_some number f
-no_handle_by (request.OpenDir path) number old new e f = none_some number f
-no_handle_by (request.Open path flags attrs) number old new e f = none_some number f
-no_handle_by (request.Close handle) number old new e f = none_some number f
-no_handle_by (request.FStat handle) number old new e f = none_some number f
-no_handle_by (request.ReadDir handle) number old new e f = none_some number f
-no_handle_by (request.Rename from to) number old new e f = none_some number f
-no_handle_by (request.PosixRename from to) number old new e f = none_some number f
-no_handle_by (request.Link from to) number old new e f = none_some number f
+no_handle_by (request.Stat path) number old new e f = cc
+no_handle_by _ number old new e f = cc
 
 no_cut_by : (r : Request) (old new : Path) → target_of r ≡ OnPaths old new → cuts_file r ≡ true → ⊥
-no_cut_by (request.SetStat path attrs) old new e f = let z : ⊥ = cc in z
-no_cut_by (request.Open path flags attrs) old new e f = let z : ⊥ = cc in z
-no_cut_by (request.Stat path) old new e f = let z : ⊥ = cc in z
-no_cut_by (request.Mkdir path attrs) old new e f = let z : ⊥ = cc in z
-no_cut_by (request.Rmdir path) old new e f = let z : ⊥ = cc in z
-no_cut_by (request.Remove path) old new e f = let z : ⊥ = cc in z
-no_cut_by (request.OpenDir path) old new e f = let z : ⊥ = cc in z
-no_cut_by (request.Close handle) old new e f = let z : ⊥ = cc in z
-no_cut_by (request.FStat handle) old new e f = let z : ⊥ = cc in z
-no_cut_by (request.FSetStat handle attrs) old new e f = let z : ⊥ = cc in z
-no_cut_by (request.Read handle offset len) old new e f = let z : ⊥ = cc in z
-no_cut_by (request.Write handle offset bytes) old new e f = let z : ⊥ = cc in z
-no_cut_by (request.ReadDir handle) old new e f = let z : ⊥ = cc in z
-no_cut_by (request.Rename from to) old new e f = let z : ⊥ = cc in z
-no_cut_by (request.PosixRename from to) old new e f = let z : ⊥ = cc in z
-no_cut_by (request.Link from to) old new e f = let z : ⊥ = cc in z
+no_cut_by (request.Stat path) old new e f = cc
+no_cut_by _ old new e f = cc
 
 settled_paths : (s : StoreState) (session : ℕ) (r : Request) (found : Located) (old new : Path) → target_of r ≡ OnPaths old new → IsSettled s session r found
 settled_paths s session r found old new e = record {
@@ -193,28 +165,18 @@ module _ (p : PartsView) (h : List Record) (sound : Sound p h) (c : Call) (at : 
 
 -- ---- a rename that moves
 pub three_true : (a b c : Bool) → (a && b && c) ≡ true → (a ≡ true) × (b ≡ true) × (c ≡ true)
-three_true true true c e = (refl, refl, e)
-three_true true false c e = absurd (let z : ⊥ = cc in z)
-three_true false b c e = absurd (let z : ⊥ = cc in z)
+three_true true true true e = (refl, refl, refl)
+three_true _ _ _ e = cc
 
 three_false : (a b c : Bool) → (a && b && c) ≡ false → a ≡ true → b ≡ true → c ≡ false
 three_false true true c e f g = e
-three_false true false c e f g = absurd (let z : ⊥ = cc in z)
-three_false false b c e f g = absurd (let z : ⊥ = cc in z)
-
-pub none_of : (o : Option Reply) → is_none o ≡ true → o ≡ None
-none_of None e = refl
-none_of (Some given) e = absurd (let z : ⊥ = cc in z)
-
-is_there : (o : Option ℕ) (v : ℕ) → o ≡ Some v → IsSome o
-is_there None v e = absurd (none_some v e)
-is_there (Some w) v e = refl
+three_false _ _ c e f g = cc
 
 apart_test : (k n : ℕ) → k ≢ n → not (nat_eq k n) ≡ true
-apart_test k n ne = elim (nat_eq k n) as (λ b. nat_eq k n ≡ b → not b ≡ true) [ true ↦ λ e. absurd (ne (eqb-true k n e)) | false ↦ λ e. refl ] refl
+apart_test k n ne = ap not (not_true (nat_eq k n) (λ e. ne (eqb-true k n e)))
 
 pub same_test : (k n : ℕ) → not (nat_eq k n) ≡ true → k ≢ n
-same_test k n e same = let x : nat_eq k n ≡ true = eq-eqb k n same in let y : not (nat_eq k n) ≡ false = ap not x in let z : ⊥ = cc in z
+same_test k n e same = let x : nat_eq k n ≡ true = eq-eqb k n same in let y : not (nat_eq k n) ≡ false = ap not x in cc
 
 -- a rename moves its old path
 pub moved_is : (t : Tree) (session number moment : ℕ) (r : Request) (old : Path) → old_at (target_of r) ≡ Some old → is_some (moved_by (answer_to t session number moment r).changes) ≡ true
@@ -222,13 +184,10 @@ pub moved_is : (t : Tree) (session number moment : ℕ) (r : Request) (old : Pat
 moved_is t session number moment r old is moved = by_target (target_of r) refl is
   where
     by_target : (g : Target) → target_of r ≡ g → old_at g ≡ Some old → moved_by (answer_to t session number moment r).changes ≡ Some old
-    by_target (ByHandle handle) e f = absurd (none_some old f)
-    by_target (OnPath path) e f = absurd (none_some old f)
     by_target (OnPaths a b) e f =
-        elim (moved_by (answer_to t session number moment r).changes) as (λ o. moved_by (answer_to t session number moment r).changes ≡ o → is_some o ≡ true → o ≡ Some old) [
-          | None ↦ λ g h. absurd (let z : ⊥ = cc in z)
-          | Some p ↦ λ g h. ap Some ((moved_changes t session number moment r a b e p g).0 ∙ some_eq a old f)
-        ] refl moved
+        let p = there_is (moved_by (answer_to t session number moment r).changes) moved in
+        p.1 ∙ ap Some ((moved_changes t session number moment r a b e p.0 p.1).0 ∙ some_eq a old f)
+    by_target _ e f = cc
 
 -- no more calls are helped than are undecided
 pub few_overtaken : (calls : List (ℕ × Call)) (n : ℕ) (old : Path) → length (overtaken calls n (Some old)) ≤ undecided_in calls
@@ -238,11 +197,11 @@ few_overtaken calls n old =
 
 -- the call itself is not helped
 pub overtaken_other : (calls : List (ℕ × Call)) → T (is_sorted nat_cmp calls) → (n : ℕ) (o : Option Path) (k : ℕ) → is_one_of k (overtaken calls n o) ≡ true → k ≢ n
-overtaken_other calls rise n None k here = let z : ⊥ = cc in absurd z
+overtaken_other calls rise n None k here = cc
 overtaken_other calls rise n (Some old) k here = by (lookup (is_at (nat_cmp k)) calls) (sym here ∙ among (λ (e : ℕ × Call). not (nat_eq e.0 n) && is_none (waiting_reply e.1) && has_passed e.1 old) calls rise k)
   where
     by : (o : Option Call) → true ≡ option_map_or (λ (d : Call). not (nat_eq k n) && is_none (waiting_reply d) && has_passed d old) o false → k ≢ n
-    by None e = let z : ⊥ = cc in absurd z
+    by None e = cc
     by (Some d) e = same_test k n (three_true (not (nat_eq k n)) (is_none (waiting_reply d)) (has_passed d old) (sym e)).0
 
 -- ---- a path that leads to the same inode as before
@@ -280,7 +239,7 @@ module _ (s s' : StoreState) (t t' : Tree) (keeps : Keeps s t) (keeps' : Keeps s
 
 no_place : (o : Option ℕ) → lookup_of o ≡ place.NoWay → ⊥
 no_place None e = cc
-no_place (Some label) e = cc
+no_place _ e = cc
 
 or_true : (x y : Bool) → (x || y) ≡ true → (x ≡ true) ⊎ (y ≡ true)
 or_true true y e = inl refl
@@ -319,9 +278,8 @@ module _ (p : PartsView) (h : List Record) (sound : Sound p h) (fits : p.store.l
   not_rooted = by_root old new is_move.not_inside is_move.not_around
     where
       by_root : (x y : Path) → after_front x y ≡ None → after_front y x ≡ None → is_rooted x y ≡ false
-      by_root [] y a b = absurd (none_some y (sym a))
-      by_root (n ∷ x) [] a b = absurd (none_some (n ∷ x) (sym b))
       by_root (n ∷ x) (m ∷ y) a b = refl
+      by_root _ _ a b = cc
 
   not_nested : are_nested old new ≡ false
   not_nested i = is_some (is_move.not_inside i) || is_some (is_move.not_around i)
@@ -331,12 +289,9 @@ module _ (p : PartsView) (h : List Record) (sound : Sound p h) (fits : p.store.l
 
   -- the old path leads to an inode
   old_node : (l : ℕ) × (walk (child_of p.store.nodes) p.store.root old ≡ Some l)
-  old_node = elim (walk (child_of p.store.nodes) p.store.root old) as (λ o. walk (child_of p.store.nodes) p.store.root old ≡ o → (l : ℕ) × (o ≡ Some l)) [
-    | None ↦ λ e.
-        let a = label_found p.store (replay h) sound.history.tree old ∙ ap (λ (o : Option ℕ). option_map (λ (y : Node). y.label) (option_and_then (node_in p.store.nodes) o)) e in
-        absurd (none_some is_move.label (sym a ∙ is_move.named))
-    | Some l ↦ λ e. (l, refl)
-  ] refl
+  old_node = some_value (walk (child_of p.store.nodes) p.store.root old) (λ e.
+      let a = label_found p.store (replay h) sound.history.tree old ∙ ap (λ (o : Option ℕ). option_map (λ (y : Node). y.label) (option_and_then (node_in p.store.nodes) o)) e in
+      none_some is_move.label (sym a ∙ is_move.named))
 
   ways_are : AreWays p.store (Between old new) ways
   ways_are = subst (λ (r : Route). AreWays p.store r ways) route_is are_located
@@ -386,10 +341,9 @@ module _ (p : PartsView) (h : List Record) (sound : Sound p h) (fits : p.store.l
   one_is k d is = among test p.calls sound.ledger.calls_rise k ∙ ap (λ (o : Option Call). option_map_or (λ (x : Call). test (k, x)) o false) is
 
   there : (k : ℕ) → is_one_of k numbers ≡ true → (d : Call) × (call_at p.calls k ≡ Some d) × (test (k, d) ≡ true)
-  there k here = elim (call_at p.calls k) as (λ o. call_at p.calls k ≡ o → (d : Call) × (o ≡ Some d) × (test (k, d) ≡ true)) [
-    | None ↦ λ e. let x = sym here ∙ among test p.calls sound.ledger.calls_rise k ∙ ap (λ (o : Option Call). option_map_or (λ (x : Call). test (k, x)) o false) e in absurd (let z : ⊥ = cc in z)
-    | Some d ↦ λ e. (d, refl, sym (one_is k d e) ∙ here)
-  ] refl
+  there k here =
+      let d = some_value (call_at p.calls k) (λ e. let x = sym here ∙ among test p.calls sound.ledger.calls_rise k ∙ ap (λ (o : Option Call). option_map_or (λ (x : Call). test (k, x)) o false) e in cc) in
+      (d.0, d.1, sym (one_is k d.0 d.1) ∙ here)
 
   tests : (k : ℕ) (d : Call) → test (k, d) ≡ true → (k ≢ c.number) × (waiting_reply d ≡ None) × (has_passed d old ≡ true)
   tests k d e = let t = three_true (not (nat_eq k c.number)) (is_none (waiting_reply d)) (has_passed d old) e in (same_test k c.number t.0, none_of (waiting_reply d) t.1, t.2)
@@ -439,7 +393,7 @@ module _ (p : PartsView) (h : List Record) (sound : Sound p h) (fits : p.store.l
         both_below old from to common.walked common.walked ends.part (omega arith) (front_past old from common.walked front.0 (ends.part.alike ∙ front.1))
 
   lies_by : (k : ℕ) → k ≢ c.number → (r : Route) (g : Stage) → IsPosition r g → held_paths_in p.calls k ≡ held_paths_of r g → are_past (reached_at g) (paths_on r) old ≡ true → LiesBelow old r
-  lies_by k other r g (Starts o is) own passed = let z : ⊥ = cc in absurd z
+  lies_by k other r g (Starts o is) own passed = cc
   lies_by k other r g (IsOn path w node less) own passed = passed_below old path w (alone (has_walked path w old) passed) less
   lies_by k other r g (IsBefore from to w node count part less) own passed = both_below old from to count w part (omega (arith, less)) (alone (has_walked from w old) passed)
   lies_by k other r g (IsApart from to common e1 e2 ends) own passed =
@@ -469,21 +423,16 @@ module _ (p : PartsView) (h : List Record) (sound : Sound p h) (fits : p.store.l
   behind_by k d is e s hold = elim (same_or_not k c.number) [
     | inl same ↦ ap (λ (x : Call). has_passed x old) (some_eq d c (sym is ∙ ap (call_at p.calls) same ∙ at)) ∙ own_behind
     | inr ne ↦
-        let waits : is_none (waiting_reply d) ≡ true =
-        elim (waiting_reply d) as (λ x. waiting_reply d ≡ x → is_none x ≡ true) [
-          | None ↦ λ r. refl
-          | Some given ↦ λ r. absurd (subst (λ (x : List HeldPath). Holds x s) (rests_none (route_of d.request) d.stage (sound.coupled.waiting k d given is r)) hold)
-        ] refl in
+        let waits = ap is_none (no_value (waiting_reply d) (λ given r. subst (λ (x : List HeldPath). Holds x s) (rests_none (route_of d.request) d.stage (sound.coupled.waiting k d given is r)) hold)) in
         three_false (not (nat_eq k c.number)) (is_none (waiting_reply d)) (has_passed d old) e (apart_test k c.number ne) waits
   ]
 
   clear : IsClear b old
   clear k s hold = elim (call_at p.calls k) as (λ o. call_at p.calls k ≡ o → Holds (option_map_or held_paths_at o []) s → after_front old s.path ≡ None) [
     | None ↦ λ e held. absurd held
-    | Some d ↦ λ e held. elim (test (k, d)) as (λ y. test (k, d) ≡ y → after_front old s.path ≡ None) [
-      | true ↦ λ y. absurd (subst (λ (o : Option Call). Holds (option_map_or held_paths_at o []) s) (is_back k d e y) hold)
-      | false ↦ λ y. held_aside old (reached_at d.stage) (paths_on (route_of d.request)) (behind_by k d e y s held) s held
-    ] refl
+    | Some d ↦ λ e held.
+        let not = not_true (test (k, d)) (λ y. subst (λ (o : Option Call). Holds (option_map_or held_paths_at o []) s) (is_back k d e y) hold) in
+        held_aside old (reached_at d.stage) (paths_on (route_of d.request)) (behind_by k d e not s held) s held
   ] refl (in_p k s hold)
 
   rise : IsStrictlySortedBy nat_cmp numbers
@@ -496,10 +445,7 @@ module _ (p : PartsView) (h : List Record) (sound : Sound p h) (fits : p.store.l
   not_these k d is e = all.others k d (one_is k d is ∙ e) (in_b k d is ∙ ap (λ x. back_if x (Some d)) e)
 
   at_m : call_at m.calls c.number ≡ Some c
-  at_m = still_undecided p m h sound (HasCut all.helped) c.number (record { call = c; at = at; undecided = undecided }) (not_these c.number c at (elim (test (c.number, c)) as (λ y. test (c.number, c) ≡ y → y ≡ false) [
-    | true ↦ λ e. absurd ((tests c.number c e).0 refl)
-    | false ↦ λ e. refl
-  ] refl))
+  at_m = still_undecided p m h sound (HasCut all.helped) c.number (record { call = c; at = at; undecided = undecided }) (not_these c.number c at (not_true (test (c.number, c)) (λ e. (tests c.number c e).0 refl)))
 
   now : Sound m (h ++ all.helped)
   now = all.led.sound
@@ -530,7 +476,7 @@ module _ (p : PartsView) (h : List Record) (sound : Sound p h) (fits : p.store.l
     label_some : IsSome (label_at (replay (h ++ all.helped)).names path)
     label_some =
         let it = reached_node m.store (replay (h ++ all.helped)) now.history.tree path l leads in
-        is_there (label_at (replay (h ++ all.helped)).names path) it.0.label
+        ap is_some
         (label_found m.store (replay (h ++ all.helped)) now.history.tree path ∙ ap (λ (o : Option ℕ). option_map (λ (y : Node). y.label) (option_and_then (node_in m.store.nodes) o)) leads ∙ ap (option_map (λ (y : Node). y.label)) it.1)
 
     pub label_there : label_at (after (replay (h ++ all.helped)) (did c given)).names path ≡ label_at (replay (h ++ all.helped)).names path
@@ -564,7 +510,7 @@ module _ (p : PartsView) (h : List Record) (sound : Sound p h) (fits : p.store.l
   located_m = subst (λ (r : Route). AreWays m.store r ways) (sym route_is) (
     ways_are.0,
     (
-      ways_are.1.0 ∙ sym (way_still old aside_old (λ none. let x : located.NoWay ≡ located.At old_way.0 old_node.0 = sym none ∙ old_way.1 in let z : ⊥ = cc in z)),
+      ways_are.1.0 ∙ sym (way_still old aside_old (λ none. let x : located.NoWay ≡ located.At old_way.0 old_node.0 = sym none ∙ old_way.1 in cc)),
       λ _. new_is ∙ sym (way_still new aside_new (λ none.
           let a : look_up (replay h) new ≡ place.NoWay = no_way p.store (replay h) sound.history.tree new none in
           let d : look_up (replay h) new ≡ lookup_of (label_at (replay h).names new) = ap (λ y. cond y place.NoWay (lookup_of (label_at (replay h).names new))) is_move.way in
@@ -573,10 +519,8 @@ module _ (p : PartsView) (h : List Record) (sound : Sound p h) (fits : p.store.l
   )
 
   became : (k : ℕ) (d : Call) → k ≢ c.number → call_at p.calls k ≡ Some d → Became m all.helped k d
-  became k d ne is = elim (test (k, d)) as (λ y. test (k, d) ≡ y → Became m all.helped k d) [
-    | true ↦ λ e. let w = all.these k (one_is k d is ∙ e) (at_stage stage.Fresh d) (is_back k d is e) in inr (w.0, w.1, (tests k d e).1, w.2)
-    | false ↦ λ e. inl (not_these k d is e)
-  ] refl
+  became k d ne is = by_test (test (k, d)) (λ e. let w = all.these k (one_is k d is ∙ e) (at_stage stage.Fresh d) (is_back k d is e) in inr (w.0, w.1, (tests k d e).1, w.2))
+      (λ e. inl (not_these k d is e))
 
   pub prepared_moved : Prepared p m h c ways
   prepared_moved = record {
@@ -626,8 +570,6 @@ prepared p h c ways may m overtakes =
     ] refl
   where
     by_target : (x : Path) → moved_by (answer_to (replay h) c.session c.number c.moment c.request).changes ≡ Some x → (g : Target) → target_of c.request ≡ g → Prepared p m h c ways
-    by_target x e (ByHandle handle) f = absurd (none_some x (sym (never_moved (replay h) c.session c.number c.moment c.request (λ old new same. let z : ByHandle handle ≡ OnPaths old new = sym f ∙ same in let k : ⊥ = cc in k)) ∙ e))
-    by_target x e (OnPath path) f = absurd (none_some x (sym (never_moved (replay h) c.session c.number c.moment c.request (λ old new same. let z : OnPath path ≡ OnPaths old new = sym f ∙ same in let k : ⊥ = cc in k)) ∙ e))
     by_target x e (OnPaths old new) f =
         let o = overtakes (replay h) may.sound.history.tree in
         let call : NewCall = record {
@@ -644,3 +586,4 @@ prepared p h c ways may m overtakes =
         let moved : moved_by (answer_to (replay h) c.session c.number c.moment c.request).changes ≡ Some old = e ∙ ap Some is.0 in
         let these : o.0 ≡ overtaken p.calls c.number (Some old) = o.1 ∙ ap (overtaken p.calls c.number) moved in
         prepared_moved p h may.sound may.fits c may.at may.undecided ways may.located may.free may.holds old new f moved is.1 m (subst (λ (ns : List ℕ). HelpsAll (all_set_back p ns) ns m) these o.2)
+    by_target x e _ f = absurd (none_some x (sym (never_moved (replay h) c.session c.number c.moment c.request (λ old new same. let k = sym f ∙ same in cc)) ∙ e))

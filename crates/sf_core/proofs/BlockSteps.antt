@@ -1,5 +1,5 @@
 -- A WRITE copies one more block, or all that remain: the core stays sound.
-use Rattle.std.specs.Prelude.{◌≡◌, ◌≢◌, ◌<◌, ◌+◌, ℕ, zero, suc, true, false, if◌then◌else◌, List, [], option_map, option_and_then, Option, Some, None, refl}
+use Rattle.std.specs.Prelude.{◌≡◌, ◌≢◌, ◌+◌, ℕ, Bool, zero, suc, true, false, if◌then◌else◌, List, [], option_map, option_and_then, Option, Some, None, refl}
 use Rattle.std.specs.Option.{option_map_or}
 use Rattle.std.proofs.Common.{sym, ap, subst, ◌∙◌, inl, inr, arith}
 use Rattle.sf_path.specs.Names.{Name}
@@ -29,7 +29,7 @@ use Rattle.sf_core.specs.Parts.{PartsView}
 use Rattle.sf_core.specs.Sound.{walker_of, writer_of_file, IsAtRest, held_paths_at, held_paths_in, copying_in, copying_scene, IsWriting, Sound}
 use Rattle.sf_core.specs.Finishing.{write_finished}
 use Rattle.sf_core.specs.Writing.{part_copied, block_copied}
-use Rattle.sf_core.proofs.Maps.{some_eq, none_some}
+use Rattle.sf_core.proofs.Maps.{some_eq, none_some, not_true, staged_reply}
 use Rattle.sf_core.proofs.Updates.{Updates, updates_none, updates_staged}
 use Rattle.sf_core.proofs.Walkers.{if_none, rests_none}
 use Rattle.sf_core.proofs.Writers.{copied_by, no_directory, writer_is, writer_holds, files_held, writing_on}
@@ -80,14 +80,7 @@ walker_apart s t f e = ap (λ (o : Option Node). if option_map_or (λ (node : No
 
 -- the holder of a file holds no directory
 no_walker : (nodes : List (Option Node)) (f : ℕ) → is_file_at nodes f ≡ true → walker_of nodes f ≡ None
-no_walker nodes f file = elim (is_directory_at nodes f) as (λ b. is_directory_at nodes f ≡ b → (if b then holder_of nodes f else None) ≡ None) [
-  | true ↦ λ e. absurd (no_directory nodes f file e)
-  | false ↦ λ e. refl
-] refl
-
-pub staged_reply : (c : Call) (g : Stage) → waiting_reply (at_stage g c) ≡ waiting_reply c
-unfolding waiting_reply
-staged_reply c g = refl
+no_walker nodes f file = ap (λ (b : Bool). if b then holder_of nodes f else None) (not_true (is_directory_at nodes f) (no_directory nodes f file))
 
 -- ---- a decided call gets another stage, and one file of the store changes
 module _ (p : PartsView) (h : List Record) (sound : Sound p h) (c : Call) (at : call_at p.calls c.number ≡ Some c) (given : Reply) (decided : waiting_reply c ≡ Some given) (rested : IsAtRest c.stage) (node : ℕ) (file_was : is_file_at p.store.nodes node ≡ true)
@@ -98,10 +91,6 @@ module _ (p : PartsView) (h : List Record) (sound : Sound p h) (c : Call) (at : 
 
   updates : Updates p.calls (staged p.calls c.number after) c.number (Some c) (Some (at_stage after c))
   updates = updates_staged p.calls c.number c after at
-
-  reply_same : waiting_reply (at_stage after c) ≡ waiting_reply c
-  unfolding waiting_reply
-  reply_same = refl
 
   own : (m : ℕ) (d : Call) → m ≡ c.number → call_at (staged p.calls c.number after) m ≡ Some d → at_stage after c ≡ d
   own m d e there = some_eq (at_stage after c) d (sym updates.now_is ∙ ap (call_at (staged p.calls c.number after)) (sym e) ∙ there)
@@ -123,7 +112,7 @@ module _ (p : PartsView) (h : List Record) (sound : Sound p h) (c : Call) (at : 
   rest_sound =
       let call = sound.ledger.calls c.number c at in
       unrecorded p q h sound c.number c (Some (at_stage after c)) (Some c.number) updates (updates_none p.sessions c.session (Some c.number) call.session)
-      (Same (at_stage after c) reply_same (λ g. refl)) (Stays (at_stage after c) (record { number = refl; session = refl; moment = refl; request = refl }) (λ e. absurd (none_some given (sym e ∙ reply_same ∙ decided))))
+      (Same (at_stage after c) (staged_reply c after) (λ g. refl)) (Stays (at_stage after c) (record { number = refl; session = refl; moment = refl; request = refl }) (λ e. absurd (none_some given (sym e ∙ (staged_reply c after) ∙ decided))))
       keeps refl refl refl
       (record {
         walks =
@@ -131,7 +120,7 @@ module _ (p : PartsView) (h : List Record) (sound : Sound p h) (c : Call) (at : 
             (subst (λ (k : ℕ → Option ℕ). AreWalks (walkers_at (namespace s) (held_paths_in p.calls) k)) (λ i l. sym (walkers_same l) i)
             (walks_on (namespace p.store) (namespace s) (held_paths_in p.calls) (walker_of p.store.nodes) (leads_same p.store s ground) sound.coupled.walks));
         positions = λ m d there none. elim (same_or_not m c.number) [
-          | inl e ↦ absurd (none_some given (sym none ∙ ap waiting_reply (sym (own m d e there)) ∙ reply_same ∙ decided))
+          | inl e ↦ absurd (none_some given (sym none ∙ ap waiting_reply (sym (own m d e there)) ∙ (staged_reply c after) ∙ decided))
           | inr ne ↦ sound.coupled.positions m d (sym (updates.rest m ne) ∙ there) none
         ];
         waiting = λ m d g there some. elim (same_or_not m c.number) [
@@ -166,9 +155,6 @@ module _ (p : PartsView) (h : List Record) (sound : Sound p h) (c : Call) (at : 
 
   pub writes_it : IsWriting p.store c node
   writes_it = sound.copied.writing c.number c node left at is
-
-  pub some_blocks : 0 < left
-  some_blocks = sound.copied.copies.some c.number (copying node left) copying_it
 
   rested : IsAtRest c.stage
   rested = inr (subst IsCopying (sym is) tt)
@@ -232,7 +218,7 @@ module _ (p : PartsView) (h : List Record) (sound : Sound p h) (c : Call) (at : 
         free = if_none (is_file_at ended.nodes node) (holder_of ended.nodes node) (holder_freed (left_set p.store node 0) node);
         left = (files_held None (left_set p.store node 0) node).left node ∙ left_there 0 p.store node held.0;
       }))
-      (λ f j e. absurd (let z : ⊥ = cc in z))
+      (λ f j e. cc)
 
   -- by a step
   pub block_sound : (k : ℕ) → left ≡ k + 1 → Sound (block_copied p c.number node k) h

@@ -12,6 +12,7 @@ use Rattle.sf_call.proofs.Laws.{given_before}
 use Rattle.sf_inode.specs.Stores.{StoreState}
 use Rattle.sf_core.specs.declared.step.Step.TheVariants as step
 use Rattle.sf_core.specs.Lanes.{LaneView, at_rest}
+use Rattle.sf_core.specs.Cores.LaneState.{Idle, Busy}
 use Rattle.sf_core.specs.Cores.{call_at, session_at}
 use Rattle.sf_core.specs.Progress.{waiting_reply, IsCopying, undecided_in}
 use Rattle.sf_core.specs.Events.{CopiesBlock, Fetches, TakesMoves}
@@ -20,12 +21,12 @@ use Rattle.sf_core.specs.Sound.{Sound, IsCore}
 use Rattle.sf_core.specs.Stepping.{session_set_by, FetchState}
 use Rattle.sf_core.specs.Finishing.{write_finished}
 use Rattle.sf_core.specs.Writing.{part_copied, CopiedBlock, CopiedOn}
-use Rattle.sf_core.proofs.Maps.{some_eq, reply_is}
+use Rattle.sf_core.proofs.Maps.{staged_reply, some_eq, reply_is}
 use Rattle.sf_core.proofs.Updates.{Updates, updates_set, updates_removed, updates_staged}
 use Rattle.sf_core.proofs.Ledgers.{other_call}
 use Rattle.sf_core.proofs.Unrecorded.{fetched_sound}
-use Rattle.sf_core.proofs.BlockSteps.{staged_reply, block_sound, end_sound}
-use Rattle.sf_core.proofs.LaneStates.{slot_busy, slot_idle, slots_kept, own_call, same_book, left_copying}
+use Rattle.sf_core.proofs.BlockSteps.{block_sound, end_sound}
+use Rattle.sf_core.proofs.LaneStates.{sets_slot, slot_busy, slot_idle, slots_kept, own_call, same_book, left_copying}
 use Rattle.sf_core.proofs.Turns.{IsStep, adds_none, core_after, places_after, steps_on}
 
 -- the call of this number is the lane's, and the lookup count doesn't overflow
@@ -83,13 +84,7 @@ module _ (lane : LaneView) (n : ℕ) (call : lane.call ≡ Some n) where
             after = tt;
             one = omega (arith, before, after);
             some = omega (arith, after);
-            slot = record {
-              own = slot_busy (core_of now) lane.session n d busy updates.now_is;
-              others = slots_kept (core_of p) (core_of now) n lane.session updates.rest (λ s ne. refl) (λ s m ne is. other_call p sound.ledger n c b.was.there s m (λ e. ne (e ∙ session)) is);
-              joined = refl;
-              drawn = refl;
-              joins = refl;
-            };
+            slot = sets_slot p now sound.ledger lane n c (Busy d) b.was.there session (slot_busy (core_of now) lane.session n d busy updates.now_is) updates.rest (λ s ne. refl) refl refl refl;
             records = record { records = refl; keep = refl; folded = refl };
             look_ups = refl;
           }
@@ -157,14 +152,9 @@ module _ (lane : LaneView) (n : ℕ) (call : lane.call ≡ Some n) where
               one = left_copying e b.was.given b.node (0 + 1) had_e b.was.is;
               recorded = sound.history.decided n e b.was.given b.was.there had_e;
               none = refl;
-              slot = record {
-                own = slot_idle (core_of q) lane.session (ss lane.session ∙ sessions.now_is);
-                others = slots_kept (core_of p) (core_of q) n lane.session (λ m ne. ap (λ cs. call_at cs m) fetches.calls ∙ calls.rest m ne ∙ staged_e.rest m ne) (λ s ne. ss s ∙ sessions.rest s ne)
-                    (λ s m ne there. other_call p sound.ledger n e b.was.there s m (λ same. ne (same ∙ session_e)) there);
-                joined = let x = ap (λ (y : List (ℕ × Option ℕ)). length y) set in let z = sessions.size in omega (arith, x, z);
-                drawn = fetches.drawn;
-                joins = fetches.joins;
-              };
+              slot =
+                  sets_slot p q sound.ledger lane n e Idle b.was.there session_e (slot_idle (core_of q) lane.session (ss lane.session ∙ sessions.now_is)) (λ m ne. ap (λ cs. call_at cs m) fetches.calls ∙ calls.rest m ne ∙ staged_e.rest m ne)
+                  (λ s ne. ss s ∙ sessions.rest s ne) (let x = ap (λ (y : List (ℕ × Option ℕ)). length y) set in let z = sessions.size in omega (arith, x, z)) fetches.drawn fetches.joins;
               records = same_book p q fetches.book;
               look_ups = ap (λ (x : StoreState). x.look_ups) fetches.store;
             }

@@ -1,5 +1,5 @@
 -- The steps of a WRITE: its first one, and those that copy a block.
-use Rattle.std.specs.Prelude.{◌≡◌, ◌<◌, ◌+◌, ◌-◌, ℕ, List, zero, suc, true, false, option_map, option_and_then, Option, Some, None, IsSome, IfSome, IfNone, refl}
+use Rattle.std.specs.Prelude.{◌≡◌, ◌<◌, ◌+◌, ◌-◌, ℕ, List, zero, suc, true, false, option_map, option_and_then, Option, Some, None, IfSome, IfNone, refl}
 use Rattle.std.specs.Option.{option_map_or}
 use Rattle.std.proofs.Common.{sym, ap, subst, ◌∙◌, inl, inr, arith}
 use Rattle.sf_reply.specs.declared.reply.Reply.{Reply}
@@ -29,6 +29,7 @@ use Rattle.sf_core.specs.Parts.{PartsView}
 use Rattle.sf_core.specs.Writing.{CopiesNow, IsCopyingOn, CopiedBlock, CopiedOn, EndsCopying, HasBegunWrite, WritesOn, block_copied}
 use Rattle.sf_core.specs.Writing.WritesOn.{ToTheEnd, UpToThere}
 use Rattle.sf_core.proofs.Updates.{updates_staged, updates_answered}
+use Rattle.sf_core.proofs.Writers.{left_held}
 
 -- ---- the first step
 module _ (n : ℕ) where
@@ -38,7 +39,7 @@ module _ (n : ℕ) where
   as_before : (o p : Option Node) (node : Node) → p ≡ Some node → option_and_then (λ (x : Node). x.holder) p ≡ option_and_then (λ (x : Node). x.holder) o → option_map (λ (x : Node). x.label) p ≡ option_map (λ (x : Node). x.label) o
       → option_map_or (λ (x : Node). blocks_left_in x.content) p 0 ≡ 0 → option_map_or (λ (x : Node). blocks_left_in x.content) o 0 ≡ 0 → IsAsBefore Told o node
   as_before None p node at holder label left was =
-      let e : Some node.label ≡ None = sym (ap (option_map (λ (x : Node). x.label)) at) ∙ label in absurd (let z : ⊥ = cc in z)
+      let e : Some node.label ≡ None = sym (ap (option_map (λ (x : Node). x.label)) at) ∙ label in cc
   as_before (Some x) p node at holder label left was =
       let e : Some node.label ≡ Some x.label = sym (ap (option_map (λ (x : Node). x.label)) at) ∙ label in (
         sym (ap (option_and_then (λ (x : Node). x.holder)) at) ∙ holder,
@@ -59,39 +60,11 @@ module _ (n : ℕ) where
 
 pub is_a_write : (r : Request) → IsWriteRequest r → (number : ℕ) × (offset : ℕ) × (bytes : List ℕ) × (r ≡ request.Write number offset bytes)
 is_a_write (request.Write h o b) w = (h, o, b, refl)
-is_a_write (request.Stat p) w = absurd w
-is_a_write (request.SetStat p a) w = absurd w
-is_a_write (request.Mkdir p a) w = absurd w
-is_a_write (request.Rmdir p) w = absurd w
-is_a_write (request.Remove p) w = absurd w
-is_a_write (request.OpenDir p) w = absurd w
-is_a_write (request.Open p f a) w = absurd w
-is_a_write (request.Close h) w = absurd w
-is_a_write (request.FStat h) w = absurd w
-is_a_write (request.FSetStat h a) w = absurd w
-is_a_write (request.Read h o l) w = absurd w
-is_a_write (request.ReadDir h) w = absurd w
-is_a_write (request.Rename o n) w = absurd w
-is_a_write (request.PosixRename o n) w = absurd w
-is_a_write (request.Link o n) w = absurd w
+is_a_write _ w = absurd w
 
 pub is_write_by : (r : Request) → is_write r ≡ true → IsWriteRequest r
 is_write_by (request.Write handle offset bytes) e = tt
-is_write_by (request.Stat path) e = let z : ⊥ = cc in absurd z
-is_write_by (request.SetStat path attrs) e = let z : ⊥ = cc in absurd z
-is_write_by (request.Mkdir path attrs) e = let z : ⊥ = cc in absurd z
-is_write_by (request.Rmdir path) e = let z : ⊥ = cc in absurd z
-is_write_by (request.Remove path) e = let z : ⊥ = cc in absurd z
-is_write_by (request.OpenDir path) e = let z : ⊥ = cc in absurd z
-is_write_by (request.Open path flags attrs) e = let z : ⊥ = cc in absurd z
-is_write_by (request.Close handle) e = let z : ⊥ = cc in absurd z
-is_write_by (request.FStat handle) e = let z : ⊥ = cc in absurd z
-is_write_by (request.FSetStat handle attrs) e = let z : ⊥ = cc in absurd z
-is_write_by (request.Read handle offset len) e = let z : ⊥ = cc in absurd z
-is_write_by (request.ReadDir handle) e = let z : ⊥ = cc in absurd z
-is_write_by (request.Rename old new) e = let z : ⊥ = cc in absurd z
-is_write_by (request.PosixRename old new) e = let z : ⊥ = cc in absurd z
-is_write_by (request.Link old new) e = let z : ⊥ = cc in absurd z
+is_write_by _ e = cc
 
 pub write_is : (r : Request) → IsWriteRequest r → is_write r ≡ true
 write_is r write = let w = is_a_write r write in ap is_write w.3
@@ -171,7 +144,7 @@ some_by P Q None law h = tt
 some_by P Q (Some x) law h = law x refl h
 
 pub not_none : {X : Type 0} (P : Type 0) (o : Option X) (x : X) → o ≡ Some x → IfNone o P
-not_none P None x e = absurd (let z : ⊥ = cc in z)
+not_none P None x e = cc
 not_none P (Some y) x e = tt
 
 pub copied_none : (p : PartsView) (number : ℕ) → CopiedOn zero p number p
@@ -186,10 +159,6 @@ pub copied_more : (p : PartsView) (number n : ℕ) (mid q : PartsView) (left : �
 copied_more p number n mid q left before b = subst (λ (k : ℕ). CopiedOn k p number q) (let e : suc n ≡ n + 1 = omega arith in e) (copied_suc p number n mid q left before b)
 
 -- ---- from the first step on
-left_held : (h : Option ℕ) (o : Option Node) → option_map_or (λ (x : Node). blocks_left_in x.content) (option_map (with_holder h) o) 0 ≡ option_map_or (λ (x : Node). blocks_left_in x.content) o 0
-left_held h None = refl
-left_held h (Some node) = refl
-
 -- a WRITE that has started is copying
 pub begun_copies : (p q : PartsView) (c : Call) (number : ℕ) → call_at p.calls number ≡ Some c → HasBegunWrite p q c number → IsCopyingOn q number
 begun_copies p q c number at b =
@@ -215,10 +184,6 @@ begun_copies p q c number at b =
         waits = refl;
       },
     )
-
-pub call_there : (o : Option Call) → IsSome o → (c : Call) × (o ≡ Some c)
-call_there None h = absurd (let z : ⊥ = cc in z)
-call_there (Some c) h = (c, refl)
 
 -- a WRITE that has started copied further blocks, to its end or not
 pub record CopiesOn (p q : PartsView) (c : Call) (session number most : ℕ) (o : Option Reply) : Type 0 where

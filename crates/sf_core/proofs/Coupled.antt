@@ -26,9 +26,7 @@ walks_on t u f k on walks = record { shaped = walks.shaped; leads = λ n s h. on
 
 entered_nodes : (at : Stage) (s : StoreState) → (entered at s).nodes ≡ s.nodes
 entered_nodes stage.Fresh s = λ i. s.nodes
-entered_nodes (stage.At walked node) s = λ i. s.nodes
-entered_nodes (stage.Ends common from to) s = λ i. s.nodes
-entered_nodes (stage.Copies node left) s = λ i. s.nodes
+entered_nodes _ s = λ i. s.nodes
 
 -- ---- a step to a directory that no other call holds
 module _ (old new : StoreState) (history : List Record) (keeps : Keeps old (replay history))

@@ -1,6 +1,6 @@
 -- Lock coupling after a decision that preserves the labels of all paths at which other calls hold
 -- directories.
-use Rattle.std.specs.Prelude.{◌≡◌, ◌≢◌, ◌⊎◌, ◌<◌, ℕ, true, false, if◌then◌else◌, List, [], option_and_then, Option, Some, None, refl}
+use Rattle.std.specs.Prelude.{◌≡◌, ◌≢◌, ◌⊎◌, ◌<◌, ℕ, true, false, if◌then◌else◌, List, [], Some, None, refl}
 use Rattle.std.proofs.Common.{sym, ap, subst, ◌∙◌, inl, inr}
 use Rattle.sf_path.specs.Names.{Path}
 use Rattle.sf_reply.specs.declared.reply.Reply.{Reply}
@@ -20,14 +20,14 @@ use Rattle.sf_coupling.specs.Walks.{HeldPath, Holds, IsNodeOf, IsBetween, IsShap
 use Rattle.sf_coupling.proofs.Laws.{same_or_not, keeps_walks}
 use Rattle.sf_call.specs.Routes.{route_of}
 use Rattle.sf_walk.specs.Routes.{IsPosition, held_paths_of, namespace}
-use Rattle.sf_walk.specs.Served.{IsAsBefore, NodesStay, IsRefused, IsCarriedOut}
+use Rattle.sf_walk.specs.Served.{NodesStay, IsRefused, IsCarriedOut}
 use Rattle.sf_walk.specs.Routes.{nodes_of}
 use Rattle.sf_walk.proofs.Laws.{same_let_go, leads_same, freed_hands}
 use Rattle.sf_core.specs.Sound.{walker_of, writer_of_file}
 use Rattle.sf_core.specs.Stepping.{freed}
-use Rattle.sf_core.proofs.Maps.{none_some}
+use Rattle.sf_core.proofs.Maps.{by_test, no_value, none_some}
 use Rattle.sf_core.proofs.Walkers.{if_none, walker_is, walker_holds}
-use Rattle.sf_core.proofs.SparedFiles.{file_there}
+use Rattle.sf_core.proofs.SparedFiles.{holder_before, holder_after, file_there}
 use Rattle.sf_core.proofs.Spared.{leads_still, directory_still}
 
 module _ (old mid : StoreState) (history : List Record) (n session moment : ℕ) (r : Request) (given : Reply)
@@ -38,22 +38,6 @@ module _ (old mid : StoreState) (history : List Record) (n session moment : ℕ)
     → label_at (after (replay history) (Did n session moment r given)).names q ≡ label_at (replay history).names q)
     (files : (l m : ℕ) → writer_of_file old.nodes l ≡ Some m → is_directory_at mid.nodes l ≡ true → ⊥)
     (at : Stage) (is : IsPosition (route_of r) at) (f : ℕ → List HeldPath) (walks : AreWalks (walkers_at (namespace old) f (walker_of old.nodes))) (own : f n ≡ held_paths_of (route_of r) at) where
-  -- an inode's holder after the decision is as before
-  holder_was : (l m : ℕ) (o : Option Node) (node : Node) → node_in old.nodes l ≡ o → IsAsBefore (λ holder label. (holder ≡ None) × (label ≡ n)) o node → node.holder ≡ Some m → holder_of old.nodes l ≡ Some m
-  holder_was l m None node e is h = let x : None ≡ Some m = sym is.0.0 ∙ h in absurd (let z : ⊥ = cc in z)
-  holder_was l m (Some was) node e is h = ap (option_and_then (λ (x : Node). x.holder)) e ∙ sym is.0 ∙ h
-
-  mid_was : (l m : ℕ) → holder_of mid.nodes l ≡ Some m → holder_of old.nodes l ≡ Some m
-  mid_was l m h =
-      elim (node_in mid.nodes l) as (λ (o : Option Node). node_in mid.nodes l ≡ o → option_and_then (λ (x : Node). x.holder) o ≡ Some m → holder_of old.nodes l ≡ Some m) [
-        | None ↦ λ e x. absurd (let z : ⊥ = cc in z)
-        | Some node ↦ λ e x. holder_was l m (node_in old.nodes l) node refl (stays.node l node e) x
-      ] refl h
-
-  holder_is : (l m : ℕ) (o : Option Node) (node : Node) → node_in old.nodes l ≡ o → IsAsBefore (λ holder label. (holder ≡ None) × (label ≡ n)) o node → holder_of old.nodes l ≡ Some m → node.holder ≡ Some m
-  holder_is l m None node e is h = let x : None ≡ Some m = sym (ap (option_and_then (λ (x : Node). x.holder)) e) ∙ h in absurd (let z : ⊥ = cc in z)
-  holder_is l m (Some was) node e is h = is.0 ∙ sym (ap (option_and_then (λ (x : Node). x.holder)) e) ∙ h
-
   -- the directories that another call holds
   module _ (m : ℕ) (s : HeldPath) (other : n ≢ m) (hold : Holds (f m) s) where
     leads : LeadsTo (namespace old) s
@@ -76,17 +60,14 @@ module _ (old mid : StoreState) (history : List Record) (n session moment : ℕ)
     held_still : walker_of mid.nodes s.node ≡ Some m
     held_still =
         walker_is mid.nodes s.node m directory
-        (ap (option_and_then (λ (x : Node). x.holder)) still.1.1 ∙ holder_is s.node m (node_in old.nodes s.node) still.1.0 refl (stays.node s.node still.1.0 still.1.1) (walker_holds old.nodes s.node m (walks.held m s hold)).1)
+        (holder_after old mid n stays s.node m still.1.0 still.1.1 (walker_holds old.nodes s.node m (walks.held m s hold)).1)
 
   -- no call acquires a directory
   none_more : (l m : ℕ) → walker_of old.nodes l ≡ None → walker_of mid.nodes l ≡ Some m → ⊥
   none_more l m none some =
       let h = walker_holds mid.nodes l m some in
-      let before = mid_was l m h.1 in
-      elim (is_directory_at old.nodes l) as (λ b. is_directory_at old.nodes l ≡ b → ⊥) [
-        | true ↦ λ e. none_some m (sym none ∙ walker_is old.nodes l m e before)
-        | false ↦ λ e. files l m (file_there old.nodes l m e before) h.0
-      ] refl
+      let before = holder_before old mid n stays l m h.1 in
+      by_test (is_directory_at old.nodes l) (λ e. none_some m (sym none ∙ walker_is old.nodes l m e before)) (λ e. files l m (file_there old.nodes l m e before) h.0)
 
   -- the holder is unchanged for inodes that the call's paths don't hold
   mid_same : (l : ℕ) → (IsNodeOf (f n) l → ⊥) → walker_of mid.nodes l ≡ walker_of old.nodes l
@@ -96,10 +77,7 @@ module _ (old mid : StoreState) (history : List Record) (n session moment : ℕ)
           | inl same ↦ absurd (not (subst (λ x. IsNodeOf (f x) l) (sym same) (walks.holds l m e)))
           | inr other ↦ let w = walks.holds l m e in ap (walker_of mid.nodes) (sym w.node) ∙ held_still m w.held_path other w.holds
         ]
-        | None ↦ λ e. elim (walker_of mid.nodes l) as (λ o. walker_of mid.nodes l ≡ o → o ≡ None) [
-          | None ↦ λ g. refl
-          | Some m ↦ λ g. absurd (none_more l m e g)
-        ] refl
+        | None ↦ λ e. no_value (walker_of mid.nodes l) (λ m g. none_more l m e g)
       ] refl
 
   hands : HandsOver (walker_of old.nodes) (walker_of (freed at mid).nodes) n (f n) []

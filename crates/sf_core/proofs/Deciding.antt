@@ -50,7 +50,7 @@ use Rattle.sf_core.specs.Events.{AreRecordsOf, IsOfOther, HasCut, IsHelped, IsFi
 use Rattle.sf_core.specs.Parts.{PartsView, core_of}
 use Rattle.sf_core.specs.Sound.{held_paths_at, Sound}
 use Rattle.sf_core.specs.Stepping.{session_set_by, FinishState, Walked, Overtakes}
-use Rattle.sf_core.proofs.Maps.{some_eq, none_some, reply_is}
+use Rattle.sf_core.proofs.Maps.{or_right, some_eq, none_some, reply_is}
 use Rattle.sf_core.proofs.Updates.{Updates, updates_set, updates_removed}
 use Rattle.sf_core.proofs.LookUps.{looks_between, looks_fit, looks_of_looked}
 use Rattle.sf_core.proofs.Histories.{among_last}
@@ -60,7 +60,6 @@ use Rattle.sf_core.proofs.Unrecorded.{looked_sound}
 use Rattle.sf_core.proofs.SparedFiles.{copying_is, copying_stage}
 use Rattle.sf_core.proofs.FreeFiles.{file_free_looked, settled_free}
 use Rattle.sf_core.proofs.Deeper.{on_way}
-use Rattle.sf_core.proofs.Helping.{or_right}
 use Rattle.sf_core.proofs.BeforeDeciding.{Prepared, prepared, overtaken_other}
 use Rattle.sf_core.proofs.LaneStates.{slot_kept, slot_busy, slot_idle, own_call, left_is, left_one, left_copying, some_left}
 use Rattle.sf_core.specs.Writing.{CopiesOne}
@@ -72,7 +71,7 @@ no_label : (t : Tree) (q : Path) → label_at t.names q ≡ None → is_director
 no_label t q e = ap (λ (o : Option ℕ). is_some {T = ℕ × Metadata} (option_and_then (λ label. option_map (λ (m : Metadata). (label, m)) (option_and_then directory_metadata (object_of t.objects label))) o)) e
 
 no_metadata : (m : Metadata) (c : Content) → is_directory_content c ≡ false → directory_metadata (object_in m c) ≡ None
-no_metadata m (content.Directory es) e = absurd (let z : ⊥ = cc in z)
+no_metadata m (content.Directory es) e = cc
 no_metadata m (content.File b) e = refl
 
 no_directory : (t : Tree) (q : Path) (label : ℕ) (o : Object) → label_at t.names q ≡ Some label → object_of t.objects label ≡ Some o → directory_metadata o ≡ None → is_directory t q ≡ false
@@ -166,9 +165,6 @@ module _ (p : PartsView) (lane : LaneView) (c : Call) (turn : IsTurn p lane c) (
           holds = w.advances.holds;
           settled = ready_settled h sound;
         }) m over
-
-    pub made_drawn : (h : List Record) → Sound p h → m.drawn ≡ p.drawn
-    made_drawn h sound = (made h sound).drawn ∙ w.drawn
 
     module _ (r : PartsView) (given : Reply) (fin : FinishState m r c c.number given) (a : AnswerView) (is : a ≡ record { number = c.number; session = lane.session; reply = given }) where
       module _ (h : List Record) (sound : Sound p h) where
@@ -273,8 +269,6 @@ module _ (p : PartsView) (lane : LaneView) (c : Call) (turn : IsTurn p lane c) (
         of_others : (ns : List ℕ) (rs : List Record) → ((k : ℕ) → is_one_of k ns ≡ true → k ≢ c.number) → AreRecordsOf q.calls ns rs → AllByRecursion (IsOfOther (core_of p) lane.session) rs
         unfolding AreRecordsOf
         of_others [] [] others b = tt
-        of_others [] (x ∷ rs) others b = absurd b
-        of_others (k ∷ ns) [] others b = absurd b
         of_others (k ∷ ns) (x ∷ rs) others b =
             let d = b.0.0 in
             let at_p : call_at p.calls k ≡ Some d = sym (ap (λ (cs : List (ℕ × Call)). call_at cs k) w.calls) ∙ b.0.2 in
@@ -283,6 +277,7 @@ module _ (p : PartsView) (lane : LaneView) (c : Call) (turn : IsTurn p lane c) (
               subst (IsOfOther (core_of p) lane.session) (sym b.0.4) (d, (λ e. other_session p sound.ledger c.number c turn.at k d not_own at_p (e ∙ sym turn.session)), slot_busy (core_of p) d.session k d own.session at_p, b.0.3, refl),
               of_others ns rs (λ j there. others j (or_right (nat_eq j k) (is_one_of j ns) there)) b.1,
             )
+        of_others _ _ others b = absurd b
 
         decided_told : CopiesOne q.store c given → Decides (record { core = core_of p; history = h; lane = lane }) (record { core = core_of r; added = (made h sound).helped ++ did c given ∷ []; lane = at_rest lane }) c given
         decided_told one =

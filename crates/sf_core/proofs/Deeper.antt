@@ -60,7 +60,7 @@ looks_depth r at to (Next o g path from goes) is = goes_depth r at path from goe
 
 -- it looks further down than its first path
 first_depth : (r : Route) (at : Stage) → IsPosition r at → (top : HeldPath) (ends : List HeldPath) → held_paths_of r at ≡ top ∷ ends → length top.path < depth_at r at
-first_depth r at (Starts o is) top ends e = let x : ⊥ = cc in absurd x
+first_depth r at (Starts o is) top ends e = cc
 first_depth r at (IsOn path w n less) top ends e =
     let same : held_path_on path (reached w n) ≡ top = cc in
     let a = length-take w path in

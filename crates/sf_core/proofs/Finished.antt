@@ -3,7 +3,6 @@ use Rattle.std.specs.Prelude.{◌≡◌, ◌⊎◌, ℕ, zero, suc, true, List, 
 use Rattle.std.specs.Option.{option_map_or}
 use Rattle.std.proofs.Common.{sym, ap, subst, ◌∙◌, inl, inr}
 use Rattle.sf_call.specs.declared.call.Call.{Call}
-use Rattle.sf_call.specs.declared.call.Stage.{Stage}
 use Rattle.sf_call.specs.declared.call.Stage.TheVariants as stage
 use Rattle.sf_call.specs.declared.record.Record.{Record}
 use Rattle.sf_call.specs.declared.request.Request.{Request}
@@ -19,13 +18,13 @@ use Rattle.sf_walk.proofs.Laws.{IsSameGround, same_itself, same_trans}
 use Rattle.sf_core.specs.Cores.{call_at}
 use Rattle.sf_core.specs.Progress.{waiting_reply, IsCopying}
 use Rattle.sf_core.specs.Parts.{PartsView}
-use Rattle.sf_core.specs.Sound.{copying_at, held_paths_at, held_paths_in, Sound}
+use Rattle.sf_core.specs.Sound.{held_paths_at, held_paths_in, Sound}
 use Rattle.sf_core.specs.Finishing.{write_finished, FinishesWriter}
 use Rattle.sf_core.proofs.Maps.{some_eq}
 use Rattle.sf_core.proofs.Updates.{Updates, updates_staged}
 use Rattle.sf_core.proofs.LookUps.{looks_of_looked}
-use Rattle.sf_core.proofs.Writers.{none_copied, writer_is}
-use Rattle.sf_core.proofs.SparedFiles.{file_writer}
+use Rattle.sf_core.proofs.Writers.{none_copied, some_copied, writer_is}
+use Rattle.sf_core.proofs.SparedFiles.{file_writer, copying_stage}
 use Rattle.sf_core.proofs.Unrecorded.{looked_sound}
 use Rattle.sf_core.proofs.BlockSteps.{end_ground, end_sound}
 
@@ -42,15 +41,9 @@ pub still_for : (s : PartsView) (one other : Type 0) → (one → other) → (m 
 still_for s one other f m d (inl at) = inl at
 still_for s one other f m d (inr x) = inr (x.0, x.1, f x.2)
 
-copies_not : (g : Stage) → copying_at g ≡ None → IsCopying g → ⊥
-copies_not stage.Fresh none copies = copies
-copies_not (stage.At walked node) none copies = copies
-copies_not (stage.Ends common from to) none copies = copies
-copies_not (stage.Copies node left) none copies = let z : ⊥ = cc in z
-
 -- an undecided call is not copying
 pub not_copying : (p : PartsView) (h : List Record) → Sound p h → (m : ℕ) (d : Call) → call_at p.calls m ≡ Some d → waiting_reply d ≡ None → IsCopying d.stage → ⊥
-not_copying p h sound m d at undecided copies = copies_not d.stage (none_copied (route_of d.request) d.stage (sound.coupled.positions m d at undecided)) copies
+not_copying p h sound m d at undecided copies = let g = copying_stage d.stage copies in some_copied d.stage g.0 g.1 g.2 (none_copied (route_of d.request) d.stage (sound.coupled.positions m d at undecided))
 
 -- an undecided call
 pub record UndecidedCall (p : PartsView) (m : ℕ) : Type 0 where

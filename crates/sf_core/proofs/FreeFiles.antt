@@ -25,17 +25,17 @@ use Rattle.sf_walk.specs.declared.finding.Located.TheVariants as located
 use Rattle.sf_call.specs.Routes.{Route, route_of}
 use Rattle.sf_walk.specs.Routes.{IsPosition}
 use Rattle.sf_call.specs.Routes.Route.{NoPath, Along}
-use Rattle.sf_walk.specs.Routes.IsPosition.{Starts, IsOn, IsBefore, IsApart}
+use Rattle.sf_walk.specs.Routes.IsPosition.{Starts}
 use Rattle.sf_walk.specs.Ways.{AreWays}
 use Rattle.sf_walk.specs.Files.{IsFileFree, IsSettled, file_handle, cuts_file}
 use Rattle.sf_walk.specs.Served.{LookedUp, after_look_ups}
-use Rattle.sf_walk.specs.Steps.AdvancesOne.{TakesRoot, PartsAtRoot, GoesOn, Parts, OldGoesOn, NewGoesOn}
+use Rattle.sf_walk.specs.Steps.AdvancesOne.{TakesRoot}
 use Rattle.sf_walk.specs.Steps.{walker, AdvancesOne, AdvancesTo, IsFreeThere, AreFree}
 use Rattle.sf_core.specs.Cores.{call_at}
 use Rattle.sf_core.specs.Progress.{waiting_reply, IsCopying}
 use Rattle.sf_core.specs.Parts.{PartsView}
 use Rattle.sf_core.specs.Sound.{writer_of_file, Sound}
-use Rattle.sf_core.proofs.Maps.{some_eq, none_some}
+use Rattle.sf_core.proofs.Maps.{by_test, some_eq}
 use Rattle.sf_core.proofs.Writers.{no_directory, writer_holds}
 use Rattle.sf_core.proofs.SparedFiles.{file_writer, no_file}
 use Rattle.sf_core.proofs.Finished.{not_copying}
@@ -54,10 +54,7 @@ root_kept s t keeps = by_node (node_in s.nodes s.root) keeps.shows.by.sound.root
 
 -- if it is required of a file alone
 pub left_where : (s : StoreState) (node : ℕ) → (is_file_at s.nodes node ≡ true → blocks_left_at s.nodes node ≡ 0) → blocks_left_at s.nodes node ≡ 0
-left_where s node each = elim (is_file_at s.nodes node) as (λ b. is_file_at s.nodes node ≡ b → blocks_left_at s.nodes node ≡ 0) [
-  | true ↦ λ e. each e
-  | false ↦ λ e. no_file (node_in s.nodes node) e
-] refl
+left_where s node each = by_test (is_file_at s.nodes node) (λ e. each e) (λ e. no_file (node_in s.nodes node) e)
 
 file_free_counted : (k : ℕ) (s : StoreState) (c : Call) → IsFileFree s c → IsFileFree (after_look_ups k s) c
 file_free_counted zero s c h = h
@@ -69,38 +66,21 @@ file_free_looked s t most c looked h = subst (λ (x : StoreState). IsFileFree x 
 -- ---- a call on a path uses no file by a handle
 pub only_fresh : (r : Route) (g : Stage) → r ≡ NoPath → IsPosition r g → g ≡ stage.Fresh
 only_fresh r g e (Starts o is) = refl
-only_fresh r g e (IsOn path walked node less) = absurd (let z : ⊥ = cc in z)
-only_fresh r g e (IsBefore old new walked node count part less) = absurd (let z : ⊥ = cc in z)
-only_fresh r g e (IsApart old new common from to is) = absurd (let z : ⊥ = cc in z)
+only_fresh r g e _ = cc
 
 walked_on : (g after : Stage) → AdvancesOne g after → after ≡ stage.Fresh → ⊥
-walked_on g after (TakesRoot node) e = let z : ⊥ = cc in z
-walked_on g after (PartsAtRoot to at_root) e = let z : ⊥ = cc in z
-walked_on g after (GoesOn walked node to more) e = let z : ⊥ = cc in z
-walked_on g after (Parts walked node to more) e = let z : ⊥ = cc in z
-walked_on g after (OldGoesOn common old new to more) e = let z : ⊥ = cc in z
-walked_on g after (NewGoesOn common old new to more) e = let z : ⊥ = cc in z
+walked_on g after (TakesRoot node) e = cc
+walked_on g after _ e = cc
 
 no_path_moved : (g after : Stage) → IsPosition NoPath after → AdvancesOne g after → ⊥
 no_path_moved g after is on = walked_on g after on (only_fresh NoPath after refl is)
 
+pub handle_route : (r : Request) (number : ℕ) → file_handle r ≡ Some number → route_of r ≡ NoPath
+handle_route (request.Stat path) number e = cc
+handle_route _ number e = cc
+
 pub no_handle_moved : (r : Request) (g after : Stage) → IsPosition (route_of r) after → AdvancesOne g after → (number : ℕ) → file_handle r ≡ Some number → ⊥
-no_handle_moved (request.Read handle offset len) g after is on number e = no_path_moved g after is on
-no_handle_moved (request.Write handle offset bytes) g after is on number e = no_path_moved g after is on
-no_handle_moved (request.FSetStat handle attrs) g after is on number e = no_path_moved g after is on
-no_handle_moved (request.Stat path) g after is on number e = none_some number e
-no_handle_moved (request.SetStat path attrs) g after is on number e = none_some number e
-no_handle_moved (request.Mkdir path attrs) g after is on number e = none_some number e
-no_handle_moved (request.Rmdir path) g after is on number e = none_some number e
-no_handle_moved (request.Remove path) g after is on number e = none_some number e
-no_handle_moved (request.OpenDir path) g after is on number e = none_some number e
-no_handle_moved (request.Open path flags attrs) g after is on number e = none_some number e
-no_handle_moved (request.Close handle) g after is on number e = none_some number e
-no_handle_moved (request.FStat handle) g after is on number e = none_some number e
-no_handle_moved (request.ReadDir handle) g after is on number e = none_some number e
-no_handle_moved (request.Rename old new) g after is on number e = none_some number e
-no_handle_moved (request.PosixRename old new) g after is on number e = none_some number e
-no_handle_moved (request.Link old new) g after is on number e = none_some number e
+no_handle_moved r g after is on number e = no_path_moved g after (subst (λ (x : Route). IsPosition x after) (handle_route r number e) is) on
 
 pub file_free_moved : (s t : StoreState) (c : Call) (after : Stage) → AdvancesTo s t (walker c.number (route_of c.request) c.stage) after → IsFileFree t c
 file_free_moved s t c after moves = record { free = λ number x own opens is. absurd (no_handle_moved c.request c.stage after moves.position moves.walks number own) }
@@ -126,20 +106,7 @@ module _ (p : PartsView) (h : List Record) (sound : Sound p h) (c : Call) (at : 
   on_path_by : (r : Request) (ways : Ways) → AreWays p.store (route_of r) ways → AreFree (holder_of p.store.nodes) c.number (route_of r) ways → (parent node : ℕ) → cuts_file r ≡ true → ways.path ≡ located.At parent node → blocks_left_at p.store.nodes node ≡ 0
   on_path_by (request.SetStat path attrs) ways w free parent node cuts there = by_path ways path w free parent node there
   on_path_by (request.Open path flags attrs) ways w free parent node cuts there = by_path ways path w free parent node there
-  on_path_by (request.Stat path) ways w free parent node cuts there = absurd (let z : ⊥ = cc in z)
-  on_path_by (request.Mkdir path attrs) ways w free parent node cuts there = absurd (let z : ⊥ = cc in z)
-  on_path_by (request.Rmdir path) ways w free parent node cuts there = absurd (let z : ⊥ = cc in z)
-  on_path_by (request.Remove path) ways w free parent node cuts there = absurd (let z : ⊥ = cc in z)
-  on_path_by (request.OpenDir path) ways w free parent node cuts there = absurd (let z : ⊥ = cc in z)
-  on_path_by (request.Close handle) ways w free parent node cuts there = absurd (let z : ⊥ = cc in z)
-  on_path_by (request.FStat handle) ways w free parent node cuts there = absurd (let z : ⊥ = cc in z)
-  on_path_by (request.FSetStat handle attrs) ways w free parent node cuts there = absurd (let z : ⊥ = cc in z)
-  on_path_by (request.Read handle offset len) ways w free parent node cuts there = absurd (let z : ⊥ = cc in z)
-  on_path_by (request.Write handle offset bytes) ways w free parent node cuts there = absurd (let z : ⊥ = cc in z)
-  on_path_by (request.ReadDir handle) ways w free parent node cuts there = absurd (let z : ⊥ = cc in z)
-  on_path_by (request.Rename old new) ways w free parent node cuts there = absurd (let z : ⊥ = cc in z)
-  on_path_by (request.PosixRename old new) ways w free parent node cuts there = absurd (let z : ⊥ = cc in z)
-  on_path_by (request.Link old new) ways w free parent node cuts there = absurd (let z : ⊥ = cc in z)
+  on_path_by _ ways w free parent node cuts there = cc
 
   -- so a call that is decided finds its files complete
   pub settled_free : IsFileFree p.store c → (ways : Ways) → AreWays p.store (route_of c.request) ways → AreFree (holder_of p.store.nodes) c.number (route_of c.request) ways → IsSettled p.store c.session c.request ways.path

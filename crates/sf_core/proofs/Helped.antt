@@ -1,5 +1,5 @@
 -- A call that is helped, after its paths were resolved from the root.
-use Rattle.std.specs.Prelude.{◌≡◌, ◌⊎◌, ◌&&◌, ◌||◌, ℕ, Bool, true, false, not, nat_eq, is_none, List, [], ◌∷◌, option_map, Option, Some, None, refl}
+use Rattle.std.specs.Prelude.{◌≡◌, ◌⊎◌, ◌&&◌, ◌||◌, ℕ, true, false, not, nat_eq, is_none, List, [], ◌∷◌, option_map, Option, Some, None, refl}
 use Rattle.std.specs.Option.{option_map_or}
 use Rattle.std.proofs.Common.{sym, ap, subst, ◌∙◌, inl, inr, eq-eqb}
 use Rattle.sf_path.specs.Names.{Path}
@@ -8,14 +8,13 @@ use Rattle.sf_call.specs.declared.call.Call.{Call}
 use Rattle.sf_call.specs.declared.call.Stage.{Stage}
 use Rattle.sf_call.specs.declared.call.Stage.TheVariants as stage
 use Rattle.sf_call.specs.declared.request.Request.{Request}
-use Rattle.sf_call.specs.declared.request.Request.TheVariants as request
 use Rattle.sf_call.specs.declared.record.Record.{Record}
 use Rattle.sf_call.specs.Unanswered.{at_stage, staged, staged_by, answered, answered_by, with_reply}
 use Rattle.sf_coupling.proofs.Laws.{same_or_not}
 use Rattle.sf_walk.specs.declared.finding.Ways.{Ways}
 use Rattle.sf_walk.specs.Ways.{IsLocated}
 use Rattle.sf_walk.specs.Files.{IsSettled, file_handle}
-use Rattle.sf_call.specs.Routes.{route_of}
+use Rattle.sf_call.specs.Routes.{Route, route_of}
 use Rattle.sf_walk.specs.Routes.{paths_on, reached_at}
 use Rattle.sf_walk.specs.Steps.{is_one_of}
 use Rattle.sf_core.specs.Cores.{call_at}
@@ -24,10 +23,11 @@ use Rattle.sf_core.specs.Parts.{PartsView}
 use Rattle.sf_core.specs.Sound.{Sound}
 use Rattle.sf_core.specs.Stepping.{all_set_back}
 use Rattle.sf_core.specs.Finishing.{IsSettledWhereFree, KeepsRequests, AreOnPaths, FinishesWriter, IsReadyToHelp}
-use Rattle.sf_core.proofs.Maps.{some_eq, none_some}
+use Rattle.sf_core.proofs.Maps.{by_value, some_eq, none_some, no_value, some_value, none_of, or_right}
+use Rattle.sf_core.proofs.FreeFiles.{handle_route}
 use Rattle.sf_core.proofs.Numbers.{among}
 use Rattle.sf_core.proofs.SettingBack.{back_if, calls_back, AreBack, all_back}
-use Rattle.sf_core.proofs.BeforeDeciding.{three_true, none_of}
+use Rattle.sf_core.proofs.BeforeDeciding.{three_true}
 use Rattle.sf_core.proofs.Updates.{updates_staged, updates_answered}
 
 -- the same call, unchanged or at its start again
@@ -73,10 +73,8 @@ module _ (p q : PartsView) (c : Call) (fin : FinishesWriter p q c) where
 
 staged_none : (calls : List (ℕ × Call)) (k n : ℕ) → call_at calls n ≡ None → call_at (staged calls k stage.Fresh) n ≡ None
 staged_none calls k n none =
-    elim (call_at calls k) as (λ o. call_at calls k ≡ o → call_at (staged calls k stage.Fresh) n ≡ None) [
-      | None ↦ λ e. ap (λ cs. call_at cs n) (ap (staged_by calls k stage.Fresh) e) ∙ none
-      | Some z ↦ λ e. (updates_staged calls k z stage.Fresh e).rest n (λ same. none_some z (sym none ∙ ap (call_at calls) same ∙ e)) ∙ none
-    ] refl
+    by_value (call_at calls k) (λ e. ap (λ cs. call_at cs n) (ap (staged_by calls k stage.Fresh) e) ∙ none)
+    (λ z e. (updates_staged calls k z stage.Fresh e).rest n (λ same. none_some z (sym none ∙ ap (call_at calls) same ∙ e)) ∙ none)
 
 -- each call is unchanged, or at its start again
 module _ (p q : PartsView) (c : Call) (fin : FinishesWriter p q c) where
@@ -87,10 +85,10 @@ module _ (p q : PartsView) (c : Call) (fin : FinishesWriter p q c) where
   ]
 
   pub finished_requests : KeepsRequests p q
-  finished_requests n d at_q = elim (call_at p.calls n) as (λ o. call_at p.calls n ≡ o → (x : Call) × (o ≡ Some x) × (d.request ≡ x.request)) [
-    | None ↦ λ e. absurd (none_some d (sym (finished_none n e) ∙ at_q))
-    | Some x ↦ λ e. let f = finished_call p q c fin n x e in (x, refl, back_request d x (subst (λ (y : Call). IsBackOr y x) (some_eq f.0 d (sym f.1 ∙ at_q)) f.2))
-  ] refl
+  finished_requests n d at_q =
+      let x = some_value (call_at p.calls n) (λ e. none_some d (sym (finished_none n e) ∙ at_q)) in
+      let f = finished_call p q c fin n x.0 x.1 in
+      (x.0, x.1, back_request d x.0 (subst (λ (y : Call). IsBackOr y x.0) (some_eq f.0 d (sym f.1 ∙ at_q)) f.2))
 
 -- a reply preserves requests
 pub answered_request : (calls : List (ℕ × Call)) (k n : ℕ) (given : Reply) (d : Call) → call_at (answered calls k given) n ≡ Some d → (x : Call) × (call_at calls n ≡ Some x) × (d.request ≡ x.request)
@@ -109,22 +107,13 @@ answered_request calls k n given d at =
 
 module _ (p q : PartsView) (n : ℕ) (ways : Ways) (ready : (c : Call) → call_at p.calls n ≡ Some c → IsReadyToHelp p q c ways) (none : call_at p.calls n ≡ None → q ≡ p) (settled : IsSettledWhereFree p.store) where
   pub book_same : q.book ≡ p.book
-  book_same = elim (call_at p.calls n) as (λ o. call_at p.calls n ≡ o → q.book ≡ p.book) [
-    | None ↦ λ e. ap (λ (x : PartsView). x.book) (none e)
-    | Some c ↦ λ e. finished_book p q c (ready c e).finishes
-  ] refl
+  book_same = by_value (call_at p.calls n) (λ e. ap (λ (x : PartsView). x.book) (none e)) (λ c e. finished_book p q c (ready c e).finishes)
 
   pub requests_then : KeepsRequests p q
-  requests_then = elim (call_at p.calls n) as (λ o. call_at p.calls n ≡ o → KeepsRequests p q) [
-    | None ↦ λ e. λ k d at_q. (d, ap (λ (x : PartsView). call_at x.calls k) (sym (none e)) ∙ at_q, refl)
-    | Some c ↦ λ e. finished_requests p q c (ready c e).finishes
-  ] refl
+  requests_then = by_value (call_at p.calls n) (λ e. λ k d at_q. (d, ap (λ (x : PartsView). call_at x.calls k) (sym (none e)) ∙ at_q, refl)) (λ c e. finished_requests p q c (ready c e).finishes)
 
   pub settled_then : IsSettledWhereFree q.store
-  settled_then = elim (call_at p.calls n) as (λ o. call_at p.calls n ≡ o → IsSettledWhereFree q.store) [
-    | None ↦ λ e. subst (λ (x : PartsView). IsSettledWhereFree x.store) (sym (none e)) settled
-    | Some c ↦ λ e. (ready c e).settled
-  ] refl
+  settled_then = by_value (call_at p.calls n) (λ e. subst (λ (x : PartsView). IsSettledWhereFree x.store) (sym (none e)) settled) (λ c e. (ready c e).settled)
 
   pub still_none : call_at q.calls n ≡ None → (c : Call) → call_at p.calls n ≡ Some c → ⊥
   still_none gone c at = let f = finished_call p q c (ready c at).finishes n c at in none_some f.0 (sym gone ∙ f.1)
@@ -134,10 +123,9 @@ module _ (p q : PartsView) (n : ℕ) (ways : Ways) (ready : (c : Call) → call_
   same_call x y at at_q = let f = finished_call p q x (ready x at).finishes n x at in subst (λ (z : Call). IsBackOr z x) (some_eq f.0 y (sym f.1 ∙ at_q)) f.2
 
   pub the_call : (y : Call) → call_at q.calls n ≡ Some y → (x : Call) × (call_at p.calls n ≡ Some x) × IsBackOr y x
-  the_call y at_q = elim (call_at p.calls n) as (λ o. call_at p.calls n ≡ o → (x : Call) × (o ≡ Some x) × IsBackOr y x) [
-    | None ↦ λ e. absurd (none_some y (sym e ∙ ap (λ (z : PartsView). call_at z.calls n) (sym (none e)) ∙ at_q))
-    | Some x ↦ λ e. (x, refl, same_call x y e at_q)
-  ] refl
+  the_call y at_q =
+      let x = some_value (call_at p.calls n) (λ e. none_some y (sym e ∙ ap (λ (z : PartsView). call_at z.calls n) (sym (none e)) ∙ at_q)) in
+      (x.0, x.1, same_call x.0 y x.1 at_q)
 
   pub located_then : (y : Call) → call_at q.calls n ≡ Some y → IsLocated q.store y.request ways
   located_then y at_q = let x = the_call y at_q in subst (λ (r : Request). IsLocated q.store r ways) (sym (back_request y x.0 x.2)) (ready x.0 x.1).located
@@ -151,54 +139,21 @@ module _ (p q : PartsView) (n : ℕ) (ways : Ways) (ready : (c : Call) → call_
       })
 
 -- ---- the calls of several numbers
-or_later : (a b : Bool) → b ≡ true → (a || b) ≡ true
-or_later true b e = refl
-or_later false b e = e
-
 pub path_first : (p : PartsView) (n : ℕ) (ns : List ℕ) → AreOnPaths p (n ∷ ns) → (c : Call) → call_at p.calls n ≡ Some c → file_handle c.request ≡ None
 path_first p n ns paths c at = paths n c (ap (λ b. b || is_one_of n ns) (eq-eqb n n refl)) at
 
 pub paths_later : (p q : PartsView) (n : ℕ) (ns : List ℕ) → KeepsRequests p q → AreOnPaths p (n ∷ ns) → AreOnPaths q ns
 paths_later p q n ns kept paths m d here at =
     let x = kept m d at in
-    ap file_handle x.2 ∙ paths m x.0 (or_later (nat_eq m n) (is_one_of m ns) here) x.1
+    ap file_handle x.2 ∙ paths m x.0 (or_right (nat_eq m n) (is_one_of m ns) here) x.1
 
 -- a call that has passed a path holds one
+no_path_passed : (at : Stage) (old : Path) → are_past (reached_at at) [] old ≡ true → ⊥
+no_path_passed stage.Fresh old e = cc
+no_path_passed _ old e = cc
+
 passed_walks : (r : Request) (at : Stage) (old : Path) → are_past (reached_at at) (paths_on (route_of r)) old ≡ true → file_handle r ≡ None
-passed_walks (request.Read handle offset len) at old e = absurd (never at old e)
-  where
-    never : (at : Stage) (old : Path) → are_past (reached_at at) [] old ≡ true → ⊥
-    never stage.Fresh old e = let z : ⊥ = cc in z
-    never (stage.At walked node) old e = let z : ⊥ = cc in z
-    never (stage.Ends common from to) old e = let z : ⊥ = cc in z
-    never (stage.Copies node left) old e = let z : ⊥ = cc in z
-passed_walks (request.Write handle offset bytes) at old e = absurd (never at old e)
-  where
-    never : (at : Stage) (old : Path) → are_past (reached_at at) [] old ≡ true → ⊥
-    never stage.Fresh old e = let z : ⊥ = cc in z
-    never (stage.At walked node) old e = let z : ⊥ = cc in z
-    never (stage.Ends common from to) old e = let z : ⊥ = cc in z
-    never (stage.Copies node left) old e = let z : ⊥ = cc in z
-passed_walks (request.FSetStat handle attrs) at old e = absurd (never at old e)
-  where
-    never : (at : Stage) (old : Path) → are_past (reached_at at) [] old ≡ true → ⊥
-    never stage.Fresh old e = let z : ⊥ = cc in z
-    never (stage.At walked node) old e = let z : ⊥ = cc in z
-    never (stage.Ends common from to) old e = let z : ⊥ = cc in z
-    never (stage.Copies node left) old e = let z : ⊥ = cc in z
-passed_walks (request.Stat path) at old e = refl
-passed_walks (request.SetStat path attrs) at old e = refl
-passed_walks (request.Mkdir path attrs) at old e = refl
-passed_walks (request.Rmdir path) at old e = refl
-passed_walks (request.Remove path) at old e = refl
-passed_walks (request.OpenDir path) at old e = refl
-passed_walks (request.Open path flags attrs) at old e = refl
-passed_walks (request.Close handle) at old e = refl
-passed_walks (request.FStat handle) at old e = refl
-passed_walks (request.ReadDir handle) at old e = refl
-passed_walks (request.Rename from to) at old e = refl
-passed_walks (request.PosixRename from to) at old e = refl
-passed_walks (request.Link from to) at old e = refl
+passed_walks r at old e = no_value (file_handle r) (λ n h. no_path_passed at old (subst (λ (x : Route). are_past (reached_at at) (paths_on x) old ≡ true) (handle_route r n h) e))
 
 -- the calls to be helped are undecided, and have passed the path
 module _ (p : PartsView) (h : List Record) (sound : Sound p h) (n : ℕ) (old : Path) where
@@ -219,9 +174,6 @@ module _ (p : PartsView) (h : List Record) (sound : Sound p h) (n : ℕ) (old : 
   overtaken_paths k d here at =
       let ns = overtaken p.calls n (Some old) in
       let is = sym (calls_back ns p k ∙ ap (λ b. back_if b (call_at p.calls k)) here) ∙ at in
-      elim (call_at p.calls k) as (λ o. call_at p.calls k ≡ o → option_map (at_stage stage.Fresh) o ≡ Some d → file_handle d.request ≡ None) [
-        | None ↦ λ e none. absurd (none_some d none)
-        | Some x ↦ λ e same.
-            let request : at_stage stage.Fresh x ≡ d = some_eq (at_stage stage.Fresh x) d same in
-            ap (λ (y : Call). file_handle y.request) (sym request) ∙ passed_walks x.request x.stage old (overtaken_is k x here e).1
-      ] refl is
+      let x = some_value (call_at p.calls k) (λ e. none_some d (sym (ap (option_map (at_stage stage.Fresh)) e) ∙ is)) in
+      let request = some_eq (at_stage stage.Fresh x.0) d (sym (ap (option_map (at_stage stage.Fresh)) x.1) ∙ is) in
+      ap (λ (y : Call). file_handle y.request) (sym request) ∙ passed_walks x.0.request x.0.stage old (overtaken_is k x.0 here x.1).1

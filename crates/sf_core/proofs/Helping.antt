@@ -43,7 +43,7 @@ use Rattle.sf_core.specs.Events.{AreRecordsOf, HasCut}
 use Rattle.sf_core.specs.Parts.{PartsView}
 use Rattle.sf_core.specs.Sound.{held_paths_at, held_paths_in, Sound}
 use Rattle.sf_core.specs.Stepping.{freed, ServesCall, HelpState, HelpsAll}
-use Rattle.sf_core.proofs.Maps.{some_eq, none_some}
+use Rattle.sf_core.proofs.Maps.{or_right, some_eq, none_some}
 use Rattle.sf_core.proofs.Updates.{Updates, updates_answered}
 use Rattle.sf_core.proofs.LookUps.{looks_fit, looks_between}
 use Rattle.sf_core.proofs.Finished.{still_for, IsStill, still_on, still_undecided, Readied, readied}
@@ -86,7 +86,7 @@ pub record AreLed (old : Path) (p q : PartsView) (h helped : List Record) : Type
 nested_none : (from to : Path) → are_nested from to ≡ true → after_front from to ≡ None → after_front to from ≡ None → ⊥
 nested_none from to nested a b =
     let x : false ≡ true = (λ i. is_some (sym a i) || is_some (sym b i)) ∙ nested in
-    let z : ⊥ = cc in z
+    cc
 
 nested_either : (from to : Path) → are_nested from to ≡ true → IsSome (after_front from to) ⊎ IsSome (after_front to from)
 nested_either from to nested =
@@ -124,8 +124,7 @@ aside_none old x e n r f = none_some (n ∷ r) (sym e ∙ f)
 -- a call on a path has a second copy of its request
 copied : (old : Path) (r : Route) (request : Request) → LiesBelow old r → copy_of r request ≡ Some request
 copied old NoPath request below = absurd below
-copied old (Along path) request below = refl
-copied old (Between from to) request below = refl
+copied old _ request below = refl
 
 -- ---- one call
 module _ (old : Path) (p : PartsView) (history : List Record) (sound : Sound p history) (clear : IsClear p old) (c : Call) (at : call_at p.calls c.number ≡ Some c) (undecided : waiting_reply c ≡ None) (fresh : c.stage ≡ stage.Fresh)
@@ -225,24 +224,18 @@ module _ (old : Path) (p : PartsView) (history : List Record) (sound : Sound p h
   }
 
 -- ---- one after the other
-pub or_right : (a b : Bool) → b ≡ true → (a || b) ≡ true
-or_right true b e = refl
-or_right false b e = e
-
 -- a number in a list is not one that isn't in it
 pub not_there : (k n : ℕ) (ns : List ℕ) → is_one_of k ns ≡ true → is_one_of n ns ≡ false → k ≢ n
-not_there k n ns here gone same = let x = sym here ∙ ap (λ i. is_one_of i ns) same ∙ gone in let z : ⊥ = cc in z
+not_there k n ns here gone same = let x = sym here ∙ ap (λ i. is_one_of i ns) same ∙ gone in cc
 
 -- also for records of calls that are elsewhere
 pub records_on : (old new : List (ℕ × Call)) (ns : List ℕ) (rs : List Record) → ((n : ℕ) (c : Call) → is_one_of n ns ≡ true → call_at new n ≡ Some c → waiting_reply c ≡ None → (d : Call) × (call_at old n ≡ Some d) × (waiting_reply d ≡ None) × ((g : Reply) → did c g ≡ did d g))
     → AreRecordsOf new ns rs → AreRecordsOf old ns rs
 unfolding AreRecordsOf
-records_on old new [] [] each h = tt
-records_on old new [] (r ∷ rs) each h = absurd h
-records_on old new (n ∷ ns) [] each h = absurd h
 records_on old new (n ∷ ns) (r ∷ rs) each h =
     let d = each n h.0.0 (ap (λ b. b || is_one_of n ns) (eq-eqb n n refl)) h.0.2 h.0.3 in
     ((d.0, h.0.1, d.1, d.2, h.0.4 ∙ d.3 h.0.1), records_on old new ns rs (λ m c here. each m c (or_right (nat_eq m n) (is_one_of m ns) here)) h.1)
+records_on old new _ _ each h = h
 
 names_more : (r : Record) (rs : List Record) → names_in_records (r ∷ rs) ≡ names_in_record r + names_in_records rs
 names_more r rs = sum_by-cons (λ x. x) (names_in_record r) (map names_in_record rs)
@@ -355,7 +348,7 @@ help_all [] old p q h may ready apart helps = record {
   led = subst (λ (x : PartsView). AreLed old p x h []) (sym helps) (nothing_led old p h may.sound may.fits);
   records = none_recorded p;
   numbers = refl;
-  these = λ n e. let z : ⊥ = cc in absurd z;
+  these = λ n e. cc;
   others = λ m d ne at. inl (ap (λ (x : PartsView). call_at x.calls m) helps ∙ at);
 }
 help_all (n ∷ ns) old p q h may ready apart helps =
@@ -411,7 +404,7 @@ help_all (n ∷ ns) old p q h may ready apart helps =
           ] refl one_of;
       others = λ m d ne at_d.
           let both = or_false (nat_eq m n) (is_one_of m ns) ne in
-          let not_n : m ≢ n = λ e. let x = sym (eq-eqb m n e) ∙ both.0 in let z : ⊥ = cc in z in
+          let not_n : m ≢ n = λ e. let x = sym (eq-eqb m n e) ∙ both.0 in cc in
           still_for q (cuts_file c.request ≡ true ⊎ HasCut all.helped) (HasCut (did c given.0 ∷ all.helped))
           (λ e. elim e [ inl cuts ↦ (did c given.0, among_first (did c given.0) all.helped, cuts) | inr had ↦ (had.0, among_later had.0 (did c given.0) all.helped had.1, had.2) ]) m d
           (still_on f q (cuts_file c.request ≡ true) (HasCut all.helped) m d (before.each m d at_d) (λ x at_x. all.others m x both.1 (same m not_n ∙ at_x)));

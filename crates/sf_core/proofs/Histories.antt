@@ -24,9 +24,6 @@ pub all_push : {A : Type 0} (P : A → Type 0) (xs : List A) (x : A) → AllByRe
 all_push P [] x h p = (p, tt)
 all_push P (y ∷ xs) x h p = (h.0, all_push P xs x h.1 p)
 
-pub call_count_push : (rs : List Record) (r : Record) → count_by is_call (rs ++ r ∷ []) ≡ count_by is_call rs + count_by is_call (r ∷ [])
-call_count_push rs r = call_count-append rs (r ∷ [])
-
 pub among_more : (r : Record) (h rs : List Record) → IsAmong r h → IsAmong r (h ++ rs)
 unfolding IsAmong
 among_more r [] rs a = absurd a
@@ -154,7 +151,7 @@ module _ (p q : PartsView) (h : List Record) (is : IsHistory (core_of p) h) (c :
       omega (arith, a, b, left_decided c given now left)
 
   counted_now : q.drawn ≡ count_by is_call (h ++ r ∷ []) + undecided_in q.calls
-  counted_now = let a = is.counted in omega (arith, a, drawn, fewer, call_count_push h r)
+  counted_now = let a = is.counted in omega (arith, a, drawn, fewer, call_count-append h (r ∷ []))
 
   own_by : (o : Option Call) → IsLeft c given o → (d : Call) → o ≡ Some d → (waiting_reply d ≡ Some given) × IsAmong (did d given) (h ++ r ∷ [])
   own_by o Gone d at = absurd (none_some d at)

@@ -14,7 +14,7 @@ use Rattle.sf_core.specs.Progress.{undecided_in}
 use Rattle.sf_core.specs.Parts.{PartsView, core_of}
 use Rattle.sf_core.specs.Sound.{walker_of, held_paths_in, Sound}
 use Rattle.sf_core.specs.Stepping.{JoinState}
-use Rattle.sf_core.proofs.Maps.{some_eq, none_some}
+use Rattle.sf_core.proofs.Maps.{no_value, some_eq, none_some}
 use Rattle.sf_core.proofs.Updates.{Updates, updates_nothing}
 use Rattle.sf_core.specs.Events.{Joins}
 use Rattle.sf_core.proofs.LaneStates.{slot_idle, slot_kept, same_records}
@@ -25,10 +25,7 @@ use Rattle.sf_core.proofs.Starting.{updates_put, undecided_few, no_call, has_cal
 
 module _ (p q : PartsView) (h : List Record) (sound : Sound p h) (joined : JoinState p q) (unspent : p.joins < last_number) (fewer : length p.sessions < most_sessions) where
   none_yet : session_at p.sessions (p.joins + 1) ≡ None
-  none_yet = elim (session_at p.sessions (p.joins + 1)) as (λ o. session_at p.sessions (p.joins + 1) ≡ o → o ≡ None) [
-    | None ↦ λ e. refl
-    | Some d ↦ λ e. let m = (sound.ledger.sessions (p.joins + 1) d e).most in absurd (omega (arith, m))
-  ] refl
+  none_yet = no_value (session_at p.sessions (p.joins + 1)) (λ d e. let m = (sound.ledger.sessions (p.joins + 1) d e).most in omega (arith, m))
 
   sessions : Updates p.sessions q.sessions (p.joins + 1) None (Some None)
   sessions = subst (λ ss. Updates p.sessions ss (p.joins + 1) None (Some None)) (sym joined.sessions) (updates_put p.sessions (p.joins + 1) None none_yet)

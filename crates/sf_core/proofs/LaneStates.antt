@@ -8,7 +8,7 @@ use Rattle.sf_call.specs.declared.call.Call.{Call}
 use Rattle.sf_call.specs.declared.call.Stage.{Stage}
 use Rattle.sf_call.specs.declared.call.Stage.TheVariants as stage
 use Rattle.sf_call.specs.Requests.{Target, target_of}
-use Rattle.sf_call.specs.Requests.Target.{ByHandle, OnPath, OnPaths}
+use Rattle.sf_call.specs.Requests.Target.{OnPaths}
 use Rattle.sf_call.specs.Routes.{Route, is_rooted, are_nested, route_at, route_of}
 use Rattle.sf_walk.specs.Routes.{IsPosition}
 use Rattle.sf_call.specs.Routes.Route.{NoPath, Along, Between}
@@ -17,12 +17,13 @@ use Rattle.sf_walk.specs.Ways.{target_names, names_on, request_names}
 use Rattle.sf_walk.specs.Steps.{AdvancesOne}
 use Rattle.sf_walk.specs.Steps.AdvancesOne.{TakesRoot, PartsAtRoot, GoesOn, Parts, OldGoesOn, NewGoesOn}
 use Rattle.sf_core.specs.Lanes.{LaneView}
-use Rattle.sf_core.specs.Cores.{CoreView, call_at, session_at, busy_with, lane_state_by, lane_state}
+use Rattle.sf_core.specs.Cores.{CoreView, LaneState, call_at, session_at, busy_with, lane_state_by, lane_state}
 use Rattle.sf_core.specs.Cores.LaneState.{Idle, Busy}
 use Rattle.sf_core.specs.Progress.{waiting_reply, steps_left_at, left_by, left_of, bound_of, new_call, left_decided}
-use Rattle.sf_core.specs.Events.{OwnCall, KeepsRecords}
+use Rattle.sf_core.specs.Events.{OwnCall, KeepsRecords, SetsSlot}
 use Rattle.sf_core.specs.Parts.{PartsView, core_of}
 use Rattle.sf_core.specs.Sound.{Ledger}
+use Rattle.sf_core.proofs.Ledgers.{other_call}
 use Rattle.sf_core.proofs.Maps.{some_eq, reply_is}
 
 -- ---- the states of sessions
@@ -33,27 +34,37 @@ pub slot_idle : (v : CoreView) (s : ℕ) → session_at v.sessions s ≡ Some No
 slot_idle v s e = ap (lane_state_by v.calls) e
 
 busy_call : (o : Option Call) (c : Call) → busy_with o ≡ Busy c → o ≡ Some c
-busy_call None c e = absurd (let x : ⊥ = cc in x)
 busy_call (Some d) c e = let same : d ≡ c = cc in ap Some same
+busy_call _ c e = cc
 
 busy_by : (v : CoreView) (s : ℕ) (c : Call) (o : Option (Option ℕ)) → session_at v.sessions s ≡ o → lane_state_by v.calls o ≡ Busy c → (n : ℕ) × (session_at v.sessions s ≡ Some (Some n)) × (call_at v.calls n ≡ Some c)
-busy_by v s c None e f = absurd (let x : ⊥ = cc in x)
-busy_by v s c (Some None) e f = absurd (let x : ⊥ = cc in x)
 busy_by v s c (Some (Some n)) e f = (n, e, busy_call (call_at v.calls n) c f)
+busy_by v s c _ e f = cc
 
 pub busy_slot : (v : CoreView) (s : ℕ) (c : Call) → lane_state v s ≡ Busy c → (n : ℕ) × (session_at v.sessions s ≡ Some (Some n)) × (call_at v.calls n ≡ Some c)
 busy_slot v s c e = busy_by v s c (session_at v.sessions s) refl e
 
 -- a session whose entry and call are unchanged has the same state
 pub slot_kept : (v w : CoreView) (s : ℕ) (o : Option (Option ℕ)) → session_at v.sessions s ≡ o → session_at w.sessions s ≡ o → ((m : ℕ) → o ≡ Some (Some m) → call_at w.calls m ≡ call_at v.calls m) → lane_state w s ≡ lane_state v s
-slot_kept v w s None e f same = ap (lane_state_by w.calls) f ∙ sym (ap (lane_state_by v.calls) e)
-slot_kept v w s (Some None) e f same = ap (lane_state_by w.calls) f ∙ sym (ap (lane_state_by v.calls) e)
 slot_kept v w s (Some (Some m)) e f same = ap (lane_state_by w.calls) f ∙ ap busy_with (same m refl) ∙ sym (ap (lane_state_by v.calls) e)
+slot_kept v w s _ e f same = ap (lane_state_by w.calls) f ∙ sym (ap (lane_state_by v.calls) e)
 
 -- if one call and its session's entry change, all other states are unchanged
 pub slots_kept : (v w : CoreView) (n session : ℕ) → ((m : ℕ) → m ≢ n → call_at w.calls m ≡ call_at v.calls m) → ((s : ℕ) → s ≢ session → session_at w.sessions s ≡ session_at v.sessions s)
     → ((s m : ℕ) → s ≢ session → session_at v.sessions s ≡ Some (Some m) → m ≢ n) → (s : ℕ) → s ≢ session → lane_state w s ≡ lane_state v s
 slots_kept v w n session calls sessions others s ne = slot_kept v w s (session_at v.sessions s) refl (sessions s ne) (λ m e. calls m (others s m ne e))
+
+-- one call and its session's entry change
+pub sets_slot : (p q : PartsView) → Ledger p → (lane : LaneView) (n : ℕ) (c : Call) (slot : LaneState Call) → call_at p.calls n ≡ Some c → c.session ≡ lane.session → lane_state (core_of q) lane.session ≡ slot
+    → ((m : ℕ) → m ≢ n → call_at q.calls m ≡ call_at p.calls m) → ((s : ℕ) → s ≢ lane.session → session_at q.sessions s ≡ session_at p.sessions s) → length q.sessions ≡ length p.sessions → q.drawn ≡ p.drawn → q.joins ≡ p.joins
+    → SetsSlot (core_of p) (core_of q) lane.session slot
+sets_slot p q ledger lane n c slot at session own calls sessions size drawn joins = record {
+  own = own;
+  others = slots_kept (core_of p) (core_of q) n lane.session calls sessions (λ s m ne there. other_call p ledger n c at s m (λ e. ne (e ∙ session)) there);
+  joined = size;
+  drawn = drawn;
+  joins = joins;
+}
 
 -- the lane's call is the one with its number
 pub own_call : (p : PartsView) → Ledger p → (lane : LaneView) (n : ℕ) (c : Call) → call_at p.calls n ≡ Some c → c.session ≡ lane.session → lane.call ≡ Some n → OwnCall (core_of p) lane c
@@ -89,21 +100,17 @@ pub left_copying : (c : Call) (given : Reply) (node left : ℕ) → waiting_repl
 unfolding left_of
 left_copying c given node left e copies = ap (left_by c.request c.stage) e ∙ ap left_decided copies
 
-pub undecided_new : (number session moment : ℕ) (request : Request) → waiting_reply (new_call number session moment request) ≡ None
-undecided_new number session moment request = reply_is (new_call number session moment request)
-
 pub all_left : (number session moment : ℕ) (request : Request) → left_of (new_call number session moment request) ≡ bound_of request
 unfolding bound_of
-all_left number session moment request = left_is (new_call number session moment request) (undecided_new number session moment request)
+all_left number session moment request = left_is (new_call number session moment request) (reply_is (new_call number session moment request))
 
 -- the names of a route are names of its request
 fit_by : (g : Target) → names_on (route_at g) ≤ target_names g
-fit_by (ByHandle handle) = omega arith
-fit_by (OnPath path) = omega arith
 fit_by (OnPaths old new) = elim (is_rooted old new) as (λ a. names_on (if a then NoPath else if are_nested old new then Along old else Between old new) ≤ length old + length new) [
   | true ↦ omega arith
   | false ↦ elim (are_nested old new) as (λ b. names_on (if b then Along old else Between old new) ≤ length old + length new) [ true ↦ omega arith | false ↦ omega arith ]
 ]
+fit_by _ = omega arith
 
 pub names_fit : (r : Request) → names_on (route_of r) ≤ request_names r
 names_fit r = fit_by (target_of r)
@@ -127,9 +134,7 @@ walked_few c at is = let a = walked_on (route_of c.request) at is in let b = nam
 -- some steps remain, and fewer after each one
 some_by : (r : Request) (g : Route) (at : Stage) → IsPosition g at → walked_in at ≤ request_names r → 0 < steps_left_at r at
 some_by r g at (Starts o is) few = omega arith
-some_by r g at (IsOn path walked node less) few = omega (arith, few)
-some_by r g at (IsBefore old new walked node count part less) few = omega (arith, few)
-some_by r g at (IsApart old new common from to is) few = omega (arith, few)
+some_by r g at _ few = omega (arith, few)
 
 pub some_left : (c : Call) (at : Stage) → IsPosition (route_of c.request) at → 0 < steps_left_at c.request at
 some_left c at is = some_by c.request (route_of c.request) at is (walked_few c at is)

@@ -41,7 +41,8 @@ use Rattle.sf_core.specs.Events.{SessionLeaves}
 use Rattle.sf_core.proofs.LaneStates.{slot_idle, slot_kept}
 use Rattle.sf_core.proofs.Ledgers.{ledger_changed}
 use Rattle.sf_core.proofs.Starting.{no_call, has_call}
-use Rattle.sf_core.proofs.Histories.{IsWritten, written_put, history_changed, all_push, call_count_push, among_more}
+use Rattle.sf_core.proofs.Histories.{IsWritten, written_put, history_changed, all_push, among_more}
+use Rattle.sf_book.proofs.Laws.{call_count-append}
 
 -- ---- lock coupling
 module _ (old new : StoreState) (t u : Tree) (keeps : Keeps old t) (keeps' : Keeps new u) (nodes : KeepsNodes old new) (names : u.names ≡ t.names)
@@ -55,7 +56,7 @@ module _ (old new : StoreState) (t u : Tree) (keeps : Keeps old t) (keeps' : Kee
 
   -- what is a directory was a directory
   directory_was : (l : ℕ) (o : Option Node) → node_in new.nodes l ≡ o → option_map_or (λ (x : Node). is_directory_content x.content) o false ≡ true → is_directory_at old.nodes l ≡ true
-  directory_was l None e dir = absurd (let z : ⊥ = cc in z)
+  directory_was l None e dir = cc
   directory_was l (Some node) e dir = same_kind l node (node_in old.nodes l) refl (nodes.node l node e) dir
 
   pub walks_still : AreWalks (walkers_at (namespace new) f (walker_of new.nodes))
@@ -134,7 +135,7 @@ module _ (p q : PartsView) (h : List Record) (sound : Sound p h) (session : ℕ)
   as_many = ap (λ cs. undecided_in cs) parted.calls
 
   counted_now : q.drawn ≡ count_by is_call (h ++ Left session ∷ []) + undecided_in q.calls
-  counted_now = let a = sound.history.counted in let b = parted.drawn in omega (arith, a, b, as_many, call_count_push h (Left session))
+  counted_now = let a = sound.history.counted in let b = parted.drawn in omega (arith, a, b, as_many, call_count-append h (Left session ∷ []))
 
   pub left_sound : Sound q (h ++ Left session ∷ [])
   left_sound = let is = sound.history in record {

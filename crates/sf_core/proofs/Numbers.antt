@@ -5,7 +5,7 @@ use Rattle.std.proofs.Common.{sym, ap, subst, ◌∙◌, arith, eqb-true}
 use Rattle.std.specs.List.{AllByRecursion}
 use Rattle.std.specs.List.Sorted.{IsStrictlySortedBy}
 use Rattle.std.specs.declared.cmp.Ordering.{Ordering}
-use Rattle.std.specs.declared.cmp.Ordering.TheVariants.{Less, Equal, Greater}
+use Rattle.std.specs.declared.cmp.Ordering.TheVariants.{Less}
 use Rattle.std.specs.Ordering.{nat_cmp, is_lt}
 use Rattle.std.specs.Cmp.{tied_itself, nat_cmp_total}
 use Rattle.std.specs.Map.{lookup}
@@ -28,8 +28,7 @@ not_less m h = subst (λ o. T (is_lt o)) (tied_itself nat_cmp_total m) h
 
 is_less : (o : Ordering) → T (is_lt o) → o ≡ Less
 is_less Less h = refl
-is_less Equal h = absurd h
-is_less Greater h = absurd h
+is_less _ h = absurd h
 
 -- a key below all of these is none of them
 none_below : (x : ℕ) (es : List (ℕ × Call)) → T (below_all nat_cmp x es) → lookup (is_at (nat_cmp x)) es ≡ None

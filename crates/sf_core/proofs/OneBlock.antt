@@ -40,7 +40,7 @@ opens_file t session number x handle m contents e =
     let object : object_in x.metadata x.content ≡ File m contents = ap (λ (o : Option (Handle × Object)). option_map_or (λ y. y.1) o (File m contents)) both in (
       sym (ap (λ (o : Option (Handle × Object)). option_map_or (λ y. y.0) o handle) both),
       elim x.content as (λ y. object_in x.metadata y ≡ File m contents → contents ≡ bytes_in y) [
-        | content.Directory es ↦ λ f. absurd (let k : ⊥ = cc in k)
+        | content.Directory es ↦ λ f. cc
         | content.File g ↦ λ f. cc
       ] object,
     )
@@ -62,7 +62,7 @@ module _ (s : StoreState) (t : Tree) (keeps : Keeps s t) (session number : ℕ) 
   open_there none handle m contents opens =
       let here : handle_in t session number ≡ None = keeps.shows.by.handles session number ∙ ap (option_map (shown_handle session)) none in
       let e = sym (ap (option_and_then (opened_by t)) here) ∙ opens in
-      let k : ⊥ = cc in k
+      cc
 
 pub one_block : (s : StoreState) (t : Tree) → Keeps s t → (c : Call) (given : Reply) → CopiesOne s c given → IsOfOneBlock t c given
 one_block s t keeps c given one number offset [] is ok handle m contents opens = omega arith
@@ -75,4 +75,4 @@ one_block s t keeps c given one number offset (b ∷ bytes) is ok handle m conte
 
 -- a call that is no WRITE
 pub no_block : (s : StoreState) (c : Call) (given : Reply) → is_write c.request ≡ false → CopiesOne s c given
-no_block s c given none number offset bytes h is at some ok = absurd (let e : true ≡ false = sym (ap is_write is) ∙ none in let k : ⊥ = cc in k)
+no_block s c given none number offset bytes h is at some ok = absurd (let e : true ≡ false = sym (ap is_write is) ∙ none in cc)

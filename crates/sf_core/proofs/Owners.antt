@@ -1,7 +1,7 @@
 -- Which session each call belongs to.
-use Rattle.std.proofs.Common.{◌≡◌, ◌<◌, ◌≤◌, ℕ, Option, Some, None, refl, sym, ap, ◌∙◌, arith}
+use Rattle.std.proofs.Common.{◌≡◌, ◌<◌, ℕ, Option, Some, None, refl, sym, ap, ◌∙◌, arith}
 use Rattle.sf_call.specs.declared.call.Call.{Call}
-use Rattle.sf_core.specs.Cores.{CoreView, call_at, session_at, lane_state_by, lane_state}
+use Rattle.sf_core.specs.Cores.{call_at, session_at, lane_state_by, lane_state}
 use Rattle.sf_core.specs.Cores.LaneState.{NoLane, Busy}
 use Rattle.sf_core.specs.Owners.{OwnsCalls}
 use Rattle.sf_core.specs.Parts.{PartsView, core_of}

@@ -8,7 +8,7 @@ use Rattle.sf_path.specs.Names.{Name, Path, BeginsWith}
 use Rattle.sf_path.specs.Order.{same_name}
 use Rattle.sf_call.specs.declared.call.Reached.{Reached}
 use Rattle.sf_call.specs.Tree.{after_front}
-use Rattle.sf_call.proofs.Laws.{append-after_front, after_front-append}
+use Rattle.sf_call.proofs.Laws.{append-after_front, after_front-append, both_true}
 use Rattle.sf_coupling.specs.Fronts.{IsPrefix}
 use Rattle.sf_coupling.specs.Walks.{HeldPath, Holds}
 use Rattle.sf_coupling.proofs.Laws.{fronts_meet}
@@ -16,34 +16,26 @@ use Rattle.sf_call.specs.Routes.{Route}
 use Rattle.sf_walk.specs.Routes.{held_paths_on}
 use Rattle.sf_call.specs.Routes.Route.{NoPath, Along, Between}
 use Rattle.sf_core.specs.Progress.{has_walked, are_past}
-
-pub both_true : (a b : Bool) → (a && b) ≡ true → (a ≡ true) × (b ≡ true)
-both_true true b e = (refl, e)
-both_true false b e = absurd (let z : ⊥ = cc in z)
+use Rattle.sf_core.proofs.Maps.{not_true, no_value, there_is}
 
 -- ---- passing a path
 -- a prefix of the walked names is a prefix of the path
 front_taken : (old path : Path) (w : ℕ) (rest : Path) → after_front old (take w path) ≡ Some rest → (length old ≤ w) × (is_some (after_front old path) ≡ true)
 front_taken [] path w rest e = (omega arith, refl)
-front_taken (n ∷ old) [] zero rest e = absurd (let z : ⊥ = cc in z)
-front_taken (n ∷ old) [] (suc w) rest e = absurd (let z : ⊥ = cc in z)
-front_taken (n ∷ old) (m ∷ path) zero rest e = absurd (let z : ⊥ = cc in z)
 front_taken (n ∷ old) (m ∷ path) (suc w) rest e =
     elim (same_name n m) as (λ b. cond b (after_front old (take w path)) None ≡ Some rest → (length (n ∷ old) ≤ suc w) × (is_some (cond b (after_front old path) None) ≡ true)) [
       | true ↦ λ f. let r = front_taken old path w rest f in let a = r.0 in (omega (arith, a), r.1)
-      | false ↦ λ f. absurd (let z : ⊥ = cc in z)
+      | false ↦ λ f. cc
     ] e
+front_taken (n ∷ old) [] zero rest e = cc
+front_taken _ _ _ rest e = cc
 
 -- a path that hasn't passed another is neither at it nor below it
 pub stands_aside : (old path : Path) (w : ℕ) → has_walked path w old ≡ false → after_front old (take w path) ≡ None
 stands_aside old path w never =
-    elim (after_front old (take w path)) as (λ o. after_front old (take w path) ≡ o → o ≡ None) [
-      | None ↦ λ e. refl
-      | Some rest ↦ λ e.
-          let r = front_taken old path w rest e in
-          let x : (nat_le (length old) w && is_some (after_front old path)) ≡ true = ap (λ b. b && is_some (after_front old path)) (le-leb (length old) w r.0) ∙ r.1 in
-          let y : false ≡ true = sym never ∙ x in absurd (let z : ⊥ = cc in z)
-    ] refl
+    no_value (after_front old (take w path)) (λ rest e.
+    let r = front_taken old path w rest e in
+    let y = sym never ∙ ap (λ b. b && is_some (after_front old path)) (le-leb (length old) w r.0) ∙ r.1 in cc)
 
 -- what has passed a path has passed it after more names
 pub past_on : (old path : Path) (v w : ℕ) → v ≤ w → has_walked path v old ≡ true → has_walked path w old ≡ true
@@ -62,23 +54,17 @@ pub past_length : (old path : Path) (w : ℕ) → has_walked path w old ≡ true
 past_length old path w past = leb-true (length old) w (both_true (nat_le (length old) w) (is_some (after_front old path)) past).0
 
 pub never_past : (old path : Path) (w : ℕ) → w < length old → has_walked path w old ≡ false
-never_past old path w less = elim (has_walked path w old) as (λ b. has_walked path w old ≡ b → b ≡ false) [
-  | true ↦ λ e. let h = past_length old path w e in absurd (omega (arith, h, less))
-  | false ↦ λ e. refl
-] refl
+never_past old path w less = not_true (has_walked path w old) (λ e. let h = past_length old path w e in omega (arith, h, less))
 
 -- the walked names of what has passed a path begin with it
 pub past_front : (old path : Path) (w : ℕ) → has_walked path w old ≡ true → w ≤ length path → (rest : Path) × (take w path ≡ old ++ rest)
 past_front old path w past within =
     let both = both_true (nat_le (length old) w) (is_some (after_front old path)) past in
     let many = leb-true (length old) w both.0 in
-    elim (after_front old path) as (λ o. after_front old path ≡ o → is_some o ≡ true → (rest : Path) × (take w path ≡ old ++ rest)) [
-      | None ↦ λ e t. absurd (let z : ⊥ = cc in z)
-      | Some rest ↦ λ e t.
-          let is = append-after_front old path rest e in
-          let cut : length old + (w - length old) ≡ w = omega (arith, many) in
-          (take (w - length old) rest, ap (λ (k : ℕ). take k path) (sym cut) ∙ ap (take (length old + (w - length old))) is ∙ take-append-add old rest (w - length old))
-    ] refl both.1
+    let rest = there_is (after_front old path) both.1 in
+    let is = append-after_front old path rest.0 rest.1 in
+    let cut : length old + (w - length old) ≡ w = omega (arith, many) in
+    (take (w - length old) rest.0, ap (λ (k : ℕ). take k path) (sym cut) ∙ ap (take (length old + (w - length old))) is ∙ take-append-add old rest.0 (w - length old))
 
 -- names that begin with a path have passed it
 pub front_past : (old path : Path) (w : ℕ) (rest : Path) → take w path ≡ old ++ rest → has_walked path w old ≡ true
@@ -87,7 +73,7 @@ front_past old path w rest is =
     ap (λ b. b && is_some (after_front old path)) (le-leb (length old) w r.0) ∙ r.1
 
 behind : (old path : Path) (o : Option Path) → after_front old path ≡ o → is_some o ≡ true → length old < length path → (name : Name) × (rest : Path) × (after_front old path ≡ Some (name ∷ rest))
-behind old path None e t less = absurd (let z : ⊥ = cc in z)
+behind old path None e t less = cc
 behind old path (Some []) e t less =
     let l = ap (λ (p : Path). length p) (append-after_front old path [] e) in
     absurd (omega (arith, l, length-append old [], less))
@@ -132,13 +118,10 @@ passed_below old path w passed short =
 -- what begins with a path that leads strictly below another also does so
 pub begins_below : (old path q : Path) → IsBelow old path → IsSome (after_front path q) → IsBelow old q
 begins_below old path q below some =
-    elim (after_front path q) as (λ o. after_front path q ≡ o → IsSome o → IsBelow old q) [
-      | None ↦ λ e t. absurd (let z : ⊥ = cc in z)
-      | Some more ↦ λ e t.
-          let is : q ≡ old ++ (below.0 ∷ (below.1 ++ more)) =
-          append-after_front path q more e ∙ ap (λ (x : Path). x ++ more) (append-after_front old path (below.0 ∷ below.1) below.2) ∙ append_assoc old (below.0 ∷ below.1) more in
-          (below.0, below.1 ++ more, ap (after_front old) is ∙ after_front-append old (below.0 ∷ (below.1 ++ more)))
-    ] refl some
+    let more = there_is (after_front path q) some in
+    let is : q ≡ old ++ (below.0 ∷ (below.1 ++ more.0)) =
+    append-after_front path q more.0 more.1 ∙ ap (λ (x : Path). x ++ more.0) (append-after_front old path (below.0 ∷ below.1) below.2) ∙ append_assoc old (below.0 ∷ below.1) more.0 in
+    (below.0, below.1 ++ more.0, ap (after_front old) is ∙ after_front-append old (below.0 ∷ (below.1 ++ more.0)))
 
 -- a call on a route lies below a path: all paths that it can change do, unless it moves nothing
 abbrev pub LiesBelow : Path → Route → Type 0
@@ -147,15 +130,14 @@ LiesBelow old (Along path) = IsBelow old path
 LiesBelow old (Between from to) = IsBelow old from × IsBelow old to
 
 pub or_false : (x y : Bool) → (x || y) ≡ false → (x ≡ false) × (y ≡ false)
-or_false true y e = absurd (let z : ⊥ = cc in z)
+or_false true y e = cc
 or_false false y e = (refl, e)
 
 -- a call that hasn't passed a path holds nothing at it or below it
 pub held_aside : (old : Path) (at : List Reached) (paths : List Path) → are_past at paths old ≡ false → (s : HeldPath) → Holds (held_paths_on at paths) s → after_front old s.path ≡ None
-held_aside old [] paths never s hold = absurd hold
-held_aside old (r ∷ at) [] never s hold = absurd hold
 held_aside old (r ∷ at) (path ∷ paths) never s (inl e) = ap (λ (x : HeldPath). after_front old x.path) e ∙ stands_aside old path r.walked (or_false (has_walked path r.walked old) (are_past at paths old) never).0
 held_aside old (r ∷ at) (path ∷ paths) never s (inr hold) = held_aside old at paths (or_false (has_walked path r.walked old) (are_past at paths old) never).1 s hold
+held_aside old _ _ never s hold = absurd hold
 
 -- a test of whether a path is a prefix of another
 pub begins_is : (path old : Path) (b : Bool) → (IsTrue b ↔ BeginsWith path old) → b ≡ is_some (after_front old path)
@@ -163,7 +145,6 @@ begins_is path old true h =
     let front = h.0 refl in
     sym (ap is_some (ap (after_front old) front.1 ∙ after_front-append old front.0))
 begins_is path old false h =
-    elim (after_front old path) as (λ o. after_front old path ≡ o → false ≡ is_some o) [
-      | None ↦ λ e. refl
-      | Some rest ↦ λ e. let z : false ≡ true = h.1 (rest, append-after_front old path rest e) in absurd (let k : ⊥ = cc in k)
-    ] refl
+    sym (not_true (is_some (after_front old path)) (λ some.
+    let rest = there_is (after_front old path) some in
+    let z : false ≡ true = h.1 (rest.0, append-after_front old path rest.0 rest.1) in cc))

@@ -1,6 +1,6 @@
 -- Before a call is helped from the root: its paths are resolved, and no blocks are left to copy
 -- into the file whose length it sets.
-use Rattle.std.specs.Prelude.{◌≡◌, ◌≢◌, ℕ, true, Bool, if◌then◌else◌, List, [], ◌∷◌, option_and_then, Option, Some, None, refl}
+use Rattle.std.specs.Prelude.{◌≡◌, ◌≢◌, ℕ, true, Bool, if◌then◌else◌, List, [], ◌∷◌, Option, Some, None, refl}
 use Rattle.std.specs.Option.{option_map_or}
 use Rattle.std.proofs.Common.{sym, ap, ◌∙◌, inl, inr}
 use Rattle.sf_path.specs.Names.{Path}
@@ -23,6 +23,7 @@ use Rattle.sf_core.specs.Parts.{PartsView}
 use Rattle.sf_core.specs.Sound.{writer_of_file}
 use Rattle.sf_core.specs.Finishing.{write_finished, IsSettledWhereFree, IsReadyToHelp}
 use Rattle.sf_core.proofs.Maps.{none_some}
+use Rattle.sf_core.proofs.SparedFiles.{holder_after}
 use Rattle.sf_core.proofs.Writers.{files_held, files_looked, writer_is, writer_holds}
 use Rattle.sf_core.proofs.BlockSteps.{ground_left, writer_apart}
 use Rattle.sf_core.proofs.Finished.{ground_looked}
@@ -91,10 +92,6 @@ module _ (p : PartsView) (c : Call) (ways : Ways) (looked : StoreState) (settled
 
 -- ---- after a decision, files that are not held have no blocks left to copy
 module _ (s t : StoreState) (n : ℕ) (stays : NodesStay n s t) (settled : IsSettledWhereFree s) where
-  held_still : (id m : ℕ) (node : Node) → node_in t.nodes id ≡ Some node → (o : Option Node) → node_in s.nodes id ≡ o → IsAsBefore (λ holder label. (holder ≡ None) × (label ≡ n)) o node → holder_of s.nodes id ≡ Some m → holder_of t.nodes id ≡ Some m
-  held_still id m node at None e is held = absurd (none_some m (sym (ap (option_and_then (λ (x : Node). x.holder)) e) ∙ held))
-  held_still id m node at (Some x) e is held = ap (option_and_then (λ (y : Node). y.holder)) at ∙ is.0 ∙ sym (ap (option_and_then (λ (y : Node). y.holder)) e) ∙ held
-
   left_still : (id : ℕ) (node : Node) → node_in t.nodes id ≡ Some node → (o : Option Node) → node_in s.nodes id ≡ o → IsAsBefore (λ holder label. (holder ≡ None) × (label ≡ n)) o node → (blocks_left_at s.nodes id ≡ 0 → blocks_left_at t.nodes id ≡ 0)
   left_still id node at None e is zero = ap (λ (o : Option Node). option_map_or (λ (x : Node). blocks_left_in x.content) o 0) at ∙ is.1
   left_still id node at (Some x) e is zero =
@@ -108,7 +105,7 @@ module _ (s t : StoreState) (n : ℕ) (stays : NodesStay n s t) (settled : IsSet
             (elim (writer_of_file s.nodes id) as (λ o. writer_of_file s.nodes id ≡ o → blocks_left_at s.nodes id ≡ 0) [
               | None ↦ λ e. settled id e
               | Some m ↦ λ e.
-                  let held = held_still id m node at (node_in s.nodes id) refl (stays.node id node at) (writer_holds s.nodes id m e).1 in
+                  let held = holder_after s t n stays id m node at (writer_holds s.nodes id m e).1 in
                   absurd (none_some m (sym free ∙ writer_is t.nodes id m file held))
             ] refl)
       ] refl)

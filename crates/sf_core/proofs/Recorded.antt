@@ -36,7 +36,7 @@ use Rattle.sf_core.specs.Progress.{waiting_reply, did}
 use Rattle.sf_core.specs.Parts.{PartsView}
 use Rattle.sf_core.specs.Sound.{walker_of, writer_of_file, held_paths_at, held_paths_in, IsCallOf, Copied, Sound}
 use Rattle.sf_core.specs.Stepping.{session_set_by, Records, FinishState, HelpState}
-use Rattle.sf_core.proofs.Maps.{some_eq, none_some}
+use Rattle.sf_core.proofs.Maps.{reply_is, some_eq, none_some}
 use Rattle.sf_core.proofs.Updates.{Updates, updates_set, updates_removed, updates_none, updates_answered}
 use Rattle.sf_core.proofs.Spared.{keeps_after, directory_still}
 use Rattle.sf_core.proofs.Writers.{SameFiles, copied_by, some_copied, no_directory, none_copied, same_copying, still_copying, files_let_go, writers_stay, writer_holds}
@@ -229,15 +229,11 @@ module _ (p q : PartsView) (h : List Record) (sound : Sound p h) (c : Call) (at 
       (subst (λ ss. Updates p.sessions ss c.session (Some (Some c.number)) (Some None)) (sym (fin.sessions ∙ ap (session_set_by p.sessions c.session None) busy)) (updates_set p.sessions c.session (Some c.number) busy None))
       undecided Gone Goes Away labels
 
-  reply_now : waiting_reply (with_reply given c) ≡ Some given
-  unfolding waiting_reply
-  reply_now = refl
-
   -- it was helped by another: its reply is pending
   pub helped_sound : c.stage ≡ stage.Fresh → HelpState p q c c.number given → Sound q (h ++ did c given ∷ [])
   helped_sound fresh help =
       recorded p q h sound c given help.records (Some (with_reply given c)) (Some c.number)
       (subst (λ cs. Updates p.calls cs c.number (Some c) (Some (with_reply given c))) (sym help.calls) (updates_answered p.calls c.number c given at))
       (subst (λ ss. Updates p.sessions ss c.session (Some (Some c.number)) (Some (Some c.number))) (sym help.sessions) (updates_none p.sessions c.session (Some c.number) busy))
-      undecided (Waits (with_reply given c) reply_now refl) (Stays (with_reply given c) (record { number = refl; session = refl; moment = refl; request = refl }) (λ e. absurd (none_some given (sym e ∙ reply_now))))
+      undecided (Waits (with_reply given c) (reply_is (with_reply given c)) refl) (Stays (with_reply given c) (record { number = refl; session = refl; moment = refl; request = refl }) (λ e. absurd (none_some given (sym e ∙ (reply_is (with_reply given c))))))
       (Fresh (with_reply given c) fresh) labels

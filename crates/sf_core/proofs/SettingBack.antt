@@ -17,7 +17,7 @@ use Rattle.sf_core.specs.Progress.{waiting_reply}
 use Rattle.sf_core.specs.Parts.{PartsView}
 use Rattle.sf_core.specs.Sound.{held_paths_at, Sound}
 use Rattle.sf_core.specs.Stepping.{freed, set_back_by, set_back, all_set_back}
-use Rattle.sf_core.proofs.Maps.{some_eq, none_some, reply_is}
+use Rattle.sf_core.proofs.Maps.{some_eq, none_some, or_right, reply_is}
 use Rattle.sf_core.proofs.Updates.{updates_staged}
 use Rattle.sf_core.proofs.Starting.{set_back_sound}
 
@@ -27,10 +27,8 @@ back_if true o = option_map (at_stage stage.Fresh) o
 back_if false o = o
 
 back_twice : (a b : Bool) (o : Option Call) → back_if b (back_if a o) ≡ back_if (a || b) o
-back_twice false b o = refl
-back_twice true false o = refl
 back_twice true true None = refl
-back_twice true true (Some c) = refl
+back_twice _ _ _ = refl
 
 back_one : (p : PartsView) (n m : ℕ) → call_at (set_back p n).calls m ≡ back_if (nat_eq m n) (call_at p.calls m)
 back_one p n m = elim (call_at p.calls n) as (λ o. call_at p.calls n ≡ o → call_at (set_back_by p n o).calls m ≡ back_if (nat_eq m n) (call_at p.calls m)) [
@@ -41,7 +39,7 @@ back_one p n m = elim (call_at p.calls n) as (λ o. call_at p.calls n ≡ o → 
   | Some c ↦ λ e. let u = updates_staged p.calls n c stage.Fresh e in
       elim (nat_eq m n) as (λ b. nat_eq m n ≡ b → call_at (set_back_by p n (Some c)).calls m ≡ back_if b (call_at p.calls m)) [
         | true ↦ λ b. let same = eqb-true m n b in ap (call_at (set_back_by p n (Some c)).calls) same ∙ u.now_is ∙ sym (ap (option_map (at_stage stage.Fresh)) (ap (call_at p.calls) same ∙ e))
-        | false ↦ λ b. u.rest m (λ same. let x = sym (eq-eqb m n same) ∙ b in let z : ⊥ = cc in z)
+        | false ↦ λ b. u.rest m (λ same. let x = sym (eq-eqb m n same) ∙ b in cc)
       ] refl
 ] refl
 
@@ -80,10 +78,6 @@ all_back (n ∷ ns) p history sound undecided =
     then_back (call_at p.calls n) refl (λ one. all_back ns (set_back p n) history one
     (λ m c here at. was_undecided (nat_eq m n) (call_at p.calls m) c (sym (back_one p n m) ∙ at) (λ d there. undecided m d (or_right (nat_eq m n) (is_one_of m ns) here) there)))
   where
-    or_right : (a b : Bool) → b ≡ true → (a || b) ≡ true
-    or_right true b e = refl
-    or_right false b e = e
-
     then_back : (o : Option Call) → call_at p.calls n ≡ o → (Sound (set_back p n) history → AreBack (set_back p n) (all_set_back (set_back p n) ns) history) → AreBack p (all_set_back (set_back p n) ns) history
     then_back None e rest = subst (λ (x : PartsView). AreBack x (all_set_back (set_back p n) ns) history) (ap (set_back_by p n) e) (rest (subst (λ (x : PartsView). Sound x history) (sym (ap (set_back_by p n) e)) sound))
     then_back (Some c) e rest =
@@ -105,9 +99,8 @@ all_back (n ∷ ns) p history sound undecided =
 
 -- what a call holds afterwards, it held before
 pub stood : (b : Bool) (o : Option Call) (s : HeldPath) → Holds (option_map_or held_paths_at (back_if b o) []) s → Holds (option_map_or held_paths_at o []) s
-stood true None s hold = hold
 stood true (Some c) s hold = absurd hold
-stood false o s hold = hold
+stood _ _ s hold = hold
 
 book_one : (p : PartsView) (n : ℕ) (o : Option Call) → (set_back_by p n o).book ≡ p.book
 book_one p n None = refl

@@ -2,8 +2,8 @@
 -- replaced.
 use Rattle.std.specs.Prelude.{◌≡◌, ◌≢◌, ◌⊎◌, ◌<◌, ℕ, true, false, cond, List, [], ◌∷◌, option_map, option_and_then, Option, Some, None, IsSome, refl}
 use Rattle.std.specs.Option.{option_map_or}
-use Rattle.std.proofs.Common.{sym, ap, subst, ◌∙◌, inl, inr, is_some}
-use Rattle.sf_path.specs.Names.{Name, Path}
+use Rattle.std.proofs.Common.{sym, ap, subst, ◌∙◌, inl, inr}
+use Rattle.sf_path.specs.Names.{Path}
 use Rattle.sf_reply.specs.declared.reply.Reply.{Reply}
 use Rattle.sf_call.specs.declared.request.Request.{Request}
 use Rattle.sf_call.specs.declared.request.Request.TheVariants as request
@@ -38,102 +38,32 @@ use Rattle.sf_walk.specs.declared.finding.Ways.{Ways}
 use Rattle.sf_call.specs.Routes.Route.{Along}
 use Rattle.sf_walk.specs.Steps.{IsFreeThere, AreFree}
 use Rattle.sf_walk.proofs.Laws.{has_entry}
-
-on_path : (p : Path) (h : ℕ) → OnPath p ≡ ByHandle h → ⊥
-on_path p h e = cc
-
-on_paths : (old new : Path) (h : ℕ) → OnPaths old new ≡ ByHandle h → ⊥
-on_paths old new h e = cc
-
-path_paths : (p old new : Path) → OnPath p ≡ OnPaths old new → ⊥
-path_paths p old new e = cc
+use Rattle.sf_core.proofs.Maps.{by_test}
 
 -- the paths that a rename changes begin with one of its paths
 pub own_either : (r : Request) (old new q : Path) → target_of r ≡ OnPaths old new → IsOwnPath r q → IsSome (after_front old q) ⊎ IsSome (after_front new q)
-own_either (request.Stat p) old new q e own = absurd own
-own_either (request.SetStat p attrs) old new q e own = absurd own
-own_either (request.Mkdir p attrs) old new q e own = absurd (path_paths p old new e)
-own_either (request.Rmdir p) old new q e own = absurd (path_paths p old new e)
-own_either (request.Remove p) old new q e own = absurd (path_paths p old new e)
-own_either (request.OpenDir p) old new q e own = absurd own
-own_either (request.Open p flags attrs) old new q e own = absurd (path_paths p old new e)
-own_either (request.Close handle) old new q e own = absurd own
-own_either (request.FStat handle) old new q e own = absurd own
-own_either (request.FSetStat handle attrs) old new q e own = absurd own
-own_either (request.Read handle offset len) old new q e own = absurd own
-own_either (request.Write handle offset bytes) old new q e own = absurd own
-own_either (request.ReadDir handle) old new q e own = absurd own
-own_either (request.Rename a b) old new q e own = let f : a ≡ old = cc in let g : b ≡ new = cc in subst (λ (x : Path). IsSome (after_front x q) ⊎ IsSome (after_front new q)) f (subst (λ (x : Path). IsSome (after_front a q) ⊎ IsSome (after_front x q)) g own)
-own_either (request.PosixRename a b) old new q e own = let f : a ≡ old = cc in let g : b ≡ new = cc in subst (λ (x : Path). IsSome (after_front x q) ⊎ IsSome (after_front new q)) f (subst (λ (x : Path). IsSome (after_front a q) ⊎ IsSome (after_front x q)) g own)
-own_either (request.Link a b) old new q e own =
-    let g : b ≡ new = cc in inr (subst (λ (x : Path). IsSome (after_front x q)) g (ap (λ (o : Option Path). is_some o) (ap (after_front b) own ∙ front_itself b)))
+own_either (request.Rename a b) old new q e own = let f : a ≡ old = cc in let g : b ≡ new = cc in rw (← f, ← g) own
+own_either (request.PosixRename a b) old new q e own = let f : a ≡ old = cc in let g : b ≡ new = cc in rw (← f, ← g) own
+own_either (request.Link a b) old new q e own = let g : new ≡ q = cc in inr (rw (g, front_itself q) refl)
+own_either _ old new q e own = cc
 
 -- a request on one path has this path
-by_path : (r : Request) (q path : Path) → target_of r ≡ OnPath path → IsOwnPath r q → q ≡ path
-by_path (request.Stat p) q path e own = absurd own
-by_path (request.SetStat p attrs) q path e own = absurd own
-by_path (request.Mkdir p attrs) q path e own = let same : p ≡ path = cc in own ∙ same
-by_path (request.Rmdir p) q path e own = let same : p ≡ path = cc in own ∙ same
-by_path (request.Remove p) q path e own = let same : p ≡ path = cc in own ∙ same
-by_path (request.OpenDir p) q path e own = absurd own
-by_path (request.Open p flags attrs) q path e own = let same : p ≡ path = cc in own ∙ same
-by_path (request.Close handle) q path e own = absurd own
-by_path (request.FStat handle) q path e own = absurd own
-by_path (request.FSetStat handle attrs) q path e own = absurd own
-by_path (request.Read handle offset len) q path e own = absurd own
-by_path (request.Write handle offset bytes) q path e own = absurd own
-by_path (request.ReadDir handle) q path e own = absurd own
-by_path (request.Rename old new) q path e own = absurd (path_paths path old new (sym e))
-by_path (request.PosixRename old new) q path e own = absurd (path_paths path old new (sym e))
-by_path (request.Link old new) q path e own = absurd (path_paths path old new (sym e))
-
 own_is : (r : Request) (q path : Path) → target_of r ≡ OnPath path → IsOwnPath r q → q ≡ path
-own_is r q path e own = by_path r q path e own
-
-some_root : (x : Name) (p : Path) → OnPath (x ∷ p) ≡ OnPath [] → ⊥
-some_root x p e = cc
+own_is (request.Stat p) q path e own = absurd own
+own_is _ q path e own = first_of (cc, search own)
 
 -- a call by handle has no path
 by_handle : (r : Request) (handle : ℕ) (q : Path) → target_of r ≡ ByHandle handle → IsOwnPath r q → ⊥
 by_handle (request.Stat p) h q e own = own
-by_handle (request.SetStat p attrs) h q e own = own
-by_handle (request.Mkdir p attrs) h q e own = on_path p h e
-by_handle (request.Rmdir p) h q e own = on_path p h e
-by_handle (request.Remove p) h q e own = on_path p h e
-by_handle (request.OpenDir p) h q e own = own
-by_handle (request.Open p flags attrs) h q e own = on_path p h e
-by_handle (request.Close handle) h q e own = own
-by_handle (request.FStat handle) h q e own = own
-by_handle (request.FSetStat handle attrs) h q e own = own
-by_handle (request.Read handle offset len) h q e own = own
-by_handle (request.Write handle offset bytes) h q e own = own
-by_handle (request.ReadDir handle) h q e own = own
-by_handle (request.Rename old new) h q e own = on_paths old new h e
-by_handle (request.PosixRename old new) h q e own = on_paths old new h e
-by_handle (request.Link old new) h q e own = on_paths old new h e
+by_handle _ h q e own = first_of (cc, search own)
 
 -- no call on the root's path changes the root's label
 root_by : (t : Tree) (session number moment : ℕ) (r : Request) → target_of r ≡ OnPath [] → label_at (apply t session number moment r).tree.names [] ≡ label_at t.names []
-root_by t session number moment (request.Stat path) e = other_labels t session number moment (request.Stat path) [] (λ o. o)
-root_by t session number moment (request.SetStat path attrs) e = other_labels t session number moment (request.SetStat path attrs) [] (λ o. o)
 root_by t session number moment (request.Mkdir [] attrs) e = refl
-root_by t session number moment (request.Mkdir (x ∷ p) attrs) e = absurd (some_root x p e)
 root_by t session number moment (request.Rmdir []) e = refl
-root_by t session number moment (request.Rmdir (x ∷ p)) e = absurd (some_root x p e)
 root_by t session number moment (request.Remove []) e = refl
-root_by t session number moment (request.Remove (x ∷ p)) e = absurd (some_root x p e)
-root_by t session number moment (request.OpenDir path) e = other_labels t session number moment (request.OpenDir path) [] (λ o. o)
 root_by t session number moment (request.Open [] flags attrs) e = refl
-root_by t session number moment (request.Open (x ∷ p) flags attrs) e = absurd (some_root x p e)
-root_by t session number moment (request.Close handle) e = other_labels t session number moment (request.Close handle) [] (λ o. o)
-root_by t session number moment (request.FStat handle) e = other_labels t session number moment (request.FStat handle) [] (λ o. o)
-root_by t session number moment (request.FSetStat handle attrs) e = other_labels t session number moment (request.FSetStat handle attrs) [] (λ o. o)
-root_by t session number moment (request.Read handle offset len) e = other_labels t session number moment (request.Read handle offset len) [] (λ o. o)
-root_by t session number moment (request.Write handle offset bytes) e = other_labels t session number moment (request.Write handle offset bytes) [] (λ o. o)
-root_by t session number moment (request.ReadDir handle) e = other_labels t session number moment (request.ReadDir handle) [] (λ o. o)
-root_by t session number moment (request.Rename old new) e = absurd (path_paths [] old new (sym e))
-root_by t session number moment (request.PosixRename old new) e = absurd (path_paths [] old new (sym e))
-root_by t session number moment (request.Link old new) e = absurd (path_paths [] old new (sym e))
+root_by t session number moment r e = other_labels t session number moment r [] (λ own. first_of (cc, search own))
 
 -- an inode that path resolution finds is located there
 pub located_at : (nodes : List (Option Node)) (q : Path) (above x l : ℕ) → walk (child_of nodes) x q ≡ Some l → (parent : ℕ) × (way_from nodes above x q ≡ located.At parent l)
@@ -141,17 +71,17 @@ located_at nodes [] above x l e = (above, let same : x ≡ l = cc in ap (located
 located_at nodes (n ∷ q) above x l e =
     elim (child_of nodes x n) as (λ o. child_of nodes x n ≡ o → option_and_then (λ y. walk (child_of nodes) y q) o ≡ Some l
     → (parent : ℕ) × (cond (is_directory_at nodes x) (option_map_or (λ y. way_from nodes x y q) o (missing x q)) located.NoWay ≡ located.At parent l)) [
-      | None ↦ λ f w. absurd (let z : ⊥ = cc in z)
       | Some y ↦ λ f w. let r = located_at nodes q x y l w in (r.0, ap (λ b. cond b (way_from nodes x y q) located.NoWay) (has_entry nodes x n y f) ∙ r.1)
+      | None ↦ λ f w. cc
     ] refl e
 
 kind_directory : (m : Metadata) (c : Content) → is_directory_content c ≡ true → file_type_of (object_in m c) ≡ file_type.Directory
 kind_directory m (content.Directory es) e = refl
-kind_directory m (content.File b) e = absurd (let z : ⊥ = cc in z)
+kind_directory m _ e = cc
 
 directory_kind : (m : Metadata) (c : Content) → file_type_of (object_in m c) ≡ file_type.Directory → is_directory_content c ≡ true
 directory_kind m (content.Directory es) e = refl
-directory_kind m (content.File b) e = absurd (let z : ⊥ = cc in z)
+directory_kind m _ e = cc
 
 directory_is : (nodes : List (Option Node)) (l : ℕ) (node : Node) → node_in nodes l ≡ Some node → is_directory_at nodes l ≡ is_directory_content node.content
 directory_is nodes l node at = ap (λ (o : Option Node). option_map_or (λ (x : Node). is_directory_content x.content) o false) at
@@ -182,16 +112,16 @@ module _ (old mid : StoreState) (history : List Record) (n session moment : ℕ)
       let none = no_object history n legal above fresh in
       let same : n ≡ was.label = sym is.0.1 ∙ label in
       let x = ap (object_of (replay history).objects) same in
-      absurd (let z : ⊥ = cc in z)
+      cc
   same_node l id was node at label (Some w) e is = one_node old (replay history) keeps id l w was e at (sym is.1 ∙ label)
 
   found_node : (q : Path) (l : ℕ) (was : Node) (o : Option ℕ) → node_in old.nodes l ≡ Some was → walk (child_of mid.nodes) mid.root q ≡ o
       → option_map (λ (x : Node). x.label) (option_and_then (node_in mid.nodes) o) ≡ Some was.label → (o ≡ Some l) × ((node : Node) × (node_in mid.nodes l ≡ Some node) × (node.label ≡ was.label))
-  found_node q l was None at w e = absurd (let z : ⊥ = cc in z)
+  found_node q l was None at w e = cc
   found_node q l was (Some id) at w e =
       elim (node_in mid.nodes id) as (λ (m : Option Node). node_in mid.nodes id ≡ m → option_map (λ (x : Node). x.label) m ≡ Some was.label
       → (Some id ≡ Some l) × ((node : Node) × (node_in mid.nodes l ≡ Some node) × (node.label ≡ was.label))) [
-        | None ↦ λ f g. absurd (let z : ⊥ = cc in z)
+        | None ↦ λ f g. cc
         | Some node ↦ λ f g.
             let label : node.label ≡ was.label = cc in
             let same = same_node l id was node at label (node_in old.nodes id) refl (stays.node id node f) in
@@ -244,10 +174,8 @@ module _ (old mid : StoreState) (history : List Record) (n session moment : ℕ)
         by (x ∷ p) w way free = absurd (other (subst (IsFreeThere (holder_of old.nodes) n) (way ∙ (located_at old.nodes (x ∷ p) old.root old.root l w).1) free holder held))
 
     own_or_not : (q : Path) → (q ≡ path) ⊎ (IsOwnPath r q → ⊥)
-    own_or_not q = elim (same_path q path) as (λ b. same_path q path ≡ b → (q ≡ path) ⊎ (IsOwnPath r q → ⊥)) [
-      | true ↦ λ e. inl (same_path_is q path e)
-      | false ↦ λ e. inr (λ own. let x : false ≡ true = sym e ∙ ap (λ y. same_path y path) (own_is r q path is_path own) ∙ ap is_eq (tied_itself path_total path) in let k : ⊥ = cc in k)
-    ] refl
+    own_or_not q = by_test (same_path q path) (λ e. inl (same_path_is q path e))
+        (λ e. inr (λ own. let x : false ≡ true = sym e ∙ ap (λ y. same_path y path) (own_is r q path is_path own) ∙ ap is_eq (tied_itself path_total path) in cc))
 
     pub label_still : (q : Path) (l holder : ℕ) → walk (child_of old.nodes) old.root q ≡ Some l → holder_of old.nodes l ≡ Some holder → n ≢ holder
         → label_at (after (replay history) (Did n session moment r given)).names q ≡ label_at (replay history).names q

@@ -1,5 +1,5 @@
 -- A decision, or a session's leaving, preserves the files that other calls copy into.
-use Rattle.std.specs.Prelude.{◌≡◌, ◌≢◌, ◌⊎◌, ℕ, true, false, List, option_map, option_and_then, Option, Some, None, refl}
+use Rattle.std.specs.Prelude.{◌≡◌, ◌≢◌, ◌⊎◌, ◌↔◌, ℕ, true, false, List, option_map, option_and_then, Option, Some, None, refl}
 use Rattle.std.specs.Option.{option_map_or}
 use Rattle.std.proofs.Common.{sym, ap, subst, ◌∙◌, inl, inr}
 use Rattle.sf_call.specs.declared.call.Call.{Call}
@@ -24,29 +24,23 @@ use Rattle.sf_core.specs.Progress.{IsCopying}
 use Rattle.sf_core.specs.Parts.{PartsView}
 use Rattle.sf_core.specs.Sound.{writer_of_file, copying_at, copying_in, copying_scene, IsWriting, Copied}
 use Rattle.sf_core.proofs.CopySteps.{is_file}
-use Rattle.sf_core.proofs.Maps.{some_eq, none_some}
+use Rattle.sf_core.proofs.Maps.{some_eq, none_some, some_value, by_test}
 use Rattle.sf_core.proofs.Writers.{SameFiles, copied_by, no_directory, writer_is, writer_holds, writing_on}
 
 stage_copies : (g : Stage) (cp : Copying) → copying_at g ≡ Some cp → g ≡ stage.Copies cp.file cp.left
-stage_copies stage.Fresh cp e = absurd (none_some cp e)
-stage_copies (stage.At walked node) cp e = absurd (none_some cp e)
-stage_copies (stage.Ends common from to) cp e = absurd (none_some cp e)
 stage_copies (stage.Copies node left) cp e = ap (λ (x : Copying). stage.Copies x.file x.left) (some_eq (copying node left) cp e)
+stage_copies _ cp e = absurd (none_some cp e)
 
 -- a call that is copying exists
 pub the_writer : (calls : List (ℕ × Call)) (m : ℕ) (cp : Copying) → copying_in calls m ≡ Some cp → (c : Call) × (call_at calls m ≡ Some c) × (c.stage ≡ stage.Copies cp.file cp.left)
 the_writer calls m cp e =
-    elim (call_at calls m) as (λ o. call_at calls m ≡ o → copied_by o ≡ Some cp → (c : Call) × (o ≡ Some c) × (c.stage ≡ stage.Copies cp.file cp.left)) [
-      | None ↦ λ at none. absurd (none_some cp none)
-      | Some c ↦ λ at is. (c, refl, stage_copies c.stage cp is)
-    ] refl e
+    let w = some_value (call_at calls m) (λ none. none_some cp (sym (ap copied_by none) ∙ e)) in
+    (w.0, w.1, stage_copies w.0.stage cp (sym (ap copied_by w.1) ∙ e))
 
 -- the file that a call is copying into
 pub copying_stage : (g : Stage) → IsCopying g → (node : ℕ) × (left : ℕ) × (g ≡ stage.Copies node left)
-copying_stage stage.Fresh copies = absurd copies
-copying_stage (stage.At walked node) copies = absurd copies
-copying_stage (stage.Ends common from to) copies = absurd copies
 copying_stage (stage.Copies node left) copies = (node, left, refl)
+copying_stage _ copies = absurd copies
 
 pub copying_is : (calls : List (ℕ × Call)) (m : ℕ) (c : Call) (node left : ℕ) → call_at calls m ≡ Some c → c.stage ≡ stage.Copies node left → copying_in calls m ≡ Some (copying node left)
 copying_is calls m c node left at is = ap copied_by at ∙ ap copying_at is
@@ -63,31 +57,22 @@ pub no_file : (o : Option Node) → option_map_or (λ (x : Node). is_file_conten
 no_file None e = refl
 no_file (Some node) e = elim node.content as (λ c. is_file_content c ≡ false → blocks_left_in c ≡ 0) [
   | content.Directory es ↦ λ h. refl
-  | content.File contents ↦ λ h. absurd (let z : ⊥ = cc in z)
+  | content.File contents ↦ λ h. cc
 ] e
 
 some_node : (nodes : List (Option Node)) (id n : ℕ) → holder_of nodes id ≡ Some n → (node : Node) × (node_in nodes id ≡ Some node)
-some_node nodes id n e = elim (node_in nodes id) as (λ o. node_in nodes id ≡ o → option_and_then (λ (x : Node). x.holder) o ≡ Some n → (node : Node) × (o ≡ Some node)) [
-  | None ↦ λ at none. absurd (none_some n none)
-  | Some node ↦ λ at held. (node, refl)
-] refl e
+some_node nodes id n e = some_value (node_in nodes id) (λ none. none_some n (sym (ap (option_and_then (λ (x : Node). x.holder)) none) ∙ e))
 
 -- a directory's inode exists, and so does a file's
 pub node_there : (nodes : List (Option Node)) (id : ℕ) → is_directory_at nodes id ≡ true → (node : Node) × (node_in nodes id ≡ Some node)
-node_there nodes id e = elim (node_in nodes id) as (λ o. option_map_or (λ (x : Node). is_directory_content x.content) o false ≡ true → (node : Node) × (o ≡ Some node)) [
-  | None ↦ λ none. absurd (let z : ⊥ = cc in z)
-  | Some node ↦ λ is. (node, refl)
-] e
+node_there nodes id e = some_value (node_in nodes id) (λ none. let x = sym (ap (λ (o : Option Node). option_map_or (λ (x : Node). is_directory_content x.content) o false) none) ∙ e in cc)
 
 pub file_node : (nodes : List (Option Node)) (id : ℕ) → is_file_at nodes id ≡ true → (node : Node) × (node_in nodes id ≡ Some node)
-file_node nodes id e = elim (node_in nodes id) as (λ o. option_map_or (λ (x : Node). is_file_content x.content) o false ≡ true → (node : Node) × (o ≡ Some node)) [
-  | None ↦ λ none. absurd (let z : ⊥ = cc in z)
-  | Some node ↦ λ is. (node, refl)
-] e
+file_node nodes id e = some_value (node_in nodes id) (λ none. let x = sym (ap (λ (o : Option Node). option_map_or (λ (x : Node). is_file_content x.content) o false) none) ∙ e in cc)
 
 file_or_directory : (c : Content) → is_directory_content c ≡ false → is_file_content c ≡ true
-file_or_directory (content.Directory es) e = absurd (let z : ⊥ = cc in z)
 file_or_directory (content.File b) e = refl
+file_or_directory _ e = cc
 
 -- a held inode that is no directory is a file
 pub file_there : (nodes : List (Option Node)) (l m : ℕ) → is_directory_at nodes l ≡ false → holder_of nodes l ≡ Some m → writer_of_file nodes l ≡ Some m
@@ -95,6 +80,20 @@ file_there nodes l m none held =
     let x = some_node nodes l m held in
     let bare : is_directory_content x.0.content ≡ false = sym (ap (λ (o : Option Node). option_map_or (λ (z : Node). is_directory_content z.content) o false) x.1) ∙ none in
     writer_is nodes l m (ap (λ (o : Option Node). option_map_or (λ (z : Node). is_file_content z.content) o false) x.1 ∙ file_or_directory x.0.content bare) held
+
+-- the holder of an inode held it before, and holds it still
+module _ (old mid : StoreState) (n : ℕ) (stays : NodesStay n old mid) where
+  holder_by : (l m : ℕ) (node : Node) (o : Option Node) → node_in old.nodes l ≡ o → IsAsBefore (λ holder label. (holder ≡ None) × (label ≡ n)) o node → (node.holder ≡ Some m) ↔ (holder_of old.nodes l ≡ Some m)
+  holder_by l m node None e is = (λ h. absurd (none_some m (sym is.0.0 ∙ h)), λ h. absurd (none_some m (sym (ap (option_and_then (λ (y : Node). y.holder)) e) ∙ h)))
+  holder_by l m node (Some x) e is = let was = ap (option_and_then (λ (y : Node). y.holder)) e in (λ h. was ∙ sym is.0 ∙ h, λ h. is.0 ∙ sym was ∙ h)
+
+  pub holder_before : (l m : ℕ) → holder_of mid.nodes l ≡ Some m → holder_of old.nodes l ≡ Some m
+  holder_before l m h =
+      let x = some_node mid.nodes l m h in
+      (holder_by l m x.0 (node_in old.nodes l) refl (stays.node l x.0 x.1)).0 (sym (ap (option_and_then (λ (y : Node). y.holder)) x.1) ∙ h)
+
+  pub holder_after : (l m : ℕ) (node : Node) → node_in mid.nodes l ≡ Some node → holder_of old.nodes l ≡ Some m → holder_of mid.nodes l ≡ Some m
+  holder_after l m node at h = ap (option_and_then (λ (y : Node). y.holder)) at ∙ (holder_by l m node (node_in old.nodes l) refl (stays.node l node at)).1 h
 
 module _ (old mid : StoreState) (t u : Tree) (n session : ℕ) (keeps : Keeps old t) (keeps' : Keeps mid u) (stays : NodesStay n old mid) (unused : object_of t.objects n ≡ None)
     (handles : (other handle : ℕ) (h : Handle) → other ≢ session → handle_in t other handle ≡ Some h → handle_in u other handle ≡ handle_in t other handle)
@@ -162,27 +161,15 @@ module _ (old mid : StoreState) (t u : Tree) (n session : ℕ) (keeps : Keeps ol
       let s = writer_still m h.0 f h.1 h.2 h.3 in
       (s.0, s.1 ∙ sym s.2)
 
-  holder_by : (l m : ℕ) (node : Node) (o : Option Node) → node_in old.nodes l ≡ o → IsAsBefore (λ holder label. (holder ≡ None) × (label ≡ n)) o node → node.holder ≡ Some m → holder_of old.nodes l ≡ Some m
-  holder_by l m node None e is h = absurd (none_some m (sym is.0.0 ∙ h))
-  holder_by l m node (Some x) e is h = ap (option_and_then (λ (y : Node). y.holder)) e ∙ sym is.0 ∙ h
-
-  -- the holder of an inode held it before
-  pub holder_before : (l m : ℕ) → holder_of mid.nodes l ≡ Some m → holder_of old.nodes l ≡ Some m
-  holder_before l m h =
-      let x = some_node mid.nodes l m h in
-      holder_by l m x.0 (node_in old.nodes l) refl (stays.node l x.0 x.1) (sym (ap (option_and_then (λ (y : Node). y.holder)) x.1) ∙ h)
-
   -- and a file that is held then was a file before
   pub no_more : (f m : ℕ) → writer_of_file mid.nodes f ≡ Some m → writer_of_file old.nodes f ≡ Some m
   no_more f m e =
       let h = writer_holds mid.nodes f m e in
-      let before = holder_before f m h.1 in
+      let before = holder_before old mid n stays f m h.1 in
       let x = some_node mid.nodes f m h.1 in
       let y = some_node old.nodes f m before in
-      elim (is_directory_content y.0.content) as (λ b. is_directory_content y.0.content ≡ b → writer_of_file old.nodes f ≡ Some m) [
-        | true ↦ λ d. absurd (no_directory mid.nodes f h.0 (kinds f x.0 x.1 (ap (λ (o : Option Node). option_map_or (λ (z : Node). is_directory_content z.content) o false) y.1 ∙ d)))
-        | false ↦ λ d. writer_is old.nodes f m (ap (λ (o : Option Node). option_map_or (λ (z : Node). is_file_content z.content) o false) y.1 ∙ file_or_directory y.0.content d) before
-      ] refl
+      by_test (is_directory_content y.0.content) (λ d. absurd (no_directory mid.nodes f h.0 (kinds f x.0 x.1 (ap (λ (o : Option Node). option_map_or (λ (z : Node). is_directory_content z.content) o false) y.1 ∙ d))))
+      (λ d. writer_is old.nodes f m (ap (λ (o : Option Node). option_map_or (λ (z : Node). is_file_content z.content) o false) y.1 ∙ file_or_directory y.0.content d) before)
 
   left_by : (f : ℕ) (node : Node) (o : Option Node) → node_in old.nodes f ≡ o → IsAsBefore (λ holder label. (holder ≡ None) × (label ≡ n)) o node → (blocks_left_in node.content ≡ 0) ⊎ (blocks_left_in node.content ≡ blocks_left_at old.nodes f)
   left_by f node None e is = inl is.1

@@ -18,12 +18,14 @@ use Rattle.sf_coupling.proofs.Laws.{same_or_not}
 use Rattle.sf_call.specs.Routes.{route_of}
 use Rattle.sf_walk.specs.Routes.{IsPosition, namespace}
 use Rattle.sf_walk.proofs.Laws.{starts}
+use Rattle.std.specs.Cmp.{nat_cmp_total}
+use Rattle.sf_call.proofs.Laws.{sorted_put}
 use Rattle.sf_core.specs.Cores.{call_at, session_at, last_number}
 use Rattle.sf_core.specs.Progress.{waiting_reply, undecided_in, new_call}
 use Rattle.sf_core.specs.Parts.{PartsView, core_of}
 use Rattle.sf_core.specs.Sound.{walker_of, held_paths_at, held_paths_in, IsCallOf, Ledger, Sound}
 use Rattle.sf_core.specs.Stepping.{session_set_by, set_back, set_back_by, BeginState}
-use Rattle.sf_core.proofs.Maps.{some_eq, none_some, one_if, put_same, put_other, count_put, passing_put, rise_put}
+use Rattle.sf_core.proofs.Maps.{no_value, reply_is, some_eq, none_some, one_if, put_same, put_other, count_put, passing_put}
 use Rattle.sf_core.proofs.Updates.{Updates, updates_set}
 use Rattle.sf_core.specs.Events.{CallBegins}
 use Rattle.sf_core.proofs.LaneStates.{slot_idle, slot_busy, slots_kept, all_left, same_records}
@@ -45,15 +47,12 @@ module _ {X : Type 0} where
     rest = λ q ne. put_other es k v q ne;
     size = let e = count_put es k v none in omega (arith, e);
     passes = λ test. let e = passing_put test es k v none in omega (arith, e);
-    rises = λ h. rise_put es k v h;
+    rises = λ h. sorted_put nat_cmp nat_cmp_total es k v h;
   }
 
 -- no call has the next number
 pub no_call : (p : PartsView) → Ledger p → call_at p.calls (p.drawn + 1) ≡ None
-no_call p ledger = elim (call_at p.calls (p.drawn + 1)) as (λ o. call_at p.calls (p.drawn + 1) ≡ o → o ≡ None) [
-  | None ↦ λ e. refl
-  | Some d ↦ λ e. let m = (ledger.calls (p.drawn + 1) d e).most in absurd (omega (arith, m))
-] refl
+no_call p ledger = no_value (call_at p.calls (p.drawn + 1)) (λ d e. let m = (ledger.calls (p.drawn + 1) d e).most in omega (arith, m))
 
 -- and no session has this call
 pub has_call : (p : PartsView) → Ledger p → (session s m : ℕ) → s ≢ session → session_at p.sessions s ≡ Some (Some m) → m ≢ p.drawn + 1
@@ -74,8 +73,7 @@ module _ (p q : PartsView) (h : List Record) (sound : Sound p h) (session : ℕ)
   c = new_call (p.drawn + 1) session moment request
 
   undecided : waiting_reply (new_call (p.drawn + 1) session moment request) ≡ None
-  unfolding waiting_reply
-  undecided = refl
+  undecided = reply_is c
 
   none_yet : call_at p.calls (p.drawn + 1) ≡ None
   none_yet = no_call p sound.ledger

@@ -10,12 +10,12 @@ use Rattle.sf_call.specs.declared.record.Record.{Record}
 use Rattle.sf_coupling.proofs.Laws.{same_or_not}
 use Rattle.sf_reply.specs.declared.reply.Reply.{Reply}
 use Rattle.sf_core.specs.declared.step.Step.{Step}
-use Rattle.sf_core.specs.declared.step.Step.TheVariants.{Moved, Blocked, Answered, Stranger}
+use Rattle.sf_core.specs.declared.step.Step.TheVariants.{Blocked, Stranger}
 use Rattle.sf_core.specs.Lanes.{LaneView}
 use Rattle.sf_core.specs.Cores.{CoreView, LaneState, lane_state}
 use Rattle.sf_core.specs.Cores.LaneState.{NoLane, Idle, Busy}
 use Rattle.sf_core.specs.Progress.{left_of, depth_of, IsCopying, IsBehind}
-use Rattle.sf_core.specs.Events.{OwnCall, Goes, StartsToWrite, CopiesBlock, IsHelped, IsFinished, Before, After, Fetches, Decides, TakesStep}
+use Rattle.sf_core.specs.Events.{OwnCall, SetsSlot, Goes, StartsToWrite, CopiesBlock, IsHelped, IsFinished, Before, After, Fetches, Decides, TakesStep}
 use Rattle.sf_core.specs.Parts.{PartsView, core_of}
 use Rattle.sf_core.specs.Sound.{IsCore}
 use Rattle.sf_core.specs.Stuck.{is_onward, CanGoOn, IsNeverStuck, steps_left_in, left_below}
@@ -25,10 +25,8 @@ use Rattle.sf_core.proofs.LaneStates.{busy_slot}
 -- ---- which call is behind which
 -- The order `IsBehind`: it is decidable and transitive, and no call is behind itself.
 copying_or_not : (g : Stage) → IsCopying g ⊎ (IsCopying g → ⊥)
-copying_or_not stage.Fresh = inr (λ copies. copies)
-copying_or_not (stage.At walked node) = inr (λ copies. copies)
-copying_or_not (stage.Ends common from to) = inr (λ copies. copies)
 copying_or_not (stage.Copies node left) = inl tt
+copying_or_not _ = inr (λ copies. copies)
 
 behind_or_not : (c d : Call) → IsBehind c d ⊎ (IsBehind c d → ⊥)
 behind_or_not c d = elim (copying_or_not c.stage) [
@@ -69,59 +67,35 @@ pub record Furthest (v : CoreView) (n : ℕ) : Type 0 where
 pub one_call : (v : CoreView) (s t : ℕ) (c d : Call) → s ≡ t → lane_state v s ≡ Busy c → lane_state v t ≡ Busy d → c ≡ d
 one_call v s t c d same at there = let e : Busy c ≡ Busy d = sym at ∙ ap (λ (k : ℕ). lane_state v k) same ∙ there in cc
 
-not_behind : (c d x : Call) → c ≡ d → (IsBehind x d → ⊥) → IsBehind x c → ⊥
-not_behind c d x same not h = not (subst (λ (z : Call). IsBehind x z) same h)
-
-one_busy : (v : CoreView) (n : ℕ) (c : Call) → lane_state v n ≡ Busy c → NoCall v n ⊎ Furthest v n → Furthest v (suc n)
-one_busy v n c at (inl none) = record {
-  session = n;
-  call = c;
-  slot = at;
-  first = λ s d below busy. elim (cases_lt s n) [
-    | inl less ↦ absurd (none s d less busy)
-    | inr ge ↦ not_behind d c c (one_call v s n d c (omega (arith, below, ge)) busy at) (not_behind_itself c)
-  ];
-}
-one_busy v n c at (inr f) = elim (behind_or_not f.call c) [
-  | inl behind ↦ record {
-    session = n;
-    call = c;
-    slot = at;
-    first = λ s d below busy. elim (cases_lt s n) [
-      | inl less ↦ λ h. f.first s d less busy (behind_on f.call c d behind h)
-      | inr ge ↦ not_behind d c c (one_call v s n d c (omega (arith, below, ge)) busy at) (not_behind_itself c)
-    ];
-  }
-  | inr not ↦ record {
-    session = f.session;
-    call = f.call;
-    slot = f.slot;
-    first = λ s d below busy. elim (cases_lt s n) [
-      | inl less ↦ f.first s d less busy
-      | inr ge ↦ not_behind d c f.call (one_call v s n d c (omega (arith, below, ge)) busy at) not
-    ];
-  }
+-- what holds of the calls of all sessions below n, and of n, holds of those below n + 1
+below_more : (v : CoreView) (n : ℕ) (P : Call → Type 0) → ((s : ℕ) (c : Call) → s < n → lane_state v s ≡ Busy c → P c) → ((c : Call) → lane_state v n ≡ Busy c → P c) → (s : ℕ) (c : Call) → s < suc n → lane_state v s ≡ Busy c → P c
+below_more v n P each here s c below busy = elim (cases_lt s n) [
+  | inl less ↦ each s c less busy
+  | inr ge ↦ let same : s ≡ n = omega (arith, below, ge) in here c (sym (ap (λ (k : ℕ). lane_state v k) same) ∙ busy)
 ]
 
+one_busy : (v : CoreView) (n : ℕ) (c : Call) → lane_state v n ≡ Busy c → NoCall v n ⊎ Furthest v n → Furthest v (suc n)
+one_busy v n c at before = elim before [
+  | inl none ↦ its (λ s d less busy. absurd (none s d less busy))
+  | inr f ↦ elim (behind_or_not f.call c) [
+    | inl behind ↦ its (λ s d less busy h. f.first s d less busy (behind_on f.call c d behind h))
+    | inr not ↦ record { session = f.session; call = f.call; slot = f.slot; first = below_more v n (λ d. IsBehind f.call d → ⊥) f.first (own f.call not) }
+  ]
+]
+  where
+    own : (x : Call) → (IsBehind x c → ⊥) → (d : Call) → lane_state v n ≡ Busy d → IsBehind x d → ⊥
+    own x not d busy = subst (λ (z : Call). IsBehind x z → ⊥) (one_call v n n c d refl at busy) not
+
+    its : ((s : ℕ) (d : Call) → s < n → lane_state v s ≡ Busy d → IsBehind c d → ⊥) → Furthest v (suc n)
+    its each = record { session = n; call = c; slot = at; first = below_more v n (λ d. IsBehind c d → ⊥) each (own c (not_behind_itself c)) }
+
 one_free : (v : CoreView) (n : ℕ) → ((c : Call) → lane_state v n ≡ Busy c → ⊥) → NoCall v n ⊎ Furthest v n → NoCall v (suc n) ⊎ Furthest v (suc n)
-one_free v n free (inl none) = inl (λ s d below busy. elim (cases_lt s n) [
-  | inl less ↦ none s d less busy
-  | inr ge ↦ let same : s ≡ n = omega (arith, below, ge) in free d (sym (ap (λ (k : ℕ). lane_state v k) same) ∙ busy)
-])
-one_free v n free (inr f) = inr (record {
-  session = f.session;
-  call = f.call;
-  slot = f.slot;
-  first = λ s d below busy. elim (cases_lt s n) [
-    | inl less ↦ f.first s d less busy
-    | inr ge ↦ let same : s ≡ n = omega (arith, below, ge) in absurd (free d (sym (ap (λ (k : ℕ). lane_state v k) same) ∙ busy))
-  ];
-})
+one_free v n free (inl none) = inl (below_more v n (λ d. ⊥) none free)
+one_free v n free (inr f) = inr (record { session = f.session; call = f.call; slot = f.slot; first = below_more v n (λ d. IsBehind f.call d → ⊥) f.first (λ d busy. absurd (free d busy)) })
 
 one_more : (v : CoreView) (n : ℕ) (x : LaneState Call) → lane_state v n ≡ x → NoCall v n ⊎ Furthest v n → NoCall v (suc n) ⊎ Furthest v (suc n)
-one_more v n NoLane at f = one_free v n (λ c busy. let e : NoLane ≡ Busy c = sym at ∙ busy in cc) f
-one_more v n Idle at f = one_free v n (λ c busy. let e : Idle ≡ Busy c = sym at ∙ busy in cc) f
 one_more v n (Busy c) at f = inr (one_busy v n c at f)
+one_more v n _ at f = one_free v n (λ c busy. let e = sym at ∙ busy in cc) f
 
 pub furthest : (v : CoreView) (n : ℕ) → NoCall v n ⊎ Furthest v n
 furthest v zero = inl (λ s c below busy. absurd (omega (arith, below)))
@@ -129,13 +103,12 @@ furthest v (suc n) = one_more v n (lane_state v n) refl (furthest v n)
 
 -- ---- progress
 onward : (b : Before) (n : ℕ) → ((s : ℕ) (c : Call) → lane_state b.core s ≡ Busy c → s < n) → (f : Furthest b.core n) → OwnCall b.core b.lane f.call → (s : Step) (a : After) → TakesStep b s a → is_onward s ≡ true
-onward b n fit f own Moved a steps = refl
 onward b n fit f own (Blocked holder) a steps =
     let k = steps.0.1 in
     let same = one_call b.core b.lane.session b.lane.session steps.0.0 f.call refl k.own.slot own.slot in
     absurd (f.first k.other k.call (fit k.other k.call k.slot) k.slot (subst (λ (z : Call). IsBehind z k.call) same k.deeper))
-onward b n fit f own (Answered given) a steps = refl
 onward b n fit f own Stranger a steps = absurd (steps.0 f.call own)
+onward b n fit f own _ a steps = refl
 
 pub never_stuck : (p : PartsView) → IsCore p → IsNeverStuck (core_of p)
 never_stuck p core session call at =
@@ -201,36 +174,27 @@ set_falls v w n s less others below = left_falls v w n s each below less
       | inr ne ↦ others i ne
     ]
 
+-- a step of the lane's call sets its session's state
+slot_falls : (v w : CoreView) (lane : LaneView) (c : Call) (slot : LaneState Call) (n : ℕ) → OwnCall v lane c → SetsSlot v w lane.session slot → steps_left_in slot < left_of c → lane.session < n → left_below w n < left_below v n
+slot_falls v w lane c slot n own sets less below =
+    let old = busy_left v lane.session c own.slot in
+    let new = ap (λ (z : LaneState Call). steps_left_in z) sets.own in
+    set_falls v w n lane.session (omega (arith, old, new, less)) (λ i ne. same_left (lane_state w i) (lane_state v i) (sets.others i ne)) below
+
 -- after a step that moves
 pub goes_falls : (v w : CoreView) (lane : LaneView) (c d : Call) (n : ℕ) → Goes v w lane c d → lane.session < n → left_below w n < left_below v n
-goes_falls v w lane c d n g below =
-    let old = busy_left v lane.session c g.own.slot in
-    let new = busy_left w lane.session d g.slot.own in
-    let less = g.less in
-    set_falls v w n lane.session (omega (arith, old, new, less)) (λ i ne. same_left (lane_state w i) (lane_state v i) (g.slot.others i ne)) below
+goes_falls v w lane c d n g below = slot_falls v w lane c (Busy d) n g.own g.slot g.less below
 
 -- after the first step of a WRITE, and after one that copies a block
 pub writes_falls : (b : Before) (a : After) (c d : Call) (given : Reply) (n : ℕ) → StartsToWrite b a c d given → b.lane.session < n → left_below a.core n < left_below b.core n
-writes_falls b a c d given n w below =
-    let old = busy_left b.core b.lane.session c w.own.slot in
-    let new = busy_left a.core b.lane.session d w.slot.own in
-    let less = w.less in
-    set_falls b.core a.core n b.lane.session (omega (arith, old, new, less)) (λ i ne. same_left (lane_state a.core i) (lane_state b.core i) (w.slot.others i ne)) below
+writes_falls b a c d given n w below = slot_falls b.core a.core b.lane c (Busy d) n w.own w.slot w.less below
 
 pub copies_falls : (v w : CoreView) (lane : LaneView) (c d : Call) (n : ℕ) → CopiesBlock v w lane c d → lane.session < n → left_below w n < left_below v n
-copies_falls v w lane c d n b below =
-    let old = busy_left v lane.session c b.own.slot in
-    let new = busy_left w lane.session d b.slot.own in
-    let one = b.one in
-    set_falls v w n lane.session (omega (arith, old, new, one)) (λ i ne. same_left (lane_state w i) (lane_state v i) (b.slot.others i ne)) below
+copies_falls v w lane c d n b below = slot_falls v w lane c (Busy d) n b.own b.slot (let one = b.one in omega (arith, one)) below
 
 -- after one that answers
 pub fetches_falls : (b : Before) (a : After) (c : Call) (given : Reply) (n : ℕ) → Fetches b a c given → b.lane.session < n → left_below a.core n < left_below b.core n
-fetches_falls b a c given n f below =
-    let old = busy_left b.core b.lane.session c f.own.slot in
-    let new = idle_left a.core b.lane.session f.slot.own in
-    let one = f.one in
-    set_falls b.core a.core n b.lane.session (omega (arith, old, new, one)) (λ i ne. same_left (lane_state a.core i) (lane_state b.core i) (f.slot.others i ne)) below
+fetches_falls b a c given n f below = slot_falls b.core a.core b.lane c Idle n f.own f.slot (let one = f.one in omega (arith, one)) below
 
 helped_left : (v w : CoreView) (s : ℕ) (helped : List Record) → (lane_state w s ≡ lane_state v s) ⊎ IsHelped v w s helped ⊎ IsFinished v w s helped → steps_left_in (lane_state w s) ≤ steps_left_in (lane_state v s)
 helped_left v w s helped (inl e) = same_left (lane_state w s) (lane_state v s) e

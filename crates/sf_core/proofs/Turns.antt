@@ -1,5 +1,5 @@
 -- The effect of a step on a core, on its history and on the lane.
-use Rattle.std.specs.Prelude.{◌≡◌, ◌≢◌, ◌⊎◌, ◌<◌, ◌≤◌, ◌+◌, ◌-◌, ◌^◌, ℕ, min, true, false, List, [], ◌++◌, length, Option, Some, None, refl}
+use Rattle.std.specs.Prelude.{◌≡◌, ◌≢◌, ◌⊎◌, ◌<◌, ◌≤◌, ◌+◌, ◌-◌, ◌^◌, ℕ, min, false, List, [], ◌++◌, length, Option, Some, None, refl}
 use Rattle.std.specs.Option.{option_map_or}
 use Rattle.std.proofs.Common.{sym, ap, subst, ◌∙◌, inl, inr, arith, append-nil}
 use Rattle.sf_reply.specs.declared.reply.Reply.{Reply}
@@ -23,6 +23,7 @@ use Rattle.sf_walk.proofs.Laws.{ground_stays}
 use Rattle.sf_core.specs.declared.step.Step.{Step}
 use Rattle.sf_core.specs.declared.step.Step.TheVariants as step
 use Rattle.sf_core.specs.Lanes.{LaneView, at_rest}
+use Rattle.sf_core.specs.Cores.LaneState.{Idle, Busy}
 use Rattle.sf_core.specs.Cores.{call_at, session_at}
 use Rattle.sf_core.specs.Progress.{waiting_reply, is_write, undecided_in, IsBehind, IsCopying, CopiesInto}
 use Rattle.sf_core.specs.Histories.{IsHistory}
@@ -30,7 +31,7 @@ use Rattle.sf_core.specs.Events.{OwnCall, Goes, HoldsWanted, HoldsFile, LooksOnl
 use Rattle.sf_core.specs.Parts.{PartsView, core_of}
 use Rattle.sf_core.specs.Sound.{walker_of, held_paths_at, held_paths_in, Sound, IsCore}
 use Rattle.sf_core.specs.Stepping.{session_set_by, Walked, FetchState}
-use Rattle.sf_core.proofs.Maps.{reply_is}
+use Rattle.sf_core.proofs.Maps.{not_true, reply_is}
 use Rattle.sf_core.proofs.Updates.{Updates, updates_set, updates_removed, updates_staged}
 use Rattle.sf_core.proofs.LookUps.{looks_between, looks_of_looked}
 use Rattle.sf_core.proofs.Ledgers.{other_session, other_call}
@@ -43,7 +44,7 @@ use Rattle.sf_core.proofs.Finished.{not_copying}
 use Rattle.sf_core.proofs.Unrecorded.{looked_sound, moved_sound, blocked_wants, fetched_sound}
 use Rattle.sf_core.proofs.Deeper.{looks_deeper}
 use Rattle.sf_core.proofs.SettingBack.{let_go_looks}
-use Rattle.sf_core.proofs.LaneStates.{slot_busy, slot_idle, slots_kept, slot_kept, own_call, no_stranger, same_book, left_is, left_one, walked_few, some_left, less_left}
+use Rattle.sf_core.proofs.LaneStates.{sets_slot, slot_busy, slot_idle, slots_kept, slot_kept, own_call, no_stranger, same_book, left_is, left_one, walked_few, some_left, less_left}
 
 -- ---- histories
 -- the parts of a core are sound with each history that the core has
@@ -88,9 +89,7 @@ one_more s fits = (omega (arith, fits), omega arith)
 
 entered_looks : (g : Stage) (s : StoreState) → s.look_ups < 2 ^ 64 → (s.look_ups ≤ (entered g s).look_ups) × ((entered g s).look_ups ≤ s.look_ups + 2)
 entered_looks stage.Fresh s fits = (omega arith, omega arith)
-entered_looks (stage.At v above) s fits = one_more s fits
-entered_looks (stage.Ends common from to) s fits = one_more s fits
-entered_looks (stage.Copies node left) s fits = one_more s fits
+entered_looks _ s fits = one_more s fits
 
 moved_looks : (n : ℕ) (was now : Stage) (node : ℕ) (s : StoreState) → s.look_ups < 2 ^ 64
     → (s.look_ups ≤ (handed_over n was now node (entered was s)).look_ups) × ((handed_over n was now node (entered was s)).look_ups ≤ s.look_ups + 2)
@@ -101,10 +100,7 @@ moved_looks n was now node s fits =
 
 -- a call that looks up is no WRITE
 not_write : (r : Request) (g after : Stage) → IsPosition (route_of r) after → AdvancesOne g after → is_write r ≡ false
-not_write r g after is on = elim (is_write r) as (λ b. is_write r ≡ b → b ≡ false) [
-  | true ↦ λ e. let w = is_a_write r (is_write_by r e) in absurd (no_handle_moved r g after is on w.0 (ap file_handle w.3))
-  | false ↦ λ e. refl
-] refl
+not_write r g after is on = not_true (is_write r) (λ e. let w = is_a_write r (is_write_by r e) in no_handle_moved r g after is on w.0 (ap file_handle w.3))
 
 -- ---- a step of the lane's call
 pub record IsTurn (p : PartsView) (lane : LaneView) (c : Call) : Type 0 where
@@ -142,13 +138,9 @@ module _ (p : PartsView) (lane : LaneView) (c : Call) (turn : IsTurn p lane c) w
           one = left_one c given decided fresh;
           recorded = sound.history.decided c.number c given turn.at decided;
           none = refl;
-          slot = record {
-            own = slot_idle (core_of q) lane.session (ss lane.session ∙ sessions.now_is);
-            others = slots_kept (core_of p) (core_of q) c.number lane.session (λ m ne. ap (λ cs. call_at cs m) fetched.calls ∙ calls.rest m ne) (λ s ne. ss s ∙ sessions.rest s ne) (apart h sound);
-            joined = let e = ap (λ (x : List (ℕ × Option ℕ)). length x) (fetched.sessions ∙ ap (session_set_by p.sessions lane.session None) (busy h sound)) in let f = sessions.size in omega (arith, e, f);
-            drawn = fetched.drawn;
-            joins = fetched.joins;
-          };
+          slot =
+              sets_slot p q sound.ledger lane c.number c Idle turn.at turn.session (slot_idle (core_of q) lane.session (ss lane.session ∙ sessions.now_is)) (λ m ne. ap (λ cs. call_at cs m) fetched.calls ∙ calls.rest m ne) (λ s ne. ss s ∙ sessions.rest s ne)
+              (let e = ap (λ (x : List (ℕ × Option ℕ)). length x) (fetched.sessions ∙ ap (session_set_by p.sessions lane.session None) (busy h sound)) in let f = sessions.size in omega (arith, e, f)) fetched.drawn fetched.joins;
           records = same_book p q fetched.book;
           look_ups = ap (λ (x : StoreState). x.look_ups) fetched.store;
         }
@@ -183,13 +175,9 @@ module _ (p : PartsView) (lane : LaneView) (c : Call) (turn : IsTurn p lane c) w
             walks = w.advances.walks;
             less = let less = less_left c.request c.stage after w.advances.walks few in omega (arith, less, now, left_is c undecided);
             some = let some = some_left c after w.advances.position in omega (arith, some, now);
-            slot = record {
-              own = slot_busy (core_of q) lane.session c.number (at_stage after c) (ss lane.session ∙ busy h sound) calls.now_is;
-              others = slots_kept (core_of p) (core_of q) c.number lane.session calls.rest (λ s ne. ss s) (apart h sound);
-              joined = ap (λ (x : List (ℕ × Option ℕ)). length x) w.sessions;
-              drawn = w.drawn;
-              joins = w.joins;
-            };
+            slot =
+                sets_slot p q sound.ledger lane c.number c (Busy (at_stage after c)) turn.at turn.session (slot_busy (core_of q) lane.session c.number (at_stage after c) (ss lane.session ∙ busy h sound) calls.now_is) calls.rest (λ s ne. ss s)
+                (ap (λ (x : List (ℕ × Option ℕ)). length x) w.sessions) w.drawn w.joins;
             records = same_book p q w.book;
             more = let a = looks.0 in omega (arith, a, e);
             few = let b = looks.1 in omega (arith, b, e);

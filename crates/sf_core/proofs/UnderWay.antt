@@ -38,15 +38,13 @@ staged_twice calls n g h c at =
 
 pub stage_stays : (w : Walk) (g : Stage) → ((after : Stage) → w ≡ walk.Moved after → ⊥) → stage_after w g ≡ g
 stage_stays (walk.Moved after) g ne = absurd (ne after refl)
-stage_stays (walk.Blocked holder) g ne = refl
-stage_stays (walk.Ready ways) g ne = refl
+stage_stays _ g ne = refl
 
 -- ---- one step
 module _ (n : ℕ) (c : Call) where
   noted : (p : PartsView) (g : Stage) → call_at p.calls n ≡ Some (at_stage g c) → (w : Walk) → staged p.calls n (stage_after w g) ≡ walked_calls p.calls n w
   noted p g at (walk.Moved after) = refl
-  noted p g at (walk.Blocked holder) = staged_same p.calls n (at_stage g c) at
-  noted p g at (walk.Ready ways) = staged_same p.calls n (at_stage g c) at
+  noted p g at _ = staged_same p.calls n (at_stage g c) at
 
   pub one_step : (p : PartsView) (s t : StoreState) (g : Stage) (w : Walk) → HasComeTo p n s c g → s.look_ups < 2 ^ 64 → Advances s t (walker c.number (route_of c.request) g) w
       → CallStep p c.session n (outcome.Walked w) (come_to p n t (stage_after w g))

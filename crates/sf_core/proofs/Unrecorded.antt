@@ -33,7 +33,7 @@ use Rattle.sf_core.specs.Histories.{IsHistory}
 use Rattle.sf_core.specs.Parts.{PartsView, core_of}
 use Rattle.sf_core.specs.Sound.{walker_of, writer_of_file, held_paths_at, held_paths_in, copying_at, Coupled, Copied, Sound}
 use Rattle.sf_core.specs.Stepping.{session_set_by, freed, SameButRoom, FetchState}
-use Rattle.sf_core.proofs.Maps.{some_eq, none_some, one_if}
+use Rattle.sf_core.proofs.Maps.{staged_reply, some_eq, none_some, one_if}
 use Rattle.sf_core.proofs.Updates.{one_by, Updates, updates_set, updates_removed, updates_none, updates_staged}
 use Rattle.sf_core.proofs.Walkers.{walker_is, walker_holds}
 use Rattle.sf_core.proofs.Writers.{SameFiles, none_copied, same_copying, still_copying, files_let_go, files_moved, files_looked, copied_on, copied_still, copied_same}
@@ -146,10 +146,6 @@ module _ (p : PartsView) (h : List Record) (sound : Sound p h) (c : Call) (at : 
   staged_updates : Updates p.calls (staged p.calls c.number after) c.number (Some c) (Some (at_stage after c))
   staged_updates = updates_staged p.calls c.number c after at
 
-  reply_same : waiting_reply (at_stage after c) ≡ waiting_reply c
-  unfolding waiting_reply
-  reply_same = refl
-
   pub held_paths_other : (m : ℕ) → c.number ≢ m → held_paths_in (staged p.calls c.number after) m ≡ held_paths_in p.calls m
   held_paths_other m ne = ap (λ (o : Option Call). option_map_or held_paths_at o []) (staged_updates.rest m (λ e. ne (sym e)))
 
@@ -167,7 +163,7 @@ module _ (p : PartsView) (h : List Record) (sound : Sound p h) (c : Call) (at : 
   come_sound keeps walks position files writers =
       let call = sound.ledger.calls c.number c at in
       unrecorded p q h sound c.number c (Some (at_stage after c)) (Some c.number) staged_updates (updates_none p.sessions c.session (Some c.number) call.session)
-      (Same (at_stage after c) reply_same (λ g. refl)) (Stays (at_stage after c) (record { number = refl; session = refl; moment = refl; request = refl }) (λ e. call.copied undecided))
+      (Same (at_stage after c) (staged_reply c after) (λ g. refl)) (Stays (at_stage after c) (record { number = refl; session = refl; moment = refl; request = refl }) (λ e. call.copied undecided))
       keeps refl refl refl (record {
         walks = walks;
         positions = λ m d is none. elim (same_or_not m c.number) [
@@ -175,7 +171,7 @@ module _ (p : PartsView) (h : List Record) (sound : Sound p h) (c : Call) (at : 
           | inr ne ↦ sound.coupled.positions m d (sym (staged_updates.rest m ne) ∙ is) none
         ];
         waiting = λ m d g is some. elim (same_or_not m c.number) [
-          | inl e ↦ absurd (none_some g (sym undecided ∙ sym reply_same ∙ ap waiting_reply (now_is m d e is) ∙ some))
+          | inl e ↦ absurd (none_some g (sym undecided ∙ sym (staged_reply c after) ∙ ap waiting_reply (now_is m d e is) ∙ some))
           | inr ne ↦ sound.coupled.waiting m d g (sym (staged_updates.rest m ne) ∙ is) some
         ];
       })
@@ -187,9 +183,7 @@ module _ (p : PartsView) (h : List Record) (sound : Sound p h) (c : Call) (at : 
 -- a lookup keeps the tree that the store represents
 entered_keeps : (at : Stage) (s : StoreState) (t : Tree) → Keeps s t → Keeps (entered at s) t
 entered_keeps stage.Fresh s t k = k
-entered_keeps (stage.At walked node) s t k = keeps_looked s t k
-entered_keeps (stage.Ends common from to) s t k = keeps_looked s t k
-entered_keeps (stage.Copies node left) s t k = keeps_looked s t k
+entered_keeps _ s t k = keeps_looked s t k
 
 module _ (p : PartsView) (h : List Record) (sound : Sound p h) (c : Call) (at : call_at p.calls c.number ≡ Some c) (undecided : waiting_reply c ≡ None) where
   files : (s : StoreState) (after : Stage) → AdvancesTo p.store s (walker c.number (route_of c.request) c.stage) after → SameFiles p.store s

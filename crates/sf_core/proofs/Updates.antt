@@ -9,8 +9,10 @@ use Rattle.sf_reply.specs.declared.reply.Reply.{Reply}
 use Rattle.sf_call.specs.declared.call.Call.{Call}
 use Rattle.sf_call.specs.declared.call.Stage.{Stage}
 use Rattle.sf_call.specs.Unanswered.{at_stage, staged, staged_by, with_reply, answered, answered_by}
+use Rattle.std.proofs.lemmas.Map.{length-set_value}
+use Rattle.sf_call.proofs.Laws.{sorted_removed, sorted_set}
 use Rattle.sf_core.specs.Cores.{call_at}
-use Rattle.sf_core.proofs.Maps.{one_if, set_same, set_other, removed_same, removed_other, count_set, count_removed, passing_set, passing_removed, rise_set, rise_removed}
+use Rattle.sf_core.proofs.Maps.{one_if, set_same, set_other, removed_same, removed_other, count_removed, passing_set, passing_removed}
 
 abbrev pub one_by : {X : Type 0} → (X → Bool) → Option X → ℕ
 one_by passes None = 0
@@ -38,9 +40,9 @@ module _ {X : Type 0} (es : List (ℕ × X)) (k : ℕ) (w : X) (at : lookup (is_
     was_is = at;
     now_is = set_same es k v w at;
     rest = λ q ne. set_other es k v w q ne at;
-    size = let e = count_set (is_at (nat_cmp k)) es v in omega (arith, e);
+    size = let e = length-set_value (is_at (nat_cmp k)) es v in omega (arith, e);
     passes = λ test. passing_set test (is_at (nat_cmp k)) es v w at;
-    rises = λ h. rise_set (is_at (nat_cmp k)) v es h;
+    rises = λ h. sorted_set nat_cmp (is_at (nat_cmp k)) v es h;
   }
 
   pub updates_removed : T (is_sorted nat_cmp es) → Updates es (remove_entry (is_at (nat_cmp k)) es) k (Some w) None
@@ -50,7 +52,7 @@ module _ {X : Type 0} (es : List (ℕ × X)) (k : ℕ) (w : X) (at : lookup (is_
     rest = λ q ne. removed_other es k q ne rise;
     size = let e = count_removed (is_at (nat_cmp k)) es w at in omega (arith, e);
     passes = λ test. let e = passing_removed test (is_at (nat_cmp k)) es w at in omega (arith, e);
-    rises = λ h. rise_removed (is_at (nat_cmp k)) es h;
+    rises = λ h. sorted_removed nat_cmp (is_at (nat_cmp k)) es h;
   }
 
   -- nothing changed

@@ -10,14 +10,11 @@ use Rattle.sf_call.specs.Routes.{Route}
 use Rattle.sf_walk.specs.Routes.{held_paths_of}
 use Rattle.sf_core.specs.Progress.{IsCopying}
 use Rattle.sf_core.specs.Sound.{walker_of, IsAtRest}
+use Rattle.sf_core.proofs.Maps.{if_some}
 
 pub if_none : (b : Bool) (o : Option ℕ) → o ≡ None → (if b then o else None) ≡ None
 if_none true o e = e
 if_none false o e = refl
-
-if_some : (b : Bool) (o : Option ℕ) (n : ℕ) → (if b then o else None) ≡ Some n → (b ≡ true) × (o ≡ Some n)
-if_some true o n e = (refl, e)
-if_some false o n e = absurd (let z : ⊥ = cc in z)
 
 -- `walker_of` a directory is its holder
 pub walker_is : (nodes : List (Option Node)) (id n : ℕ) → is_directory_at nodes id ≡ true → holder_of nodes id ≡ Some n → walker_of nodes id ≡ Some n
@@ -42,10 +39,8 @@ walks_hands s t n was now same directories hands = record {
 
 -- a decided call holds no directory
 copying_none : (r : Route) (g : Stage) → IsCopying g → held_paths_of r g ≡ []
-copying_none r stage.Fresh copying = absurd copying
-copying_none r (stage.At walked node) copying = absurd copying
-copying_none r (stage.Ends common from to) copying = absurd copying
 copying_none r (stage.Copies node left) copying = refl
+copying_none r _ copying = absurd copying
 
 pub rests_none : (r : Route) (g : Stage) → IsAtRest g → held_paths_of r g ≡ []
 rests_none r g (inl fresh) = ap (held_paths_of r) fresh

@@ -25,7 +25,7 @@ use Rattle.sf_core.specs.Progress.{waiting_reply, is_write, undecided_in}
 use Rattle.sf_core.specs.Events.{TakesMoves, Walks, walk_end}
 use Rattle.sf_core.specs.Parts.{PartsView, core_of}
 use Rattle.sf_core.specs.Sound.{Sound, IsCore}
-use Rattle.sf_core.specs.Stepping.{is_move, Walked, CallStep, Moved, WalkState, ending, FetchState, Overtakes, FinishState}
+use Rattle.sf_core.specs.Stepping.{Walked, CallStep, Moved, WalkState, ending, FetchState, Overtakes, FinishState}
 use Rattle.sf_core.proofs.Maps.{some_eq, reply_is, passing_removed, one_if}
 use Rattle.sf_core.proofs.Histories.{is_undecided}
 use Rattle.sf_core.proofs.Updates.{updates_staged}
@@ -64,41 +64,20 @@ module _ (lane : LaneView) (n : ℕ) (call : lane.call ≡ Some n) where
       places_after it.0 q _ it.2.1.core one.0 one.1 places (places_by k p it.0 places it.1 fit)
 
   -- after a step that moved the call
-  pub moved_core : (p q : PartsView) (r : WalkOutcome) → CallStep p lane.session n r q → is_move r ≡ true → IsCore q
-  moved_core p q (outcome.Walked (walked.Moved after)) it is = core_after p q _ it.core (moved_by p q after it).0
-  moved_core p q (outcome.Walked (walked.Blocked holder)) it is = absurd cc
-  moved_core p q (outcome.Walked (walked.Ready ways)) it is = absurd cc
-  moved_core p q outcome.Foreign it is = absurd cc
-  moved_core p q outcome.Waits it is = absurd cc
-  moved_core p q outcome.Copies it is = absurd cc
-  moved_core p q outcome.Writes it is = absurd cc
-  moved_core p q (outcome.FileHeld holder) it is = absurd cc
+  pub moved_core : (p q : PartsView) (after : Stage) → CallStep p lane.session n (outcome.Walked (walked.Moved after)) q → IsCore q
+  moved_core p q after it = core_after p q _ it.core (moved_by p q after it).0
 
-  pub moved_more : (k : ℕ) (o p q : PartsView) (r : WalkOutcome) → Moved k o lane.session n p → CallStep p lane.session n r q → is_move r ≡ true → Moved (suc k) o lane.session n q
+  pub moved_more : (k : ℕ) (o p q : PartsView) (after : Stage) → Moved k o lane.session n p → CallStep p lane.session n (outcome.Walked (walked.Moved after)) q → Moved (suc k) o lane.session n q
   unfolding Moved
-  moved_more k o p q (outcome.Walked (walked.Moved after)) moved it is = (p, moved, (after, it))
-  moved_more k o p q (outcome.Walked (walked.Blocked holder)) moved it is = absurd cc
-  moved_more k o p q (outcome.Walked (walked.Ready ways)) moved it is = absurd cc
-  moved_more k o p q outcome.Foreign moved it is = absurd cc
-  moved_more k o p q outcome.Waits moved it is = absurd cc
-  moved_more k o p q outcome.Copies moved it is = absurd cc
-  moved_more k o p q outcome.Writes moved it is = absurd cc
-  moved_more k o p q (outcome.FileHeld holder) moved it is = absurd cc
+  moved_more k o p q after moved it = (p, moved, (after, it))
 
   -- and no other call holds a file that it uses by a handle: it uses none
-  pub moved_free : (p q : PartsView) (r : WalkOutcome) → CallStep p lane.session n r q → is_move r ≡ true → (d : Call) → call_at q.calls n ≡ Some d → IsFileFree q.store d
-  moved_free p q (outcome.Walked (walked.Moved after)) it is d at =
+  pub moved_free : (p q : PartsView) (after : Stage) → CallStep p lane.session n (outcome.Walked (walked.Moved after)) q → (d : Call) → call_at q.calls n ≡ Some d → IsFileFree q.store d
+  moved_free p q after it d at =
       let x = it.comes.0 in
       let w = it.comes.5 in
       let own : at_stage after x ≡ d = some_eq (at_stage after x) d (sym (ap (λ cs. call_at cs n) w.calls ∙ (updates_staged p.calls n x after it.comes.1).now_is) ∙ at) in
       subst (IsFileFree q.store) own (record { free = (file_free_moved p.store q.store x after w.advances).free })
-  moved_free p q (outcome.Walked (walked.Blocked holder)) it is d at = absurd cc
-  moved_free p q (outcome.Walked (walked.Ready ways)) it is d at = absurd cc
-  moved_free p q outcome.Foreign it is d at = absurd cc
-  moved_free p q outcome.Waits it is d at = absurd cc
-  moved_free p q outcome.Copies it is d at = absurd cc
-  moved_free p q outcome.Writes it is d at = absurd cc
-  moved_free p q (outcome.FileHeld holder) it is d at = absurd cc
 
   -- ---- at most `most` steps
   module _ (p : PartsView) (most places : ℕ) (fit : undecided_in p.calls ≤ places) (v : CoreView) (ev : core_of p ≡ v) (l : LaneView) (el : lane ≡ l) where

@@ -33,14 +33,14 @@ use Rattle.sf_core.specs.Parts.{PartsView}
 use Rattle.sf_core.specs.Sound.{writer_of_file, copying_scene, IsWriting, IsCallOf, Sound}
 use Rattle.sf_core.specs.Stepping.{HelpState, freed}
 use Rattle.sf_core.specs.Writing.{WriteState}
-use Rattle.sf_core.proofs.Maps.{some_eq, reply_is}
+use Rattle.sf_core.proofs.Maps.{no_value, staged_reply, some_eq, reply_is}
 use Rattle.sf_core.proofs.Updates.{updates_answered, updates_staged}
 use Rattle.sf_core.proofs.CopySteps.{is_a_write, is_file, stays_started}
 use Rattle.sf_core.proofs.Writers.{copied_by, files_held, opens_same, writer_is}
 use Rattle.sf_core.proofs.SparedFiles.{file_node, file_writer, copying_is}
 use Rattle.sf_core.proofs.Spared.{label_by_handle}
 use Rattle.sf_core.proofs.Recorded.{helped_sound}
-use Rattle.sf_core.proofs.BlockSteps.{ground_left, file_left, rest_sound, changes_by, staged_reply}
+use Rattle.sf_core.proofs.BlockSteps.{ground_left, file_left, rest_sound, changes_by}
 
 same_sym : (s t : StoreState) → IsSameGround s t → IsSameGround t s
 same_sym s t g = record { step = λ x n. sym (g.step x n); root = sym g.root; directory = λ x. sym (g.directory x) }
@@ -162,16 +162,13 @@ module _ (p q : PartsView) (h : List Record) (sound : Sound p h) (c : Call) (at 
   file_held = (files_held (Some c.number) w.mid w.copied.handle.node).file w.copied.handle.node ∙ file_mid
 
   free : writer_of_file (left_set w.mid w.copied.handle.node 0).nodes w.copied.handle.node ≡ None
-  free = elim (writer_of_file whole.nodes w.copied.handle.node) as (λ o. writer_of_file whole.nodes w.copied.handle.node ≡ o → o ≡ None) [
-    | None ↦ λ e. refl
-    | Some m ↦ λ e.
-        let f = file_writer whole decided.calls sound_decided.copied.copies w.copied.handle.node m e in
-        let copies = copying_is decided.calls m f.0 w.copied.handle.node f.1 f.2 f.3 in
-        let some = sound_decided.copied.copies.some m (copying w.copied.handle.node f.1) copies in
-        let left = sound_decided.copied.copies.left m (copying w.copied.handle.node f.1) copies in
-        let none = left_there 0 w.mid w.copied.handle.node file_mid in
-        absurd (omega (arith, some, left, none))
-  ] refl
+  free = no_value (writer_of_file whole.nodes w.copied.handle.node) (λ m e.
+      let f = file_writer whole decided.calls sound_decided.copied.copies w.copied.handle.node m e in
+      let copies = copying_is decided.calls m f.0 w.copied.handle.node f.1 f.2 f.3 in
+      let some = sound_decided.copied.copies.some m (copying w.copied.handle.node f.1) copies in
+      let left = sound_decided.copied.copies.left m (copying w.copied.handle.node f.1) copies in
+      let none = left_there 0 w.mid w.copied.handle.node file_mid in
+      omega (arith, some, left, none))
 
   abbrev going : Stage
   going = stage.Copies w.copied.handle.node into.left

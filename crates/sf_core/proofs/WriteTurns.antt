@@ -30,6 +30,7 @@ use Rattle.sf_walk.specs.Routes.{IsPosition}
 use Rattle.sf_call.specs.Routes.Route.{NoPath}
 use Rattle.sf_core.specs.declared.step.Step.TheVariants as step
 use Rattle.sf_core.specs.Lanes.{LaneView}
+use Rattle.sf_core.specs.Cores.LaneState.{Busy}
 use Rattle.sf_core.specs.Cores.{call_at, session_at}
 use Rattle.sf_core.specs.Progress.{waiting_reply, left_of, steps_left_at, did}
 use Rattle.sf_core.specs.Sure.{AreSure}
@@ -42,7 +43,7 @@ use Rattle.sf_core.proofs.Maps.{some_eq, reply_is}
 use Rattle.sf_core.proofs.Updates.{Updates, updates_answered, updates_staged}
 use Rattle.sf_core.proofs.LookUps.{looks_between, looks_fit, looks_of_looked}
 use Rattle.sf_core.proofs.FreeFiles.{only_fresh}
-use Rattle.sf_core.proofs.LaneStates.{slot_busy, slots_kept, own_call, left_is, left_copying}
+use Rattle.sf_core.proofs.LaneStates.{sets_slot, slot_busy, slots_kept, own_call, left_is, left_copying}
 use Rattle.sf_core.proofs.Turns.{IsStep, IsTurn, apart}
 use Rattle.sf_core.proofs.Deciding.{may_by, stands, ready_sound, ready_settled, at_q}
 use Rattle.sf_core.proofs.CopySteps.{is_a_write, write_is}
@@ -83,7 +84,7 @@ module _ (p : PartsView) (lane : LaneView) (c : Call) (turn : IsTurn p lane c) (
     fresh = write_fresh c write (sound.coupled.positions c.number c turn.at undecided)
 
     settled : IsSettled q.store c.session c.request NoWay
-    settled = let s = ready_settled p lane c turn undecided q ways w free h sound in record { by_handle = s.by_handle; on_path = λ parent node cuts there. absurd (let z : ⊥ = cc in z) }
+    settled = let s = ready_settled p lane c turn undecided q ways w free h sound in record { by_handle = s.by_handle; on_path = λ parent node cuts there. cc }
 
     sound_now : Sound r (h ++ did c begun.0 ∷ [])
     sound_now = written_sound q r h ready c at undecided fresh write settled begun.0 begun.1 begun.2
@@ -156,13 +157,9 @@ module _ (p : PartsView) (lane : LaneView) (c : Call) (turn : IsTurn p lane c) (
           blocks = λ number offset bytes e x m contents opens. let b = blocks number offset bytes e x m contents opens in omega (arith, b, left);
           some = let b = begun.2.copied.some in omega (arith, b, left);
           less = let b = few in omega (arith, b, left);
-          slot = record {
-            own = slot_busy (core_of r) lane.session c.number d (ss lane.session ∙ busy) last_updates.now_is;
-            others = slots_kept (core_of p) (core_of r) c.number lane.session (λ m ne. last_updates.rest m ne ∙ updates.rest m ne ∙ ap (λ cs. call_at cs m) w.calls) (λ s ne. ss s) (apart p lane c turn h sound);
-            joined = ap (λ (x : List (ℕ × Option ℕ)). length x) (begun.2.sessions ∙ w.sessions);
-            drawn = begun.2.drawn ∙ w.drawn;
-            joins = begun.2.joins ∙ w.joins;
-          };
+          slot =
+              sets_slot p r sound.ledger lane c.number c (Busy d) turn.at turn.session (slot_busy (core_of r) lane.session c.number d (ss lane.session ∙ busy) last_updates.now_is) (λ m ne. last_updates.rest m ne ∙ updates.rest m ne ∙ ap (λ cs. call_at cs m) w.calls)
+              (λ s ne. ss s) (ap (λ (x : List (ℕ × Option ℕ)). length x) (begun.2.sessions ∙ w.sessions)) (begun.2.drawn ∙ w.drawn) (begun.2.joins ∙ w.joins);
           keep = ap (λ (b : BookView). b.keep) begun.2.book ∙ ap (λ (b : BookView). b.keep) w.book;
           more = let a = looks.0 in omega (arith, a, same_looks, begins);
           few = let b = looks.1 in omega (arith, b, same_looks, begins);

@@ -1,5 +1,5 @@
 -- The outcomes of several steps of a WRITE.
-use Rattle.std.specs.Prelude.{◌≡◌, ◌<◌, ◌≤◌, ◌+◌, ◌-◌, ℕ, zero, suc, true, [], Option, Some, None, IfSome, IfNone, refl}
+use Rattle.std.specs.Prelude.{◌≡◌, ◌<◌, ◌≤◌, ◌+◌, ◌-◌, ℕ, zero, suc, [], Option, Some, None, IfSome, IfNone, refl}
 use Rattle.std.proofs.Common.{sym, ap, subst, ◌∙◌, arith}
 use Rattle.sf_reply.specs.declared.reply.Reply.{Reply}
 use Rattle.sf_call.specs.Histories.{IsGiven}
@@ -8,6 +8,7 @@ use Rattle.sf_call.specs.Requests.Target.{ByHandle, OnPaths}
 use Rattle.sf_call.specs.Calls.{answer_to}
 use Rattle.sf_call.specs.Changes.{moved_by}
 use Rattle.sf_call.specs.declared.call.Call.{Call}
+use Rattle.sf_call.specs.declared.call.Stage.{Stage}
 use Rattle.sf_call.specs.declared.request.Request.{Request}
 use Rattle.sf_call.specs.Unanswered.{at_stage}
 use Rattle.sf_laws.proofs.Laws.{never_moved}
@@ -26,7 +27,7 @@ use Rattle.sf_core.specs.declared.step.Step.TheVariants as step
 use Rattle.sf_core.specs.declared.parts.WalkOutcome.TheVariants as outcome
 use Rattle.sf_core.specs.Lanes.{LaneView, at_rest}
 use Rattle.sf_core.specs.Cores.{CoreView, call_at}
-use Rattle.sf_core.specs.Progress.{waiting_reply, is_write, copy_of, undecided_in, overtaken}
+use Rattle.sf_core.specs.Progress.{waiting_reply, copy_of, undecided_in, overtaken}
 use Rattle.sf_core.specs.Events.{StepsOn, TakesMoves}
 use Rattle.sf_core.specs.Parts.{PartsView, core_of}
 use Rattle.sf_core.specs.Sound.{Sound}
@@ -95,7 +96,7 @@ overtakes_none : (q : PartsView) (c : Call) → IsWriteRequest c.request → Ove
 overtakes_none q c write t keeps =
     let w = is_a_write c.request write in
     let none : moved_by (answer_to t c.session c.number c.moment c.request).changes ≡ None =
-    never_moved t c.session c.number c.moment c.request (λ old new same. let z : ByHandle w.0 ≡ OnPaths old new = sym (ap target_of w.3) ∙ same in let k : ⊥ = cc in k) in
+    never_moved t c.session c.number c.moment c.request (λ old new same. let z : ByHandle w.0 ≡ OnPaths old new = sym (ap target_of w.3) ∙ same in cc) in
     ([], sym (ap (overtaken q.calls c.number) none), refl)
 
 module _ (lane : LaneView) (n : ℕ) (call : lane.call ≡ Some n) (p : PartsView) (most places : ℕ) (fit : undecided_in p.calls ≤ places) (v : CoreView) (ev : core_of p ≡ v) (l : LaneView) (el : lane ≡ l) where
@@ -193,21 +194,21 @@ module _ (lane : LaneView) (n : ℕ) (call : lane.call ≡ Some n) (p : PartsVie
 
   -- ---- a WRITE starts
   -- a WRITE that may start has resolved no component, and is decided at its start
-  module _ (q : PartsView) (w : WalkState p lane.session n most (ending outcome.Writes q)) where
+  module _ (q : PartsView) (it : WalkState p lane.session n most (ending outcome.Writes q)) where
     abbrev nowhere : Ways
     nowhere = no_path
 
-    none_yet : waiting_reply w.last.comes.1 ≡ None
-    none_yet = reply_is w.last.comes.1 ∙ w.last.comes.4
+    none_yet : waiting_reply it.last.comes.1 ≡ None
+    none_yet = reply_is it.last.comes.1 ∙ it.last.comes.4
 
-    route_is : route_of w.last.comes.1.request ≡ NoPath
-    route_is = write_route w.last.comes.1.request (is_write_by w.last.comes.1.request w.last.comes.6)
+    route_is : route_of it.last.comes.1.request ≡ NoPath
+    route_is = write_route it.last.comes.1.request (is_write_by it.last.comes.1.request it.last.comes.6)
 
-    walks_nowhere : Walked w.mid w.mid w.last.comes.1 n (walked.Ready nowhere)
-    walks_nowhere = let c = w.last.comes.1 in record {
+    walks_nowhere : Walked it.mid it.mid it.last.comes.1 n (walked.Ready nowhere)
+    walks_nowhere = let c = it.last.comes.1 in record {
       advances =
-          subst (λ (r : Route). DecidesNow w.mid.store w.mid.store (walker c.number r c.stage) nowhere) (sym route_is)
-          (at_once w.mid.store c.number c.stage (subst (λ (r : Route). HoldsWay w.mid.store r c.stage) route_is (stands w.mid w.last.core.history w.last.core.sound n c w.last.comes.2 none_yet)));
+          subst (λ (r : Route). DecidesNow it.mid.store it.mid.store (walker c.number r c.stage) nowhere) (sym route_is)
+          (at_once it.mid.store c.number c.stage (subst (λ (r : Route). HoldsWay it.mid.store r c.stage) route_is (stands it.mid it.last.core.history it.last.core.sound n c it.last.comes.2 none_yet)));
       book = refl;
       sessions = refl;
       calls = refl;
@@ -215,41 +216,40 @@ module _ (lane : LaneView) (n : ℕ) (call : lane.call ≡ Some n) (p : PartsVie
       joins = refl;
     }
 
-    pub write_ready : WalkState p lane.session n most (ending (outcome.Walked (walked.Ready no_path)) q)
-    write_ready = record {
-      moves = w.moves;
-      mid = w.mid;
-      few = w.few;
-      moved = w.moved;
+    not_moved : (after : Stage) → outcome.Walked (walked.Ready no_path) ≡ outcome.Walked (walked.Moved after) → ⊥
+    not_moved after e = cc
+
+    abbrev w : WalkState p lane.session n most (ending (outcome.Walked (walked.Ready no_path)) q)
+    w = record {
+      moves = it.moves;
+      mid = it.mid;
+      few = it.few;
+      moved = it.moved;
       last = record {
-        core = w.last.core;
-        fits = w.last.fits;
-        comes = (w.last.comes.1, w.last.comes.2, w.last.comes.3, w.last.comes.4, w.last.comes.5, subst (λ (x : PartsView). Walked w.mid x w.last.comes.1 n (walked.Ready nowhere)) (sym w.last.comes.0) walks_nowhere);
+        core = it.last.core;
+        fits = it.last.fits;
+        comes = (it.last.comes.1, it.last.comes.2, it.last.comes.3, it.last.comes.4, it.last.comes.5, subst (λ (x : PartsView). Walked it.mid x it.last.comes.1 n (walked.Ready nowhere)) (sym it.last.comes.0) walks_nowhere);
       };
-      full = λ after e. absurd cc;
+      full = λ after e. absurd (not_moved after e);
     }
 
-    pub write_there : (d : Call) → call_at q.calls n ≡ Some d → true ≡ is_write d.request
-    write_there d at = sym w.last.comes.6 ∙ ap (λ (x : Call). is_write x.request) (some_eq w.last.comes.1 d (sym w.last.comes.2 ∙ ap (λ (x : PartsView). call_at x.calls n) (sym w.last.comes.0) ∙ at))
-
-  module _ (ways : Ways) (q : PartsView) (w : WalkState p lane.session n most (ending (outcome.Walked (walked.Ready ways)) q)) (is : (c : Call) → call_at q.calls n ≡ Some c → true ≡ is_write c.request) where
     abbrev its : Call
     its = w.last.comes.0
 
     abbrev its_own : IsTurn w.mid lane w.last.comes.0 × (w.last.comes.0.number ≡ n)
-    its_own = its_turn lane n call p most places fit v ev l el ways q w
+    its_own = its_turn lane n call p most places fit v ev l el no_path q w
 
     none : waiting_reply w.last.comes.0 ≡ None
-    none = undecided lane n call p most places fit v ev l el ways q w
+    none = undecided lane n call p most places fit v ev l el no_path q w
 
-    step_on : Walked w.mid q w.last.comes.0 w.last.comes.0.number (walked.Ready ways)
-    step_on = walk lane n call p most places fit v ev l el ways q w
+    step_on : Walked w.mid q w.last.comes.0 w.last.comes.0.number (walked.Ready no_path)
+    step_on = walk lane n call p most places fit v ev l el no_path q w
 
     at_n : call_at q.calls n ≡ Some w.last.comes.0
     at_n = let x = w.last.comes in ap (λ cs. call_at cs n) x.5.calls ∙ x.1
 
     write : IsWriteRequest w.last.comes.0.request
-    write = is_write_by w.last.comes.0.request (sym (is w.last.comes.0 at_n))
+    write = is_write_by it.last.comes.1.request it.last.comes.6
 
     first_w : (w.moves ≡ 0) × (w.mid ≡ p)
     first_w = unmoved w.moves p w.mid lane.session n w.moved w.last.comes.0 w.last.comes.1 (λ undecided never. never write)
@@ -258,17 +258,17 @@ module _ (lane : LaneView) (n : ℕ) (call : lane.call ≡ Some n) (p : PartsVie
     fits_mid = subst (λ (x : PartsView). undecided_in x.calls ≤ places) (sym first_w.1) fit
 
     ready_q : Sound q w.last.core.history
-    ready_q = ready_sound w.mid lane its its_own.0 none q ways step_on w.last.comes.4 w.last.core.history w.last.core.sound
+    ready_q = ready_sound w.mid lane its its_own.0 none q no_path step_on w.last.comes.4 w.last.core.history w.last.core.sound
 
     -- what writing requires
     pub writes_ready : (c : Call) → call_at q.calls n ≡ Some c → IsReadyToWrite q c n
     writes_ready c at =
-        let s = ready_settled w.mid lane its its_own.0 none q ways step_on w.last.comes.4 w.last.core.history w.last.core.sound in
+        let s = ready_settled w.mid lane its its_own.0 none q no_path step_on w.last.comes.4 w.last.core.history w.last.core.sound in
         let r = is_a_write its.request write in
         let ledger = ready_q.ledger.calls n its at_n in
         subst (λ (x : Call). IsReadyToWrite q x n) (some_eq its c (sym at_n ∙ at)) (record {
           write = write;
-          settled = record { by_handle = s.by_handle; on_path = λ parent node cuts there. absurd (let z : ⊥ = cc in z) };
+          settled = record { by_handle = s.by_handle; on_path = λ parent node cuts there. cc };
           copied = ledger.copied none ∙ copied_twice its.request write;
           is_number = ledger.is_number;
           fresh = write_fresh its write (ready_q.coupled.positions n its at_n none);
@@ -278,20 +278,20 @@ module _ (lane : LaneView) (n : ℕ) (call : lane.call ≡ Some n) (p : PartsVie
     over d at is_n = subst (λ (x : Call). Overtakes q q x) (some_eq its d (sym at_n ∙ at)) (overtakes_none q its write)
 
     pub writes_room : 0 < q.book.room
-    writes_room = made_room lane n call p most places fit v ev l el ways q w q over
+    writes_room = made_room lane n call p most places fit v ev l el no_path q w q over
 
     module _ (r : PartsView) where
       begun_by : (mid : PartsView) → HasBegunWrite q mid w.last.comes.0 n → HasBegunWrite q mid w.last.comes.0 w.last.comes.0.number
       begun_by mid b = subst (λ (k : ℕ). HasBegunWrite q mid its k) (sym its_own.1) b
 
       turn_w : (mid : PartsView) → HasBegunWrite q mid w.last.comes.0 n → OnTurn mid lane n
-      turn_w mid b = subst (λ (k : ℕ). OnTurn mid lane k) its_own.1 (written_turn w.mid lane its its_own.0 none q ways step_on w.last.comes.4 write mid (begun_by mid b) w.last.core.history w.last.core.sound)
+      turn_w mid b = subst (λ (k : ℕ). OnTurn mid lane k) its_own.1 (written_turn w.mid lane its its_own.0 none q no_path step_on w.last.comes.4 write mid (begun_by mid b) w.last.core.history w.last.core.sound)
 
       step_w : (mid : PartsView) → HasBegunWrite q mid w.last.comes.0 n → IsStep w.mid lane step.Moved mid lane
-      step_w mid b = written_step w.mid lane its its_own.0 none q ways step_on w.last.comes.4 write mid (begun_by mid b)
+      step_w mid b = written_step w.mid lane its its_own.0 none q no_path step_on w.last.comes.4 write mid (begun_by mid b)
 
       drawn_w : (mid : PartsView) → HasBegunWrite q mid w.last.comes.0 n → mid.drawn ≡ w.mid.drawn
-      drawn_w mid b = written_drawn w.mid lane its its_own.0 none q ways step_on w.last.comes.4 write mid (begun_by mid b)
+      drawn_w mid b = written_drawn w.mid lane its its_own.0 none q no_path step_on w.last.comes.4 write mid (begun_by mid b)
 
       fits_w : (mid : PartsView) → HasBegunWrite q mid w.last.comes.0 n → undecided_in mid.calls ≤ places
       fits_w mid b = places_after w.mid mid _ w.last.core (step_w mid b) (drawn_w mid b) places fits_mid
@@ -310,7 +310,7 @@ module _ (lane : LaneView) (n : ℕ) (call : lane.call ≡ Some n) (p : PartsVie
       writes_by : (o : Option Reply) → WritesOn q r w.last.comes.0 lane.session n most o → (s : Step) (lane' : LaneView) → ReportsStep n lane o s lane' → Done r s lane'
       writes_by (Some given) (ByFirstStep x fin one) s lane' tells =
           rest_lane r (step.Answered (record { number = n; session = lane.session; reply = given })) s (at_rest lane) lane' tells.0 tells.1
-          (decided_end lane n call p most places fit v ev l el ways q w q over r given (λ d at. subst (λ (y : Call). FinishState q r y n given) (some_eq its d (sym at_n ∙ at)) fin) (λ d at. subst (λ (y : Call). CopiesOne q.store y given) (some_eq its d (sym at_n ∙ at)) one)
+          (decided_end lane n call p most places fit v ev l el no_path q w q over r given (λ d at. subst (λ (y : Call). FinishState q r y n given) (some_eq its d (sym at_n ∙ at)) fin) (λ d at. subst (λ (y : Call). CopiesOne q.store y given) (some_eq its d (sym at_n ∙ at)) one)
           (record { number = n; session = lane.session; reply = given }) refl)
       writes_by (Some given) (ToTheEnd x mid b ends) s lane' tells =
           let few = w.few in
@@ -324,7 +324,7 @@ module _ (lane : LaneView) (n : ℕ) (call : lane.call ≡ Some n) (p : PartsVie
       given_by : (o : Option Reply) → WritesOn q r w.last.comes.0 lane.session n most o → (given : Reply) → o ≡ Some given → IsGiven n lane.session given
       given_by (Some x) (ByFirstStep y fin one) given e =
           subst (λ (g : Reply). IsGiven n lane.session g) (some_eq x given e)
-          (its_given lane n call p most places fit v ev l el ways q w q over r x (λ d at. subst (λ (z : Call). FinishState q r z n x) (some_eq its d (sym at_n ∙ at)) fin) (λ d at. subst (λ (z : Call). CopiesOne q.store z x) (some_eq its d (sym at_n ∙ at)) one))
+          (its_given lane n call p most places fit v ev l el no_path q w q over r x (λ d at. subst (λ (z : Call). FinishState q r z n x) (some_eq its d (sym at_n ∙ at)) fin) (λ d at. subst (λ (z : Call). CopiesOne q.store z x) (some_eq its d (sym at_n ∙ at)) one))
       given_by (Some x) (ToTheEnd y mid b ends) given e = subst (λ (g : Reply). IsGiven n lane.session g) (some_eq x given e) (over_given 1 mid (turn_w mid b) (fits_w mid b) (moved_w mid b) r (most - 1) x ends)
       given_by None (UpToThere mid b copied) given e = absurd (none_some given e)
 

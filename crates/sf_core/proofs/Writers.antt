@@ -20,27 +20,26 @@ use Rattle.sf_coupling.proofs.Laws.{same_or_not}
 use Rattle.sf_copying.specs.Copies.{Copying, AreCopies}
 use Rattle.sf_call.specs.Routes.{Route}
 use Rattle.sf_walk.specs.Routes.{IsPosition, nodes_of}
-use Rattle.sf_walk.specs.Routes.IsPosition.{Starts, IsOn, IsBefore, IsApart}
+use Rattle.sf_walk.specs.Routes.IsPosition.{Starts}
 use Rattle.sf_walk.specs.Steps.{is_one_of, free_unless, let_go, entered, handed_over}
 use Rattle.sf_walk.specs.Served.{LookedUp, after_look_ups}
 use Rattle.sf_core.specs.Cores.{call_at}
 use Rattle.sf_core.specs.Parts.{PartsView}
 use Rattle.sf_core.specs.Sound.{writer_of_file, copying_at, copying_in, IsWriting, Copied}
+use Rattle.sf_core.proofs.Maps.{if_some, by_test}
 use Rattle.sf_core.proofs.Updates.{Updates}
 
 -- ---- calls
 -- a call that holds paths is not copying
 pub none_copied : (r : Route) (g : Stage) → IsPosition r g → copying_at g ≡ None
 none_copied r g (Starts o is) = refl
-none_copied r g (IsOn path walked node less) = refl
-none_copied r g (IsBefore old new walked node count part less) = refl
-none_copied r g (IsApart old new common from to is) = refl
+none_copied r g _ = refl
 
 abbrev pub copied_by : Option Call → Option Copying
 copied_by o = option_and_then (λ (c : Call). copying_at c.stage) o
 
 pub some_copied : (g : Stage) (node left : ℕ) → g ≡ stage.Copies node left → copying_at g ≡ None → ⊥
-some_copied g node left e none = let x = sym (ap copying_at e) ∙ none in let z : ⊥ = cc in z
+some_copied g node left e none = let x = sym (ap copying_at e) ∙ none in cc
 
 -- if one call changes, and is copying neither before nor after, the same calls are copying as
 -- before
@@ -62,26 +61,22 @@ module _ (old new : List (ℕ × Call)) (n : ℕ) (was now : Option Call) (u : U
 
 -- ---- files
 file_directory : (c : Content) → is_file_content c ≡ true → is_directory_content c ≡ true → ⊥
-file_directory (content.Directory es) e f = let z : ⊥ = cc in z
-file_directory (content.File b) e f = let z : ⊥ = cc in z
+file_directory (content.Directory es) e f = cc
+file_directory _ e f = cc
 
 -- a file is no directory
 pub no_directory : (nodes : List (Option Node)) (id : ℕ) → is_file_at nodes id ≡ true → is_directory_at nodes id ≡ true → ⊥
 no_directory nodes id e f = by (node_in nodes id) e f
   where
     by : (o : Option Node) → option_map_or (λ (x : Node). is_file_content x.content) o false ≡ true → option_map_or (λ (x : Node). is_directory_content x.content) o false ≡ true → ⊥
-    by None e f = let z : ⊥ = cc in z
+    by None e f = cc
     by (Some node) e f = file_directory node.content e f
-
-if_holds : (b : Bool) (o : Option ℕ) (n : ℕ) → (if b then o else None) ≡ Some n → (b ≡ true) × (o ≡ Some n)
-if_holds true o n e = (refl, e)
-if_holds false o n e = absurd (let z : ⊥ = cc in z)
 
 pub writer_is : (nodes : List (Option Node)) (id n : ℕ) → is_file_at nodes id ≡ true → holder_of nodes id ≡ Some n → writer_of_file nodes id ≡ Some n
 writer_is nodes id n file held = ap (λ (b : Bool). if b then holder_of nodes id else None) file ∙ held
 
 pub writer_holds : (nodes : List (Option Node)) (id n : ℕ) → writer_of_file nodes id ≡ Some n → (is_file_at nodes id ≡ true) × (holder_of nodes id ≡ Some n)
-writer_holds nodes id n e = if_holds (is_file_at nodes id) (holder_of nodes id) n e
+writer_holds nodes id n e = if_some (is_file_at nodes id) (holder_of nodes id) n e
 
 -- the same inodes are files, with as many blocks left, and the same handles are open
 pub record SameFiles (s t : StoreState) : Type 0 where
@@ -99,7 +94,7 @@ file_held : (h : Option ℕ) (o : Option Node) → option_map_or (λ (x : Node).
 file_held h None = refl
 file_held h (Some node) = refl
 
-left_held : (h : Option ℕ) (o : Option Node) → option_map_or (λ (x : Node). blocks_left_in x.content) (option_map (with_holder h) o) 0 ≡ option_map_or (λ (x : Node). blocks_left_in x.content) o 0
+pub left_held : (h : Option ℕ) (o : Option Node) → option_map_or (λ (x : Node). blocks_left_in x.content) (option_map (with_holder h) o) 0 ≡ option_map_or (λ (x : Node). blocks_left_in x.content) o 0
 left_held h None = refl
 left_held h (Some node) = refl
 
@@ -128,9 +123,7 @@ files_let_go kept (node ∷ nodes) s = files_trans s (free_unless kept node s) (
 
 files_entered : (g : Stage) (s : StoreState) → SameFiles s (entered g s)
 files_entered stage.Fresh s = files_itself s
-files_entered (stage.At walked node) s = record { file = λ id. refl; left = λ id. refl; sessions = refl }
-files_entered (stage.Ends common from to) s = record { file = λ id. refl; left = λ id. refl; sessions = refl }
-files_entered (stage.Copies node left) s = record { file = λ id. refl; left = λ id. refl; sessions = refl }
+files_entered _ s = record { file = λ id. refl; left = λ id. refl; sessions = refl }
 
 pub files_moved : (n : ℕ) (was now : Stage) (node : ℕ) (s : StoreState) → SameFiles s (handed_over n was now node (entered was s))
 files_moved n was now node s =
@@ -146,10 +139,8 @@ pub record HoldsNoFile (s : StoreState) (was now : List HeldPath) : Type 0 where
 
 pub writers_stay : (s t : StoreState) (n : ℕ) (was now : List HeldPath) → SameFiles s t → HoldsNoFile s was now → HandsOver (holder_of s.nodes) (holder_of t.nodes) n was now → (id : ℕ) → writer_of_file t.nodes id ≡ writer_of_file s.nodes id
 writers_stay s t n was now same none hands id =
-    elim (is_file_at s.nodes id) as (λ b. is_file_at s.nodes id ≡ b → writer_of_file t.nodes id ≡ writer_of_file s.nodes id) [
-      | true ↦ λ e. λ i. if same.file id i then hands.rest id (λ h. none.before id h e) (λ h. none.after id h e) i else None
-      | false ↦ λ e. ap (λ (b : Bool). if b then holder_of t.nodes id else None) (same.file id ∙ e) ∙ sym (ap (λ (b : Bool). if b then holder_of s.nodes id else None) e)
-    ] refl
+    by_test (is_file_at s.nodes id) (λ e. λ i. if same.file id i then hands.rest id (λ h. none.before id h e) (λ h. none.after id h e) i else None)
+    (λ e. ap (λ (b : Bool). if b then holder_of t.nodes id else None) (same.file id ∙ e) ∙ sym (ap (λ (b : Bool). if b then holder_of s.nodes id else None) e))
 
 -- ---- the facts about files
 pub opens_same : (s t : StoreState) (session handle : ℕ) → t.sessions ≡ s.sessions → open_handle_at t session handle ≡ open_handle_at s session handle

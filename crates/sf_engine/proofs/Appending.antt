@@ -55,6 +55,14 @@ recorded_push s log x = ap (λ (h : List Record). recorded_in s h) (order_push l
 
 -- ---- a kept log
 
+pub none_before : (front back : List Entry) → [] ≡ front ++ back → front ≡ []
+none_before [] back h = refl
+none_before _ back h = cc
+
+none_behind : (front back : List Entry) → [] ≡ front ++ back → back ≡ []
+none_behind [] back h = sym h
+none_behind _ back h = cc
+
 parted : (log front back : List Entry) (e : Entry) → log ++ e ∷ [] ≡ front ++ back
     → ((back ≡ []) × (front ≡ log ++ e ∷ [])) ⊎ ((rest : List Entry) × (back ≡ rest ++ e ∷ []) × (log ≡ front ++ rest))
 parted log [] back e same = inr (log, sym same, refl)
@@ -62,14 +70,6 @@ parted [] (x ∷ front) back e same =
     let none : [] ≡ front ++ back = cc in
     let first : e ≡ x = cc in
     inl (none_behind front back none, ap (λ (z : Entry). z ∷ front) (sym first) ∙ ap (λ (xs : List Entry). e ∷ xs) (none_before front back none))
-  where
-    none_behind : (front back : List Entry) → [] ≡ front ++ back → back ≡ []
-    none_behind [] back h = sym h
-    none_behind (y ∷ front) back h = absurd cc
-
-    none_before : (front back : List Entry) → [] ≡ front ++ back → front ≡ []
-    none_before [] back h = refl
-    none_before (y ∷ front) back h = absurd cc
 parted (y ∷ log) (x ∷ front) back e same =
     let first : y ≡ x = cc in
     let rest : log ++ e ∷ [] ≡ front ++ back = cc in
@@ -244,16 +244,15 @@ pub record IsSame (v v' : CoreView) (h : List Record) : Type 0 where
 no_calls : (log : List Entry) (x : Entry) → calls_by x ≡ [] → AllByRecursion (IsPending log) (calls_by x)
 no_calls log x none = subst (λ (rs : List Record). AllByRecursion (IsPending log) rs) (sym none) tt
 
+-- an entry of the session that adds no record, and begins and opens nothing
+abbrev pub IsQuiet : ℕ → Entry → Type 0
+IsQuiet s x = (session_of x ≡ s) × (is_beginning x ≡ false) × (leaves_by x ≡ false) × (is_opening x ≡ false) × (added_by x ≡ []) × (calls_by x ≡ [])
+
 -- an event of a session that adds no record, and keeps its place in the core
 pub record Stays (e : EngineView) (log : List Entry) (at : ℕ) (x : Entry) (v' : CoreView) (q : HostedSession) : Type 0 where
-  pub is_of : session_of x ≡ at + 1
+  pub quiet : IsQuiet (at + 1) x
   pub within : at < length e.hosted
   pub same : IsSame e.core v' (linearization log)
-  pub begins : is_beginning x ≡ false
-  pub leaves : leaves_by x ≡ false
-  pub opens : is_opening x ≡ false
-  pub added : added_by x ≡ []
-  pub calls : calls_by x ≡ []
   pub blocked : AllByRecursion (IsHeldUp e.core) (blocked_by (blocked_in log) x)
   pub own : Hosts (with_own (of_session (at + 1) log) x) (recorded_in (at + 1) (linearization log)) (lane_state e.core (at + 1)) (at + 1) q
   pub lawful : IsLawful log x
@@ -261,59 +260,57 @@ pub record Stays (e : EngineView) (log : List Entry) (at : ℕ) (x : Entry) (v' 
 
 pub stays_on : (e : EngineView) (log : List Entry) (at : ℕ) (x : Entry) (v' : CoreView) (q : HostedSession) → HasLog e log → Stays e log at x v' q → HasLog (changed_at e at v' q) (log ++ x ∷ [])
 stays_on e log at x v' q h g = goes_on e log at x v' q h (record {
-  is_of = g.is_of;
+  is_of = g.quiet.0;
   within = g.within;
-  history = subst (λ (r : List Record). IsHistory v' r) (sym (ap (λ (r : List Record). linearization log ++ r) g.added ∙ append-nil (linearization log))) g.same.history;
+  history = subst (λ (r : List Record). IsHistory v' r) (sym (ap (λ (r : List Record). linearization log ++ r) g.quiet.4 ∙ append-nil (linearization log))) g.same.history;
   joins = g.same.joins;
-  drawn = omega (arith, g.same.drawn, ap {B = ℕ} (λ (b : Bool). cond b 1 0) g.begins);
-  joined = omega (arith, g.same.joined, ap {B = ℕ} (λ (b : Bool). cond b 1 0) g.leaves);
-  opens = g.opens;
-  others = λ i p ne stood. others_same e.core v' (i + 1) (added_by x) (g.same.slots (i + 1)) (ap (λ (r : List Record). recorded_in (i + 1) r) g.added) (of_session (i + 1) log) (recorded_in (i + 1) (linearization log)) p (h.each i p stood);
-  nobody = λ i ne none. (g.same.slots i ∙ none, ap (λ (r : List Record). recorded_in i r) g.added);
-  own = others_same e.core v' (at + 1) (added_by x) (g.same.slots (at + 1)) (ap (λ (r : List Record). recorded_in (at + 1) r) g.added) (with_own (of_session (at + 1) log) x) (recorded_in (at + 1) (linearization log)) q g.own;
+  drawn = omega (arith, g.same.drawn, ap {B = ℕ} (λ (b : Bool). cond b 1 0) g.quiet.1);
+  joined = omega (arith, g.same.joined, ap {B = ℕ} (λ (b : Bool). cond b 1 0) g.quiet.2);
+  opens = g.quiet.3;
+  others = λ i p ne stood. others_same e.core v' (i + 1) (added_by x) (g.same.slots (i + 1)) (ap (λ (r : List Record). recorded_in (i + 1) r) g.quiet.4) (of_session (i + 1) log) (recorded_in (i + 1) (linearization log)) p (h.each i p stood);
+  nobody = λ i ne none. (g.same.slots i ∙ none, ap (λ (r : List Record). recorded_in i r) g.quiet.4);
+  own = others_same e.core v' (at + 1) (added_by x) (g.same.slots (at + 1)) (ap (λ (r : List Record). recorded_in (at + 1) r) g.quiet.4) (with_own (of_session (at + 1) log) x) (recorded_in (at + 1) (linearization log)) q g.own;
   lawful = g.lawful;
-  pending = no_calls log x g.calls;
+  pending = no_calls log x g.quiet.5;
   blocked = held_on e.core v' (λ s c busy. g.same.slots s ∙ busy) (blocked_by (blocked_in log) x) g.blocked;
-  left = let a = ap {B = ℕ} (λ (b : Bool). cond b 0 1) g.left in let b = ap {B = ℕ} (λ (b : Bool). cond b 1 0) g.leaves in omega (arith, a, b);
+  left = let a = ap {B = ℕ} (λ (b : Bool). cond b 0 1) g.left in let b = ap {B = ℕ} (λ (b : Bool). cond b 1 0) g.quiet.2 in omega (arith, a, b);
 })
+
+-- an entry with which the session leaves, and no more
+abbrev pub IsLeaving : ℕ → List Entry → Entry → Type 0
+IsLeaving s log x =
+    (session_of x ≡ s) × (is_beginning x ≡ false) × (leaves_by x ≡ true) × (is_opening x ≡ false) × (added_by x ≡ Left s ∷ []) × (calls_by x ≡ []) × (blocked_by (blocked_in log) x ≡ blocked_in log) × ((with_own (of_session s log) x).left ≡ true)
 
 -- an event with which its session leaves the core
 pub record Leaves (e : EngineView) (log : List Entry) (at : ℕ) (x : Entry) (v' : CoreView) (q : HostedSession) : Type 0 where
-  pub is_of : session_of x ≡ at + 1
+  pub leaving : IsLeaving (at + 1) log x
   pub within : at < length e.hosted
   pub left : SessionLeaves e.core v' (at + 1)
   pub history : IsHistory v' (linearization log ++ Left (at + 1) ∷ [])
-  pub begins : is_beginning x ≡ false
-  pub leaves : leaves_by x ≡ true
-  pub opens : is_opening x ≡ false
-  pub added : added_by x ≡ Left (at + 1) ∷ []
-  pub calls : calls_by x ≡ []
-  pub blocked : blocked_by (blocked_in log) x ≡ blocked_in log
   pub own : Hosts (with_own (of_session (at + 1) log) x) (recorded_in (at + 1) (linearization log)) NoLane (at + 1) q
   pub lawful : IsLawful log x
-  pub gone : (with_own (of_session (at + 1) log) x).left ≡ true
   pub here : (of_session (at + 1) log).left ≡ false
 
 pub leaves_on : (e : EngineView) (log : List Entry) (at : ℕ) (x : Entry) (v' : CoreView) (q : HostedSession) → HasLog e log → Leaves e log at x v' q → HasLog (changed_at e at v' q) (log ++ x ∷ [])
 leaves_on e log at x v' q h g =
-    let none : (i : ℕ) → recorded_in i (added_by x) ≡ [] = λ i. ap (λ (r : List Record). recorded_in i r) g.added in
+    let none : (i : ℕ) → recorded_in i (added_by x) ≡ [] = λ i. ap (λ (r : List Record). recorded_in i r) g.leaving.4 in
     goes_on e log at x v' q h (record {
-      is_of = g.is_of;
+      is_of = g.leaving.0;
       within = g.within;
-      history = subst (λ (r : List Record). IsHistory v' (linearization log ++ r)) (sym g.added) g.history;
+      history = subst (λ (r : List Record). IsHistory v' (linearization log ++ r)) (sym g.leaving.4) g.history;
       joins = g.left.joins;
-      drawn = omega (arith, g.left.drawn, ap {B = ℕ} (λ (b : Bool). cond b 1 0) g.begins);
-      joined = omega (arith, g.left.joined, ap {B = ℕ} (λ (b : Bool). cond b 1 0) g.leaves);
-      opens = g.opens;
+      drawn = omega (arith, g.left.drawn, ap {B = ℕ} (λ (b : Bool). cond b 1 0) g.leaving.1);
+      joined = omega (arith, g.left.joined, ap {B = ℕ} (λ (b : Bool). cond b 1 0) g.leaving.2);
+      opens = g.leaving.3;
       others = λ i p ne stood. others_same e.core v' (i + 1) (added_by x) (g.left.others (i + 1) (λ k. ne (omega (arith, k)))) (none (i + 1)) (of_session (i + 1) log) (recorded_in (i + 1) (linearization log)) p (h.each i p stood);
       nobody = λ i ne was. (g.left.others i ne ∙ was, none i);
       own = subst (λ (z : LaneState Call). Hosts (with_own (of_session (at + 1) log) x) (recorded_in (at + 1) (linearization log) ++ recorded_in (at + 1) (added_by x)) z (at + 1) q) (sym g.left.own)
           (subst (λ (z : List RepliedCall). Hosts (with_own (of_session (at + 1) log) x) z NoLane (at + 1) q) (sym (ap (λ (z : List RepliedCall). recorded_in (at + 1) (linearization log) ++ z) (none (at + 1)) ∙ append-nil (recorded_in (at + 1) (linearization log)))) g.own);
       lawful = g.lawful;
-      pending = no_calls log x g.calls;
-      blocked = subst (λ (ss : List ℕ). AllByRecursion (IsHeldUp v') ss) (sym g.blocked)
-          (held_on e.core v' (keeps_others e.core v' (at + 1) g.left.others (λ c busy. let no : Idle ≡ Busy c = sym g.left.idle ∙ busy in absurd cc)) (blocked_in log) h.blocked);
-      left = let a = ap {B = ℕ} (λ (b : Bool). cond b 0 1) g.gone in let b = ap {B = ℕ} (λ (b : Bool). cond b 1 0) g.leaves in let c = ap {B = ℕ} (λ (b : Bool). cond b 0 1) g.here in omega (arith, a, b, c);
+      pending = no_calls log x g.leaving.5;
+      blocked = subst (λ (ss : List ℕ). AllByRecursion (IsHeldUp v') ss) (sym g.leaving.6)
+          (held_on e.core v' (keeps_others e.core v' (at + 1) g.left.others (λ c busy. let no : Idle ≡ Busy c = sym g.left.idle ∙ busy in cc)) (blocked_in log) h.blocked);
+      left = let a = ap {B = ℕ} (λ (b : Bool). cond b 0 1) g.leaving.7 in let b = ap {B = ℕ} (λ (b : Bool). cond b 1 0) g.leaving.2 in let c = ap {B = ℕ} (λ (b : Bool). cond b 0 1) g.here in omega (arith, a, b, c);
     })
 
 -- ---- a refused event
@@ -443,7 +440,7 @@ module _ (e : EngineView) (log : List Entry) (h : HasLog e log) (new : EngineVie
         let joined = g.core.joined in
         omega (arith, joined, h.present, all, sum);
     blocked =
-        let free : (c : Call) → lane_state e.core (e.core.joins + 1) ≡ Busy c → ⊥ = λ c busy. let no : NoLane ≡ Busy c = sym (h.nobody n (omega arith) (omega arith)).slot ∙ ap (λ (k : ℕ). lane_state e.core k) (sym num) ∙ busy in absurd cc in
+        let free : (c : Call) → lane_state e.core (e.core.joins + 1) ≡ Busy c → ⊥ = λ c busy. let no : NoLane ≡ Busy c = sym (h.nobody n (omega arith) (omega arith)).slot ∙ ap (λ (k : ℕ). lane_state e.core k) (sym num) ∙ busy in cc in
         subst (λ (ss : List ℕ). AllByRecursion (IsHeldUp new.core) ss) (sym (blocked_push log (SessionOpened n)))
         (held_on e.core new.core (keeps_others e.core new.core (e.core.joins + 1) g.core.others free) (blocked_in log) h.blocked);
   }

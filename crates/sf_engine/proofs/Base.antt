@@ -115,16 +115,14 @@ abbrev pub record_of : CalledBy → Reply → Record
 record_of c given = Did c.number c.session c.moment c.request given
 
 pub get_set_same : {A : Type 0} (xs : List A) (i : ℕ) (x v : A) → slice_get xs i ≡ Some x → slice_get (slice_set xs i v) i ≡ Some v
-get_set_same [] i x v h = absurd cc
+get_set_same [] i x v h = cc
 get_set_same (y ∷ xs) zero x v h = refl
 get_set_same (y ∷ xs) (suc i) x v h = get_set_same xs i x v h
 
 pub get_set_other : {A : Type 0} (xs : List A) (i j : ℕ) (v : A) → (j ≡ i → ⊥) → slice_get (slice_set xs i v) j ≡ slice_get xs j
-get_set_other [] i j v ne = refl
 get_set_other (y ∷ xs) zero zero v ne = absurd (ne refl)
-get_set_other (y ∷ xs) zero (suc j) v ne = refl
-get_set_other (y ∷ xs) (suc i) zero v ne = refl
 get_set_other (y ∷ xs) (suc i) (suc j) v ne = get_set_other xs i j v (λ e. ne (ap (λ (n : ℕ). suc n) e))
+get_set_other _ _ _ v ne = refl
 
 pub set_same : {A : Type 0} → (xs : List A) (i : ℕ) (x : A) → slice_get xs i ≡ Some x → slice_set xs i x ≡ xs
 set_same [] i x h = refl
@@ -150,16 +148,15 @@ sum_by_write f xs i x v h =
 -- an element of a list with one more: an earlier one, or the last
 pub get_push : {A : Type 0} (xs : List A) (j : ℕ) (v s : A) → slice_get (xs ++ v ∷ []) j ≡ Some s → (slice_get xs j ≡ Some s) ⊎ ((j ≡ length xs) × (v ≡ s))
 get_push [] zero v s h = inr (refl, cc)
-get_push [] (suc j) v s h = absurd cc
+get_push [] (suc j) v s h = cc
 get_push (x ∷ xs) zero v s h = inl h
 get_push (x ∷ xs) (suc j) v s h = elim (get_push xs j v s h) [ inl e ↦ inl e | inr e ↦ inr (ap (λ (n : ℕ). suc n) e.0, e.1) ]
 
 -- one item more at the end of both lists
 pub zip_push : {A B : Type 0} (R : A → B → Type 0) (xs : List A) (ys : List B) (x : A) (y : B) → AllZip R xs ys → R x y → AllZip R (xs ++ x ∷ []) (ys ++ y ∷ [])
 zip_push R [] [] x y all is = (is, tt)
-zip_push R [] (b ∷ ys) x y all is = absurd all
-zip_push R (a ∷ xs) [] x y all is = absurd all
 zip_push R (a ∷ xs) (b ∷ ys) x y all is = (all.0, zip_push R xs ys x y all.1 is)
+zip_push R _ _ x y all is = absurd all
 
 -- opening a session: a new session, or nothing changes
 pub record Opens (old new : EngineView) (r : Result ℕ JoinFault) : Type 0 where
@@ -204,7 +201,7 @@ has_copied _ moves copies some = absurd copies
 
 pub write_stops : (t : Tree) (q : Request) (moves : ℕ) → is_write q ≡ true → WalkStops t (route_of q) moves → moves ≡ 0
 write_stops t (request.Write handle offset bytes) moves e stops = stops
-write_stops t _ moves e stops = let z : ⊥ = cc in absurd z
+write_stops t _ moves e stops = cc
 
 pub nothing_rises : IsStrictlySortedBy nat_cmp []
 unfolding IsStrictlySortedBy
@@ -271,45 +268,32 @@ no_call n s (Did m z k q given ∷ h) new = all_so (λ (c : RepliedCall). c.numb
 no_call n s (Left z ∷ h) new = no_call n s h new.1
 
 -- a call is one of these
-pub Has : RepliedCall → List RepliedCall → Type 0
+abbrev pub Has : RepliedCall → List RepliedCall → Type 0
 Has x [] = ⊥
 Has x (y ∷ ys) = (y ≡ x) ⊎ Has x ys
 
 pub has_back : (x : RepliedCall) (xs ys : List RepliedCall) → Has x ys → Has x (xs ++ ys)
-unfolding Has
 has_back x [] ys h = h
 has_back x (y ∷ xs) ys h = inr (has_back x xs ys h)
 
 pub has_front : (x : RepliedCall) (xs ys : List RepliedCall) → Has x xs → Has x (xs ++ ys)
-unfolding Has
 has_front x [] ys h = absurd h
 has_front x (y ∷ xs) ys (inl e) = inl e
 has_front x (y ∷ xs) ys (inr h) = inr (has_front x xs ys h)
 
 pub has_either : (x : RepliedCall) (xs ys : List RepliedCall) → Has x (xs ++ ys) → Has x xs ⊎ Has x ys
-unfolding Has
 has_either x [] ys h = inr h
 has_either x (y ∷ xs) ys (inl e) = inl (inl e)
 has_either x (y ∷ xs) ys (inr h) = elim (has_either x xs ys h) [ inl a ↦ inl (inr a) | inr b ↦ inr b ]
 
 pub has_of : (P : RepliedCall → Type 0) (x : RepliedCall) (xs : List RepliedCall) → AllByRecursion P xs → Has x xs → P x
-unfolding Has
 has_of P x [] all h = absurd h
 has_of P x (y ∷ xs) all (inl e) = subst P e all.0
 has_of P x (y ∷ xs) all (inr h) = has_of P x xs all.1 h
 
-pub has_one : (x : RepliedCall) → Has x (x ∷ [])
-unfolding Has
-has_one x = inl refl
-
 pub one_only : (x y : RepliedCall) → Has x (y ∷ []) → y ≡ x
-unfolding Has
 one_only x y (inl e) = e
 one_only x y (inr h) = absurd h
-
-pub has_none : (x : RepliedCall) → Has x [] → ⊥
-unfolding Has
-has_none x h = h
 
 -- the call of a record is one of its session's
 pub has_recorded : (c : CalledBy) (given : Reply) (h : List Record) → IsAmong (record_of c given) h → Has (replied c.number c.request given) (recorded_in c.session h)
@@ -317,7 +301,7 @@ unfolding IsAmong
 has_recorded c given [] k = absurd k
 has_recorded c given (x ∷ h) (inl e) =
     let x' = replied c.number c.request given in
-    let own : Has x' (recorded_by c.session (record_of c given)) = subst (λ (cs : List RepliedCall). Has x' cs) (sym (own_record c given)) (has_one x') in
+    let own : Has x' (recorded_by c.session (record_of c given)) = subst (λ (cs : List RepliedCall). Has x' cs) (sym (own_record c given)) (inl refl) in
     has_front x' (recorded_by c.session x) (recorded_in c.session h) (subst (λ (r : Record). Has x' (recorded_by c.session r)) (sym e) own)
 has_recorded c given (x ∷ h) (inr k) = has_back (replied c.number c.request given) (recorded_by c.session x) (recorded_in c.session h) (has_recorded c given h k)
 
@@ -345,16 +329,17 @@ among_last r [] [] = inl refl
 among_last r [] (x ∷ more) = inr (among_last r [] more)
 among_last r (x ∷ h) more = inr (among_last r h more)
 
--- bytes with this many packets have one rest
-pub one_rest : (xs ys : List (List ℕ)) (a b : List ℕ) → AllByRecursion IsBody xs → AllByRecursion IsBody ys → length xs ≡ length ys → flat_map packet xs ++ a ≡ flat_map packet ys ++ b → a ≡ b
-one_rest [] [] a b h k same e = e
-one_rest [] (y ∷ ys) a b h k same e = absurd cc
-one_rest (x ∷ xs) [] a b h k same e = absurd cc
+-- equal bytes with equally many packets have equal packets, and one rest
+pub one_rest : (xs ys : List (List ℕ)) (a b : List ℕ) → AllByRecursion IsBody xs → AllByRecursion IsBody ys → length xs ≡ length ys → flat_map packet xs ++ a ≡ flat_map packet ys ++ b → (xs ≡ ys) × (a ≡ b)
+one_rest [] [] a b h k same e = (refl, e)
 one_rest (x ∷ xs) (y ∷ ys) a b h k same e =
     let front = flat_map packet xs ++ a in
     let back = flat_map packet ys ++ b in
     let parts : packet x ++ front ≡ packet y ++ back = sym (append_assoc (packet x) (flat_map packet xs) a) ∙ e ∙ append_assoc (packet y) (flat_map packet ys) b in
-    one_rest xs ys a b h.1 k.1 (omega (arith, same)) (one_packet x y front back h.0 k.0 parts).1
+    let first = one_packet x y front back h.0 k.0 parts in
+    let rest = one_rest xs ys a b h.1 k.1 (omega (arith, same)) first.1 in
+    (ap (λ (z : List ℕ). z ∷ xs) first.0 ∙ ap (λ (zs : List (List ℕ)). y ∷ zs) rest.0, rest.1)
+one_rest _ _ a b h k same e = cc
 
 abbrev pub SameSlots : CoreView → CoreView → Type 0
 SameSlots v w = (s : ℕ) → lane_state w s ≡ lane_state v s

@@ -18,9 +18,9 @@ use Rattle.sf_engine.specs.declared.hosted.HostedState.{HostedState}
 use Rattle.sf_engine.specs.declared.hosted.HostedState.TheVariants as state
 use Rattle.sf_engine.specs.Views.{EngineView}
 use Rattle.sf_engine.specs.Promise.{Entry, of_session, phase, is_running, under_way_to, under_way, IsDueTo, most_steps}
-use Rattle.sf_engine.specs.HasLog.{replied, HasLog, IsAtPlace, seat, left_to, IsWithinBounds}
+use Rattle.sf_engine.specs.HasLog.{replied, HasLog, left_to, IsWithinBounds}
 use Rattle.sf_engine.proofs.Base.{get_within, zip_push}
-use Rattle.sf_engine.proofs.SessionEvents.{host, due_asks}
+use Rattle.sf_engine.proofs.SessionEvents.{host, placed_at, due_asks}
 use Rattle.sf_engine.proofs.Rounds.{walking_at, one_more}
 
 -- the calls of the sessions up to a number
@@ -45,21 +45,11 @@ module _ (e : EngineView) (log : List Entry) (h : HasLog e log) (k : ℕ) (b : B
       record { requests = b.requests; are = subst (λ (z : List ℕ). AllZip (IsDueTo log) z b.requests) (sym list) b.are; few = omega (arith, few, none, same) }
 
   bound_on : (o : HostedState) → p.place ≡ o → BoundTo e log (suc k)
-  bound_on (state.Resting lane) placed =
-      let a = host e log h k p stood in
-      let r = subst (λ (z : HostedState). IsAtPlace z p.closed (seat (lane_state e.core (k + 1)) (k + 1) p.session a.answered.due (of_session (k + 1) log))) placed a.at in
-      bound_stays (walking_at e log h k p stood (state.Resting lane) placed) (idle_left e.core (k + 1) r.0.slot)
-  bound_on (state.Decided lane given) placed =
-      let a = host e log h k p stood in
-      let r = subst (λ (z : HostedState). IsAtPlace z p.closed (seat (lane_state e.core (k + 1)) (k + 1) p.session a.answered.due (of_session (k + 1) log))) placed a.at in
-      bound_stays (walking_at e log h k p stood (state.Decided lane given) placed) (idle_left e.core (k + 1) r.slot)
-  bound_on (state.Gone c) placed =
-      let a = host e log h k p stood in
-      let r = subst (λ (z : HostedState). IsAtPlace z p.closed (seat (lane_state e.core (k + 1)) (k + 1) p.session a.answered.due (of_session (k + 1) log))) placed a.at in
-      bound_stays (walking_at e log h k p stood (state.Gone c) placed) (gone_left e.core (k + 1) r.slot)
+  bound_on (state.Resting lane) placed = bound_stays (walking_at e log h k p stood (state.Resting lane) placed) (idle_left e.core (k + 1) (placed_at e log h k p stood (state.Resting lane) placed).0.slot)
+  bound_on (state.Decided lane given) placed = bound_stays (walking_at e log h k p stood (state.Decided lane given) placed) (idle_left e.core (k + 1) (placed_at e log h k p stood (state.Decided lane given) placed).slot)
+  bound_on (state.Gone c) placed = bound_stays (walking_at e log h k p stood (state.Gone c) placed) (gone_left e.core (k + 1) (placed_at e log h k p stood (state.Gone c) placed).slot)
   bound_on (state.UnderWay lane) placed =
-      let a = host e log h k p stood in
-      let r = subst (λ (z : HostedState). IsAtPlace z p.closed (seat (lane_state e.core (k + 1)) (k + 1) p.session a.answered.due (of_session (k + 1) log))) placed a.at in
+      let r = placed_at e log h k p stood (state.UnderWay lane) placed in
       let list : under_way_to log (suc k) ≡ under_way_to log k ++ (k + 1) ∷ [] = sym (ap (under_way_to log) num) ∙ one_more log k true (walking_at e log h k p stood (state.UnderWay lane) placed) in
       let left = busy_left e.core (k + 1) r.call r.slot in
       let most = r.few in
@@ -69,7 +59,7 @@ module _ (e : EngineView) (log : List Entry) (h : HasLog e log) (k : ℕ) (b : B
       let steps = most_is r.call.request in
       record {
         requests = b.requests ++ r.call.request ∷ [];
-        are = subst (λ (z : List ℕ). AllZip (IsDueTo log) z (b.requests ++ r.call.request ∷ [])) (sym list) (zip_push (IsDueTo log) (under_way_to log k) b.requests (k + 1) r.call.request b.are (a.answered, r.id, due_asks r.id r.call a.answered.due r.due));
+        are = subst (λ (z : List ℕ). AllZip (IsDueTo log) z (b.requests ++ r.call.request ∷ [])) (sym list) (zip_push (IsDueTo log) (under_way_to log k) b.requests (k + 1) r.call.request b.are (let a = (host e log h k p stood).answered in (a, r.id, due_asks r.id r.call a.due r.due)));
         few = omega (arith, left, most, few, same, sum, steps);
       }
 

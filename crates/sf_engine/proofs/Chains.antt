@@ -100,7 +100,7 @@ blocked_walk a lane f most holder w lane' k =
     record {
       turns = k.moves + 0;
       give = moves_give k.moves a lane k.mid f 0 (Ok (happened.Blocked holder)) end k.moved (one_turn mid f (happened.Blocked holder) end turn);
-      far = λ e. absurd cc;
+      far = λ e. cc;
     }
 
 -- a walk that made all its steps
@@ -133,7 +133,7 @@ answered_walk a lane f most c r b k last =
     record {
       turns = k.moves + 1;
       give = moves_give k.moves a lane k.mid f 1 r b k.moved (turn_before 0 mid f r b (record { happened = happened.Decided; mid = waits; goes_on = refl; gives = turn }) last.0);
-      far = λ e. absurd (let no : false ≡ true = sym last.1 ∙ e in cc);
+      far = λ e. let no : false ≡ true = sym last.1 ∙ e in cc;
     }
 
 -- that turn, if the reply was written
@@ -174,7 +174,7 @@ no_stranger a lane most w lane' k ready =
 -- a session that rests has its lane in its place
 resting_lane : (p : HostedState) → is_resting p ≡ true → (lane : LaneView) × (p ≡ state.Resting lane)
 resting_lane (state.Resting lane) rests = (lane, refl)
-resting_lane _ rests = absurd cc
+resting_lane _ rests = cc
 
 -- reading as a turn, whether the session was closed or not
 read_turn : (a : Stand) (f : Finding) (r : Happened) (b : Stand) → is_resting a.place ≡ true → TurnGives a (finding false f.moment) r b → TurnGives a f r b
@@ -215,7 +215,7 @@ read_ends : (a : Stand) (lane : LaneView) (m : ℕ) (r : Happened) (added : List
 read_ends a lane m happened.Begun added b g other e = other refl
 read_ends a lane m happened.Moved added b g other e = g
 read_ends a lane m happened.Decided added b g other e = g
-read_ends a lane m _ added b g other e = absurd cc
+read_ends a lane m _ added b g other e = cc
 
 -- a packet without a call
 pub read_far : (a : Stand) (f : Finding) (r : Happened) (b : Stand) → is_resting a.place ≡ true → IsReady a → TurnGives a (finding false f.moment) r b → r ≢ happened.Begun → GoesFar a f (Ok r) b
@@ -233,7 +233,7 @@ read_far a f r b rests ready give other =
 pub unread_far : (a : Stand) (f : Finding) (b : Stand) → is_resting a.place ≡ true → b ≡ a → GoesFar a f (Err fault.OutOfMemory) b
 unread_far a f b rests same =
     let lane = resting_lane a.place rests in
-    record { turns = 0; give = no_turn a f b same (subst MayRefuseTurn (sym lane.1) tt); far = λ e. absurd cc }
+    record { turns = 0; give = no_turn a f b same (subst MayRefuseTurn (sym lane.1) tt); far = λ e. cc }
 
 -- a turn of a session, or memory ran out
 pub record TurnAnswers (a : Stand) (f : Finding) (r : Result Happened EngineFault) (b : Stand) : Type 0 where
@@ -246,15 +246,15 @@ pub answer_far : (a : Stand) (f : Finding) (r : Result Happened EngineFault) (b 
 answer_far a f (Ok r) b lane given waits ready t =
     let g = t.ok ready.history ready.is_history in
     let wrote = (subst (λ (o : HostedState). GivesAt o a ready.history f r g.0 b) waits g.2).0 in
-    record { turns = 0; give = one_turn a f r b t.ok; far = λ e. absurd (let no : false ≡ true = ap (λ (z : Happened). continues (Ok z)) (sym wrote) ∙ e in cc) }
+    record { turns = 0; give = one_turn a f r b t.ok; far = λ e. let no : false ≡ true = ap (λ (z : Happened). continues (Ok z)) (sym wrote) ∙ e in cc }
 answer_far a f (Err e) b lane given waits ready t =
     let P : EngineFault → Type 0 = λ z. GoesFar a f (Err z) b in
     let why = t.fault in
-    subst P (sym why.0) (record { turns = 0; give = no_turn a f b (stand_eq a b t.err.1 t.err.2 t.err.0) why.1; far = λ e. absurd cc })
+    subst P (sym why.0) (record { turns = 0; give = no_turn a f b (stand_eq a b t.err.1 t.err.2 t.err.0) why.1; far = λ e. cc })
 
 -- one turn of a session that left
 pub left_far : (v : CoreView) (x : SessionView) (cause : Cause) (f : Finding) → GoesFar (stand v x (state.Gone cause)) f (Ok (happened.Ended cause)) (stand v x (state.Gone cause))
 left_far v x cause f =
     let a = stand v x (state.Gone cause) in
     let turn : TurnGives a f (happened.Ended cause) a = λ h is. ([], subst (λ (l : List Record). IsHistory v l) (sym (append-nil h)) is, (refl, refl, refl, refl, refl)) in
-    record { turns = 0; give = one_turn a f (happened.Ended cause) a turn; far = λ e. absurd cc }
+    record { turns = 0; give = one_turn a f (happened.Ended cause) a turn; far = λ e. cc }

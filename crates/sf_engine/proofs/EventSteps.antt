@@ -17,7 +17,7 @@ use Rattle.sf_session.specs.declared.cause.Cause.{Cause}
 use Rattle.sf_session.specs.Sessions.{reply_room}
 use Rattle.sf_session.specs.Responses.{RepliedCall, recorded_in, answered_in, Due, NothingDue, Recorded, recorded_due}
 use Rattle.sf_core.specs.Lanes.{LaneView}
-use Rattle.sf_core.specs.Cores.{CoreView, lane_state, joined}
+use Rattle.sf_core.specs.Cores.{CoreView, joined}
 use Rattle.sf_core.specs.Histories.{IsHistory}
 use Rattle.sf_core.specs.Events.{RefusesJoin}
 use Rattle.sf_engine.specs.declared.event.Event.{Event}
@@ -33,12 +33,12 @@ use Rattle.sf_engine.specs.Views.{EngineView}
 use Rattle.sf_engine.specs.Turns.{stand, finding, before, after_turn, StepGives, ReadGives, WritesAnswer, GivesAt, FeedFault, SentFault, MayRefuseTurn}
 use Rattle.sf_engine.specs.Promise.{Entry, BytesFed, BytesSent, SessionClosed, EventRefused, SessionOpened, CallBegun, CallMoved, CallBlocked, CallDecided, ReplyWritten, SessionIdle, SessionEnded, event_of, result_of, linearization, opened_in, begun_in, added_by, SessionLog, of_session, IsKnown, IsHere, MayBeRefused}
 use Rattle.sf_engine.specs.Steady.{IsSteady}
-use Rattle.sf_engine.specs.HasLog.{replied, IsOpenOrGone, IsAtPlace, AtRest, HasAnswer, seat, Hosts, HasLog, engine_fault, open_result, AppendsEntry}
+use Rattle.sf_engine.specs.HasLog.{replied, IsOpenOrGone, AtRest, Hosts, HasLog, engine_fault, open_result, AppendsEntry}
 use Rattle.sf_engine.proofs.MovesBy.{moves_by}
 use Rattle.sf_engine.proofs.Working.{Works, read_works, step_works, same_work, settle_same, close_same}
 use Rattle.sf_engine.proofs.ReplyRooms.{any_id}
 use Rattle.sf_engine.proofs.Appending.{changed_at, refused_on, opened_on}
-use Rattle.sf_engine.proofs.SessionEvents.{fed_log, sent_log, idle_log, wrote_log, gone_log, ended_log, answer_log, closed_log, begun_log, blocked_log, fetched_log, decided_log, moved_log, decided_steady, moved_steady, host, known, here, resting, going, at_rests, waits}
+use Rattle.sf_engine.proofs.SessionEvents.{fed_log, sent_log, idle_log, wrote_log, gone_log, ended_log, answer_log, closed_log, begun_log, blocked_log, fetched_log, decided_log, moved_log, decided_steady, moved_steady, host, known, placed_at, here, resting, going, at_rests, waits}
 use Rattle.sf_engine.proofs.Base.{HostedChange, engine, number, changed, stand_before, stand_after, FeedsHosted, SendsHosted, Opens, TurnsHosted, ClosesHosted, same_engine, no_step, no_work}
 
 -- an event, for one log
@@ -234,8 +234,7 @@ turn_refused s log h m (state.Resting lane) placed may = inl (at_rests s.old log
 turn_refused s log h m (state.Decided lane given) placed may =
     let hosts = host s.old log h s.at s.was s.stood in
     let calls = answered_in (of_session (number s) log).wrote in
-    let k : HasAnswer lane given (seat (lane_state s.old.core (number s)) (number s) s.was.session hosts.answered.due (of_session (number s) log)) =
-    subst (λ (z : HostedState). IsAtPlace z s.was.closed (seat (lane_state s.old.core (number s)) (number s) s.was.session hosts.answered.due (of_session (number s) log))) placed hosts.at in
+    let k = placed_at s.old log h s.at s.was s.stood (state.Decided lane given) placed in
     inr (
       waits s.old log h s.at s.was s.stood k.ended k.due k.decided,
       λ call same.
@@ -253,11 +252,8 @@ place_works s log h m (state.Resting lane) k added placed g = read_works (stand_
 place_works s log h m (state.UnderWay lane) k added placed g =
     step_works (before s.old.core (linearization log) lane) (number s) m k (after_turn s.core added g.0.0) s.now.place (going s.old log h s.at s.was s.stood lane placed).session g.0.1
 place_works s log h m (state.Decided lane given) k added placed g =
-    let none : lane_state s.old.core (number s) ≡ lane_state s.old.core (number s) = refl in
-    let k' : HasAnswer lane given (seat (lane_state s.old.core (number s)) (number s) s.was.session (host s.old log h s.at s.was s.stood).answered.due (of_session (number s) log)) =
-    subst (λ (z : HostedState). IsAtPlace z s.was.closed (seat (lane_state s.old.core (number s)) (number s) s.was.session (host s.old log h s.at s.was s.stood).answered.due (of_session (number s) log))) placed (host s.old log h s.at s.was s.stood).at in
     subst (λ (z : Happened). Works (number s) m z s.old.core (linearization log) added s.core) (sym g.0)
-    (record { step = (lane, lane, k'.session, tt); work = same_work (number s) m s.old.core added s.core (settle_same (stand s.old.core g.1.0 (state.Resting lane)) lane s.was.closed added (stand_after s) g.1.2) })
+    (record { step = (lane, lane, (placed_at s.old log h s.at s.was s.stood (state.Decided lane given) placed).session, tt); work = same_work (number s) m s.old.core added s.core (settle_same (stand s.old.core g.1.0 (state.Resting lane)) lane s.was.closed added (stand_after s) g.1.2) })
 place_works s log h m (state.Gone c) k added placed g =
     subst (λ (z : Happened). Works (number s) m z s.old.core (linearization log) added s.core) (sym g.0)
     (record { step = (record { session = number s; call = None; begun = 0 }, record { session = number s; call = None; begun = 0 }, refl, tt); work = same_work (number s) m s.old.core added s.core (ap (λ (z : CoreView). z.look_ups) g.1) })

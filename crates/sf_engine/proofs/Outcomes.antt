@@ -1,5 +1,5 @@
 -- The results of events, by a log of them.
-use Rattle.std.proofs.Common.{◌≡◌, ℕ, zero, suc, ◌+◌, ◌⊎◌, List, [], ◌∷◌, ◌++◌, Some, Bool, true, false, Result, Ok, Err, cond, slice_get, length, map, refl, ap, sym, ◌∙◌, subst, arith, inl, inr, length-append}
+use Rattle.std.proofs.Common.{◌≡◌, ℕ, ◌+◌, List, [], ◌∷◌, ◌++◌, Bool, true, false, Result, Ok, Err, cond, map, refl, ap, sym, ◌∙◌, subst, arith, length-append}
 use Rattle.std.proofs.lemmas.List.{map-append}
 use Rattle.sf_engine.specs.declared.event.Event.{Event}
 use Rattle.sf_engine.specs.declared.event.Happened.{Happened}
@@ -30,9 +30,3 @@ log_push events results sessions more log x ev r is came h one =
       results_are = map-append result_of log (x ∷ []) ∙ ap (λ (xs : List (Result Happened EngineFault)). xs ++ result_of x ∷ []) h.results_are ∙ ap (λ (z : Result Happened EngineFault). results ++ z ∷ []) came;
       count = omega (arith, count, opens, h.count, one);
     }
-
-pub last_got : {A : Type 0} (xs : List A) (i : ℕ) (v t : A) → slice_get (xs ++ v ∷ []) i ≡ Some t → (slice_get xs i ≡ Some t) ⊎ ((i ≡ length xs) × (v ≡ t))
-last_got [] zero v t h = inr (refl, cc)
-last_got [] (suc i) v t h = absurd cc
-last_got (x ∷ xs) zero v t h = inl h
-last_got (x ∷ xs) (suc i) v t h = elim (last_got xs i v t h) [ inl e ↦ inl e | inr e ↦ inr (ap (λ (n : ℕ). suc n) e.0, e.1) ]

@@ -11,7 +11,7 @@ any_id a b r = refl
 
 -- a reply that had no room is longer
 pub is_long : (waiting : Option ℕ) (r : Reply) → IsSome waiting → (IfSome waiting (λ id. length (packet (reply_body id r)) ≤ reply_room → false ≡ true)) → (id : ℕ) → reply_room < length (packet (reply_body id r))
-is_long None r some long id = absurd (let no : false ≡ true = some in cc)
+is_long None r some long id = let no : false ≡ true = some in cc
 is_long (Some own) r some long id =
     let none : length (packet (reply_body own r)) ≤ reply_room → ⊥ = λ short. let no : false ≡ true = long short in cc in
     omega (arith, none, any_id own id r)

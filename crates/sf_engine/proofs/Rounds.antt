@@ -1,7 +1,7 @@
 -- Rounds and runs, in the words of the log.
 use Rattle.sf_engine.proofs.Base.{zip_push}
 use Rattle.std.specs.Result.{IsOk}
-use Rattle.std.proofs.Common.{◌≡◌, ◌≢◌, ℕ, zero, suc, ◌+◌, ◌-◌, ◌<◌, ◌≤◌, ◌⊎◌, List, [], ◌∷◌, ◌++◌, Option, Some, None, Bool, true, false, Result, Ok, Err, length, slice_get, refl, ap, sym, ◌∙◌, subst, arith, inl, inr, append-nil, append_assoc, length-append, add-one}
+use Rattle.std.proofs.Common.{◌≡◌, ◌≢◌, ℕ, zero, suc, ◌+◌, ◌<◌, ◌≤◌, ◌⊎◌, List, [], ◌∷◌, ◌++◌, Some, None, Bool, true, false, Result, Ok, Err, length, slice_get, refl, ap, sym, ◌∙◌, subst, arith, inl, inr, append-nil, append_assoc, length-append, add-one}
 use Rattle.std.specs.Prelude.{if◌then◌else◌}
 use Rattle.std.proofs.lemmas.Option.{slice_get_within}
 use Rattle.std.specs.List.{flat_map, sum_by, AllZip}
@@ -9,8 +9,7 @@ use Rattle.std.proofs.lemmas.List.{map-append}
 use Rattle.std.proofs.lemmas.List.Sums.{sum_by-append}
 use Rattle.sf_engine.specs.Promise.{refusals, under_way}
 use Rattle.std.proofs.lemmas.Grind.{flat_map-append}
-use Rattle.sf_session.specs.declared.cause.Cause.{Cause}
-use Rattle.sf_session.specs.Responses.{Response, Version, Locally, ByCall, Refused, answered_in}
+use Rattle.sf_session.specs.Responses.{Response, Version, Locally, ByCall, Refused}
 use Rattle.sf_engine.specs.declared.event.Event.{Event}
 use Rattle.sf_engine.specs.declared.event.Event.TheVariants as event
 use Rattle.sf_engine.specs.declared.event.Happened.{Happened}
@@ -20,19 +19,18 @@ use Rattle.sf_engine.specs.declared.event.EngineFault.TheVariants as fault
 use Rattle.sf_engine.specs.declared.hosted.HostedSession.{HostedSession}
 use Rattle.sf_engine.specs.declared.hosted.HostedState.{HostedState}
 use Rattle.sf_engine.specs.declared.hosted.HostedState.TheVariants as state
-use Rattle.sf_core.specs.Cores.{lane_state}
 use Rattle.sf_engine.specs.Turns.{is_under_way}
 use Rattle.sf_engine.specs.Views.{EngineView}
-use Rattle.sf_engine.specs.Promise.{Entry, SessionOpened, BytesFed, CallBegun, CallMoved, CallBlocked, CallDecided, ReplyWritten, SessionIdle, SessionEnded, SessionClosed, BytesSent, EventRefused, event_of, result_of, session_of, is_opening, opened_in, SessionLog, of_session, SessionPhase, WithoutCall, Running, Replying, HasLeft, phase, phase_before, phase_at, IsInPhase, IsKnown, IsLawful, MayBeRefused, is_running, under_way_to, under_way, AreRounds}
-use Rattle.sf_engine.specs.HasLog.{HasLog, AppendsEntry, AppendsEvents, is_some_list, AppendsRound, AppendsRounds, AreDecided, IsAtPlace, IsAway, IsOpenOrGone, seat, IsStepOf}
+use Rattle.sf_engine.specs.Promise.{Entry, SessionOpened, BytesFed, CallBegun, CallMoved, CallBlocked, CallDecided, ReplyWritten, SessionIdle, SessionEnded, SessionClosed, BytesSent, EventRefused, event_of, result_of, session_of, is_opening, opened_in, SessionLog, of_session, SessionPhase, WithoutCall, Running, Replying, HasLeft, phase, phase_before, IsInPhase, IsKnown, IsLawful, MayBeRefused, is_running, under_way_to, under_way, AreRounds}
+use Rattle.sf_engine.specs.HasLog.{HasLog, AppendsEntry, AppendsEvents, is_some_list, AppendsRound, AppendsRounds, AreDecided, IsStepOf}
 use Rattle.sf_engine.proofs.Appending.{count_push, other_push}
-use Rattle.sf_engine.proofs.SessionEvents.{host, known, at_rests, walks, waits, going}
+use Rattle.sf_engine.proofs.SessionEvents.{known, phase_for, phase_is}
 
 -- ---- lists
 
 none_listed : (xs : List ℕ) → is_some_list xs ≡ false → xs ≡ []
 none_listed [] none = refl
-none_listed (x ∷ xs) none = absurd cc
+none_listed _ none = cc
 
 some_push : (xs : List ℕ) (x : ℕ) → is_some_list (xs ++ x ∷ []) ≡ true
 some_push [] x = refl
@@ -41,12 +39,12 @@ some_push (y ∷ xs) x = refl
 -- ---- a turn of a session whose call is running
 
 not_walking : (a : Response) (c : SessionPhase) → phase_before a ≡ c → c ≡ Running → ⊥
-not_walking (ByCall id number request reply) c is walks = let z : Replying ≡ Running = is ∙ walks in cc
-not_walking _ c is walks = let z : WithoutCall ≡ Running = is ∙ walks in cc
+not_walking (ByCall id number request reply) c is walks = cc
+not_walking _ c is walks = cc
 
 not_ended : (leaves : Bool) (c : SessionPhase) → c ≡ (if leaves then WithoutCall else HasLeft) → c ≡ Running → ⊥
-not_ended true c is walks = let z : WithoutCall ≡ Running = sym is ∙ walks in cc
-not_ended false c is walks = let z : HasLeft ≡ Running = sym is ∙ walks in cc
+not_ended true c is walks = cc
+not_ended false c is walks = cc
 
 abbrev pub is_step_result : Happened → Bool
 is_step_result happened.Moved = true
@@ -61,9 +59,6 @@ pub record StepEntry (s : ℕ) (x : Entry) : Type 0 where
   pub ok : result_of x ≡ Ok result
   pub is_of : session_of x ≡ s
   pub opens : is_opening x ≡ false
-
-same_at : (front : List Entry) (z s : ℕ) (c : SessionPhase) → event.Turn z 0 ≡ event.Turn s 0 → phase (of_session z front) ≡ c → phase (of_session s front) ≡ c
-same_at front z s c same is = let num : z ≡ s = cc in subst (λ (k : ℕ). phase (of_session k front) ≡ c) num is
 
 by_event : (z m s : ℕ) → event.Turn z m ≡ event.Turn s 0 → z ≡ s
 by_event z m s same = cc
@@ -83,37 +78,30 @@ pub walking_entry : (front : List Entry) (s : ℕ) (x : Entry) → event_of x �
 walking_entry front s (CallMoved z m added) ev is lawful = record { result = happened.Moved; steps = refl; ok = refl; is_of = by_event z m s ev; opens = refl }
 walking_entry front s (CallBlocked z m holder) ev is lawful = record { result = happened.Blocked holder; steps = refl; ok = refl; is_of = by_event z m s ev; opens = refl }
 walking_entry front s (CallDecided z m added) ev is lawful = record { result = happened.Decided; steps = refl; ok = refl; is_of = by_event z m s ev; opens = refl }
-walking_entry front s (CallBegun z m n) ev is lawful = absurd (let w : WithoutCall ≡ Running = sym (at_event front z m s WithoutCall ev lawful.0.1) ∙ is.1 in cc)
+walking_entry front s (CallBegun z m n) ev is lawful = let w = sym (at_event front z m s WithoutCall ev lawful.0.1) ∙ is.1 in cc
 walking_entry front s (ReplyWritten z m answer leaves) ev is lawful = absurd (not_walking answer (phase (of_session s front)) (sym (at_event front z m s (phase_before answer) ev lawful.0.1)) is.1)
-walking_entry front s (SessionIdle z m) ev is lawful = absurd (let w : WithoutCall ≡ Running = sym (at_event front z m s WithoutCall ev lawful.1) ∙ is.1 in cc)
+walking_entry front s (SessionIdle z m) ev is lawful = let w = sym (at_event front z m s WithoutCall ev lawful.1) ∙ is.1 in cc
 walking_entry front s (SessionEnded z m c leaves) ev is lawful = absurd (not_ended leaves (phase (of_session s front)) (at_event front z m s (if leaves then WithoutCall else HasLeft) ev lawful.1) is.1)
 walking_entry front s (EventRefused e f) ev is lawful = absurd (refused_walks front s f is (subst (λ (z : Event). MayBeRefused front z f) ev lawful))
-walking_entry front s _ ev is lawful = absurd cc
+walking_entry front s _ ev is lawful = cc
 
 -- ---- the phase of a hosted session
 
+running_for : (o : HostedState) → is_running (phase_for o) ≡ is_under_way o
+running_for (state.UnderWay lane) = refl
+running_for _ = refl
+
 module _ (e : EngineView) (log : List Entry) (h : HasLog e log) (at : ℕ) (p : HostedSession) (stood : slice_get e.hosted at ≡ Some p) where
   pub walking_at : (o : HostedState) → p.place ≡ o → is_running (phase (of_session (at + 1) log)) ≡ is_under_way o
-  walking_at (state.Resting lane) placed = ap is_running (at_rests e log h at p stood lane placed).1
-  walking_at (state.UnderWay lane) placed = ap is_running (walks e log h at p stood lane placed).1
-  walking_at (state.Decided lane given) placed =
-      let host' = host e log h at p stood in
-      let k = subst (λ (z : HostedState). IsAtPlace z p.closed (seat (lane_state e.core (at + 1)) (at + 1) p.session host'.answered.due (of_session (at + 1) log))) placed host'.at in
-      ap is_running (waits e log h at p stood k.ended k.due k.decided).1
-  walking_at (state.Gone c) placed =
-      let host' = host e log h at p stood in
-      let t = of_session (at + 1) log in
-      let k : IsAway c (seat (lane_state e.core (at + 1)) (at + 1) p.session host'.answered.due t) = subst (λ (z : HostedState). IsAtPlace z p.closed (seat (lane_state e.core (at + 1)) (at + 1) p.session host'.answered.due t)) placed host'.at in
-      let away = subst (λ (o : Option Cause). IsOpenOrGone o t.left t.closed host'.answered.bodies host'.answered.rest p.session.unread) k.ended host'.open_or_gone in
-      ap is_running (ap (λ (z : Bool). phase_at z (t.begun - length (answered_in t.wrote)) t.call.decided) away.0)
+  walking_at o placed = ap is_running (phase_is e log h at p stood o placed) ∙ running_for o
 
 pub is_walks : (c : SessionPhase) → is_running c ≡ true → c ≡ Running
 is_walks Running b = refl
-is_walks _ b = absurd cc
+is_walks _ b = cc
 
 -- if there is a session whose call is running, the index of one
 pub starts_walking : (log : List Entry) (n : ℕ) → is_some_list (under_way_to log n) ≡ true → (at : ℕ) × (at < n) × (is_running (phase (of_session (at + 1) log)) ≡ true)
-starts_walking log zero some = absurd cc
+starts_walking log zero some = cc
 starts_walking log (suc n) some = walking_or (starts_walking log n) (is_running (phase (of_session (suc n) log))) refl some
   where
     walking_or : (is_some_list (under_way_to log n) ≡ true → (at : ℕ) × (at < n) × (is_running (phase (of_session (at + 1) log)) ≡ true)) → (b : Bool) → is_running (phase (of_session (suc n) log)) ≡ b → is_some_list (under_way_to log n ++ (if b then suc n ∷ [] else [])) ≡ true → (at : ℕ) × (at < suc n) × (is_running (phase (of_session (at + 1) log)) ≡ true)

@@ -21,6 +21,7 @@ use Rattle.sf_engine.specs.Promise.{Entry, event_of, result_of, linearization, o
 use Rattle.sf_engine.specs.HasLog.{HasLog, AppendsEntry, ShowsOutput}
 use Rattle.sf_engine.proofs.SessionEvents.{host, known}
 use Rattle.sf_engine.proofs.EventSteps.{any_turn_log}
+use Rattle.sf_engine.proofs.Appending.{none_before}
 use Rattle.sf_engine.proofs.Base.{HostedChange, engine, hosted_session, number, changed, stand_before, stand_after, get_set_same, set_twice}
 use Rattle.sf_call.specs.declared.record.Record.{Record}
 use Rattle.sf_session.specs.Responses.{RepliedCall, recorded_in}
@@ -37,10 +38,6 @@ new_slots : (keep : Option ℕ) (store : StoreState) (s : ℕ) → lane_state (n
 new_slots keep store zero = refl
 new_slots keep store (suc s) = refl
 
-nothing_before : (front back : List Entry) → [] ≡ front ++ back → front ≡ []
-nothing_before [] back h = refl
-nothing_before (x ∷ front) back h = absurd cc
-
 nothing_kept : IsKept []
 unfolding IsLegal IsLegalAfter
 nothing_kept = record {
@@ -48,14 +45,14 @@ nothing_kept = record {
     legal = tt;
     pending = λ front back e same. no_entry (λ (xs : List Entry) (x : Entry). AllByRecursion (IsPending xs) (calls_by x)) front back e same;
     answered = λ front back same s known.
-        let known' : IsKnown [] s = subst (λ (xs : List Entry). IsKnown xs s) (nothing_before front back same) known in absurd (omega (arith, known'.0, known'.1));
+        let known' : IsKnown [] s = subst (λ (xs : List Entry). IsKnown xs s) (none_before front back same) known in absurd (omega (arith, known'.0, known'.1));
   };
   lawful = no_entry IsLawful;
 }
   where
     no_entry : (P : List Entry → Entry → Type 0) (front back : List Entry) (e : Entry) → [] ≡ front ++ e ∷ back → P front e
-    no_entry P [] back e h = absurd cc
-    no_entry P (x ∷ front) back e h = absurd cc
+    no_entry P [] back e h = cc
+    no_entry P _ back e h = cc
 
 pub first_log : (keep : Option ℕ) (store : StoreState) → IsHistory (new_core keep store) [] → HasLog (engine (new_core keep store) []) []
 first_log keep store history = record {
@@ -65,7 +62,7 @@ first_log keep store history = record {
   opened = refl;
   here = refl;
   count = refl;
-  each = λ i p h. absurd cc;
+  each = λ i p h. cc;
   nobody = λ s some out. record { slot = new_slots keep store s; none = refl; recorded = refl };
   zero = refl;
   present = refl;
@@ -138,7 +135,7 @@ placed_by v hist s p t r h is (state.Gone c) k = tt
 waits_by : (v : CoreView) (s : ℕ) (p : HostedSession) (t : SessionLog) (r : List RepliedCall) (h : Hosts t r (lane_state v s) s p) (o : HostedState) → IsAtPlace o p.closed (seat (lane_state v s) s p.session h.answered.due t) → is_busy o ≡ true → IsSome p.session.waiting
 waits_by v s p t r h (state.UnderWay lane) k busy = subst IsSome (sym k.waiting) refl
 waits_by v s p t r h (state.Decided lane a) k busy = subst IsSome (sym k.waiting) refl
-waits_by v s p t r h _ k busy = absurd cc
+waits_by v s p t r h _ k busy = cc
 
 pub is_placed : (e : EngineView) (log : List Entry) → HasLog e log → (at : ℕ) (p : HostedSession) → slice_get e.hosted at ≡ Some p → IsHostedState e.core p.session p.place
 is_placed e log h at p stood =

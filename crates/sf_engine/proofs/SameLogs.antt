@@ -1,13 +1,11 @@
 -- Two kept logs of bytes are equal if their events, results and records are.
-use Rattle.sf_engine.proofs.Base.{answered_push}
-use Rattle.std.proofs.Common.{◌≡◌, ℕ, ◌+◌, ◌<◌, ◌⊎◌, List, [], ◌∷◌, ◌++◌, Bool, true, false, Result, Ok, Err, length, map, refl, ap, sym, ◌∙◌, subst, arith, inl, inr, append-nil, append_assoc, length-append}
+use Rattle.sf_engine.proofs.Base.{answered_push, one_rest}
+use Rattle.std.proofs.Common.{◌≡◌, ℕ, ◌+◌, ◌<◌, ◌⊎◌, List, [], ◌∷◌, ◌++◌, Bool, true, false, Result, Ok, Err, map, refl, ap, sym, ◌∙◌, subst, arith, inl, inr, append-nil, append_assoc, length-append}
 use Rattle.std.specs.Prelude.{nat_eq, fold, if◌then◌else◌}
 use Rattle.std.specs.List.{AllByRecursion, flat_map}
 use Rattle.std.proofs.lemmas.List.{append_cancel_left}
 use Rattle.std.proofs.lemmas.List.Elements.{All-append, All-nil, All-same}
 use Rattle.sf_field.specs.Fields.{AreBytes, packet}
-use Rattle.sf_wire.specs.Packets.{IsBody}
-use Rattle.sf_wire.proofs.Laws.{one_packet}
 use Rattle.sf_request.proofs.Laws.{one_question}
 use Rattle.sf_request.specs.declared.request.Asked.{Asked}
 use Rattle.sf_reply.specs.declared.reply.Reply.{Reply}
@@ -26,7 +24,7 @@ use Rattle.sf_engine.specs.declared.event.Event.TheVariants as event
 use Rattle.sf_engine.specs.declared.event.Happened.{Happened}
 use Rattle.sf_engine.specs.declared.event.Happened.TheVariants as happened
 use Rattle.sf_engine.specs.declared.event.EngineFault.{EngineFault}
-use Rattle.sf_engine.specs.Promise.{Entry, SessionOpened, BytesFed, CallBegun, CallMoved, CallBlocked, CallDecided, ReplyWritten, SessionIdle, SessionEnded, SessionClosed, BytesSent, EventRefused, event_of, result_of, added_by, session_of, is_opening, opened_in, begun_in, linearization, SessionLog, with_own, with_next, new_log, of_session, IsKnown, SessionPhase, WithoutCall, Replying, phase, phase_before, IsLawful, MayWrite, IsAnswered, IsKept, IsOfBytes}
+use Rattle.sf_engine.specs.Promise.{Entry, SessionOpened, BytesFed, CallBegun, CallMoved, CallBlocked, CallDecided, ReplyWritten, SessionIdle, SessionEnded, SessionClosed, BytesSent, EventRefused, event_of, result_of, added_by, session_of, is_opening, opened_in, begun_in, linearization, SessionLog, with_own, with_next, new_log, of_session, IsKnown, SessionPhase, phase, phase_before, IsLawful, MayWrite, IsAnswered, IsKept, IsOfBytes}
 use Rattle.sf_engine.proofs.Appending.{own_push, count_push}
 
 -- ---- an entry, by its event, result and records, its number and its reply
@@ -88,7 +86,7 @@ record HasWritten (x : Entry) : Type 0 where
 
 has_written : (x : Entry) → HasWritten x ⊎ ((result_of x ≡ Ok happened.Wrote → ⊥) × (answer_of x ≡ Version))
 has_written (ReplyWritten s m a leaves) = inl (record { session = s; moment = m; answer = a; leaves = leaves; is = refl })
-has_written _ = inr (λ e. absurd cc, refl)
+has_written _ = inr (λ e. cc, refl)
 
 -- ---- one reply
 
@@ -100,52 +98,32 @@ first_bytes body bodies rest bytes = All-same (λ c. c < 256) (packet body ++ (f
 
 last_ask : (begun : Bool) (bodies : List (List ℕ)) (asks : List Ask) (a b : Ask) (rest : List ℕ) → AreBytes (flat_map packet bodies ++ rest) → AreAsked begun bodies (asks ++ a ∷ []) → AreAsked begun bodies (asks ++ b ∷ []) → a ≡ b
 unfolding AreAsked
-last_ask begun [] [] a b rest bytes h k = absurd h
-last_ask begun [] (z ∷ asks) a b rest bytes h k = absurd h
+last_ask begun [] asks a b rest bytes h k = absurd (omega (arith, asked_each begun [] (asks ++ a ∷ []) h, length-append asks (a ∷ [])))
 last_ask begun (body ∷ bodies) [] a b rest bytes h k = one_ask begun body a b (whole_bytes body (flat_map packet bodies ++ rest) (first_bytes body bodies rest bytes)) h.0 k.0
 last_ask begun (body ∷ bodies) (z ∷ asks) a b rest bytes h k = last_ask true bodies asks a b rest (rest_bytes body (flat_map packet bodies ++ rest) (first_bytes body bodies rest bytes)) h.1 k.1
-
--- equal bytes with equally many packets have equal packets
-one_bodies : (xs ys : List (List ℕ)) (a b : List ℕ) → AllByRecursion IsBody xs → AllByRecursion IsBody ys → length xs ≡ length ys → flat_map packet xs ++ a ≡ flat_map packet ys ++ b → xs ≡ ys
-one_bodies [] [] a b h k same e = refl
-one_bodies [] (y ∷ ys) a b h k same e = absurd cc
-one_bodies (x ∷ xs) [] a b h k same e = absurd cc
-one_bodies (x ∷ xs) (y ∷ ys) a b h k same e =
-    let front = flat_map packet xs ++ a in
-    let back = flat_map packet ys ++ b in
-    let parts : packet x ++ front ≡ packet y ++ back = sym (append_assoc (packet x) (flat_map packet xs) a) ∙ e ∙ append_assoc (packet y) (flat_map packet ys) b in
-    let first = one_packet x y front back h.0 k.0 parts in
-    let rest = one_bodies xs ys a b h.1 k.1 (omega (arith, same)) first.1 in
-    ap (λ (z : List ℕ). z ∷ xs) first.0 ∙ ap (λ (zs : List (List ℕ)). y ∷ zs) rest
 
 one_fault : (front : List Entry) (s id : ℕ) (r r' : Request) (f g : BeginFault) → MayWrite front s (Refused id r f) → MayWrite front s (Refused id r' g) → f ≡ g
 one_fault front s id r r' begin.OutOfMemory begin.OutOfMemory h k = refl
 one_fault front s id r r' begin.NumbersSpent begin.NumbersSpent h k = refl
-one_fault front s id r r' begin.OutOfMemory begin.NumbersSpent h k = absurd (omega (arith, h, k))
-one_fault front s id r r' begin.NumbersSpent begin.OutOfMemory h k = absurd (omega (arith, h, k))
+one_fault front s id r r' _ _ h k = absurd (omega (arith, h, k))
 
 one_call : (x y : RepliedCall) → x ∷ [] ≡ y ∷ [] → x ≡ y
 one_call x y e = cc
 
 one_answer : (front : List Entry) (s : ℕ) (c : SessionPhase) (a b : Response) → c ≡ phase_before a → c ≡ phase_before b → MayWrite front s a → MayWrite front s b → ask_behind a ≡ ask_behind b → a ≡ b
 one_answer front s c Version Version at at' h k e = refl
-one_answer front s c Version _ at at' h k e = absurd cc
 one_answer front s c (Locally id r) (Locally id' r') at at' h k e = cc
-one_answer front s c (Locally id r) _ at at' h k e = absurd cc
-one_answer front s c (ByCall id n q r) (Refused id' q' f) at at' h k e = absurd (let z : Replying ≡ WithoutCall = sym at ∙ at' in cc)
 one_answer front s c (ByCall id n q r) (ByCall id' n' q' r') at at' h k e =
     let calls = answered_in (of_session s front).wrote in
     let same = one_call (replied n q r) (replied n' q' r') (append_cancel_left calls (replied n q r ∷ []) (replied n' q' r' ∷ []) (sym (h ∙ answered_push (of_session s front).wrote (ByCall id n q r)) ∙ k ∙ answered_push (of_session s front).wrote (ByCall id' n' q' r'))) in
     let ids : id ≡ id' = cc in
     ap (λ (z : RepliedCall). ByCall id z.number z.request z.reply) same ∙ ap (λ (i : ℕ). ByCall i n' q' r') ids
-one_answer front s c (ByCall id n q r) _ at at' h k e = absurd cc
-one_answer front s c (Refused id q f) (ByCall id' n q' r) at at' h k e = absurd (let z : WithoutCall ≡ Replying = sym at ∙ at' in cc)
 one_answer front s c (Refused id q f) (Refused id' q' g) at at' h k e =
     let faults : f ≡ g = one_fault front s id q q' f g h k in
     let ids : id ≡ id' = cc in
     let requests : q ≡ q' = cc in
     ap (λ (i : ℕ). Refused i q f) ids ∙ ap (λ (z : Request). Refused id' z f) requests ∙ ap (λ (z : BeginFault). Refused id' q' z) faults
-one_answer front s c (Refused id q f) _ at at' h k e = absurd cc
+one_answer front s c _ _ at at' h k e = cc
 
 -- ---- fed bytes are bytes
 
@@ -188,7 +166,7 @@ one_written front s m m' a b l l' of x y =
     let qn = asked_each false q.bodies (asks ++ ask_behind b ∷ []) qa in
     let la = length-append asks (ask_behind a ∷ []) in
     let lb = length-append asks (ask_behind b ∷ []) in
-    let same : q.bodies ≡ p.bodies = one_bodies q.bodies p.bodies q.rest p.rest q.are_bodies p.are_bodies (omega (arith, pn, qn, la, lb)) (sym q.fed ∙ p.fed) in
+    let same : q.bodies ≡ p.bodies = (one_rest q.bodies p.bodies q.rest p.rest q.are_bodies p.are_bodies (omega (arith, pn, qn, la, lb)) (sym q.fed ∙ p.fed)).0 in
     let bytes : AreBytes (flat_map packet p.bodies ++ p.rest) = All-same (λ c. c < 256) (flat_map packet p.bodies ++ p.rest) t.fed (sym p.fed) (fold_bytes s front new_log of (All-nil (λ c. c < 256))) in
     one_answer front s (phase t) a b x.lawful.0.1 y.lawful.0.1 x.lawful.1 y.lawful.1
     (last_ask false p.bodies asks (ask_behind a) (ask_behind b) p.rest bytes pa (subst (λ (zs : List (List ℕ)). AreAsked false zs (asks ++ ask_behind b ∷ [])) same qa))
@@ -227,8 +205,6 @@ next_of front rest x kept = record {
 
 same_from : (front rest rest' : List Entry) → IsKept (front ++ rest) → IsKept (front ++ rest') → AllByRecursion IsOfBytes front → AllByRecursion IsOfBytes rest → map event_of rest ≡ map event_of rest' → map result_of rest ≡ map result_of rest' → map added_by rest ≡ map added_by rest' → rest ≡ rest'
 same_from front [] [] kept kept' of all events results added = refl
-same_from front [] (y ∷ rest') kept kept' of all events results added = absurd cc
-same_from front (x ∷ rest) [] kept kept' of all events results added = absurd cc
 same_from front (x ∷ rest) (y ∷ rest') kept kept' of all events results added =
     let ev : event_of x ≡ event_of y = cc in
     let r : result_of x ≡ result_of y = cc in
@@ -240,6 +216,7 @@ same_from front (x ∷ rest) (y ∷ rest') kept kept' of all events results adde
     let k : IsKept ((front ++ x ∷ []) ++ rest) = subst IsKept (sym (append_assoc front (x ∷ []) rest)) kept in
     let k' : IsKept ((front ++ x ∷ []) ++ rest') = subst (λ (z : Entry). IsKept ((front ++ z ∷ []) ++ rest')) (sym one) (subst IsKept (sym (append_assoc front (y ∷ []) rest')) kept') in
     ap (λ (z : Entry). z ∷ rest) one ∙ ap (λ (zs : List Entry). y ∷ zs) (same_from (front ++ x ∷ []) rest rest' k k' (all_push front x of all.0) all.1 evs results' added')
+same_from front _ _ kept kept' of all events results added = cc
 
 pub same_logs : (log log' : List Entry) → IsKept log → IsKept log' → AllByRecursion IsOfBytes log → map event_of log ≡ map event_of log' → map result_of log ≡ map result_of log' → map added_by log ≡ map added_by log' → log ≡ log'
 same_logs log log' kept kept' all events results added = same_from [] log log' kept kept' tt all events results added

@@ -48,14 +48,14 @@ use Rattle.sf_engine.specs.declared.hosted.HostedState.TheVariants as state
 use Rattle.sf_engine.specs.Views.{EngineView}
 use Rattle.sf_engine.specs.Turns.{Stand, stand, FeedGives, SentGives, WritesAtOnce, ReadGives, WritesAnswer, RestsOrLeaves, ClosesAt, StaysAs, before, after_turn, StepGives}
 use Rattle.sf_engine.specs.HasLog.{replied, IsUnfinished, HasMoved, IsHeldUp, IsWhy, blocked_in}
-use Rattle.sf_engine.specs.Promise.{Entry, BytesFed, CallBegun, CallMoved, CallBlocked, CallDecided, ReplyWritten, SessionIdle, SessionEnded, SessionClosed, BytesSent, linearization, opened_in, begun_in, SessionLog, with_own, of_session, IsKnown, IsHere, IsUnanswered, SessionPhase, WithoutCall, Running, Replying, HasLeft, phase_at, phase_before, phase, IsInPhase, IsPending, IsDueTo, added_by, MayWrite, IsDueAfter, IsAnswered, IsUnsent, HasFewMoves, SessionOpened, EventRefused, most_steps}
+use Rattle.sf_engine.specs.Promise.{Entry, BytesFed, CallBegun, CallMoved, CallBlocked, CallDecided, ReplyWritten, SessionIdle, SessionEnded, SessionClosed, BytesSent, linearization, opened_in, begun_in, SessionLog, with_own, of_session, IsKnown, IsHere, IsUnanswered, SessionPhase, WithoutCall, Running, Replying, HasLeft, phase_at, phase_before, phase, IsInPhase, IsPending, IsDueTo, added_by, MayWrite, IsDueAfter, IsAnswered, IsUnsent, HasFewMoves, most_steps}
 use Rattle.sf_engine.specs.Steady.{IsOfOthersCall, CarriesCallOut}
-use Rattle.sf_engine.specs.HasLog.{AtRest, IsGoing, HasAnswer, IsAway, IsAtPlace, IsOpenOrGone, Seat, seat, Hosts, HasLog}
+use Rattle.sf_engine.specs.HasLog.{AtRest, IsGoing, HasAnswer, IsAtPlace, IsOpenOrGone, Seat, seat, Hosts, HasLog}
 use Rattle.std.proofs.lemmas.Bool.{cases_eq, cases_lt, eq-eqb, ne_eqb}
 use Rattle.sf_engine.proofs.Deciding.{moved_on, stops, step_sure}
 use Rattle.sf_engine.proofs.MovesBy.{MovesBy}
 use Rattle.sf_engine.proofs.Appending.{changed_at, goes_on, others_same, IsSame, Stays, stays_on, Leaves, leaves_on, held_on, keeps_others}
-use Rattle.sf_engine.proofs.Base.{CalledBy, hosted_session, output_push, Has, has_recorded, has_either, has_of, has_none, one_only, answered_push, no_call, all_last, number_is_new, legal_front, get_within, among_last, not_on_way, has_copied, write_stops, nothing_rises, or_true, or_false}
+use Rattle.sf_engine.proofs.Base.{CalledBy, hosted_session, output_push, Has, has_recorded, has_either, has_of, one_only, answered_push, no_call, all_last, number_is_new, legal_front, get_within, among_last, not_on_way, has_copied, write_stops, nothing_rises, or_true, or_false}
 
 -- its bytes and its replies stay
 abbrev answered_as : (t : SessionLog) (r : List RepliedCall) (n : ℕ) (closed left : Bool) (l : Option Entry) → (a : IsAnswered t r) → IsDueAfter l closed a.bodies a.rest a.due
@@ -259,9 +259,24 @@ why_closed : (c : Cause) (closed : Bool) (bodies : List (List ℕ)) (rest : List
 why_closed c closed bodies rest (inl k) = inl (k.0, refl)
 why_closed c closed bodies rest (inr k) = inr k
 
-due_some : (id : ℕ) (c : Call) (due : Due) → (due ≡ Unrecorded id c.request) ⊎ ((reply : Reply) × (due ≡ Recorded id (replied c.number c.request reply))) → due ≡ NothingDue → ⊥
-due_some id c due (inl is) none = let z : Unrecorded id c.request ≡ NothingDue = sym is ∙ none in cc
-due_some id c due (inr is) none = let z : Recorded id (replied c.number c.request is.0) ≡ NothingDue = sym is.1 ∙ none in cc
+-- the reply that is pending for a call, with a record or without one
+abbrev IsDueFor : ℕ → Call → Due → Type 0
+IsDueFor id c due = (due ≡ Unrecorded id c.request) ⊎ ((reply : Reply) × (due ≡ Recorded id (replied c.number c.request reply)))
+
+pub due_asks : (id : ℕ) (c : Call) (due : Due) → IsDueFor id c due → asked_due due ≡ ask.Call id c.request ∷ []
+due_asks id c due (inl is) = ap asked_due is
+due_asks id c due (inr is) = ap asked_due is.1
+
+due_one : (id : ℕ) (c : Call) (due : Due) → IsDueFor id c due → length (asked_due due) ≡ 1
+due_one id c due is = ap (λ (asks : List Ask). length asks) (due_asks id c due is)
+
+due_some : (id : ℕ) (c : Call) (due : Due) → IsDueFor id c due → due ≡ NothingDue → ⊥
+due_some id c due is none = let z : ask.Call id c.request ∷ [] ≡ [] = sym (due_asks id c due is) ∙ ap asked_due none in cc
+
+-- the same for a call with the same request and number
+due_for : (id : ℕ) (c d : Call) (due : Due) → d.request ≡ c.request → d.number ≡ c.number → IsDueFor id c due → IsDueFor id d due
+due_for id c d due request number (inl is) = inl (is ∙ ap (λ (q : Request). Unrecorded id q) (sym request))
+due_for id c d due request number (inr is) = inr (is.0, is.1 ∙ ap (λ (q : Request). Recorded id (replied c.number q is.0)) (sym request) ∙ ap (λ (n : ℕ). Recorded id (replied n d.request is.0)) (sym number))
 
 some_steps : (q : Request) → 0 < most_steps q
 some_steps q = let is = bound_is q in omega (arith, is, most_is q)
@@ -289,31 +304,22 @@ begun_answered t r {s = s} p h m n body rest id request nothing unclosed is_open
 
 -- ---- a running call
 
-due_long : (id : ℕ) (c : Call) (due : Due) → (due ≡ Unrecorded id c.request) ⊎ ((reply : Reply) × (due ≡ Recorded id (replied c.number c.request reply))) → 0 < length (asked_due due)
-due_long id c due (inl is) = let one = ap (λ (d : Due). length (asked_due d)) is in omega (arith, one)
-due_long id c due (inr is) = let one = ap (λ (d : Due). length (asked_due d)) is.1 in omega (arith, one)
-
 -- a session whose call the core has is in the place for that
 pub busy_at : (o : HostedState) (closed : Bool) (c : Call) (k : Seat) → k.slot ≡ Busy c → IsAtPlace o closed k → (lane : LaneView) × (o ≡ state.UnderWay lane) × IsGoing lane k
 busy_at (state.UnderWay lane) closed c k busy at = (lane, refl, at)
-busy_at (state.Resting lane) closed c k busy at = absurd (let z : Busy c ≡ Idle = sym busy ∙ at.0.slot in cc)
-busy_at (state.Decided lane a) closed c k busy at = absurd (let z : Busy c ≡ Idle = sym busy ∙ at.slot in cc)
-busy_at (state.Gone cause) closed c k busy at = absurd (let z : Busy c ≡ NoLane = sym busy ∙ at.slot in cc)
+busy_at (state.Resting lane) closed c k busy at = let z = sym busy ∙ at.0.slot in cc
+busy_at _ closed c k busy at = let z = sym busy ∙ at.slot in cc
 
 -- the call that the core has for a session is its last one, and has no reply yet
 busy_hosts : (t : SessionLog) (r : List RepliedCall) (s : ℕ) (p : HostedSession) (c : Call) → Hosts t r (Busy c) s p → IsUnanswered t c.number × (t.call.moment ≡ c.moment)
 busy_hosts t r s p c h =
     let k = (busy_at p.place p.closed c (seat (Busy c) s p.session h.answered.due t) refl h.at).2 in
     let own : k.call ≡ c = let z : Busy c ≡ Busy k.call = k.slot in cc in
-    let some : 0 < length (asked_due h.answered.due) = due_long k.id k.call h.answered.due k.due in
-    let begun = h.answered.begun in (
-      (sym k.known.0 ∙ ap (λ (y : Call). y.number) own, omega (arith, begun, some)),
-      sym k.known.1 ∙ ap (λ (y : Call). y.moment) own,
-    )
+    ((sym k.known.0 ∙ ap (λ (y : Call). y.number) own, omega (arith, h.answered.begun, due_one k.id k.call h.answered.due k.due)), sym k.known.1 ∙ ap (λ (y : Call). y.moment) own)
 
 -- the same of an engine's session
 busy_call : (e : EngineView) (log : List Entry) (h : HasLog e log) (s : ℕ) (c : Call) → lane_state e.core s ≡ Busy c → IsUnanswered (of_session s log) c.number × ((of_session s log).call.moment ≡ c.moment)
-busy_call e log h zero c busy = absurd (let z : NoLane ≡ Busy c = sym h.zero ∙ busy in cc)
+busy_call e log h zero c busy = let z = sym h.zero ∙ busy in cc
 busy_call e log h (suc i) c busy = elim (cases_lt i (opened_in log)) [
   | inr ge ↦ absurd (let z : NoLane ≡ Busy c = sym (h.nobody (suc i) (omega arith) (omega (arith, ge))).slot ∙ busy in cc)
   | inl lt ↦
@@ -328,19 +334,14 @@ busy_call e log h (suc i) c busy = elim (cases_lt i (opened_in log)) [
 
 -- the pending reply has its record now
 due_recorded : (l : Option Entry) (closed : Bool) (bodies : List (List ℕ)) (rest : List ℕ) (id : ℕ) (request : Request) (c : RepliedCall) → IsDueAfter l closed bodies rest (Unrecorded id request) → IsDueAfter l closed bodies rest (Recorded id c)
-due_recorded None closed bodies rest id request c h = tt
 due_recorded (Some (CallBegun s m n)) closed bodies rest id request c h = λ (z : Recorded id c ≡ NothingDue). cc
 due_recorded (Some (CallMoved s m added)) closed bodies rest id request c h = λ (z : Recorded id c ≡ NothingDue). cc
 due_recorded (Some (CallBlocked s m holder)) closed bodies rest id request c h = λ (z : Recorded id c ≡ NothingDue). cc
 due_recorded (Some (CallDecided s m added)) closed bodies rest id request c h = (id, c, refl)
-due_recorded (Some (ReplyWritten s m answer leaves)) closed bodies rest id request c h = absurd (let z : Unrecorded id request ≡ NothingDue = h in cc)
-due_recorded (Some (SessionIdle s m)) closed bodies rest id request c h = absurd (let z : Unrecorded id request ≡ NothingDue = h.0 in cc)
-due_recorded (Some (SessionEnded s m why leaves)) closed bodies rest id request c h = absurd (let z : Unrecorded id request ≡ NothingDue = h.0 in cc)
-due_recorded (Some (SessionOpened s)) closed bodies rest id request c h = tt
-due_recorded (Some (BytesFed s bytes)) closed bodies rest id request c h = tt
-due_recorded (Some (SessionClosed s leaves)) closed bodies rest id request c h = tt
-due_recorded (Some (BytesSent s n)) closed bodies rest id request c h = tt
-due_recorded (Some (EventRefused ev f)) closed bodies rest id request c h = tt
+due_recorded (Some (ReplyWritten s m answer leaves)) closed bodies rest id request c h = cc
+due_recorded (Some (SessionIdle s m)) closed bodies rest id request c h = let z = h.0 in cc
+due_recorded (Some (SessionEnded s m why leaves)) closed bodies rest id request c h = let z = h.0 in cc
+due_recorded _ closed bodies rest id request c h = tt
 
 -- a record of the call that a session has in the core
 abbrev recorded_now : (t : SessionLog) (r : List RepliedCall) (a : IsAnswered t r) (id : ℕ) (c : Call) (given : Reply) → a.due ≡ Unrecorded id c.request → IsAnswered t (r ++ replied c.number c.request given ∷ [])
@@ -357,6 +358,33 @@ recorded_now t r a id c given due = record {
   closed = λ z none. absurd (let no : Recorded id (replied c.number c.request given) ≡ NothingDue = none in cc);
   few = subst (λ (d : Due). HasFewMoves d t.call.moves) due a.few;
 }
+
+same_call : (c : Call) → SameCall c c
+same_call c = record { number = refl; session = refl; moment = refl; request = refl }
+
+-- the same call in another state, with this pending reply, number of moves and last entry
+going_as : (t : SessionLog) (i : ℕ) (p : HostedSession) {due : Due} (due' : Due) (moves : ℕ) (l : Option Entry) (lane : LaneView) (c d : Call) {slot : LaneState Call} → (k : IsGoing lane (seat slot i p.session due t)) → k.call ≡ c → SameCall c d
+    → moves + left_of d ≤ t.call.moves + left_of c → (IsUnfinished d → HasMoved d.stage moves) → (IsDueFor k.id k.call due → IsDueFor k.id d due')
+    → IsGoing lane (seat (Busy d) i p.session due' (record t { call = record t.call { moves = moves }; last = l }))
+going_as t i p due' moves l lane c d k own same less way due =
+    let request : d.request ≡ k.call.request = same.request ∙ ap (λ (y : Call). y.request) (sym own) in
+    let number : d.number ≡ k.call.number = same.number ∙ ap (λ (y : Call). y.number) (sym own) in
+    record {
+      call = d;
+      id = k.id;
+      session = k.session;
+      number = k.number ∙ ap (λ (n : ℕ). Some n) (sym number);
+      slot = refl;
+      owner = same.session ∙ ap (λ (y : Call). y.session) (sym own) ∙ k.owner;
+      known = (number ∙ k.known.0, same.moment ∙ ap (λ (y : Call). y.moment) (sym own) ∙ k.known.1);
+      few = let had = k.few in omega (arith, had, less, ap left_of own, ap bound_of request);
+      walked = way;
+      waiting = k.waiting;
+      ended = k.ended;
+      new = subst (λ (n : ℕ). AllByRecursion (λ (z : RepliedCall). z.number ≢ n) (answered_in t.wrote)) (sym number) k.new;
+      undecided = k.undecided;
+      due = due k.due;
+    }
 
 push_own : (t : SessionLog) (h : List Record) (i : ℕ) (p : HostedSession) (c : Call) (given : Reply) → Hosts t (recorded_in i h) (Busy c) i p → IsNewNumber c.number h
     → Hosts t (recorded_in i h ++ replied c.number c.request given ∷ []) (Busy c) i p
@@ -376,22 +404,8 @@ push_own t h i p c given host new =
             begun = host.begun;
             open_or_gone = host.open_or_gone;
             closed = host.closed;
-            at = subst (λ (z : HostedState). IsAtPlace z p.closed (seat (Busy c) i p.session (Recorded k.id (replied c.number c.request given)) t)) (sym at.1) (record {
-              call = c;
-              id = k.id;
-              session = k.session;
-              number = k.number ∙ ap (λ (y : Call). Some y.number) own;
-              slot = refl;
-              owner = ap (λ (y : Call). y.session) (sym own) ∙ k.owner;
-              known = (ap (λ (y : Call). y.number) (sym own) ∙ k.known.0, ap (λ (y : Call). y.moment) (sym own) ∙ k.known.1);
-              few = subst (λ (y : Call). t.call.moves + left_of y ≤ bound_of y.request) own k.few;
-              walked = subst (λ (y : Call). IsUnfinished y → HasMoved y.stage t.call.moves) own k.walked;
-              waiting = k.waiting;
-              ended = k.ended;
-              new = subst (λ (y : Call). AllByRecursion (λ (z : RepliedCall). z.number ≢ y.number) (answered_in t.wrote)) own k.new;
-              undecided = k.undecided;
-              due = inr (given, refl);
-            });
+            at = subst (λ (z : HostedState). IsAtPlace z p.closed (seat (Busy c) i p.session (Recorded k.id (replied c.number c.request given)) t)) (sym at.1) (going_as t i p (Recorded k.id (replied c.number c.request given)) t.call.moves t.last at.0 c c k own (same_call c) (omega arith)
+                (subst (λ (y : Call). IsUnfinished y → HasMoved y.stage t.call.moves) own k.walked) (λ z. inr (given, refl)));
           }
     ]
 
@@ -400,32 +414,6 @@ own_record i c given e = ap (λ (b : Bool). if_so b (replied c.number c.request 
 
 others_record : (i : ℕ) (c : Call) (given : Reply) → (c.session ≡ i → ⊥) → recorded_in i (did c given ∷ []) ≡ []
 others_record i c given ne = ap (λ (b : Bool). if_so b (replied c.number c.request given ∷ []) ++ []) (ne_eqb c.session i ne)
-
--- the same call, now decided
-going_as : (t : SessionLog) (i : ℕ) (p : HostedSession) (due : Due) (lane : LaneView) (c d : Call) {slot : LaneState Call} → (k : IsGoing lane (seat slot i p.session due t)) → k.call ≡ c → SameCall c d → left_of d ≤ left_of c → (IsUnfinished d → ⊥)
-    → IsGoing lane (seat (Busy d) i p.session due t)
-going_as t i p due lane c d k own same less done =
-    let request : d.request ≡ k.call.request = same.request ∙ ap (λ (y : Call). y.request) (sym own) in
-    let number : d.number ≡ k.call.number = same.number ∙ ap (λ (y : Call). y.number) (sym own) in
-    record {
-      call = d;
-      id = k.id;
-      session = k.session;
-      number = k.number ∙ ap (λ (n : ℕ). Some n) (sym number);
-      slot = refl;
-      owner = same.session ∙ ap (λ (y : Call). y.session) (sym own) ∙ k.owner;
-      known = (number ∙ k.known.0, same.moment ∙ ap (λ (y : Call). y.moment) (sym own) ∙ k.known.1);
-      few = let had = k.few in omega (arith, had, less, ap left_of own, ap bound_of request);
-      walked = λ z. absurd (done z);
-      waiting = k.waiting;
-      ended = k.ended;
-      new = subst (λ (n : ℕ). AllByRecursion (λ (z : RepliedCall). z.number ≢ n) (answered_in t.wrote)) (sym number) k.new;
-      undecided = k.undecided;
-      due = elim k.due [
-        | inl is ↦ inl (is ∙ ap (λ (q : Request). Unrecorded k.id q) (sym request))
-        | inr is ↦ inr (is.0, is.1 ∙ ap (λ (q : Request). Recorded k.id (replied k.call.number q is.0)) (sym request) ∙ ap (λ (n : ℕ). Recorded k.id (replied n d.request is.0)) (sym number))
-      ];
-    }
 
 -- records of other sessions' calls
 push_others : (v : CoreView) (s i : ℕ) (t : SessionLog) (p : HostedSession) (h helped : List Record) → AllByRecursion (IsOfOther v s) helped → IsLegal (h ++ helped)
@@ -463,12 +451,12 @@ reslot t r i p c d host same less done =
       begun = host.begun;
       open_or_gone = host.open_or_gone;
       closed = host.closed;
-      at = subst (λ (z : HostedState). IsAtPlace z p.closed (seat (Busy d) i p.session host.answered.due t)) (sym at.1) (going_as t i p host.answered.due at.0 c d k own same less done);
+      at = subst (λ (z : HostedState). IsAtPlace z p.closed (seat (Busy d) i p.session host.answered.due t)) (sym at.1) (going_as t i p host.answered.due t.call.moves t.last at.0 c d k own same (omega (arith, less)) (λ z. absurd (done z)) (due_for k.id k.call d host.answered.due (same.request ∙ ap (λ (y : Call). y.request) (sym own)) (same.number ∙ ap (λ (y : Call). y.number) (sym own))));
     }
 
 -- a call with a record has this pending reply
 due_is : (h : List Record) (i : ℕ) (c : Call) (given : Reply) (calls : List RepliedCall) (id : ℕ) (due : Due) → c.session ≡ i → IsAmong (did c given) h → recorded_in i h ≡ calls ++ recorded_due due
-    → AllByRecursion (λ (z : RepliedCall). z.number ≢ c.number) calls → (due ≡ Unrecorded id c.request) ⊎ ((reply : Reply) × (due ≡ Recorded id (replied c.number c.request reply)))
+    → AllByRecursion (λ (z : RepliedCall). z.number ≢ c.number) calls → IsDueFor id c due
     → due ≡ Recorded id (replied c.number c.request given)
 due_is h i c given calls id due owner among is new had =
     let own = replied c.number c.request given in
@@ -477,7 +465,7 @@ due_is h i c given calls id due owner among is new had =
     elim (has_either own calls (recorded_due due) there) [
       | inl before ↦ absurd (has_of (λ (z : RepliedCall). z.number ≢ c.number) own calls new before refl)
       | inr last ↦ elim had [
-        | inl none ↦ absurd (has_none own (subst (λ (d : Due). Has own (recorded_due d)) none last))
+        | inl none ↦ absurd (subst (λ (d : Due). Has own (recorded_due d)) none last)
         | inr some ↦
             let same : replied c.number c.request some.0 ≡ own = one_only own (replied c.number c.request some.0) (subst (λ (d : Due). Has own (recorded_due d)) some.1 last) in
             some.1 ∙ ap (λ (z : RepliedCall). Recorded id z) same
@@ -534,18 +522,26 @@ none_helped v s i (Did n z m q given ∷ helped) all none =
     let apart : z ≡ i → ⊥ = λ e. absurd (let no : NoLane ≡ Busy all.0.0 = sym none ∙ ap (λ (k : ℕ). lane_state v k) (sym e) ∙ all.0.2 in cc) in
     ap (λ (b : Bool). if_so b (replied n q given ∷ []) ++ recorded_in i helped) (ne_eqb z i apart) ∙ none_helped v s i helped all.1 none
 
--- each is of a call that has begun
-helped_calls : (e : EngineView) (log : List Entry) (h : HasLog e log) (s : ℕ) (helped : List Record) → AllByRecursion (IsOfOther e.core s) helped → AllByRecursion (IsPending log) helped
-helped_calls e log h s [] all = tt
-helped_calls e log h s (Left z ∷ helped) all = absurd all.0
-helped_calls e log h s (Did n z m q given ∷ helped) all =
-    let is : Did n z m q given ≡ did all.0.0 given = all.0.4 in
-    let call = busy_call e log h z all.0.0 all.0.2 in
-    let number : all.0.0.number ≡ n = cc in
-    let moment : all.0.0.moment ≡ m = cc in
-    (((call.0.0 ∙ number, call.0.1), call.1 ∙ moment), helped_calls e log h s helped all.1)
+-- a record of another session is of its call, which has begun
+other_call : (e : EngineView) (log : List Entry) (h : HasLog e log) (s : ℕ) (r : Record) → IsOfOther e.core s r → IsOfOthersCall log s r
+other_call e log h s (Did n z m q given) is =
+    let same : Did n z m q given ≡ did is.0 given = is.4 in
+    let call = busy_call e log h z is.0 is.2 in
+    let number : is.0.number ≡ n = cc in
+    let moment : is.0.moment ≡ m = cc in
+    (is.1, ((call.0.0 ∙ number, call.0.1), call.1 ∙ moment))
+other_call e log h s (Left z) is = is
 
-few_moves : (due : Due) (id : ℕ) (c : Call) (moves : ℕ) → (due ≡ Unrecorded id c.request) ⊎ ((reply : Reply) × (due ≡ Recorded id (replied c.number c.request reply))) → moves < bound_of c.request → HasFewMoves due moves
+others_calls : (e : EngineView) (log : List Entry) (h : HasLog e log) (s : ℕ) (helped : List Record) → AllByRecursion (IsOfOther e.core s) helped → AllByRecursion (IsOfOthersCall log s) helped
+others_calls e log h s [] all = tt
+others_calls e log h s (r ∷ helped) all = (other_call e log h s r all.0, others_calls e log h s helped all.1)
+
+pending_calls : (log : List Entry) (s : ℕ) (helped : List Record) → AllByRecursion (IsOfOthersCall log s) helped → AllByRecursion (IsPending log) helped
+pending_calls log s [] all = tt
+pending_calls log s (Did n z m q given ∷ helped) all = (all.0.1, pending_calls log s helped all.1)
+pending_calls log s (Left z ∷ helped) all = absurd all.0
+
+few_moves : (due : Due) (id : ℕ) (c : Call) (moves : ℕ) → IsDueFor id c due → moves < bound_of c.request → HasFewMoves due moves
 few_moves due id c moves (inl is) few = subst (λ (d : Due). HasFewMoves d moves) (sym is) (subst (λ (n : ℕ). moves < n) (most_is c.request) few)
 few_moves due id c moves (inr is) few = subst (λ (d : Due). HasFewMoves d moves) (sym is.1) (subst (λ (n : ℕ). moves < n) (most_is c.request) few)
 
@@ -560,7 +556,6 @@ moved_hosts t r i m added p lane c d host placed same less some way =
     let number : d.number ≡ k.call.number = same.number ∙ ap (λ (y : Call). y.number) (sym own) in
     let had = k.few in
     let same_left = ap left_of own in
-    let same_bound = ap bound_of request in
     record {
       answered = record {
         bodies = a.bodies;
@@ -579,36 +574,8 @@ moved_hosts t r i m added p lane c d host placed same less some way =
       begun = host.begun;
       open_or_gone = host.open_or_gone;
       closed = host.closed;
-      at = record {
-        call = d;
-        id = k.id;
-        session = k.session;
-        number = k.number ∙ ap (λ (n : ℕ). Some n) (sym number);
-        slot = refl;
-        owner = same.session ∙ ap (λ (y : Call). y.session) (sym own) ∙ k.owner;
-        known = (number ∙ k.known.0, same.moment ∙ ap (λ (y : Call). y.moment) (sym own) ∙ k.known.1);
-        few = omega (arith, had, less, same_left, same_bound);
-        walked = λ z. way k;
-        waiting = k.waiting;
-        ended = k.ended;
-        new = subst (λ (n : ℕ). AllByRecursion (λ (z : RepliedCall). z.number ≢ n) (answered_in t.wrote)) (sym number) k.new;
-        undecided = k.undecided;
-        due = elim k.due [
-          | inl is ↦ inl (is ∙ ap (λ (q : Request). Unrecorded k.id q) (sym request))
-          | inr is ↦ inr (is.0, is.1 ∙ ap (λ (q : Request). Recorded k.id (replied k.call.number q is.0)) (sym request) ∙ ap (λ (n : ℕ). Recorded k.id (replied n d.request is.0)) (sym number))
-        ];
-      };
+      at = going_as t i p a.due (t.call.moves + 1) (Some (CallMoved i m added)) lane c d k own same (omega (arith, less)) (λ z. way k) (due_for k.id k.call d a.due request number);
     }
-
-others_calls : (e : EngineView) (log : List Entry) (h : HasLog e log) (s : ℕ) (helped : List Record) → AllByRecursion (IsOfOther e.core s) helped → AllByRecursion (IsOfOthersCall log s) helped
-others_calls e log h s [] all = tt
-others_calls e log h s (Left z ∷ helped) all = absurd all.0
-others_calls e log h s (Did n z m q given ∷ helped) all =
-    let is : Did n z m q given ≡ did all.0.0 given = all.0.4 in
-    let call = busy_call e log h z all.0.0 all.0.2 in
-    let number : all.0.0.number ≡ n = cc in
-    let moment : all.0.0.moment ≡ m = cc in
-    ((all.0.1, ((call.0.0 ∙ number, call.0.1), call.1 ∙ moment)), others_calls e log h s helped all.1)
 
 -- ---- the phase of a session
 
@@ -622,17 +589,16 @@ course_resting due count more left decided open_now is none =
     let less : due - count ≡ 0 = omega (arith, is, none) in
     ap (λ (z : Bool). phase_at z (due - count) decided) open_now ∙ ap (λ (n : ℕ). phase_at false n decided) less
 
-due_one : (id : ℕ) (c : Call) (due : Due) → (due ≡ Unrecorded id c.request) ⊎ ((reply : Reply) × (due ≡ Recorded id (replied c.number c.request reply))) → length (asked_due due) ≡ 1
-due_one id c due (inl is) = ap (λ (d : Due). length (asked_due d)) is
-due_one id c due (inr is) = ap (λ (d : Due). length (asked_due d)) is.1
-
-pub due_asks : (id : ℕ) (c : Call) (due : Due) → (due ≡ Unrecorded id c.request) ⊎ ((reply : Reply) × (due ≡ Recorded id (replied c.number c.request reply))) → asked_due due ≡ ask.Call id c.request ∷ []
-due_asks id c due (inl is) = ap asked_due is
-due_asks id c due (inr is) = ap asked_due is.1
-
 copies_moved : (g : Stage) (moves : ℕ) → IsCopying g → HasMoved g moves → 0 < moves
 copies_moved (stage.Copies node left) moves copies h = h
 copies_moved _ moves copies h = absurd copies
+
+-- the phase of a session in this place
+abbrev pub phase_for : HostedState → SessionPhase
+phase_for (state.Resting lane) = WithoutCall
+phase_for (state.UnderWay lane) = Running
+phase_for (state.Decided lane given) = Replying
+phase_for (state.Gone c) = HasLeft
 
 -- ---- a session of an engine
 
@@ -652,22 +618,28 @@ module _ (e : EngineView) (log : List Entry) (h : HasLog e log) (at : ℕ) (p : 
   pub known : IsKnown log (at + 1)
   known = (omega arith, omega (arith, within, h.count))
 
+  -- the session is in its place, and is present or has left
+  pub placed_at : (o : HostedState) → p.place ≡ o → IsAtPlace o p.closed (seat (lane_state e.core (at + 1)) (at + 1) p.session host.answered.due t)
+  placed_at o placed = subst (λ (z : HostedState). IsAtPlace z p.closed (seat (lane_state e.core (at + 1)) (at + 1) p.session host.answered.due t)) placed host.at
+
+  present_or_gone : (o : Option Cause) → p.session.ended ≡ o → IsOpenOrGone o t.left t.closed host.answered.bodies host.answered.rest p.session.unread
+  present_or_gone o ended = subst (λ (z : Option Cause). IsOpenOrGone z t.left t.closed host.answered.bodies host.answered.rest p.session.unread) ended host.open_or_gone
+
+  -- a session that has not ended is present, and has the unread bytes of the log
+  pub is_open : p.session.ended ≡ None → (t.left ≡ false) × (host.answered.rest ≡ p.session.unread)
+  is_open unended = present_or_gone None unended
+
   pub here : p.session.ended ≡ None → IsHere log (at + 1)
-  here unended = (known, (subst (λ (o : Option Cause). IsOpenOrGone o t.left t.closed host.answered.bodies host.answered.rest p.session.unread) unended host.open_or_gone).0)
+  here unended = (known, (is_open unended).0)
 
   same : IsSame e.core e.core (linearization log)
   same = record { joins = refl; drawn = refl; joined = refl; slots = λ i. refl; history = h.history }
 
   pub fed_log : (bytes : Vec ℕ Global) (q : HostedSession) → FeedGives p bytes.items happened.Fed q → HasLog (changed_at e at e.core q) (log ++ BytesFed (at + 1) bytes ∷ [])
   fed_log bytes q g = stays_on e log at (BytesFed (at + 1) bytes) e.core q h (record {
-    is_of = refl;
+    quiet = (refl, refl, refl, refl, refl, refl);
     within = within;
     same = same;
-    begins = refl;
-    leaves = refl;
-    opens = refl;
-    added = refl;
-    calls = refl;
     blocked = h.blocked;
     own = subst (λ (z : HostedSession). Hosts (with_own t (BytesFed (at + 1) bytes)) r (lane_state e.core (at + 1)) (at + 1) z) (sym g.now) (fed_hosts t r (lane_state e.core (at + 1)) (at + 1) p bytes host g.unended);
     lawful = let it = here g.unended in (it, sym (host.closed it.1) ∙ g.unclosed);
@@ -676,14 +648,9 @@ module _ (e : EngineView) (log : List Entry) (h : HasLog e log) (at : ℕ) (p : 
 
   pub sent_log : (n : ℕ) (q : HostedSession) → SentGives p n happened.Sent q → HasLog (changed_at e at e.core q) (log ++ BytesSent (at + 1) n ∷ [])
   sent_log n q g = stays_on e log at (BytesSent (at + 1) n) e.core q h (record {
-    is_of = refl;
+    quiet = (refl, refl, refl, refl, refl, refl);
     within = within;
     same = same;
-    begins = refl;
-    leaves = refl;
-    opens = refl;
-    added = refl;
-    calls = refl;
     blocked = h.blocked;
     own = subst (λ (z : HostedSession). Hosts (with_own t (BytesSent (at + 1) n)) r (lane_state e.core (at + 1)) (at + 1) z) (sym g.now) (sent_hosts t r (lane_state e.core (at + 1)) (at + 1) n p host g.within);
     lawful =
@@ -698,7 +665,7 @@ module _ (e : EngineView) (log : List Entry) (h : HasLog e log) (at : ℕ) (p : 
   -- ---- turns
 
   rests_before : (answer : Response) → calls_answered answer ≡ [] → IsInPhase log (at + 1) WithoutCall → IsInPhase log (at + 1) (phase_before answer)
-  rests_before (ByCall id number request reply) none is = absurd cc
+  rests_before (ByCall id number request reply) none is = cc
   rests_before _ none is = is
 
   pub waits : {id : ℕ} {c : RepliedCall} → p.session.ended ≡ None → host.answered.due ≡ Recorded id c → t.call.decided ≡ true → IsInPhase log (at + 1) Replying
@@ -713,16 +680,12 @@ module _ (e : EngineView) (log : List Entry) (h : HasLog e log) (at : ℕ) (p : 
       sym (ap (λ (z : SessionView). hosted_session z q.place q.closed) session ∙ ap (λ (z : HostedState). hosted_session p.session z q.closed) placed ∙ ap (λ (z : Bool). hosted_session p.session p.place z) closed)
 
   pub resting : (lane : LaneView) → p.place ≡ state.Resting lane → IsAtPlace (state.Resting lane) p.closed (seat (lane_state e.core (at + 1)) (at + 1) p.session host.answered.due t)
-  resting lane placed = subst (λ (z : HostedState). IsAtPlace z p.closed (seat (lane_state e.core (at + 1)) (at + 1) p.session host.answered.due t)) placed host.at
+  resting lane placed = placed_at (state.Resting lane) placed
 
   pub at_rests : (lane : LaneView) → p.place ≡ state.Resting lane → IsInPhase log (at + 1) WithoutCall
   at_rests lane placed =
       let k = (resting lane placed).0 in
       (known, course_resting t.begun (length (answered_in t.wrote)) (length (asked_due host.answered.due)) t.left t.call.decided (here k.ended).1 host.answered.begun (ap (λ (d : Due). length (asked_due d)) k.due))
-
-  -- a session that has not ended is present, and has the unread bytes of the log
-  pub is_open : p.session.ended ≡ None → (t.left ≡ false) × (host.answered.rest ≡ p.session.unread)
-  is_open unended = subst (λ (o : Option Cause). IsOpenOrGone o t.left t.closed host.answered.bodies host.answered.rest p.session.unread) unended host.open_or_gone
 
   pub idle_log : (m : ℕ) (lane : LaneView) (v' : CoreView) (q : HostedSession) → p.place ≡ state.Resting lane → q.closed ≡ p.closed
       → ReadGives (stand e.core p.session p.place) lane m happened.Idle [] (stand v' q.session q.place) → HasLog (changed_at e at v' q) (log ++ SessionIdle (at + 1) m ∷ [])
@@ -731,14 +694,9 @@ module _ (e : EngineView) (log : List Entry) (h : HasLog e log) (at : ℕ) (p : 
       let open_now = is_open k.ended in
       let x = SessionIdle (at + 1) m in
       stays_on e log at x v' q h (record {
-        is_of = refl;
+        quiet = (refl, refl, refl, refl, refl, refl);
         within = within;
         same = subst (λ (z : CoreView). IsSame e.core z (linearization log)) (sym g.1) same;
-        begins = refl;
-        leaves = refl;
-        opens = refl;
-        added = refl;
-        calls = refl;
         blocked = h.blocked;
         own = subst (λ (z : HostedSession). Hosts (with_own t x) r (lane_state e.core (at + 1)) (at + 1) z) (hosted_is q g.0.2 (g.3 ∙ sym placed) closed) (record {
           answered = answered_as t r t.sent t.closed t.left (Some x) host.answered (k.due, subst (λ (b : List ℕ). IsCut b cut.More) (sym open_now.1) g.0.1) host.answered.closed;
@@ -766,14 +724,9 @@ module _ (e : EngineView) (log : List Entry) (h : HasLog e log) (at : ℕ) (p : 
       let unclosed : t.closed ≡ false = sym (host.closed open_now.0) ∙ k.1 in (
         x.answer,
         stays_on e log at y v' q h (record {
-          is_of = refl;
+          quiet = (refl, refl, refl, refl, refl, refl);
           within = within;
           same = subst (λ (z : CoreView). IsSame e.core z (linearization log)) (sym g.1) same;
-          begins = refl;
-          leaves = refl;
-          opens = refl;
-          added = refl;
-          calls = refl;
           blocked = h.blocked;
           own = subst (λ (z : HostedSession). Hosts (with_own t y) r (lane_state e.core (at + 1)) (at + 1) z) (hosted_is q (x.now) g.3 closed)
               (wrote_hosts t r (lane_state e.core (at + 1)) (at + 1) m p lane x.body x.rest x.answer host k unclosed open_now x.begins x.asks x.none);
@@ -786,18 +739,13 @@ module _ (e : EngineView) (log : List Entry) (h : HasLog e log) (at : ℕ) (p : 
   pub gone_log : (m : ℕ) (c : Cause) (v' : CoreView) (q : HostedSession) → p.place ≡ state.Gone c → q.closed ≡ p.closed → v' ≡ e.core → q.session ≡ p.session → q.place ≡ state.Gone c
       → HasLog (changed_at e at v' q) (log ++ SessionEnded (at + 1) m c false ∷ [])
   gone_log m c v' q placed closed core session place =
-      let k : IsAway c (seat (lane_state e.core (at + 1)) (at + 1) p.session host.answered.due t) = subst (λ (z : HostedState). IsAtPlace z p.closed (seat (lane_state e.core (at + 1)) (at + 1) p.session host.answered.due t)) placed host.at in
-      let away = subst (λ (o : Option Cause). IsOpenOrGone o t.left t.closed host.answered.bodies host.answered.rest p.session.unread) k.ended host.open_or_gone in
+      let k = placed_at (state.Gone c) placed in
+      let away = present_or_gone (Some c) k.ended in
       let x = SessionEnded (at + 1) m c false in
       stays_on e log at x v' q h (record {
-        is_of = refl;
+        quiet = (refl, refl, refl, refl, refl, refl);
         within = within;
         same = subst (λ (z : CoreView). IsSame e.core z (linearization log)) (sym core) same;
-        begins = refl;
-        leaves = refl;
-        opens = refl;
-        added = refl;
-        calls = refl;
         blocked = h.blocked;
         own = subst (λ (z : HostedSession). Hosts (with_own t x) r (lane_state e.core (at + 1)) (at + 1) z) (hosted_is q session (place ∙ sym placed) closed) (record {
           answered = answered_as t r t.sent t.closed true (Some x) host.answered (k.due, away.1) (λ c n. refl);
@@ -837,20 +785,13 @@ module _ (e : EngineView) (log : List Entry) (h : HasLog e log) (at : ℕ) (p : 
             let why : IsWhy c t.closed a.bodies a.rest =
             inr (subst (λ (b : Bool). EndsBy b a.rest c) host.begun (subst (λ (b : List ℕ). EndsBy p.session.begun b c) (sym open_now.1) end.1)) in
             leaves_on e log at x v' q h (record {
-              is_of = refl;
+              leaving = (refl, refl, refl, refl, refl, refl, refl, refl);
               within = within;
               left = subst (λ (n : ℕ). SessionLeaves e.core v' n) k.session g.1;
               history = subst (λ (n : ℕ). IsHistory v' (linearization log ++ Left n ∷ [])) k.session (subst (λ (z : List Record). IsHistory v' (linearization log ++ z)) g.2 history);
-              begins = refl;
-              leaves = refl;
-              opens = refl;
-              added = refl;
-              calls = refl;
-              blocked = refl;
               own = subst (λ (z : HostedSession). Hosts (with_own t x) r NoLane (at + 1) z) (hosted_is q end.2 g.3 closed)
                   (away_hosts x (with_own t x) c y (answered_as t r t.sent t.closed true (Some x) a (k.due, why) (λ c n. refl)) refl k.due host.output host.begun why refl p.closed);
               lawful = at_rests lane placed;
-              gone = refl;
               here = open_now.0;
             })
       ]
@@ -860,7 +801,7 @@ module _ (e : EngineView) (log : List Entry) (h : HasLog e log) (at : ℕ) (p : 
       → IsHistory v' (linearization log ++ added) → WritesAnswer (stand e.core p.session p.place) lane given closed added (stand v' q.session q.place)
       → (answer : Response) × (HasLog (changed_at e at v' q) (log ++ ReplyWritten (at + 1) m answer closed ∷ []) × (added_by (ReplyWritten (at + 1) m answer closed) ≡ added))
   answer_log m lane given v' q added closed placed was same_closed history g =
-      let k : HasAnswer lane given (seat (lane_state e.core (at + 1)) (at + 1) p.session host.answered.due t) = subst (λ (z : HostedState). IsAtPlace z p.closed (seat (lane_state e.core (at + 1)) (at + 1) p.session host.answered.due t)) placed host.at in
+      let k = placed_at (state.Decided lane given) placed in
       let answer = ByCall k.id k.number k.request given.reply in
       let wrote = subst (λ (z : Option ℕ). IfSome z (λ i. g.0 ≡ record p.session { output = p.session.output ++ packet (reply_body i given.reply); waiting = None })) k.waiting g.1 in
       (answer, (answer_by m lane given v' q added closed placed was same_closed history k g.0 wrote g.2, settled m answer lane closed g.0 added (stand v' q.session q.place) k.session g.2))
@@ -884,14 +825,9 @@ module _ (e : EngineView) (log : List Entry) (h : HasLog e log) (at : ℕ) (p : 
           let o = host.output in
           let y : SessionView = record p.session { output = p.session.output ++ packet (reply_body k.id given.reply); waiting = None } in
           stays_on e log at x v' q h (record {
-            is_of = refl;
+            quiet = (refl, refl, refl, refl, refl, refl);
             within = within;
             same = subst (λ (z : CoreView). IsSame e.core z (linearization log)) (sym g.0) same;
-            begins = refl;
-            leaves = refl;
-            opens = refl;
-            added = refl;
-            calls = refl;
             blocked = h.blocked;
             own = subst (λ (z : HostedSession). Hosts (with_own t x) r (lane_state e.core (at + 1)) (at + 1) z) (hosted_is q (g.2 ∙ wrote) g.3 same_closed) (record {
               answered = replied_to t r host.answered k.id c t.left (Some x) k.due refl (λ z. absurd (let no : true ≡ false = sym z ∙ unclosed in cc));
@@ -913,31 +849,33 @@ module _ (e : EngineView) (log : List Entry) (h : HasLog e log) (at : ℕ) (p : 
           let o = host.output in
           let y : SessionView = record p.session { unread = []; output = p.session.output ++ packet (reply_body k.id given.reply); waiting = None; ended = Some Closed } in
           leaves_on e log at x v' q h (record {
-            is_of = refl;
+            leaving = (refl, refl, refl, refl, refl, refl, refl, refl);
             within = within;
             left = subst (λ (n : ℕ). SessionLeaves e.core v' n) k.session g.0;
             history = subst (λ (n : ℕ). IsHistory v' (linearization log ++ Left n ∷ [])) k.session (subst (λ (z : List Record). IsHistory v' (linearization log ++ z)) g.1 history);
-            begins = refl;
-            leaves = refl;
-            opens = refl;
-            added = refl;
-            calls = refl;
-            blocked = refl;
             own = subst (λ (z : HostedSession). Hosts (with_own t x) r NoLane (at + 1) z) (hosted_is q (g.2 ∙ ap (λ (z : SessionView). record z { unread = []; ended = Some Closed }) wrote) g.3 same_closed)
                 (away_hosts x (with_own t x) Closed y (replied_to t r host.answered k.id c true (Some x) k.due refl (λ z. refl)) refl refl
                 (record { sent = o.sent; count_is = o.count_is; packets = output_push t.wrote o.sent p.session.output answer o.packets }) host.begun (inl (refl, closed_is)) refl p.closed);
             lawful = (waits k.ended k.due k.decided, host.answered.calls ∙ ap (λ (d : Due). answered_in t.wrote ++ recorded_due d) k.due ∙ sym (answered_push t.wrote answer), sym closed_is);
-            gone = refl;
             here = open_now.0;
           })
 
   pub going : (lane : LaneView) → p.place ≡ state.UnderWay lane → IsGoing lane (seat (lane_state e.core (at + 1)) (at + 1) p.session host.answered.due t)
-  going lane placed = subst (λ (z : HostedState). IsAtPlace z p.closed (seat (lane_state e.core (at + 1)) (at + 1) p.session host.answered.due t)) placed host.at
+  going lane placed = placed_at (state.UnderWay lane) placed
 
   pub walks : (lane : LaneView) → p.place ≡ state.UnderWay lane → IsInPhase log (at + 1) Running
   walks lane placed =
       let k = going lane placed in
       (known, course_by t.left t.begun (length (answered_in t.wrote)) t.call.decided 1 (here k.ended).1 (host.answered.begun ∙ ap (λ (n : ℕ). length (answered_in t.wrote) + n) (due_one k.id k.call host.answered.due k.due)) false k.undecided)
+
+  away_phase : (c : Cause) → p.place ≡ state.Gone c → phase t ≡ HasLeft
+  away_phase c placed = ap (λ (z : Bool). phase_at z (t.begun - length (answered_in t.wrote)) t.call.decided) (present_or_gone (Some c) (placed_at (state.Gone c) placed).ended).0
+
+  pub phase_is : (o : HostedState) → p.place ≡ o → phase t ≡ phase_for o
+  phase_is (state.Resting lane) placed = (at_rests lane placed).1
+  phase_is (state.UnderWay lane) placed = (walks lane placed).1
+  phase_is (state.Decided lane given) placed = let k = placed_at (state.Decided lane given) placed in (waits k.ended k.due k.decided).1
+  phase_is (state.Gone c) placed = away_phase c placed
 
   -- ---- closing
 
@@ -949,34 +887,22 @@ module _ (e : EngineView) (log : List Entry) (h : HasLog e log) (at : ℕ) (p : 
       let x = SessionClosed (at + 1) true in
       let y : SessionView = record p.session { unread = []; ended = Some Closed } in
       leaves_on e log at x v' q h (record {
-        is_of = refl;
+        leaving = (refl, refl, refl, refl, refl, refl, refl, refl);
         within = within;
         left = subst (λ (n : ℕ). SessionLeaves e.core v' n) k.session g.0;
         history = subst (λ (n : ℕ). IsHistory v' (linearization log ++ Left n ∷ [])) k.session (subst (λ (z : List Record). IsHistory v' (linearization log ++ z)) g.1 history);
-        begins = refl;
-        leaves = refl;
-        opens = refl;
-        added = refl;
-        calls = refl;
-        blocked = refl;
         own = subst (λ (z : HostedSession). Hosts (with_own t x) r NoLane (at + 1) z) (hosted_is q g.2 g.3 closed)
             (away_hosts x (with_own t x) Closed y (answered_as t r t.sent true true (Some x) host.answered tt (λ c n. refl)) refl k.due host.output host.begun (inl (refl, refl)) refl p.closed);
         lawful = at_rests lane placed;
-        gone = refl;
         here = open_now.0;
       })
 
   closed_stays : (v' : CoreView) (q : HostedSession) (added : List Record) (f : SessionPhase) → phase t ≡ f → f ≢ WithoutCall → StaysAs (stand e.core p.session p.place) added (stand v' q.session q.place)
       → Hosts (with_own t (SessionClosed (at + 1) false)) r (lane_state e.core (at + 1)) (at + 1) q → HasLog (changed_at e at v' q) (log ++ SessionClosed (at + 1) false ∷ [])
   closed_stays v' q added f is away g own = stays_on e log at (SessionClosed (at + 1) false) v' q h (record {
-    is_of = refl;
+    quiet = (refl, refl, refl, refl, refl, refl);
     within = within;
     same = subst (λ (z : CoreView). IsSame e.core z (linearization log)) (sym g.0) same;
-    begins = refl;
-    leaves = refl;
-    opens = refl;
-    added = refl;
-    calls = refl;
     blocked = h.blocked;
     own = own;
     lawful = (known, λ rests. away (sym is ∙ rests));
@@ -988,25 +914,25 @@ module _ (e : EngineView) (log : List Entry) (h : HasLog e log) (at : ℕ) (p : 
       → (leaves : Bool) × HasLog (changed_at e at v' q) (log ++ SessionClosed (at + 1) leaves ∷ [])
   closed_log (state.Resting lane) v' q added goes_on placed history g closed = (true, closed_away lane v' q added placed (closed ∙ or_false p.closed goes_on g.1) history g.0)
   closed_log (state.UnderWay lane) v' q added goes_on placed history g closed =
-      let k : IsGoing lane (seat (lane_state e.core (at + 1)) (at + 1) p.session host.answered.due t) = subst (λ (z : HostedState). IsAtPlace z p.closed (seat (lane_state e.core (at + 1)) (at + 1) p.session host.answered.due t)) placed host.at in (
+      let k = placed_at (state.UnderWay lane) placed in (
         false,
-        closed_stays v' q added Running (walks lane placed).1 (λ z. absurd cc) g.0 (subst (λ (z : HostedSession). Hosts (with_own t (SessionClosed (at + 1) false)) r (lane_state e.core (at + 1)) (at + 1) z) (closed_is q (closed ∙ or_true p.closed goes_on g.1) g.0.2 g.0.3)
+        closed_stays v' q added Running (walks lane placed).1 (λ z. cc) g.0 (subst (λ (z : HostedSession). Hosts (with_own t (SessionClosed (at + 1) false)) r (lane_state e.core (at + 1)) (at + 1) z) (closed_is q (closed ∙ or_true p.closed goes_on g.1) g.0.2 g.0.3)
             (later_hosts t r (lane_state e.core (at + 1)) (at + 1) p host k.ended (due_some k.id k.call host.answered.due k.due)
             (subst (λ (z : HostedState). IsAtPlace z true (seat (lane_state e.core (at + 1)) (at + 1) p.session host.answered.due t)) (sym placed) k))),
       )
   closed_log (state.Decided lane given) v' q added goes_on placed history g closed =
-      let k : HasAnswer lane given (seat (lane_state e.core (at + 1)) (at + 1) p.session host.answered.due t) = subst (λ (z : HostedState). IsAtPlace z p.closed (seat (lane_state e.core (at + 1)) (at + 1) p.session host.answered.due t)) placed host.at in (
+      let k = placed_at (state.Decided lane given) placed in (
         false,
-        closed_stays v' q added Replying (waits k.ended k.due k.decided).1 (λ z. absurd cc) g.0 (subst (λ (z : HostedSession). Hosts (with_own t (SessionClosed (at + 1) false)) r (lane_state e.core (at + 1)) (at + 1) z) (closed_is q (closed ∙ or_true p.closed goes_on g.1) g.0.2 g.0.3)
+        closed_stays v' q added Replying (waits k.ended k.due k.decided).1 (λ z. cc) g.0 (subst (λ (z : HostedSession). Hosts (with_own t (SessionClosed (at + 1) false)) r (lane_state e.core (at + 1)) (at + 1) z) (closed_is q (closed ∙ or_true p.closed goes_on g.1) g.0.2 g.0.3)
             (later_hosts t r (lane_state e.core (at + 1)) (at + 1) p host k.ended (λ n. let z : Recorded k.id (replied k.number k.request given.reply) ≡ NothingDue = sym k.due ∙ n in cc)
             (subst (λ (z : HostedState). IsAtPlace z true (seat (lane_state e.core (at + 1)) (at + 1) p.session host.answered.due t)) (sym placed) k))),
       )
   closed_log (state.Gone c) v' q added goes_on placed history g closed =
-      let k : IsAway c (seat (lane_state e.core (at + 1)) (at + 1) p.session host.answered.due t) = subst (λ (z : HostedState). IsAtPlace z p.closed (seat (lane_state e.core (at + 1)) (at + 1) p.session host.answered.due t)) placed host.at in
-      let away = subst (λ (o : Option Cause). IsOpenOrGone o t.left t.closed host.answered.bodies host.answered.rest p.session.unread) k.ended host.open_or_gone in
+      let k = placed_at (state.Gone c) placed in
+      let away = present_or_gone (Some c) k.ended in
       let x = SessionClosed (at + 1) false in (
         false,
-        closed_stays v' q added HasLeft (ap (λ (z : Bool). phase_at z (t.begun - length (answered_in t.wrote)) t.call.decided) away.0) (λ z. absurd cc) g.0 (subst (λ (z : HostedSession). Hosts (with_own t x) r (lane_state e.core (at + 1)) (at + 1) z) (hosted_is q g.0.2 g.0.3 (closed ∙ or_false p.closed goes_on g.1)) (record {
+        closed_stays v' q added HasLeft (ap (λ (z : Bool). phase_at z (t.begun - length (answered_in t.wrote)) t.call.decided) away.0) (λ z. cc) g.0 (subst (λ (z : HostedSession). Hosts (with_own t x) r (lane_state e.core (at + 1)) (at + 1) z) (hosted_is q g.0.2 g.0.3 (closed ∙ or_false p.closed goes_on g.1)) (record {
           answered = answered_as t r t.sent true t.left (Some x) host.answered tt (λ c n. away.0);
           output = host.output;
           begun = host.begun;
@@ -1065,7 +991,7 @@ module _ (e : EngineView) (log : List Entry) (h : HasLog e log) (at : ℕ) (p : 
         }));
         lawful = (at_rests lane placed, refl);
         pending = tt;
-        blocked = held_on e.core v' (keeps_others e.core v' lane.session b.others (λ z busy. let no : Idle ≡ Busy z = sym b.idle ∙ busy in absurd cc)) (blocked_in log) h.blocked;
+        blocked = held_on e.core v' (keeps_others e.core v' lane.session b.others (λ z busy. let no : Idle ≡ Busy z = sym b.idle ∙ busy in cc)) (blocked_in log) h.blocked;
         left = omega arith;
       })
 
@@ -1074,20 +1000,15 @@ module _ (e : EngineView) (log : List Entry) (h : HasLog e log) (at : ℕ) (p : 
   pub blocked_log : (m holder : ℕ) (lane lane' : LaneView) (v' : CoreView) (q : HostedSession) → p.place ≡ state.UnderWay lane → q.closed ≡ p.closed → q.session ≡ p.session → IsHistory v' (linearization log)
       → StepGives (before e.core (linearization log) lane) (happened.Blocked holder) (after_turn v' [] lane') q.place → HasLog (changed_at e at v' q) (log ++ CallBlocked (at + 1) m holder ∷ [])
   blocked_log m holder lane lane' v' q placed closed session history g =
-      let k : IsGoing lane (seat (lane_state e.core (at + 1)) (at + 1) p.session host.answered.due t) = subst (λ (z : HostedState). IsAtPlace z p.closed (seat (lane_state e.core (at + 1)) (at + 1) p.session host.answered.due t)) placed host.at in
+      let k = placed_at (state.UnderWay lane) placed in
       let b = g.0.1 in
       let x = CallBlocked (at + 1) m holder in
       let other = busy_call e log h b.other b.call b.slot in
       let held : IsHeldUp e.core (at + 1) = (g.0.0, ap (λ (n : ℕ). lane_state e.core n) (sym k.session) ∙ b.own.slot, record { other = b.other; call = b.call; slot = b.slot; deeper = b.deeper }) in
       stays_on e log at x v' q h (record {
-        is_of = refl;
+        quiet = (refl, refl, refl, refl, refl, refl);
         within = within;
         same = record { joins = b.looks.joins; drawn = b.looks.drawn; joined = b.looks.joined; slots = b.looks.slots; history = history };
-        begins = refl;
-        leaves = refl;
-        opens = refl;
-        added = refl;
-        calls = refl;
         blocked = (held, h.blocked);
         own = subst (λ (z : HostedSession). Hosts (with_own t x) r (lane_state e.core (at + 1)) (at + 1) z) (hosted_is q session (g.2 ∙ ap (λ (l : LaneView). state.UnderWay l) g.1.lane ∙ sym placed) closed) (record {
           answered = answered_as t r t.sent t.closed t.left (Some x) host.answered (due_some k.id k.call host.answered.due k.due) host.answered.closed;
@@ -1198,7 +1119,7 @@ module _ (e : EngineView) (log : List Entry) (h : HasLog e log) (at : ℕ) (p : 
             (decided_hosts t (lin ++ all) s m all p lane lane' c given recorded_own placed rests (among_last (did c given.reply) lin f.helped))));
         lawful = walks lane placed;
         pending =
-            all_push (IsPending log) f.helped (did c given.reply) (helped_calls e log h lane.session f.helped f.of_others)
+            all_push (IsPending log) f.helped (did c given.reply) (pending_calls log lane.session f.helped (others_calls e log h lane.session f.helped f.of_others))
             (subst (λ (n : ℕ). IsUnanswered (of_session n log) c.number × ((of_session n log).call.moment ≡ c.moment)) (sym own_session) (busy_call e log h s c slot));
         blocked = tt;
         left = omega arith;

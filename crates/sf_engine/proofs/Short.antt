@@ -16,6 +16,7 @@ use Rattle.sf_request.specs.declared.request.Asked.TheVariants as asked
 use Rattle.sf_call.specs.declared.request.Request.{Request}
 use Rattle.sf_call.specs.declared.request.Request.TheVariants as call
 use Rattle.sf_walk.specs.Ways.{request_names}
+use Rattle.sf_session.proofs.Laws.{asked_each}
 use Rattle.sf_session.specs.declared.asking.Ask.{Ask}
 use Rattle.sf_session.specs.declared.asking.Ask.TheVariants as ask
 use Rattle.sf_session.specs.declared.cause.Cause.TheVariants.{OldVersion}
@@ -146,8 +147,7 @@ asked_short begun body a h = subst IsShortAsk (sym h.2) (ask_short begun body h.
 -- the last ask
 pub last_short : (begun : Bool) (bodies : List (List ℕ)) (asks : List Ask) (a : Ask) → AreAsked begun bodies (asks ++ a ∷ []) → IsShortAsk a
 unfolding AreAsked
-last_short begun [] [] a h = absurd h
-last_short begun [] (b ∷ asks) a h = absurd h
+last_short begun [] asks a h = absurd (omega (arith, asked_each begun [] (asks ++ a ∷ []) h, length-append asks (a ∷ [])))
 last_short begun (body ∷ bodies) [] a h = asked_short begun body a h.0
 last_short begun (body ∷ bodies) (b ∷ asks) a h = last_short true bodies asks a h.1
 

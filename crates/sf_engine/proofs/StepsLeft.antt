@@ -114,7 +114,7 @@ does_step happened.Decided ok s m v l added w step =
       | inl f ↦ inr (λ n below. fetches_falls before after step.3.0 step.3.1 n f (omega (arith, below, own)))
       | inr d ↦ inr (λ n below. decides_falls before after step.3.0 step.3.1 n d (omega (arith, below, own)))
     ]
-does_step _ ok s m v l added w step = absurd cc
+does_step _ ok s m v l added w step = cc
 
 -- ---- part of a round
 
@@ -155,7 +155,7 @@ skips_work e at any e' log h within rests k = record {
 }
 
 pub steps_work : (e : EngineView) (at : ℕ) (any : Bool) (e' e'' : EngineView) → at < length e.hosted → StepDoes e'.core (at + 1) e''.core → WorkSoFar e at any e' → WorkSoFar e (at + 1) true e''
-steps_work e at any e' e'' within does k = record { work = work_on e at e' e'' within k.work does; same = λ no. absurd cc }
+steps_work e at any e' e'' within does k = record { work = work_on e at e' e'' within k.work does; same = λ no. cc }
 
 -- ---- the whole round
 
@@ -177,7 +177,7 @@ not_blocked e log v h blocked s c busy = elim (furthest e.core (length e.hosted 
 -- the core has the call that is running by the log
 under_busy : (t : SessionLog) (r : List RepliedCall) (slot : LaneState Call) (s : ℕ) (p : HostedSession) (h : Hosts t r slot s p) (o : HostedState) → is_under_way o ≡ true → IsAtPlace o p.closed (seat slot s p.session h.answered.due t) → (c : Call) × (slot ≡ Busy c)
 under_busy t r slot s p h (state.UnderWay lane) e k = (k.call, k.slot)
-under_busy t r slot s p h _ e k = absurd cc
+under_busy t r slot s p h _ e k = cc
 
 pub less_left : (e : EngineView) (at : ℕ) (e' : EngineView) (log : List Entry) → HasLog e log → WorkSoFar e at true e' → length e.hosted ≡ at → length e'.hosted ≡ length e.hosted → is_some_list (under_way log) ≡ true → left_to e' < left_to e
 less_left e at e' log h k all count some =
@@ -234,7 +234,7 @@ never_blocked e log h (suc i) at all =
     not_blocked e log e.core h blocked (i + 1) call.0 call.1
   where
     held : (z : ℕ) (c : Call) → z ≤ length e.hosted → lane_state e.core z ≡ Busy c → IsBehindOther e.core c
-    held zero c le busy = absurd (let no : NoLane ≡ Busy c = sym h.zero ∙ busy in cc)
+    held zero c le busy = let no = sym h.zero ∙ busy in cc
     held (suc k) c le busy =
         let num : k + 1 ≡ suc k = add-one k in
         let q = get_within e.hosted k (omega (arith, le)) in

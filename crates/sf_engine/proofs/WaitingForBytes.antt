@@ -1,20 +1,18 @@
 -- A session that waits for bytes, by the log.
-use Rattle.std.proofs.Common.{◌≡◌, ℕ, ◌+◌, ◌-◌, ◌<◌, ◌⊎◌, List, [], ◌∷◌, ◌++◌, Option, Some, Bool, true, false, length, map, slice_get, refl, ap, sym, ◌∙◌, subst, arith, inl, inr, length-append}
+use Rattle.std.proofs.Common.{◌≡◌, ℕ, ◌+◌, ◌<◌, ◌⊎◌, List, [], ◌∷◌, ◌++◌, Some, Bool, true, false, length, map, slice_get, refl, sym, ◌∙◌, subst, arith, inl, inr, length-append}
 use Rattle.std.specs.Prelude.{IsTrue, ◌↔◌}
 use Rattle.sf_wire.specs.declared.cutting.Cut.TheVariants as cut
 use Rattle.sf_wire.specs.Packets.{IsCut}
-use Rattle.sf_session.specs.declared.cause.Cause.{Cause}
-use Rattle.sf_session.specs.Responses.{RepliedCall, recorded_in, answered_in, ask_behind, asked_due}
+use Rattle.sf_session.specs.Responses.{RepliedCall, recorded_in, ask_behind, asked_due}
 use Rattle.sf_session.proofs.Laws.{asked_each}
-use Rattle.sf_core.specs.Cores.{lane_state}
 use Rattle.sf_engine.specs.declared.hosted.HostedSession.{HostedSession}
 use Rattle.sf_engine.specs.declared.hosted.HostedState.{HostedState}
 use Rattle.sf_engine.specs.declared.hosted.HostedState.TheVariants as state
 use Rattle.sf_engine.specs.Turns.{is_resting}
 use Rattle.sf_engine.specs.Views.{EngineView}
-use Rattle.sf_engine.specs.Promise.{Entry, linearization, SessionLog, of_session, SessionPhase, WithoutCall, Running, Replying, HasLeft, phase, phase_at, IsAnswered, WaitsForBytes}
-use Rattle.sf_engine.specs.HasLog.{HasLog, WantsBytes, IsAtPlace, IsAway, IsOpenOrGone, seat}
-use Rattle.sf_engine.proofs.SessionEvents.{host, known, here, resting, is_open, at_rests, walks, waits}
+use Rattle.sf_engine.specs.Promise.{Entry, linearization, SessionLog, of_session, SessionPhase, WithoutCall, phase, IsAnswered, WaitsForBytes}
+use Rattle.sf_engine.specs.HasLog.{HasLog, WantsBytes}
+use Rattle.sf_engine.proofs.SessionEvents.{host, known, resting, is_open, at_rests, phase_for, phase_is}
 use Rattle.sf_engine.proofs.Base.{one_rest}
 
 -- the rest of a session's bytes is unique
@@ -27,29 +25,19 @@ one_left t r x y =
     let b = length-append asks (asked_due y.due) in
     let c = x.begun in
     let d = y.begun in
-    one_rest x.bodies y.bodies x.rest y.rest x.are_bodies y.are_bodies (omega (arith, xs, ys, a, b, c, d)) (sym x.fed ∙ y.fed)
+    (one_rest x.bodies y.bodies x.rest y.rest x.are_bodies y.are_bodies (omega (arith, xs, ys, a, b, c, d)) (sym x.fed ∙ y.fed)).1
+
+-- a session that rests by the log is in the place for that
+resting_for : (o : HostedState) → phase_for o ≡ WithoutCall → is_resting o ≡ true
+resting_for (state.Resting lane) is = refl
+resting_for _ is = cc
 
 module _ (e : EngineView) (log : List Entry) (h : HasLog e log) (at : ℕ) (p : HostedSession) (stood : slice_get e.hosted at ≡ Some p) where
-  -- a session that rests by the log is in the place for that
-  rests_at : (o : HostedState) → p.place ≡ o → phase (of_session (at + 1) log) ≡ WithoutCall → is_resting o ≡ true
-  rests_at (state.Resting lane) placed is = refl
-  rests_at (state.UnderWay lane) placed is = absurd (let z : Running ≡ WithoutCall = sym (walks e log h at p stood lane placed).1 ∙ is in cc)
-  rests_at (state.Decided lane given) placed is =
-      let a = host e log h at p stood in
-      let k = subst (λ (z : HostedState). IsAtPlace z p.closed (seat (lane_state e.core (at + 1)) (at + 1) p.session a.answered.due (of_session (at + 1) log))) placed a.at in
-      absurd (let z : Replying ≡ WithoutCall = sym (waits e log h at p stood k.ended k.due k.decided).1 ∙ is in cc)
-  rests_at (state.Gone c) placed is =
-      let a = host e log h at p stood in
-      let t = of_session (at + 1) log in
-      let k : IsAway c (seat (lane_state e.core (at + 1)) (at + 1) p.session a.answered.due t) = subst (λ (z : HostedState). IsAtPlace z p.closed (seat (lane_state e.core (at + 1)) (at + 1) p.session a.answered.due t)) placed a.at in
-      let left = (subst (λ (o : Option Cause). IsOpenOrGone o t.left t.closed a.answered.bodies a.answered.rest p.session.unread) k.ended a.open_or_gone).0 in
-      absurd (let z : HasLeft ≡ WithoutCall = sym (ap (λ (b : Bool). phase_at b (t.begun - length (answered_in t.wrote)) t.call.decided) left) ∙ is in cc)
-
   -- the rest are the unread bytes
   rest_is : (o : HostedState) → p.place ≡ o → is_resting o ≡ true → (phase (of_session (at + 1) log) ≡ WithoutCall) × ((host e log h at p stood).answered.rest ≡ p.session.unread)
   rest_is (state.Resting lane) placed rests =
       ((at_rests e log h at p stood lane placed).1, (is_open e log h at p stood (resting e log h at p stood lane placed).0.ended).1)
-  rest_is _ placed rests = absurd cc
+  rest_is _ placed rests = cc
 
   waits_there : (b : Bool) → (IsTrue b ↔ ((is_resting p.place ≡ true) × IsCut p.session.unread cut.More)) → IsTrue b ↔ WaitsForBytes log (at + 1)
   waits_there b wants = (
@@ -58,7 +46,7 @@ module _ (e : EngineView) (log : List Entry) (h : HasLog e log) (at : ℕ) (p : 
         let is = rest_is p.place refl seen.0 in
         record { at = (known e log h at p stood, is.0); answered = (host e log h at p stood).answered; cut = subst (λ (bytes : List ℕ). IsCut bytes cut.More) (sym is.1) seen.1 },
     λ w.
-        let rests = rests_at p.place refl w.at.1 in
+        let rests = resting_for p.place (sym (phase_is e log h at p stood p.place refl) ∙ w.at.1) in
         let is = rest_is p.place refl rests in
         let same = one_left (of_session (at + 1) log) (recorded_in (at + 1) (linearization log)) w.answered (host e log h at p stood).answered in
         wants.1 (rests, subst (λ (bytes : List ℕ). IsCut bytes cut.More) (same ∙ is.1) w.cut),

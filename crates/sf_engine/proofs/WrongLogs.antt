@@ -32,7 +32,7 @@ one_call : (x y : RepliedCall) → x ∷ [] ≡ y ∷ [] → x ≡ y
 one_call x y e = cc
 
 not_failed : succeeded ≡ reply.Status Failure → ⊥
-not_failed e = absurd cc
+not_failed e = cc
 
 pub no_other_reply : (bytes : Vec ℕ Global) → IsKept (other_reply bytes) → ⊥
 no_other_reply bytes kept =
@@ -72,10 +72,9 @@ pub no_blocked_calls : AreNeverAllBlocked blocked_calls → ⊥
 no_blocked_calls never = never 1 ((omega arith, omega arith), refl) all
   where
     all : (z : ℕ) → IsInPhase blocked_calls z Running → Contains (2 ∷ 1 ∷ []) z
-    all zero at = absurd (omega (arith, at.0.0))
     all (suc zero) at = (1, omega arith, refl)
     all (suc (suc zero)) at = (0, omega arith, refl)
-    all (suc (suc (suc z))) at = absurd (omega (arith, at.0.1))
+    all _ at = absurd (omega (arith, at.0.0, at.0.1))
 
 pub no_early_refusal : IsKept early_refusal → ⊥
 no_early_refusal kept = let many = kept.lawful [] [] (EventRefused Open Sessions) refl in absurd (omega (arith, many))

@@ -5,7 +5,7 @@ use Rattle.std.specs.Map.{lookup, set_value}
 use Rattle.std.specs.BTreeMap.{is_at}
 use Rattle.sf_path.specs.Names.{Path}
 use Rattle.sf_call.specs.declared.lookup.Lookup.{Lookup}
-use Rattle.sf_call.specs.declared.lookup.Lookup.TheVariants.{NoWay, Absent, At}
+use Rattle.sf_call.specs.declared.lookup.Lookup.TheVariants.{At}
 use Rattle.sf_field.specs.Attributes.{no_attrs}
 use Rattle.sf_call.specs.Attributes.{Object}
 use Rattle.sf_call.specs.Attributes.Object.{Directory, File}
@@ -40,9 +40,8 @@ module _ (tree : Tree) where
   told_opened (Some (h, File m contents)) = refl
 
   pub was_read : (offset len : ℕ) (o : Option (Handle × Object)) → done tree (read offset len o).changes ≡ tree
-  was_read offset len None = refl
-  was_read offset len (Some (h, Directory m)) = refl
   was_read offset len (Some (h, File m contents)) = either (not h.read) _ _ refl (either (nat_le (length contents) offset) _ _ refl refl)
+  was_read offset len _ = refl
 
   parts_set : (moment label : ℕ) (object : Object) → object_of tree.objects label ≡ Some object → done tree (sets moment label no_attrs object).changes ≡ tree
   parts_set moment label (Directory m) there = ap (λ (objects : List (ℕ × Object)). record tree { objects = objects }) (same_value (is_at (nat_cmp label)) tree.objects (Directory m) there)
@@ -54,9 +53,8 @@ module _ (tree : Tree) where
   set_object moment label (Some (File m contents)) there = parts_set moment label (File m contents) there
 
   set_place : (moment : ℕ) (place : Lookup) → done tree (set_stat moment no_attrs (found_place tree.objects place)).changes ≡ tree
-  set_place moment NoWay = refl
-  set_place moment Absent = refl
   set_place moment (At label) = set_object moment label (object_of tree.objects label) refl
+  set_place moment _ = refl
 
   pub set_by_path : (moment : ℕ) (path : Path) → done tree (unless_root path (set_stat moment no_attrs (found_place tree.objects (look_up tree path)))).changes ≡ tree
   set_by_path moment [] = refl
@@ -72,6 +70,5 @@ module _ (tree : Tree) where
   set_by_handle moment (Some h) = set_opened_object moment h (object_of tree.objects h.label) refl
 
   pub nothing_written : (moment offset : ℕ) (o : Option (Handle × Object)) → done tree (write moment offset [] o).changes ≡ tree
-  nothing_written moment offset None = refl
-  nothing_written moment offset (Some (h, Directory m)) = refl
   nothing_written moment offset (Some (h, File m contents)) = either (not h.write) _ _ refl refl
+  nothing_written moment offset _ = refl

@@ -1,5 +1,5 @@
 -- The names of a listing are in order, after the last one that was listed.
-use Rattle.std.proofs.Common.{◌≡◌, ℕ, zero, suc, true, false, T, cond, List, [], ◌∷◌, ◌++◌, filter_map, take, Option, Some, None, option_map, option_and_then, refl, sym, ap, ◌∙◌, subst}
+use Rattle.std.proofs.Common.{◌≡◌, ℕ, suc, true, false, T, cond, List, [], ◌∷◌, ◌++◌, filter_map, take, Option, Some, None, option_map, option_and_then, refl, sym, ap, ◌∙◌, subst}
 use Rattle.std.specs.List.{AllByRecursion, cons_option}
 use Rattle.std.specs.List.Sorted.{IsStrictlySortedBy}
 use Rattle.std.specs.declared.cmp.Ordering.TheVariants.{Less, Equal, Greater}
@@ -23,15 +23,13 @@ named name count (Some object) entry e = let same : entry_of name count object �
 entry_name : (last : Option Name) (count : ℕ) (o : Option Object) (rest : Option Path) (entry : Entry)
     → option_and_then (λ name. option_map (entry_of name count) o) (option_and_then (λ name. cond (is_past last name) (Some name) None) (only_name rest)) ≡ Some entry
     → (rest ≡ Some (entry.filename ∷ [])) × (is_past last entry.filename ≡ true)
-entry_name last count o None entry e = cc
-entry_name last count o (Some []) entry e = cc
-entry_name last count o (Some (n ∷ m ∷ path)) entry e = cc
 entry_name last count o (Some (n ∷ [])) entry e =
     elim (is_past last n) as (λ b. is_past last n ≡ b → option_and_then (λ name. option_map (entry_of name count) o) (cond b (Some n) None) ≡ Some entry
     → (Some (n ∷ []) ≡ Some (entry.filename ∷ [])) × (is_past last entry.filename ≡ true)) [
       | true ↦ λ past k. let same = named n count o entry k in (ap (λ (m : Name). Some (m ∷ [])) same, ap (is_past last) (sym same) ∙ past)
       | false ↦ λ past k. cc
     ] refl e
+entry_name last count o _ entry e = cc
 
 less : (n m : Name) → T (is_lt (path_cmp (n ∷ []) (m ∷ []))) → name_cmp n m ≡ Less
 less n m t =
@@ -88,17 +86,13 @@ all_true [] = tt
 all_true (e ∷ es) = (tt, all_true es)
 
 all_taken : (P : Name → Type 0) (n : ℕ) (entries : List Entry) → AllByRecursion P (names_of entries) → AllByRecursion P (names_of (take n entries))
-all_taken P zero [] all = tt
-all_taken P zero (e ∷ es) all = tt
-all_taken P (suc n) [] all = tt
 all_taken P (suc n) (e ∷ es) all = (all.0, all_taken P n es all.1)
+all_taken P _ _ all = tt
 
 order_taken : (n : ℕ) (entries : List Entry) → IsStrictlySortedBy name_cmp (names_of entries) → IsStrictlySortedBy name_cmp (names_of (take n entries))
 unfolding IsStrictlySortedBy
-order_taken zero [] sorted = tt
-order_taken zero (e ∷ es) sorted = tt
-order_taken (suc n) [] sorted = tt
 order_taken (suc n) (e ∷ es) sorted = (all_taken (λ m. name_cmp e.filename m ≡ Less) n es sorted.0, order_taken n es sorted.1)
+order_taken _ _ sorted = tt
 
 pub listing_order : (tree : Tree) (last : Option Name) (directory : Path) → IsOrderedTree tree → IsStrictlySortedBy name_cmp (names_of (listing tree last directory))
 listing_order tree last directory o = order_taken 32 (listed tree last directory tree.names) (in_order tree last directory tree.names o.names)

@@ -12,9 +12,9 @@ use Rattle.sf_call.specs.declared.limits.TheConstants.{MAX_LINKS}
 use Rattle.sf_call.specs.declared.metadata.Metadata.{Metadata}
 use Rattle.sf_call.specs.declared.request.Request.TheVariants.{Link}
 use Rattle.sf_call.specs.declared.lookup.Lookup.{Lookup}
-use Rattle.sf_call.specs.declared.lookup.Lookup.TheVariants.{NoWay, Absent, At}
+use Rattle.sf_call.specs.declared.lookup.Lookup.TheVariants.{Absent, At}
 use Rattle.sf_call.specs.Attributes.{Object}
-use Rattle.sf_call.specs.Attributes.Object.{Directory, File}
+use Rattle.sf_call.specs.Attributes.Object.{File}
 use Rattle.sf_call.specs.Tree.{Tree, label_at, object_of, links, look_up, found_place, directory_at}
 use Rattle.sf_call.specs.Changes.{changed, done, touch, touched}
 use Rattle.sf_call.specs.Changes.Change.{NewName}
@@ -54,23 +54,20 @@ module _ (tree : Tree) (moment : ℕ) (old new : Path) where
       }
 
   to_place : (label : ℕ) → label_at tree.names old ≡ Some label → (place : Lookup) → look_up tree new ≡ place → LinksIt (link_to tree moment new label place)
-  to_place label was NoWay at = λ e. cc
-  to_place label was (At other) at = λ e. cc
   to_place label was Absent at =
       elim (nat_le MAX_LINKS (links tree.names label)) as (λ b. nat_le MAX_LINKS (links tree.names label) ≡ b → LinksIt (cond b (refuses Failure) (succeeds (NewName new label ∷ touched tree moment (parent new))))) [
         | true ↦ λ _ e. cc
         | false ↦ λ f _. made label was (place_free tree new at).1 f
       ] refl
+  to_place label was _ at = λ e. cc
 
   of_object : (label : ℕ) → label_at tree.names old ≡ Some label → (o : Option Object) → LinksIt (link tree moment new (option_map (λ (object : Object). (label, object)) o))
-  of_object label was None = λ e. cc
-  of_object label was (Some (Directory m)) = λ e. cc
   of_object label was (Some (File m contents)) = to_place label was (look_up tree new) refl
+  of_object label was _ = λ e. cc
 
   of_place : (place : Lookup) → look_up tree old ≡ place → LinksIt (link tree moment new (found_place tree.objects place))
-  of_place NoWay at = λ e. cc
-  of_place Absent at = λ e. cc
   of_place (At label) at = of_object label (place_label tree old label at) (object_of tree.objects label)
+  of_place _ at = λ e. cc
 
   rooted : (path : Path) (answer : Outcome) → LinksIt answer → LinksIt (unless_root path answer)
   rooted [] answer p = λ e. cc

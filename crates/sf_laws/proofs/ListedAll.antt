@@ -72,9 +72,8 @@ module _ (tree : Tree) (last : Option Name) (directory : Path) (name : Name) (ob
 taken : (n : ℕ) (x : Entry) (entries : List Entry) → IsStrictlySortedBy name_cmp (names_of entries) → IsIn x entries
     → IsIn x (take n entries) ⊎ ((length (take n entries) ≡ n) × AllByRecursion (λ m. is_lt (name_cmp m x.filename) ≡ true) (names_of (take n entries)))
 unfolding IsStrictlySortedBy
-taken zero x [] sorted is = absurd is
 taken zero x (e ∷ es) sorted is = inr (refl, tt)
-taken (suc n) x [] sorted is = absurd is
+taken _ x [] sorted is = absurd is
 taken (suc n) x (e ∷ es) sorted is = elim is [
   | inl same ↦ inl (inl same)
   | inr later ↦ elim (taken n x es sorted.1 later) [
@@ -126,15 +125,13 @@ shown name count (Some object) entry e = let same : entry_of name count object �
 shows_object : (last : Option Name) (count : ℕ) (o : Option Object) (rest : Option Path) (entry : Entry)
     → option_and_then (λ name. option_map (entry_of name count) o) (option_and_then (λ name. cond (is_past last name) (Some name) None) (only_name rest)) ≡ Some entry
     → (object : Object) × (o ≡ Some object) × (entry ≡ entry_of entry.filename count object)
-shows_object last count o None entry e = cc
-shows_object last count o (Some []) entry e = cc
-shows_object last count o (Some (n ∷ m ∷ path)) entry e = cc
 shows_object last count o (Some (n ∷ [])) entry e =
     elim (is_past last n) as (λ b. option_and_then (λ name. option_map (entry_of name count) o) (cond b (Some n) None) ≡ Some entry
     → (object : Object) × (o ≡ Some object) × (entry ≡ entry_of entry.filename count object)) [
       | true ↦ λ k. shown n count o entry k
       | false ↦ λ k. cc
     ] e
+shows_object last count o _ entry e = cc
 
 -- an entry has the object under its name in the directory
 abbrev pub IsThere : Tree → Path → Entry → Type 0

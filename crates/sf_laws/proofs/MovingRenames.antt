@@ -39,10 +39,8 @@ apart_paths p q none =
 
 -- if no path is longer by a name, a path has no children
 only_child : (o : Option Path) (name : Name) → only_name o ≡ Some name → o ≡ Some (name ∷ [])
-only_child None name e = cc
-only_child (Some []) name e = cc
 only_child (Some (n ∷ [])) name e = let same : n ≡ name = cc in ap (λ (m : Name). Some (m ∷ [])) same
-only_child (Some (n ∷ m ∷ path)) name e = cc
+only_child _ name e = cc
 
 bare_empty : (names : List (Path × ℕ)) (path : Path) → ((name : Name) → label_at names (path ++ name ∷ []) ≡ None) → is_empty names path ≡ true
 bare_empty [] path none = refl
@@ -75,9 +73,8 @@ module _ (tree : Tree) (moment : ℕ) (old new : Path) (object : (path : Path) (
   not_rooted : (answer : Outcome) → unless_root old (unless_root new answer) ≡ answer
   not_rooted answer = neither old new may.not_inside may.not_around where
     neither : (p q : Path) → after_front p q ≡ None → after_front q p ≡ None → unless_root p (unless_root q answer) ≡ answer
-    neither [] q a b = cc
-    neither (n ∷ p) [] a b = cc
     neither (n ∷ p) (m ∷ q) a b = refl
+    neither _ _ a b = cc
 
   plain_moves : label_at tree.names new ≡ None → rename tree moment old new (look_up tree old) ≡ moves tree moment old new
   plain_moves free =

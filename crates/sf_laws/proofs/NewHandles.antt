@@ -18,7 +18,7 @@ use Rattle.sf_call.specs.Changes.{done, touch}
 use Rattle.sf_call.specs.Calls.{Outcome, apply, directory_handle, new_file_handle}
 use Rattle.sf_laws.specs.NewHandles.{IsJustOpened, allowing}
 use Rattle.sf_laws.proofs.Shapes.{Shape, shape_of}
-use Rattle.sf_laws.proofs.Shapes.Shape.{Refuses, DoesNothing, TellsAttrs, TellsData, OpensDirectory, OpensFile, CutsFile, MakesFile}
+use Rattle.sf_laws.proofs.Shapes.Shape.{OpensDirectory, OpensFile, CutsFile, MakesFile}
 use Rattle.sf_call.proofs.Laws.{lookup-put}
 
 -- the handle that was inserted is found
@@ -61,10 +61,6 @@ module _ (tree : Tree) (session number : ℕ) (path : Path) (read write append :
 
 module _ (tree : Tree) (session number moment : ℕ) (path : Path) where
   directory_made : (answer : Outcome) → Shape tree session number moment (OpenDir path) answer → OpensIt tree session number path false false false answer
-  directory_made answer (Refuses r code) = λ given e. cc
-  directory_made answer (DoesNothing r) = λ given e. cc
-  directory_made answer (TellsAttrs r attrs) = λ given e. cc
-  directory_made answer (TellsData r bytes) = λ given e. cc
   directory_made answer (OpensDirectory p label object at is free) = λ given e. given_number tree session number path false false false _ given e (record {
     handle = directory_handle session label;
     is_open = in_session tree.handles session number (directory_handle session label) refl;
@@ -75,6 +71,7 @@ module _ (tree : Tree) (session number moment : ℕ) (path : Path) where
     appends = refl;
     unlisted = refl;
   })
+  directory_made answer _ = λ given e. cc
 
   pub directory_handle_made : (given : ℕ) → (apply tree session number moment (OpenDir path)).reply ≡ reply.Handle given
       → IsJustOpened (apply tree session number moment (OpenDir path)).tree session given path (allowing false false false)
@@ -100,15 +97,12 @@ module _ (tree : Tree) (session number moment : ℕ) (path : Path) where
     this_number = given_number tree session number path (flags.read || not flags.write) flags.write flags.append
 
     file_made : (answer : Outcome) → Shape tree session number moment (Open path flags attrs) answer → OpensIt tree session number path (flags.read || not flags.write) flags.write flags.append answer
-    file_made answer (Refuses r code) = λ given e. cc
-    file_made answer (DoesNothing r) = λ given e. cc
-    file_made answer (TellsAttrs r attrs) = λ given e. cc
-    file_made answer (TellsData r bytes) = λ given e. cc
     file_made answer (OpensFile p f a label object at is free) = λ given e. this_number _ given e (file_handle_put _ label refl at)
     file_made answer (CutsFile p f a label object cut at is free) = λ given e. this_number _ given e (file_handle_put _ label refl at)
     file_made answer (MakesFile p f a object free) = λ given e.
         this_number _ given e (untouched tree session number path (flags.read || not flags.write) flags.write flags.append _ moment (directory_at tree (parent path))
         (file_handle_put _ number refl (path_put tree.names path number)))
+    file_made answer _ = λ given e. cc
 
     pub file_handle_made : (given : ℕ) → (apply tree session number moment (Open path flags attrs)).reply ≡ reply.Handle given
         → IsJustOpened (apply tree session number moment (Open path flags attrs)).tree session given path (allowing (flags.read || not flags.write) flags.write flags.append)

@@ -25,7 +25,7 @@ use Rattle.sf_call.specs.Changes.Change.{SetObject, NewPath, NewName, GonePath, 
 use Rattle.sf_call.specs.Calls.{Outcome, answer_to, leave, has_all_handles, directory_handle, new_file_handle, moves}
 use Rattle.sf_call.specs.Histories.{replay, IsLegal}
 use Rattle.sf_laws.proofs.Shapes.{Shape, shape_of}
-use Rattle.sf_laws.proofs.Shapes.Shape.{Refuses, DoesNothing, TellsAttrs, TellsData, SetsAt, SetsOpen, Writes, MakesDirectory, RemovesDirectory, RemovesFile, OpensDirectory, OpensFile, CutsFile, MakesFile, Closes, Lists, Renames, Replaces, Links}
+use Rattle.sf_laws.proofs.Shapes.Shape.{SetsAt, SetsOpen, Writes, MakesDirectory, RemovesDirectory, RemovesFile, OpensDirectory, OpensFile, CutsFile, MakesFile, Closes, Lists, Renames, Replaces, Links}
 use Rattle.sf_call.proofs.Laws.{lookup-put, object_kept, all_by, all_filtered, all_removed, all_put, all_set, found_value, holds_after}
 
 -- the handles of a session
@@ -243,10 +243,6 @@ module _ (tree : Tree) (session number moment : ℕ) (h : HandlesHold tree) wher
   moved_holds old new = touches_hold _ moment (directory_at tree (parent old)) (directory_at tree (parent new)) (move_holds tree old new h)
 
   shape_holds : (r : Request) (answer : Outcome) → Shape tree session number moment r answer → Keeps answer
-  shape_holds r answer (Refuses q code) = h
-  shape_holds r answer (DoesNothing q) = h
-  shape_holds r answer (TellsAttrs q attrs) = h
-  shape_holds r answer (TellsData q bytes) = h
   shape_holds r answer (SetsAt path attrs label object at) = set_holds tree label object h
   shape_holds r answer (SetsOpen handle attrs o object at) = set_holds tree o.label object h
   shape_holds r answer (Writes handle offset bytes o object at) = set_holds tree o.label object h
@@ -265,6 +261,7 @@ module _ (tree : Tree) (session number moment : ℕ) (h : HandlesHold tree) wher
   shape_holds r answer (Renames old new) = moved_holds old new
   shape_holds r answer (Replaces old new) = moved_holds old new
   shape_holds r answer (Links old new label) = touch_holds _ moment (directory_at tree (parent new)) (name_holds tree new label h)
+  shape_holds r answer _ = h
 
   pub answer_holds : (request : Request) → Keeps (answer_to tree session number moment request)
   answer_holds request = shape_holds request _ (shape_of tree session number moment request)

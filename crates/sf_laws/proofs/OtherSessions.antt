@@ -2,7 +2,7 @@
 use Rattle.std.proofs.Common.{◌≡◌, ◌≢◌, ℕ, nat_eq, true, false, if◌then◌else◌, option_and_then, Option, Some, None, IsSome, refl, sym, ap, ◌∙◌, eqb-true}
 use Rattle.sf_call.specs.declared.handle.Handle.{Handle}
 use Rattle.sf_call.specs.declared.request.Request.{Request}
-use Rattle.sf_call.specs.declared.request.Request.TheVariants.{Stat, SetStat, Mkdir, Rmdir, Remove, OpenDir, Open, Close, FStat, FSetStat, Read, Write, ReadDir, Rename, PosixRename, Link}
+use Rattle.sf_call.specs.declared.request.Request.TheVariants.{OpenDir, Open, Close, ReadDir}
 use Rattle.sf_call.specs.Tree.{Tree, handle_of}
 use Rattle.sf_call.specs.Handles.{if_of, handle_in}
 use Rattle.sf_call.specs.Calls.{answer_to, apply}
@@ -11,15 +11,15 @@ use Rattle.sf_laws.proofs.OwnChanges.{own, other_handles}
 
 -- an open handle of a session belongs to that session
 session_is : (session : ℕ) (o : Option Handle) (h : Handle) → option_and_then (if_of session) o ≡ Some h → (h.session ≡ session) × (o ≡ Some h)
-session_is session None h e = absurd (let z : ⊥ = cc in z)
+session_is session None h e = cc
 session_is session (Some k) h e =
     elim (nat_eq k.session session) as (λ b. nat_eq k.session session ≡ b → (if b then Some k else None) ≡ Some h → (h.session ≡ session) × (Some k ≡ Some h)) [
       | true ↦ λ t f. let same : k ≡ h = cc in (ap (λ (x : Handle). x.session) (sym same) ∙ eqb-true k.session session t, ap Some same)
-      | false ↦ λ t f. absurd (let z : ⊥ = cc in z)
+      | false ↦ λ t f. cc
     ] refl e
 
 some_there : (o : Option Handle) → IsSome o → (h : Handle) × (o ≡ Some h)
-some_there None h = absurd (let z : ⊥ = cc in z)
+some_there None h = cc
 some_there (Some x) h = (x, refl)
 
 module _ (tree : Tree) (session number other handle : ℕ) (h : Handle) (apart : other ≢ session) (unused : handle_of tree.handles number ≡ None) (open' : handle_in tree other handle ≡ Some h) where
@@ -27,7 +27,7 @@ module _ (tree : Tree) (session number other handle : ℕ) (h : Handle) (apart :
   there = session_is other (handle_of tree.handles handle) h open'
 
   not_new : handle ≡ number → ⊥
-  not_new e = let x : None ≡ Some h = sym unused ∙ ap (handle_of tree.handles) (sym e) ∙ there.1 in let z : ⊥ = cc in z
+  not_new e = let x : None ≡ Some h = sym unused ∙ ap (handle_of tree.handles) (sym e) ∙ there.1 in cc
 
   not_asked : (asked : ℕ) → (handle ≡ asked) × IsSome (handle_in tree session asked) → ⊥
   not_asked asked is =
@@ -42,18 +42,7 @@ module _ (tree : Tree) (session number other handle : ℕ) (h : Handle) (apart :
   not_own (Open path flags attrs) is = not_new is
   not_own (Close asked) is = not_asked asked is
   not_own (ReadDir asked) is = not_asked asked is
-  not_own (Stat path) is = is
-  not_own (SetStat path attrs) is = is
-  not_own (Mkdir path attrs) is = is
-  not_own (Rmdir path) is = is
-  not_own (Remove path) is = is
-  not_own (FStat asked) is = is
-  not_own (FSetStat asked attrs) is = is
-  not_own (Read asked offset len) is = is
-  not_own (Write asked offset bytes) is = is
-  not_own (Rename old new) is = is
-  not_own (PosixRename old new) is = is
-  not_own (Link old new) is = is
+  not_own _ is = is
 
   pub others_handles : (moment : ℕ) (request : Request) → handle_in (apply tree session number moment request).tree other handle ≡ handle_in tree other handle
   others_handles moment request =

@@ -14,7 +14,7 @@ use Rattle.sf_laws.specs.LeftAlone.{IsOfPath, IsOfLabel, IsOfNumber}
 use Rattle.sf_laws.specs.Own.{IsOwnPath, IsOwnObject, IsOwnHandle}
 use Rattle.sf_call.specs.Calls.{Outcome, answer_to, moves}
 use Rattle.sf_laws.proofs.Shapes.{Shape, shape_of}
-use Rattle.sf_laws.proofs.Shapes.Shape.{Refuses, DoesNothing, TellsAttrs, TellsData, SetsAt, SetsOpen, Writes, MakesDirectory, RemovesDirectory, RemovesFile, OpensDirectory, OpensFile, CutsFile, MakesFile, Closes, Lists, Renames, Replaces, Links}
+use Rattle.sf_laws.proofs.Shapes.Shape.{SetsAt, SetsOpen, Writes, MakesDirectory, RemovesDirectory, RemovesFile, OpensDirectory, OpensFile, CutsFile, MakesFile, Closes, Lists, Renames, Replaces, Links}
 use Rattle.sf_call.proofs.Laws.{directory_there}
 use Rattle.sf_laws.proofs.LeftAlone.{other_path, other_object, other_handle}
 
@@ -54,10 +54,6 @@ module _ (tree : Tree) (session number : ℕ) where
     )
 
     shape_own : (r : Request) (answer : Outcome) → Shape tree session number moment r answer → AreOwn r answer.changes
-    shape_own r answer (Refuses q code) = tt
-    shape_own r answer (DoesNothing q) = tt
-    shape_own r answer (TellsAttrs q attrs) = tt
-    shape_own r answer (TellsData q bytes) = tt
     shape_own r answer (SetsAt path attrs label object at) = (at, tt)
     shape_own r answer (SetsOpen handle attrs h object at) = ((h, at, refl), tt)
     shape_own r answer (Writes handle offset bytes h object at) = ((h, at, refl), tt)
@@ -74,40 +70,29 @@ module _ (tree : Tree) (session number : ℕ) where
     shape_own r answer (Renames old new) = moved_own (Rename old new) old new (λ path of. of) (λ label at. inl at) (λ label at. inr at)
     shape_own r answer (Replaces old new) = moved_own (PosixRename old new) old new (λ path of. of) (λ label at. inl at) (λ label at. inr at)
     shape_own r answer (Links old new label) = (refl, touch_own (Link old new) (parent new) (directory_at tree (parent new)) refl (λ l at. at))
+    shape_own r answer _ = tt
 
     pub own : (request : Request) → AreOwn request (answer_to tree session number moment request).changes
     own request = shape_own request _ (shape_of tree session number moment request)
 
   module _ (request : Request) where
     own_path : (change : Change) (path : Path) → IsOwnChange request change → IsOfPath change path → IsOwnPath request path
-    own_path (SetObject label object) path is of = absurd of
     own_path (NewPath new label object) path is of = subst (IsOwnPath request) (sym of) is.0
     own_path (NewName new label) path is of = subst (IsOwnPath request) (sym of) is
     own_path (GonePath gone) path is of = subst (IsOwnPath request) (sym of) is
     own_path (Move old new) path is of = is path of
-    own_path (OpenHandle handle opened) path is of = absurd of
-    own_path (SetHandle handle opened) path is of = absurd of
-    own_path (CloseHandle handle) path is of = absurd of
+    own_path _ path is of = absurd of
 
     own_label : (change : Change) (label : ℕ) → IsOwnChange request change → IsOfLabel change label → (label ≡ number) ⊎ IsOwnObject tree session request label
     own_label (SetObject set object) label is of = inr (subst (IsOwnObject tree session request) (sym of) is)
     own_label (NewPath path new object) label is of = inl (of ∙ is.1)
-    own_label (NewName path new) label is of = absurd of
-    own_label (GonePath path) label is of = absurd of
-    own_label (Move old new) label is of = absurd of
-    own_label (OpenHandle handle opened) label is of = absurd of
-    own_label (SetHandle handle opened) label is of = absurd of
-    own_label (CloseHandle handle) label is of = absurd of
+    own_label _ label is of = absurd of
 
     own_handle : (change : Change) (handle : ℕ) → IsOwnChange request change → IsOfNumber change handle → IsOwnHandle tree session number request handle
-    own_handle (SetObject label object) handle is of = absurd of
-    own_handle (NewPath path label object) handle is of = absurd of
-    own_handle (NewName path label) handle is of = absurd of
-    own_handle (GonePath path) handle is of = absurd of
-    own_handle (Move old new) handle is of = absurd of
     own_handle (OpenHandle opened h) handle is of = subst (IsOwnHandle tree session number request) (sym of) is
     own_handle (SetHandle set h) handle is of = subst (IsOwnHandle tree session number request) (sym of) is
     own_handle (CloseHandle gone) handle is of = subst (IsOwnHandle tree session number request) (sym of) is
+    own_handle _ handle is of = absurd of
 
     pub other_paths : (changes : List Change) (t : Tree) (path : Path) → AreOwn request changes → ¬ IsOwnPath request path → label_at (done t changes).names path ≡ label_at t.names path
     other_paths [] t path all other = refl

@@ -15,7 +15,7 @@ use Rattle.sf_call.specs.declared.metadata.Metadata.{Metadata}
 use Rattle.sf_call.specs.declared.lookup.Lookup.{Lookup}
 use Rattle.sf_call.specs.declared.lookup.Lookup.TheVariants.{NoWay, Absent, At}
 use Rattle.sf_call.specs.declared.request.Request.{Request}
-use Rattle.sf_call.specs.declared.request.Request.TheVariants.{Stat, SetStat, Mkdir, Rmdir, Remove, OpenDir, Open, Close, FStat, FSetStat, Read, Write, ReadDir, Rename, PosixRename, Link}
+use Rattle.sf_call.specs.declared.request.Request.TheVariants.{Mkdir, Rmdir, Remove, Open, Rename, PosixRename, Link}
 use Rattle.sf_call.specs.Attributes.{Object, modified_at}
 use Rattle.sf_call.specs.Attributes.Object.{Directory, File}
 use Rattle.sf_call.specs.Tree.{Tree, label_at, object_of, directory_at, look_up, found_at, is_empty, after_front}
@@ -100,17 +100,15 @@ module _ (tree : Tree) (session number moment label : ℕ) (path : Path) (m : Me
   new_stays new object = other_put nat_cmp nat_cmp-IsAntisymmetric nat_cmp_total tree.objects number object label apart ∙ is
 
   made : (attrs : Attrs) (place : Lookup) → Keeps (make_directory tree number moment path attrs place)
-  made attrs NoWay = inl is
-  made attrs (At l) = inl is
   made attrs Absent = touch_stays _ (directory_at tree (parent path)) refl (new_stays path _)
+  made attrs _ = inl is
 
   file_object : (flags : OpenFlags) (l : ℕ) (o : Option Object) → object_of tree.objects l ≡ o → Keeps (open_present tree session number moment flags (option_map (λ (object : Object). (l, object)) o))
-  file_object flags l None at = inl is
-  file_object flags l (Some (Directory x)) at = inl is
   file_object flags l (Some (File x contents)) at =
       let other : label ≢ l = λ same. let two : Some (Directory m) ≡ Some (File x contents) = sym is ∙ ap (object_of tree.objects) same ∙ at in cc in
       either (has_all_handles tree session) _ _ (inl is) (either (flags.truncate && flags.write) _ _
       (inl (other_set nat_cmp nat_cmp-IsAntisymmetric tree.objects l _ label other ∙ is)) (inl is))
+  file_object flags l _ at = inl is
 
   file_opened : (flags : OpenFlags) (attrs : Attrs) (place : Lookup) → Keeps (open_file tree session number moment path flags attrs place)
   file_opened flags attrs NoWay = inl is
@@ -127,14 +125,12 @@ module _ (tree : Tree) (session number moment label : ℕ) (path : Path) (m : Me
         (other_removed path_cmp exact_paths path (parent path) tree.names not_root ∙ named) ∙ is)
 
     directory_removed : (found : Option (ℕ × Object)) → Keeps (remove_directory tree moment path found)
-    directory_removed None = inl is
-    directory_removed (Some (l, File x contents)) = inl is
     directory_removed (Some (l, Directory x)) = either (is_empty tree.names path) _ _ gone (inl is)
+    directory_removed _ = inl is
 
     file_removed : (found : Option (ℕ × Object)) → Keeps (remove_file tree moment path found)
-    file_removed None = inl is
-    file_removed (Some (l, Directory x)) = inl is
     file_removed (Some (l, File x contents)) = gone
+    file_removed _ = inl is
 
 module _ (tree : Tree) (session number moment label : ℕ) (m : Metadata) (apart : label ≢ number) (is : object_of tree.objects label ≡ Some (Directory m)) where
   abbrev pub KeepsParent : Path → Request → Type 0
@@ -161,19 +157,10 @@ module _ (tree : Tree) (session number moment label : ℕ) (m : Metadata) (apart
   open' (n ∷ path) flags attrs named = file_opened tree session number moment label (n ∷ path) m apart named is flags attrs (look_up tree (n ∷ path))
 
   pub parents : (request : Request) (path : Path) → NamesEntry request path → KeepsParent path request
-  parents (Stat p) path own = absurd own
-  parents (SetStat p attrs) path own = absurd own
   parents (Mkdir p attrs) path own = subst (λ (q : Path). KeepsParent path (Mkdir q attrs)) own (mkdir path attrs)
   parents (Rmdir p) path own = subst (λ (q : Path). KeepsParent path (Rmdir q)) own (rmdir path)
   parents (Remove p) path own = subst (λ (q : Path). KeepsParent path (Remove q)) own (remove path)
-  parents (OpenDir p) path own = absurd own
   parents (Open p flags attrs) path own = subst (λ (q : Path). KeepsParent path (Open q flags attrs)) own (open' path flags attrs)
-  parents (Close handle) path own = absurd own
-  parents (FStat handle) path own = absurd own
-  parents (FSetStat handle attrs) path own = absurd own
-  parents (Read handle offset len) path own = absurd own
-  parents (Write handle offset bytes) path own = absurd own
-  parents (ReadDir handle) path own = absurd own
   parents (Rename old new) path own = λ named.
       rename_cases StillThere (λ code. inl is) (inl is) tree moment old new
       (λ not_inside not_around. both_ends tree moment label m is old new path own not_inside not_around named) session number
@@ -184,3 +171,4 @@ module _ (tree : Tree) (session number moment label : ℕ) (m : Metadata) (apart
       link_cases StillThere (λ code. inl is) tree moment old new
       (λ l _ _ _. link_to_cases StillThere (λ code. inl is) tree moment new l (look_up tree new) refl
       (λ _ _. touched_or_not tree moment label m is (changed tree (NewName new l)) (parent new) (directory_at tree (parent new)) refl (inl is))) session number
+  parents _ path own = absurd own

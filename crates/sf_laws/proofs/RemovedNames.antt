@@ -10,7 +10,7 @@ use Rattle.sf_reply.specs.declared.reply.Reply.TheVariants as reply
 use Rattle.sf_reply.specs.declared.reply.StatusCode.TheVariants.{Success}
 use Rattle.sf_call.specs.declared.metadata.Metadata.{Metadata}
 use Rattle.sf_call.specs.declared.lookup.Lookup.{Lookup}
-use Rattle.sf_call.specs.declared.lookup.Lookup.TheVariants.{NoWay, Absent, At}
+use Rattle.sf_call.specs.declared.lookup.Lookup.TheVariants.{At}
 use Rattle.sf_call.specs.declared.request.Request.TheVariants.{Remove}
 use Rattle.sf_call.specs.Attributes.{Object}
 use Rattle.sf_call.specs.Attributes.Object.{Directory, File}
@@ -68,14 +68,12 @@ module _ (tree : Tree) (ordered : IsOrderedTree tree) (moment : ℕ) (path : Pat
       }
 
   of_object : (label : ℕ) → label_at tree.names path ≡ Some label → (o : Option Object) → object_of tree.objects label ≡ o → RemovesIt (remove_file tree moment path (option_map (λ (object : Object). (label, object)) o))
-  of_object label was None is = λ e. cc
-  of_object label was (Some (Directory m)) is = λ e. cc
   of_object label was (Some (File m contents)) is = λ e. gone label m contents was is
+  of_object label was _ is = λ e. cc
 
   of_place : (place : Lookup) → look_up tree path ≡ place → RemovesIt (remove_file tree moment path (found_place tree.objects place))
-  of_place NoWay at = λ e. cc
-  of_place Absent at = λ e. cc
   of_place (At label) at = of_object label (place_label tree path label at) (object_of tree.objects label) refl
+  of_place _ at = λ e. cc
 
   rooted : (p : Path) (answer : Outcome) → RemovesIt answer → RemovesIt (unless_root p answer)
   rooted [] answer holds = λ e. cc

@@ -7,7 +7,7 @@ use Rattle.sf_path.specs.Names.{Name, Path}
 use Rattle.sf_path.specs.Order.{parent}
 use Rattle.sf_call.specs.declared.metadata.Metadata.{Metadata}
 use Rattle.sf_call.specs.declared.lookup.Lookup.{Lookup}
-use Rattle.sf_call.specs.declared.lookup.Lookup.TheVariants.{NoWay, Absent, At}
+use Rattle.sf_call.specs.declared.lookup.Lookup.TheVariants.{Absent, At}
 use Rattle.sf_call.specs.Attributes.{Object}
 use Rattle.sf_call.specs.Attributes.Object.{File}
 use Rattle.sf_call.specs.declared.request.Request.{Request}
@@ -16,12 +16,13 @@ use Rattle.sf_call.specs.Requests.{Target, target_of}
 use Rattle.sf_call.specs.Requests.Target.{ByHandle, OnPath, OnPaths}
 use Rattle.sf_call.specs.Tree.{Tree, label_at, object_of, directory_at, is_directory_object, is_directory, is_faulty_way, look_up, found_place, found_at, after_front}
 use Rattle.sf_call.specs.Changes.{Change, done, touch, moved_by}
-use Rattle.sf_call.specs.Changes.Change.{SetObject, NewPath, NewName, GonePath, Move, OpenHandle, SetHandle, CloseHandle}
+use Rattle.sf_call.specs.Changes.Change.{Move}
 use Rattle.sf_call.specs.Allowed.{AreAllowed, IsMove}
 use Rattle.sf_call.specs.Calls.{answer_to, apply, moves}
 use Rattle.sf_call.proofs.Laws.{after_front-append, append-after_front, front_itself, place_label, place_free, open_way, is_directory_label, is_directory_is, is_there_directory, allowed_changes, rename_cases, posix_rename_cases, link_cases, link_to_cases}
 use Rattle.sf_laws.specs.LeftAlone.{BeginsWithEither}
 use Rattle.sf_laws.specs.Own.{IsOwnPath}
+use Rattle.sf_laws.proofs.LeftAlone.{none_of}
 use Rattle.sf_laws.proofs.OwnChanges.{IsOwnChange, AreOwn, own, other_paths}
 use Rattle.sf_laws.proofs.NewCalls.{CallOn, NewCall, IsStrictlyBelow, tree_before, outcome_of, tree_after}
 use Rattle.sf_laws.proofs.StillMoves.{still_after}
@@ -35,22 +36,14 @@ IsOfTarget (OnPath path) q = q ≡ path
 IsOfTarget (OnPaths old new) q = BeginsWithEither old new q
 
 own_of_target : (r : Request) (q : Path) → IsOwnPath r q → IsOfTarget (target_of r) q
-own_of_target (request.Stat path) q own = absurd own
-own_of_target (request.SetStat path attrs) q own = absurd own
 own_of_target (request.Mkdir path attrs) q own = own
 own_of_target (request.Rmdir path) q own = own
 own_of_target (request.Remove path) q own = own
-own_of_target (request.OpenDir path) q own = absurd own
 own_of_target (request.Open path flags attrs) q own = own
-own_of_target (request.Close handle) q own = absurd own
-own_of_target (request.FStat handle) q own = absurd own
-own_of_target (request.FSetStat handle attrs) q own = absurd own
-own_of_target (request.Read handle offset len) q own = absurd own
-own_of_target (request.Write handle offset bytes) q own = absurd own
-own_of_target (request.ReadDir handle) q own = absurd own
 own_of_target (request.Rename old new) q own = own
 own_of_target (request.PosixRename old new) q own = own
 own_of_target (request.Link old new) q own = inr (ap (λ o. is_some o) (ap (after_front new) own ∙ front_itself new))
+own_of_target _ q own = absurd own
 
 own_of : (r : Request) (target : Target) (q : Path) → target_of r ≡ target → IsOwnPath r q → IsOfTarget target q
 own_of r target q e own = subst (λ (t : Target). IsOfTarget t q) e (own_of_target r q own)
@@ -65,22 +58,10 @@ labels_by_target tree session number moment r target q e other =
 
 -- the request is one of the renames, or a link
 by_target : (r : Request) (old new : Path) → target_of r ≡ OnPaths old new → (r ≡ request.Rename old new) ⊎ ((r ≡ request.PosixRename old new) ⊎ (r ≡ request.Link old new))
-by_target (request.Stat path) old new e = cc
-by_target (request.SetStat path attrs) old new e = cc
-by_target (request.Mkdir path attrs) old new e = cc
-by_target (request.Rmdir path) old new e = cc
-by_target (request.Remove path) old new e = cc
-by_target (request.OpenDir path) old new e = cc
-by_target (request.Open path flags attrs) old new e = cc
-by_target (request.Close handle) old new e = cc
-by_target (request.FStat handle) old new e = cc
-by_target (request.FSetStat handle attrs) old new e = cc
-by_target (request.Read handle offset len) old new e = cc
-by_target (request.Write handle offset bytes) old new e = cc
-by_target (request.ReadDir handle) old new e = cc
 by_target (request.Rename a b) old new e = let first : a ≡ old = cc in let second : b ≡ new = cc in inl cc
 by_target (request.PosixRename a b) old new e = let first : a ≡ old = cc in let second : b ≡ new = cc in inr (inl cc)
 by_target (request.Link a b) old new e = let first : a ≡ old = cc in let second : b ≡ new = cc in inr (inr cc)
+by_target _ old new e = cc
 
 -- setting a modification time moves nothing
 touch_moves : (moment : ℕ) (o : Option (ℕ × Metadata)) → moved_by (touch moment o) ≡ None
@@ -111,9 +92,8 @@ found_file tree path label m contents e = by_place (look_up tree path) refl e wh
 
   by_place : (place : Lookup) → look_up tree path ≡ place → found_place tree.objects place ≡ Some (label, File m contents)
       → (label_at tree.names path ≡ Some label) × (object_of tree.objects label ≡ Some (File m contents))
-  by_place NoWay here f = cc
-  by_place Absent here f = cc
   by_place (At at) here f = by_object at (object_of tree.objects at) refl here f
+  by_place _ here f = cc
 
 module _ (tree : Tree) (session number moment : ℕ) (r : Request) (old new : Path) (e : target_of r ≡ OnPaths old new) where
   -- the new path names the file as well, and was absent
@@ -227,30 +207,20 @@ module _ (tree : Tree) (session number : ℕ) (r : Request) (other : (old new : 
   none_moved : (changes : List Change) → AreOwn tree session number r changes → moved_by changes ≡ None
   none_moved [] all = refl
   none_moved (Move old new ∷ cs) all = absurd (no_own_move old new all.0)
-  none_moved (SetObject label object ∷ cs) all = none_moved cs all.1
-  none_moved (NewPath path label object ∷ cs) all = none_moved cs all.1
-  none_moved (NewName path label ∷ cs) all = none_moved cs all.1
-  none_moved (GonePath path ∷ cs) all = none_moved cs all.1
-  none_moved (OpenHandle handle opened ∷ cs) all = none_moved cs all.1
-  none_moved (SetHandle handle opened ∷ cs) all = none_moved cs all.1
-  none_moved (CloseHandle handle ∷ cs) all = none_moved cs all.1
+  none_moved (_ ∷ cs) all = none_moved cs all.1
 
 pub never_moved : (tree : Tree) (session number moment : ℕ) (r : Request) → ((old new : Path) → target_of r ≢ OnPaths old new) → moved_by (answer_to tree session number moment r).changes ≡ None
 never_moved tree session number moment r other = none_moved tree session number r other (answer_to tree session number moment r).changes (own tree session number moment r)
 
 -- ---- unchanged inode numbers
 
-not_some : (o : Option ℕ) → IsSome o → o ≡ None → ⊥
-not_some None some none = cc
-not_some (Some label) some none = cc
-
 nor_below : (tree : Tree) (old new q : Path) → IsMove tree old new → IsSome (label_at tree.names q) → q ≢ new → after_front new q ≡ None
-nor_below tree old new q may some other = by_rest (after_front new q) refl where
-  by_rest : (o : Option Path) → after_front new q ≡ o → o ≡ None
-  by_rest None e = refl
-  by_rest (Some []) e = absurd (other (append-after_front new q [] e ∙ append-nil new))
-  by_rest (Some (name ∷ rest)) e =
-      absurd (not_some (label_at tree.names q) some (ap (label_at tree.names) (append-after_front new q (name ∷ rest) e) ∙ may.bare name rest))
+nor_below tree old new q may some other = none_of (after_front new q) (λ inside. begins (after_front new q) inside by_rest) where
+  by_rest : (rest : Path) → after_front new q ≡ Some rest → ⊥
+  by_rest [] e = other (append-after_front new q [] e ∙ append-nil new)
+  by_rest (name ∷ rest) e =
+      let none = ap (label_at tree.names) (append-after_front new q (name ∷ rest) e) ∙ may.bare name rest in
+      let no = ap (λ (o : Option ℕ). is_some o) (sym none) ∙ some in cc
 
 outside : (old new q : Path) → after_front old q ≡ None → after_front new q ≡ None → BeginsWithEither old new q → ⊥
 outside old new q not_old not_new (inl is) = let no = ap (λ (o : Option Path). is_some o) not_old in cc

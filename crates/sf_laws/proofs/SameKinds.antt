@@ -9,7 +9,7 @@ use Rattle.sf_call.specs.declared.metadata.FileType.{FileType}
 use Rattle.sf_call.specs.Attributes.{Object}
 use Rattle.sf_call.specs.Tree.{Tree, object_of, is_used, kept}
 use Rattle.sf_call.specs.Changes.{Change, changed, done}
-use Rattle.sf_call.specs.Changes.Change.{SetObject, NewPath, NewName, GonePath, Move, OpenHandle, SetHandle, CloseHandle}
+use Rattle.sf_call.specs.Changes.Change.{SetObject, NewPath, GonePath, Move, CloseHandle}
 use Rattle.sf_call.specs.Allowed.{file_type_of, IsSetRightly, MayChange, AreAllowed}
 use Rattle.sf_laws.proofs.NewCalls.{NewCall, tree_before, outcome_of, tree_after}
 use Rattle.sf_call.proofs.Laws.{is_equal, set_there, none_set, other_put, other_set, object_kept, no_object, allowed_changes}
@@ -57,12 +57,10 @@ module _ (number label : ℕ) (other : label ≢ number) (kind : FileType) where
   kind_changed tree (SetObject set object) may h = once_set tree set object may h
   kind_changed tree (NewPath path new object) may h =
       as_before (object_of tree.objects label) _ (other_put nat_cmp nat_cmp-IsAntisymmetric nat_cmp_total tree.objects new object label (λ same. other (same ∙ may.is_number))) h
-  kind_changed tree (NewName path new) may h = h
   kind_changed tree (GonePath path) may h = once_kept _ h
   kind_changed tree (Move old new) may h = once_kept _ h
-  kind_changed tree (OpenHandle handle opened) may h = h
-  kind_changed tree (SetHandle handle opened) may h = h
   kind_changed tree (CloseHandle handle) may h = once_kept _ h
+  kind_changed tree _ may h = h
 
   kind_done : (tree : Tree) (changes : List Change) → AreAllowed number tree changes → IsKindOrGone (object_of tree.objects label) → IsKindOrGone (object_of (done tree changes).objects label)
   kind_done tree [] may h = h

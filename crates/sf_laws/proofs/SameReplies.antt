@@ -20,9 +20,8 @@ same_record before (Did number session moment request given) (Did n x m q other)
     let moments : moment ≡ m = cc in
     let requests : request ≡ q = cc in
     cc
-same_record before (Did number session moment request given) (Left x) may also served served_too same = cc
-same_record before (Left session) (Did n x m q other) may also served served_too same = cc
 same_record before (Left session) (Left x) may also served served_too same = cc
+same_record before _ _ may also served served_too same = cc
 
 same_after : (before rs ss : List Record) → IsLegalAfter before rs → IsLegalAfter before ss → AllHadMemory rs → AllHadMemory ss → calls_asked rs ≡ calls_asked ss → rs ≡ ss
 unfolding IsLegalAfter

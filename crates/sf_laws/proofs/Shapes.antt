@@ -88,9 +88,8 @@ module _ (tree : Tree) (session number moment : ℕ) where
   set_object path attrs label (Some (File m contents)) e = either (SetStat path attrs) (refuses_size (File m contents) attrs.size) _ _ (Refuses (SetStat path attrs) Failure) (SetsAt path attrs label _ e)
 
   set_place : (path : Path) (attrs : Attrs) (place : Lookup) → look_up tree path ≡ place → HasShape (SetStat path attrs) (set_stat moment attrs (found_place tree.objects place))
-  set_place path attrs NoWay e = Refuses (SetStat path attrs) NoSuchFile
-  set_place path attrs Absent e = Refuses (SetStat path attrs) NoSuchFile
   set_place path attrs (At label) e = set_object path attrs label (object_of tree.objects label) (place_label tree path label e)
+  set_place path attrs _ e = Refuses (SetStat path attrs) NoSuchFile
 
   made : (path : Path) (attrs : Attrs) (place : Lookup) → HasShape (Mkdir path attrs) (make_directory tree number moment path attrs place)
   made path attrs NoWay = Refuses (Mkdir path attrs) NoSuchFile
@@ -113,9 +112,8 @@ module _ (tree : Tree) (session number moment : ℕ) where
   directory_object path label (Some (Directory m)) e is = unless (OpenDir path) (has_all_handles tree session) _ _ (Refuses (OpenDir path) Failure) (λ free. OpensDirectory path label (Directory m) e is free)
 
   directory_opened : (path : Path) (place : Lookup) → look_up tree path ≡ place → HasShape (OpenDir path) (open_directory tree session number (found_place tree.objects place))
-  directory_opened path NoWay e = Refuses (OpenDir path) NoSuchFile
-  directory_opened path Absent e = Refuses (OpenDir path) NoSuchFile
   directory_opened path (At label) e = directory_object path label (object_of tree.objects label) (place_label tree path label e) refl
+  directory_opened path _ e = Refuses (OpenDir path) NoSuchFile
 
   file_present : (path : Path) (flags : OpenFlags) (attrs : Attrs) (label : ℕ) (o : Option Object) → label_at tree.names path ≡ Some label → object_of tree.objects label ≡ o
       → HasShape (Open path flags attrs) (open_present tree session number moment flags (option_map (λ (object : Object). (label, object)) o))
@@ -153,17 +151,15 @@ module _ (tree : Tree) (session number moment : ℕ) where
   set_by_handle handle attrs (Some h) e = set_by_object handle attrs h (object_of tree.objects h.label) e
 
   was_read : (r : Request) (offset len : ℕ) (o : Option (Handle × Object)) → HasShape r (read offset len o)
-  was_read r offset len None = Refuses r Failure
-  was_read r offset len (Some (h, Directory m)) = Refuses r Failure
   was_read r offset len (Some (h, File m contents)) = either r (not h.read) _ _ (Refuses r PermissionDenied) (either r (nat_le (length contents) offset) _ _ (Refuses r EndOfFile) (TellsData r _))
+  was_read r offset len _ = Refuses r Failure
 
   written_object : (handle offset : ℕ) (bytes : List ℕ) (h : Handle) (o : Option Object) → handle_in tree session handle ≡ Some h → HasShape (Write handle offset bytes) (write moment offset bytes (option_map (λ (object : Object). (h, object)) o))
-  written_object handle offset bytes h None e = Refuses (Write handle offset bytes) Failure
-  written_object handle offset bytes h (Some (Directory m)) e = Refuses (Write handle offset bytes) Failure
   written_object handle offset bytes h (Some (File m contents)) e =
       let r = Write handle offset bytes in
       either r (not h.write) _ _ (Refuses r PermissionDenied) (either r (is_nil bytes) _ _ (DoesNothing r)
       (either r (nat_lt MAX_FILE_SIZE (start_of h contents offset + length bytes)) _ _ (Refuses r Failure) (Writes handle offset bytes h _ e)))
+  written_object handle offset bytes h _ e = Refuses (Write handle offset bytes) Failure
 
   was_written : (handle offset : ℕ) (bytes : List ℕ) (o : Option Handle) → handle_in tree session handle ≡ o → HasShape (Write handle offset bytes) (write moment offset bytes (option_and_then (opened_by tree) o))
   was_written handle offset bytes None e = Refuses (Write handle offset bytes) Failure
@@ -174,9 +170,8 @@ module _ (tree : Tree) (session number moment : ℕ) where
   listed handle h (x ∷ xs) e = Lists handle h x xs e
 
   listed_object : (handle : ℕ) (h : Handle) (o : Option Object) → handle_in tree session handle ≡ Some h → HasShape (ReadDir handle) (read_directory tree handle (option_map (λ (object : Object). (h, object)) o))
-  listed_object handle h None e = Refuses (ReadDir handle) Failure
-  listed_object handle h (Some (File m contents)) e = Refuses (ReadDir handle) Failure
   listed_object handle h (Some (Directory m)) e = listed handle h (listing_of tree h.listed (path_of tree.names h.label)) e
+  listed_object handle h _ e = Refuses (ReadDir handle) Failure
 
   directory_read : (handle : ℕ) (o : Option Handle) → handle_in tree session handle ≡ o → HasShape (ReadDir handle) (read_directory tree handle (option_and_then (opened_by tree) o))
   directory_read handle None e = Refuses (ReadDir handle) Failure

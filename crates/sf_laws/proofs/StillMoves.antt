@@ -62,9 +62,8 @@ module _ (tree next : Tree) (old new : Path)
 
 -- the file types of two existing objects
 both_there : (a b : Option Object) → is_some a ≡ true → is_some b ≡ true → ((x y : Object) → a ≡ Some x → b ≡ Some y → file_type_of x ≡ file_type_of y) → option_map file_type_of a ≡ option_map file_type_of b
-both_there None b s t same = cc
-both_there (Some x) None s t same = cc
 both_there (Some x) (Some y) s t same = ap Some (same x y refl refl)
+both_there _ _ s t same = cc
 
 pub still_after : (c : NewCall) (old new : Path) → ((path : Path) → IsOwnPath c.request path → IsStrictlyBelow old path) → IsMove (tree_before c) old new → IsMove (tree_after c) old new
 still_after c old new below may =

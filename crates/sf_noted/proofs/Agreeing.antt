@@ -188,7 +188,7 @@ pub begins_noted : (v : CoreView) → IsHistory v [] → v.joins ≡ 0 → v.dra
 begins_noted v hist joins drawn owns = record {
   history = hist;
   joins = sym joins;
-  each = λ u q e. absurd (cc);
+  each = λ u q e. cc;
   later = λ s less. refl;
   nobody = nobody_joined v hist drawn owns (lane_state v 0) refl;
   calls = sym drawn;

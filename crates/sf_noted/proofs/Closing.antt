@@ -9,7 +9,7 @@ use native.Mathlib.Decide.{ℕ_discrete}
 use Rattle.sf_call.specs.declared.call.Call.{Call}
 use Rattle.sf_call.specs.declared.record.Record.{Record}
 use Rattle.sf_core.specs.Cores.{CoreView, LaneState, lane_state}
-use Rattle.sf_core.specs.Cores.LaneState.{NoLane, Idle, Busy}
+use Rattle.sf_core.specs.Cores.LaneState.{NoLane, Busy}
 use Rattle.sf_audit.specs.Audits.{CallRecord, call_records}
 use Rattle.sf_roll.proofs.Laws.{get_set, get_set_else}
 use Rattle.sf_noted.specs.Pages.{BegunCall, Page, calls_under_way, page_calls}
@@ -21,14 +21,12 @@ use Rattle.sf_noted.proofs.Lists.{one_there, at_end, get_front, get_last, beyond
 use Rattle.sf_noted.proofs.Laws.{visit_is_in}
 
 other_than : (s : LaneState BegunCall) → other_state s ≡ s → ⊥
-other_than NoLane e = absurd cc
-other_than Idle e = absurd cc
-other_than (Busy call) e = absurd cc
+other_than NoLane e = cc
+other_than _ e = cc
 
 no_call_in : (s : LaneState BegunCall) → calls_under_way (other_state s) ≡ 0
 no_call_in NoLane = refl
-no_call_in Idle = refl
-no_call_in (Busy call) = refl
+no_call_in _ = refl
 
 cleared_calls : (p : Page) → page_calls (cleared p) ≡ 0
 cleared_calls p = let none = no_call_in p.state in omega arith
@@ -37,8 +35,8 @@ pub none_cleared : (pages : List Page) → AreCleared pages [] pages
 none_cleared pages = record {
   counted = omega arith;
   kept = λ place none. refl;
-  cleared_ones = λ i x at. absurd (cc);
-  distinct = λ i j x y at at' same. absurd (cc);
+  cleared_ones = λ i x at. cc;
+  distinct = λ i j x y at at' same. cc;
 }
 
 -- one more page is cleared
@@ -90,11 +88,10 @@ no_told [] e = refl
 no_told (x ∷ xs) e = absurd (omega arith)
 
 none_waits : (l : LaneState Call) (state : LaneState BegunCall) → noted_state l ≡ state → calls_under_way state ≡ 0 → waits_in l ≡ []
-none_waits NoLane state e none = refl
-none_waits Idle state e none = refl
 none_waits (Busy c) state e none =
     let one : calls_under_way state ≡ 1 = ap calls_under_way (sym e) in
     absurd (omega arith)
+none_waits _ state e none = refl
 
 no_calls : (v : CoreView) (h : List Record) (s : ℕ) (p : Page) → FitsPage v h s p → page_calls p ≡ 0 → call_records s h ≡ []
 no_calls v h s p f none =

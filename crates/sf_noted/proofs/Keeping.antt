@@ -1,5 +1,5 @@
 -- Each event of a core keeps it in agreement with what is noted of its sessions.
-use Rattle.std.proofs.Common.{◌≡◌, ◌≢◌, ◌+◌, ℕ, List, [], ◌∷◌, ◌++◌, Option, Some, None, refl, sym, ap, ◌∙◌, subst, inl, inr, ⊎_elim, append_assoc, append-nil}
+use Rattle.std.proofs.Common.{◌≡◌, ◌≢◌, ◌+◌, ℕ, List, [], ◌∷◌, ◌++◌, Some, None, refl, sym, ap, ◌∙◌, subst, inl, inr, ⊎_elim, append_assoc, append-nil}
 use Rattle.std.specs.List.{AllByRecursion}
 use mathlib.Core.Logic.{dite}
 use native.Mathlib.Decide.{ℕ_discrete}
@@ -13,7 +13,7 @@ use Rattle.sf_core.specs.declared.step.Step.{Step}
 use Rattle.sf_core.specs.declared.step.Step.TheVariants.{Moved, Blocked, Answered, Stranger}
 use Rattle.sf_core.specs.Lanes.{LaneView}
 use Rattle.sf_core.specs.Cores.{CoreView, LaneState, lane_state}
-use Rattle.sf_core.specs.Cores.LaneState.{NoLane, Idle, Busy}
+use Rattle.sf_core.specs.Cores.LaneState.{Idle, Busy}
 use Rattle.sf_core.specs.Progress.{waiting_reply, SameCall, did}
 use Rattle.sf_core.specs.Histories.{IsHistory}
 use Rattle.sf_core.specs.Owners.{OwnsCalls}
@@ -22,13 +22,11 @@ use Rattle.sf_audit.specs.Audits.{CallRecord, call_records}
 use Rattle.sf_noted.specs.Pages.{BegunCall, begun_call, Page}
 use Rattle.sf_noted.specs.PageChanges.{page, as_told, IsUnderWay}
 use Rattle.sf_noted.specs.Noted.{told_of, waiting_for, waits_in, noted_state, FitsPage, number_in, lane_of}
+use Rattle.sf_noted.proofs.Lanes.{under_way}
 use Rattle.sf_noted.proofs.Records.{records_append, other_did, own_record, other_record, among_behind, among_front, not_new, new_before, legal_behind, legal_front, among_last}
 
 some_is : {A : Type 0} (a b : A) → Some a ≡ Some b → a ≡ b
 some_is a b e = cc
-
-none_is_some : {A : Type 0} (o : Option A) (a : A) → o ≡ None → o ≡ Some a → ⊥
-none_is_some o a e f = absurd (let x : ⊥ = cc in x)
 
 one_call : (l : LaneState Call) (c d : Call) → l ≡ Busy c → l ≡ Busy d → c ≡ d
 one_call l c d e f = let x : Busy c ≡ Busy d = sym e ∙ f in cc
@@ -121,7 +119,7 @@ others_decided b a c given d before after hist s ne p f =
     (ap waits_in h.now ∙ (one_waits h.after h.given h.decided ∙ (ap (λ x. x ∷ []) (same_told h.before h.after h.given h.same) ∙ sym (ap (λ x. x ++ told_of h.before h.given ∷ []) (ap waits_in h.was ∙ none_waits h.before h.undecided)))))
     f)
     (λ (h : IsFinished b.core a.core s d.helped).
-    let none = none_helped b.core b.lane.session s d.helped d.of_others (λ e g busy none among. none_is_some (waiting_reply e) h.given none (subst (λ (x : Call). waiting_reply x ≡ Some h.given) (one_call (lane_state b.core s) h.before e h.was busy) h.had)) in
+    let none = none_helped b.core b.lane.session s d.helped d.of_others (λ e g busy none among. let has : None ≡ Some h.given = sym none ∙ subst (λ (x : Call). waiting_reply x ≡ Some h.given) (one_call (lane_state b.core s) h.before e h.was busy) h.had in cc) in
     fit_more b.core a.core b.history a.added s p [] (last ∙ none)
     (ap noted_state h.now ∙ (same_state h.before h.after h.same ∙ sym (ap noted_state h.was)))
     (ap waits_in h.now ∙ (one_waits h.after h.given h.has ∙ (ap (λ x. x ∷ []) (same_told h.before h.after h.given h.same) ∙ (sym (one_waits h.before h.given h.had) ∙ (sym (ap waits_in h.was) ∙ sym (append-nil (waits_in (lane_state b.core s))))))))
@@ -202,22 +200,16 @@ own_answers b given a x p f =
 
 -- ---- what a page tells of the core
 pub busy_of : (l : LaneState Call) (call : BegunCall) → noted_state l ≡ Busy call → (c : Call) × (l ≡ Busy c) × (c.number ≡ call.number)
-busy_of NoLane call e = absurd cc
-busy_of Idle call e = absurd cc
 busy_of (Busy c) call e = (c, refl, some_is c.number call.number (ap number_in e))
+busy_of _ call e = cc
 
 pub idle_of : (l : LaneState Call) → noted_state l ≡ Idle → l ≡ Idle
-idle_of NoLane e = absurd cc
 idle_of Idle e = refl
-idle_of (Busy c) e = absurd cc
+idle_of _ e = cc
 
 -- the lane is no stranger's
 pub not_strange : (v : CoreView) (h : List Record) (lane : LaneView) (place : ℕ) (p : Page) → OwnsCalls v → FitsPage v h lane.session p → lane ≡ lane_of (place + 1, p) → IsUnderWay p.state → ((c : Call) → OwnCall v lane c → ⊥) → ⊥
-not_strange v h lane place p owns f is has never = by_state p.state refl has
-  where
-    by_state : (st : LaneState BegunCall) → p.state ≡ st → IsUnderWay st → ⊥
-    by_state (Busy call) e has =
-        let x = busy_of (lane_state v lane.session) call (f.state ∙ e) in
-        never x.0 (record { slot = x.1; session = owns.session lane.session x.0 x.1; number = ap (λ (l : LaneView). l.call) is ∙ (ap number_in e ∙ ap Some (sym x.2)) })
-    by_state Idle e has = absurd has
-    by_state NoLane e has = absurd has
+not_strange v h lane place p owns f is has never =
+    let busy = under_way p.state has in
+    let x = busy_of (lane_state v lane.session) busy.0 (f.state ∙ busy.1) in
+    never x.0 (record { slot = x.1; session = owns.session lane.session x.0 x.1; number = ap (λ (l : LaneView). l.call) is ∙ (ap number_in busy.1 ∙ ap Some (sym x.2)) })

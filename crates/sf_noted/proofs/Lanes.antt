@@ -4,7 +4,7 @@ use Rattle.sf_reply.specs.declared.reply.Reply.{Reply}
 use Rattle.sf_call.specs.declared.record.Record.{Record}
 use Rattle.sf_core.specs.Lanes.{LaneView, at_rest}
 use Rattle.sf_core.specs.Cores.{CoreView, LaneState}
-use Rattle.sf_core.specs.Cores.LaneState.{NoLane, Idle, Busy}
+use Rattle.sf_core.specs.Cores.LaneState.{Idle, Busy}
 use Rattle.sf_core.specs.declared.step.Step.{Step}
 use Rattle.sf_core.specs.declared.step.Step.TheVariants.{Moved}
 use Rattle.sf_core.specs.Events.{Before, After, TakesStep, StepsOn}
@@ -25,23 +25,23 @@ lane_seen lane place p is = ap (λ s. lane_of (s, p)) (own_place lane place p is
 abbrev lane_at : ℕ → ℕ → LaneState BegunCall → LaneView
 lane_at s told state = record { session = s; call = number_in state; begun = begun_beside state told }
 
-pub answers_lane : (s : ℕ) (p : Page) (given : Reply) → IsUnderWay p.state → at_rest (lane_of (s, p)) ≡ lane_of (s, page Idle (p.told ++ as_told p.state given))
-answers_lane s p given under_way = by_state p.state refl under_way
-  where
-    by_state : (state : LaneState BegunCall) → p.state ≡ state → IsUnderWay state → at_rest (lane_of (s, p)) ≡ lane_of (s, page Idle (p.told ++ as_told p.state given))
-    by_state (Busy call) e busy =
-        ap (λ x. at_rest (lane_at s (length p.told) x)) e
-        ∙ (ap (λ (n : ℕ). record { session = s; call = None; begun = min n (2 ^ 64 - 1) }) (sym (length-append p.told (record { number = call.number; request = call.request; reply = given } ∷ [])))
-        ∙ sym (ap (λ x. lane_of (s, page Idle (p.told ++ as_told x given))) e))
-    by_state Idle e busy = absurd busy
-    by_state NoLane e busy = absurd busy
+-- the call under way
+pub under_way : (state : LaneState BegunCall) → IsUnderWay state → (call : BegunCall) × (state ≡ Busy call)
+under_way (Busy call) busy = (call, refl)
+under_way _ busy = absurd busy
+
+answers_lane : (s : ℕ) (p : Page) (given : Reply) → IsUnderWay p.state → at_rest (lane_of (s, p)) ≡ lane_of (s, page Idle (p.told ++ as_told p.state given))
+answers_lane s p given busy =
+    let call = under_way p.state busy in
+    ap (λ x. at_rest (lane_at s (length p.told) x)) call.1
+    ∙ (ap (λ (n : ℕ). record { session = s; call = None; begun = min n (2 ^ 64 - 1) }) (sym (length-append p.told (as_told (Busy call.0) given)))
+    ∙ sym (ap (λ x. lane_of (s, page Idle (p.told ++ as_told x given))) call.1))
 
 pub answered_calls : (state : LaneState BegunCall) (told : List CallRecord) (given : Reply) → IsUnderWay state → length (told ++ as_told state given) + 0 ≡ length told + calls_under_way state
 answered_calls (Busy call) told given busy =
-    let more = length-append told (record { number = call.number; request = call.request; reply = given } ∷ []) in
+    let more = length-append told (as_told (Busy call) given) in
     omega arith
-answered_calls Idle told given busy = absurd busy
-answered_calls NoLane told given busy = absurd busy
+answered_calls _ told given busy = absurd busy
 
 -- the lane after a step that doesn't answer its call, and its ticket
 pub lane_kept : (lane lane' : LaneView) (t t' : ℕ × Page) → lane ≡ lane_of (t.0 + 1, t.1) → lane' ≡ lane → t' ≡ t → lane' ≡ lane_of (t'.0 + 1, t'.1)

@@ -11,7 +11,6 @@ use Rattle.sf_keeps.specs.Steps.{walk}
 use Rattle.sf_coupling.specs.Walks.{HeldPath, LeadsTo, IsFree}
 use Rattle.sf_coupling.specs.Stepping.{IsNextTo, TakesPath}
 use Rattle.sf_coupling.specs.Stepping.TakesPath.{Comes, GoesOnWith}
-use Rattle.sf_walk.specs.declared.finding.Ways.{Ways}
 use Rattle.sf_walk.specs.declared.finding.Located.{Located}
 use Rattle.sf_walk.specs.declared.finding.Located.TheVariants as located
 use Rattle.sf_call.specs.Routes.{Route, are_nested}

@@ -31,9 +31,9 @@ none_left s h offset bytes none = inl none
 -- ---- the blocks left of a file
 left_filed : (f : FileBytes) (o : Option Node) → option_map_or (λ (node : Node). is_file_content node.content) o false ≡ true
     → option_map_or (λ (node : Node). blocks_left_in node.content) (option_map (with_content (with_file f)) o) 0 ≡ f.left
-left_filed f None file = absurd (let x : ⊥ = cc in x)
+left_filed f None file = cc
 left_filed f (Some node) file = elim node.content as (λ c. is_file_content c ≡ true → blocks_left_in (with_file f c) ≡ f.left) [
-  | content.Directory es ↦ λ e. absurd (let x : ⊥ = cc in x)
+  | content.Directory es ↦ λ e. cc
   | content.File contents ↦ λ e. refl
 ] file
 
@@ -52,9 +52,9 @@ file_begun f s id =
     ∙ file_filed f (node_in s.nodes id)
 
 left_by : (k : ℕ) (o : Option Node) → option_map_or (λ (node : Node). is_file_content node.content) o false ≡ true → option_map_or (λ (node : Node). blocks_left_in node.content) (option_map (with_content (with_left k)) o) 0 ≡ k
-left_by k None file = absurd (let x : ⊥ = cc in x)
+left_by k None file = cc
 left_by k (Some node) file = elim node.content as (λ c. is_file_content c ≡ true → blocks_left_in (with_left k c) ≡ k) [
-  | content.Directory es ↦ λ e. absurd (let x : ⊥ = cc in x)
+  | content.Directory es ↦ λ e. cc
   | content.File contents ↦ λ e. refl
 ] file
 
@@ -125,7 +125,7 @@ shown_as l o = Some (l, o)
 
 filed_content : (f : FileBytes) (k l label : ℕ) (n m : Metadata) (c : Content) (old : List ℕ) → shown_as l (object_in n c) ≡ shown_as label (File m old)
     → shown_as l (object_in n (with_left k (with_file f c))) ≡ shown_as label (File m f.bytes)
-filed_content f k l label n m (content.Directory es) old e = let g = ap (λ (o : Option (ℕ × Object)). option_map (λ (v : ℕ × Object). v.1) o) e in absurd (let x : ⊥ = cc in x)
+filed_content f k l label n m (content.Directory es) old e = let g = ap (λ (o : Option (ℕ × Object)). option_map (λ (v : ℕ × Object). v.1) o) e in cc
 filed_content f k l label n m (content.File contents) old e =
     let g = ap (λ (o : Option (ℕ × Object)). option_map (λ (v : ℕ × Object). v.1) o) e in
     let h = ap (λ (o : Option (ℕ × Object)). option_map (λ (v : ℕ × Object). v.0) o) e in
@@ -135,7 +135,7 @@ filed_content f k l label n m (content.File contents) old e =
 
 filed_shown : (f : FileBytes) (k label : ℕ) (m : Metadata) (o : Option Node) (old : List ℕ) → option_map shown_node o ≡ Some (label, File m old)
     → option_map shown_node (option_map (with_content (with_left k)) (option_map (with_content (with_file f)) o)) ≡ Some (label, File m f.bytes)
-filed_shown f k label m None old e = absurd (let x : ⊥ = cc in x)
+filed_shown f k label m None old e = cc
 filed_shown f k label m (Some node) old e = filed_content f k node.label label node.metadata m node.content old e
 
 pub start_keeps : (s new : StoreState) (t : Tree) (f : ShownFile s) → Keeps s t → (w : WriteBegun s new f.node) → Keeps new (changed t (SetObject f.label (File (modified_at w.moment f.metadata) (written f.bytes w.start w.bytes))))

@@ -57,19 +57,16 @@ is_false false a b = cc
 
 -- neither of two paths is the root if neither is a prefix of the other
 not_rooted_apart : (p q : Path) → are_nested p q ≡ false → is_rooted p q ≡ false
-not_rooted_apart [] q apart = absurd (is_false (are_nested [] q) refl apart)
-not_rooted_apart (n ∷ p) [] apart = absurd (is_false (are_nested (n ∷ p) []) refl apart)
 not_rooted_apart (n ∷ p) (m ∷ q) apart = refl
+not_rooted_apart _ _ apart = cc
 
 unrooted : (p q : Path) → is_rooted p q ≡ false → AreNoRoots p q
-unrooted [] q e = cc
-unrooted (n ∷ p) [] e = cc
 unrooted (n ∷ p) (m ∷ q) e = (λ a. cc, λ a. cc)
+unrooted _ _ e = cc
 
 root_refused : (p q : Path) (a : Outcome) → is_rooted p q ≡ true → unless_root p (unless_root q a) ≡ refuses Failure
-root_refused [] q a e = refl
-root_refused (n ∷ p) [] a e = refl
 root_refused (n ∷ p) (m ∷ q) a e = cc
+root_refused _ _ a e = refl
 
 below_itself : (p : Path) → is_some (after_front p p) ≡ true
 below_itself p = ap (λ (x : Option Path). is_some x) (front_itself p)
@@ -87,17 +84,17 @@ module _ (s : StoreState) (old new : Path) (ways : Ways) (are : AreWays s (route
   -- ---- the kind of the route determines which path is a prefix of the other
   rooted_by : (a b : Bool) → ways.kind ≡ route_kind (if a then NoPath else if b then Along old else Between old new) → ways.kind ≡ kind.NoPath → a ≡ true
   rooted_by true b e f = refl
-  rooted_by false true e f = absurd (let h : kind.Along ≡ kind.NoPath = sym e ∙ f in let x : ⊥ = cc in x)
-  rooted_by false false e f = absurd (let h : kind.Between ≡ kind.NoPath = sym e ∙ f in let x : ⊥ = cc in x)
+  rooted_by false true e f = absurd (let h : kind.Along ≡ kind.NoPath = sym e ∙ f in cc)
+  rooted_by false false e f = absurd (let h : kind.Between ≡ kind.NoPath = sym e ∙ f in cc)
 
   unrooted_by : (a b : Bool) → ways.kind ≡ route_kind (if a then NoPath else if b then Along old else Between old new) → (ways.kind ≡ kind.NoPath → ⊥) → a ≡ false
   unrooted_by true b e ne = absurd (ne e)
   unrooted_by false b e ne = refl
 
   nested_by : (a b : Bool) → ways.kind ≡ route_kind (if a then NoPath else if b then Along old else Between old new) → ways.kind ≡ kind.Along → b ≡ true
-  nested_by true b e f = absurd (let h : kind.NoPath ≡ kind.Along = sym e ∙ f in let x : ⊥ = cc in x)
+  nested_by true b e f = absurd (let h : kind.NoPath ≡ kind.Along = sym e ∙ f in cc)
   nested_by false true e f = refl
-  nested_by false false e f = absurd (let h : kind.Between ≡ kind.Along = sym e ∙ f in let x : ⊥ = cc in x)
+  nested_by false false e f = absurd (let h : kind.Between ≡ kind.Along = sym e ∙ f in cc)
 
   apart_by : (a b : Bool) → ways.kind ≡ route_kind (if a then NoPath else if b then Along old else Between old new) → (ways.kind ≡ kind.NoPath → ⊥) → (ways.kind ≡ kind.Along → ⊥) → b ≡ false
   apart_by true b e no_path no_one = absurd (no_path e)
@@ -135,9 +132,8 @@ module _ (s : StoreState) (old new : Path) (ways : Ways) (are : AreWays s (route
   old_by false false e h = h.0
 
   new_by : (a b : Bool) → a ≡ false → b ≡ false → Lead s (if a then NoPath else if b then Along old else Between old new) ways → IsThere ways.path → ways.new ≡ way_from s.nodes s.root s.root new
-  new_by true b e f h = cc
-  new_by false true e f h = cc
   new_by false false e f h = h.1
+  new_by _ _ e f h = cc
 
   pub old_found : AreNoRoots old new → (found : Located) → ways.path ≡ found → way_from s.nodes s.root s.root old ≡ found
   old_found ne found e = sym (old_by (is_rooted old new) (are_nested old new) (not_rooted old new ne) are.1) ∙ e
@@ -224,8 +220,8 @@ module _ (s : StoreState) (t : Tree) (k : Keeps s t) (moment : ℕ) (old new : P
       may_move_free : (into : ℕ) → way_from s.nodes s.root s.root new ≡ located.Missing into → MayMove s old new from into
       may_move_free into e =
           let f = (name_missing s t k new into e).1 in
-          may_move f.0 f.1 into f.2 f.3 f.5 (λ target some. let h : None ≡ Some target = sym f.4 ∙ some in absurd (let x : ⊥ = cc in x))
-          (λ target some. let h : None ≡ Some target = sym f.4 ∙ some in absurd (let x : ⊥ = cc in x))
+          may_move f.0 f.1 into f.2 f.3 f.5 (λ target some. let h : None ≡ Some target = sym f.4 ∙ some in cc)
+          (λ target some. let h : None ≡ Some target = sym f.4 ∙ some in cc)
 
       may_move_over : (into target : ℕ) → way_from s.nodes s.root s.root new ≡ located.At into target → is_bare_at s.nodes target ≡ true → node ≢ target → MayMove s old new from into
       may_move_over into target e bare another =

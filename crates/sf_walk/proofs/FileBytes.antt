@@ -9,7 +9,7 @@ use Rattle.sf_call.specs.declared.metadata.Metadata.{Metadata}
 use Rattle.sf_call.specs.declared.limits.TheConstants.{MAX_FILE_SIZE}
 use Rattle.sf_call.specs.Attributes.{Object, modified_at}
 use Rattle.sf_call.specs.Attributes.Object.{Directory, File}
-use Rattle.sf_block.specs.Contents.{complete, written}
+use Rattle.sf_block.specs.Contents.{written}
 use Rattle.sf_call.specs.Tree.{Tree, is_nil}
 use Rattle.sf_call.specs.Handles.{opened}
 use Rattle.sf_call.specs.Changes.{changed}
@@ -19,13 +19,13 @@ use Rattle.sf_inode.specs.declared.node.Node.{Node}
 use Rattle.sf_inode.specs.declared.node.Content.{Content}
 use Rattle.sf_inode.specs.declared.node.Content.TheVariants as content
 use Rattle.sf_inode.specs.declared.handle.OpenHandle.{OpenHandle}
-use Rattle.sf_inode.specs.Nodes.{object_in, bytes_in, with_bytes, with_content, with_metadata, is_file_content}
-use Rattle.sf_inode.specs.Stores.{StoreState, node_in, bytes_of, bytes_set, file_size, is_file_at, shown_of, shown_node, shown_handle, edited}
+use Rattle.sf_inode.specs.Nodes.{object_in, bytes_in, with_bytes, with_content, is_file_content}
+use Rattle.sf_inode.specs.Stores.{StoreState, node_in, bytes_of, bytes_set, file_size, is_file_at, shown_of, shown_node, shown_handle}
 use Rattle.sf_keeps.specs.Keeps.{Keeps}
-use Rattle.sf_keeps.proofs.Laws.{keeps_contents, keeps_file, object_again, edited_itself}
+use Rattle.sf_keeps.proofs.Laws.{edited_itself}
 use Rattle.sf_walk.specs.Served.{IsCarriedOut, is_success}
 use Rattle.sf_walk.proofs.ReplyOnly.{tells_served}
-use Rattle.sf_walk.proofs.SetNodes.{ShownFile, shown_stored, stored_bytes}
+use Rattle.sf_walk.proofs.SetNodes.{shown_stored}
 use Rattle.sf_walk.proofs.OpenHandles.{IsOpen, file_is}
 
 no_file : (f : Option (Handle × Object) → Outcome) → ((handle : Handle) (m : Metadata) → f (Some (handle, Directory m)) ≡ refuses Failure) → (handle : Handle) (m : Metadata) (c : Content) → is_file_content c ≡ false
@@ -79,13 +79,13 @@ pub size_is : (nodes : List (Option Node)) (id size : ℕ) → Some size ≡ fil
 size_is nodes id size e =
     elim (is_file_at nodes id) as (λ b. is_file_at nodes id ≡ b → Some size ≡ (if b then Some (length (bytes_of nodes id)) else None) → (is_file_at nodes id ≡ true) × (size ≡ length (bytes_of nodes id))) [
       | true ↦ λ f q. (f, (let w : size ≡ length (bytes_of nodes id) = cc in w))
-      | false ↦ λ f q. absurd (let x : ⊥ = cc in x)
+      | false ↦ λ f q. cc
     ] refl e
 
 no_size : (nodes : List (Option Node)) (id : ℕ) → None ≡ file_size nodes id → is_file_at nodes id ≡ false
 no_size nodes id e =
     elim (is_file_at nodes id) as (λ b. is_file_at nodes id ≡ b → None ≡ (if b then Some (length (bytes_of nodes id)) else None) → is_file_at nodes id ≡ false) [
-      | true ↦ λ f q. absurd (let x : ⊥ = cc in x)
+      | true ↦ λ f q. cc
       | false ↦ λ f q. f
     ] refl e
 
@@ -94,7 +94,7 @@ abbrev pub IsOpenFile : List (Option Node) → ℕ → ℕ → Handle → Option
 IsOpenFile nodes id label handle o = (m : Metadata) × ((shown_of nodes id ≡ Some (label, File m (bytes_of nodes id))) × (o ≡ Some (handle, File m (bytes_of nodes id))))
 
 file_object : (m : Metadata) (c : Content) → is_file_content c ≡ true → object_in m c ≡ File m (bytes_in c)
-file_object m (content.Directory es) f = absurd (let x : ⊥ = cc in x)
+file_object m (content.Directory es) f = cc
 file_object m (content.File contents) f = refl
 
 file_content : (nodes : List (Option Node)) (id : ℕ) (handle : Handle) (o : Option (Handle × Object)) (it : Node) → node_in nodes id ≡ Some it → o ≡ Some (handle, object_in it.metadata it.content) → is_file_content it.content ≡ true

@@ -12,7 +12,7 @@ use Rattle.sf_coupling.specs.Walks.{HeldPath, Holds, IsNodeOf, HandsOver}
 use Rattle.sf_coupling.proofs.Laws.{same_or_not}
 use Rattle.sf_call.specs.Routes.{Route}
 use Rattle.sf_walk.specs.Routes.{IsPosition, reached_at, paths_on, held_path_on, held_paths_on, held_paths_of, nodes_in, nodes_of}
-use Rattle.sf_walk.specs.Routes.IsPosition.{Starts, IsOn, IsBefore, IsApart}
+use Rattle.sf_walk.specs.Routes.IsPosition.{Starts}
 use Rattle.sf_walk.specs.Steps.{is_one_of, free_unless, let_go, handed_over}
 
 module _ (h : Option ℕ) (s : StoreState) (id : ℕ) where
@@ -20,7 +20,7 @@ module _ (h : Option ℕ) (s : StoreState) (id : ℕ) where
   holder_other i ne = ap (option_and_then (λ (node : Node). node.holder)) (edited_apart (with_holder h) s id i ne)
 
   holder_by : (o : Option Node) (node : Node) → o ≡ Some node → option_and_then (λ (x : Node). x.holder) (option_map (with_holder h) o) ≡ h
-  holder_by None node e = absurd (let z : ⊥ = cc in z)
+  holder_by None node e = cc
   holder_by (Some x) node e = refl
 
   pub holder_here : (node : Node) → node_in s.nodes id ≡ Some node → holder_of (edited (with_holder h) s id).nodes id ≡ h
@@ -59,10 +59,9 @@ true_false x ys e f = let z : true ≡ false = sym e ∙ f in cc
 
 -- the inodes of the held paths
 node_of_held_path : (at : List Reached) (paths : List Path) (l : ℕ) (s : HeldPath) → Holds (held_paths_on at paths) s → s.node ≡ l → is_one_of l (nodes_in at) ≡ true
-node_of_held_path [] paths l s h e = absurd h
-node_of_held_path (r ∷ at) [] l s h e = absurd h
 node_of_held_path (r ∷ at) (p ∷ paths) l s (inl i) e = first_is l r.node (nodes_in at) (sym e ∙ ap (λ (x : HeldPath). x.node) i)
 node_of_held_path (r ∷ at) (p ∷ paths) l s (inr h) e = later_is (nat_eq l r.node) (is_one_of l (nodes_in at)) (node_of_held_path at paths l s h e)
+node_of_held_path _ _ l s h e = absurd h
 
 -- each inode has a path that leads to it
 abbrev AreEnough : List Reached → List Path → Type 0
@@ -70,19 +69,15 @@ AreEnough at paths = length at ≤ length paths
 
 enough : (route : Route) (at : Stage) → IsPosition route at → AreEnough (reached_at at) (paths_on route)
 enough route at (Starts r is) = omega arith
-enough route at (IsOn path walked node less) = omega arith
-enough route at (IsBefore old new walked node count part less) = omega arith
-enough route at (IsApart old new c a b is) = omega arith
+enough route at _ = omega arith
 
 -- a call holds the directories that it has reached
 nodes_on : (route : Route) (at : Stage) → IsPosition route at → nodes_of at ≡ nodes_in (reached_at at)
 nodes_on route at (Starts r is) = refl
-nodes_on route at (IsOn path walked node less) = refl
-nodes_on route at (IsBefore old new walked node count part less) = refl
-nodes_on route at (IsApart old new c a b is) = refl
+nodes_on route at _ = refl
 
 held_path_of_node : (at : List Reached) (paths : List Path) (l : ℕ) → AreEnough at paths → is_one_of l (nodes_in at) ≡ true → IsNodeOf (held_paths_on at paths) l
-held_path_of_node [] paths l fits e = let z : ⊥ = cc in absurd z
+held_path_of_node [] paths l fits e = cc
 held_path_of_node (r ∷ at) [] l fits e = absurd (omega (arith, fits))
 held_path_of_node (r ∷ at) (p ∷ paths) l fits e = elim (either_is l r.node (nodes_in at) e) [
   | inl i ↦ record { held_path = held_path_on p r; holds = inl refl; node = sym i }
@@ -126,7 +121,7 @@ module _ (kept : List ℕ) where
   free_itself node s e = ap (λ b. holder_of (if b then s else edited (with_holder None) s node).nodes node) e ∙ holder_freed s node
 
   pub gone_free : (nodes : List ℕ) (s : StoreState) (l : ℕ) → is_one_of l nodes ≡ true → is_one_of l kept ≡ false → holder_of (let_go kept nodes s).nodes l ≡ None
-  gone_free [] s l there gone = let z : ⊥ = cc in absurd z
+  gone_free [] s l there gone = cc
   gone_free (node ∷ nodes) s l there gone = elim (either_is l node nodes there) [
     | inl e ↦ stays_none nodes (free_unless kept node s) l (subst (λ x. holder_of (free_unless kept node s).nodes x ≡ None) (sym e) (free_itself node s (subst (λ x. is_one_of x kept ≡ false) e gone)))
     | inr more ↦ gone_free nodes (free_unless kept node s) l more gone

@@ -96,7 +96,7 @@ module _ (s : StoreState) (t : Tree) (k : Keeps s t) (moment : ℕ) (old new : P
         whole_way = sym (walk-append (child_of s.nodes) s.root new rest) ∙ ap (walk (child_of s.nodes) s.root) (sym e) ∙ (node_at s t k old from node at).0
 
         by_walk : (o : Option ℕ) → walk (child_of s.nodes) s.root new ≡ o → (label : ℕ) × (look_up t new ≡ lookup.At label)
-        by_walk None f = let none : None ≡ Some node = sym (ap (option_and_then (λ y. walk (child_of s.nodes) y rest)) f) ∙ whole_way in absurd (let x : ⊥ = cc in x)
+        by_walk None f = let none : None ≡ Some node = sym (ap (option_and_then (λ y. walk (child_of s.nodes) y rest)) f) ∙ whole_way in cc
         by_walk (Some y) f = let w = reached_node s t k new y f in (w.0.label, place_found s t k new y w.0 f w.1)
 
       shorter : length old < length new → nested_code old new ≡ NoSuchFile
@@ -183,7 +183,7 @@ shown_edited f s id same i =
           ap (λ (x : ℕ). shown_of (edited f s id).nodes x) is ∙ ap (option_map shown_node) (edited_itself f s id)
           ∙ elim (node_in s.nodes id) as (λ o. option_map shown_node (option_map f o) ≡ option_map shown_node o) [ None ↦ refl | Some node ↦ ap Some (same node) ]
           ∙ sym (ap (shown_of s.nodes) is)
-      | false ↦ λ e. ap (option_map shown_node) (edited_apart f s id i (λ same. let tied = eq-eqb i id same in let x : ⊥ = cc in x))
+      | false ↦ λ e. ap (option_map shown_node) (edited_apart f s id i (λ same. let tied = eq-eqb i id same in cc))
     ] refl
 
 shown_linked : (s : StoreState) (into : ℕ) (n : Name) (node : ℕ) → shown_of (linked s into n node).nodes into ≡ shown_of s.nodes into

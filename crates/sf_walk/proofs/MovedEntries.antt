@@ -43,7 +43,7 @@ content_changed f l label m k (content.Directory es) e =
     let b : m ≡ k = cc in
     λ i. seen (a i) (Directory (f (b i)))
 content_changed f l label m k (content.File contents) e =
-    let parts : None ≡ Some k = ap (option_and_then (λ (v : ℕ × Object). directory_metadata v.1)) e in absurd (let x : ⊥ = cc in x)
+    let parts : None ≡ Some k = ap (option_and_then (λ (v : ℕ × Object). directory_metadata v.1)) e in cc
 
 shown_changed : (f : Metadata → Metadata) (o : Option Node) (label : ℕ) (m : Metadata) → option_map shown_node o ≡ Some (label, Directory m) → option_map shown_node (option_map (with_metadata f) o) ≡ Some (label, Directory (f m))
 shown_changed f None label m e = cc
@@ -70,10 +70,10 @@ module _ (s : StoreState) (t : Tree) (k : Keeps s t) (moment : ℕ) (old new : P
 
   -- neither directory is the replaced inode
   other_from : child_of s.nodes into m.last ≢ Some from
-  other_from e = let none = bare_above s.nodes from m.name (m.bare from e) in let some = m.there in let x : ⊥ = cc in x
+  other_from e = let none = bare_above s.nodes from m.name (m.bare from e) in let some = m.there in cc
 
   other_into : child_of s.nodes into m.last ≢ Some into
-  other_into e = let none = bare_above s.nodes into m.last (m.bare into e) in let x : ⊥ = cc in x
+  other_into e = let none = bare_above s.nodes into m.last (m.bare into e) in cc
 
   abbrev touched_old : StoreState
   touched_old = edited (with_metadata (modified_at moment)) mid from

@@ -42,9 +42,8 @@ touches moment None = refl
 touches moment (Some e) = refl
 
 stat_stays : (found : Option (ℕ × Object)) → Stays (stat found)
-stat_stays None = refl
 stat_stays (Some (label, Directory m)) = refl
-stat_stays (Some (label, File m contents)) = refl
+stat_stays _ = refl
 
 sets_stays : (moment label : ℕ) (attrs : Attrs) (object : Object) → Stays (sets moment label attrs object)
 sets_stays moment label attrs object = either (refuses_size object attrs.size) _ _ refl refl
@@ -56,29 +55,24 @@ set_stat_stays moment attrs (Some (label, File m contents)) = sets_stays moment 
 
 module _ (t : Tree) (session number moment : ℕ) where
   make_stays : (p : Path) (attrs : Attrs) (at : Lookup) → Stays (make_directory t number moment p attrs at)
-  make_stays p attrs lookup.NoWay = refl
-  make_stays p attrs (lookup.At label) = refl
   make_stays p attrs lookup.Absent = touches moment (directory_at t (parent p))
+  make_stays p attrs _ = refl
 
   remove_directory_stays : (p : Path) (found : Option (ℕ × Object)) → Stays (remove_directory t moment p found)
-  remove_directory_stays p None = refl
   remove_directory_stays p (Some (label, Directory m)) = either (is_empty t.names p) _ _ (touches moment (directory_at t (parent p))) refl
-  remove_directory_stays p (Some (label, File m contents)) = refl
+  remove_directory_stays p _ = refl
 
   remove_stays : (p : Path) (found : Option (ℕ × Object)) → Stays (remove_file t moment p found)
-  remove_stays p None = refl
-  remove_stays p (Some (label, Directory m)) = refl
   remove_stays p (Some (label, File m contents)) = touches moment (directory_at t (parent p))
+  remove_stays p _ = refl
 
   open_directory_stays : (found : Option (ℕ × Object)) → Stays (open_directory t session number found)
-  open_directory_stays None = refl
   open_directory_stays (Some (label, Directory m)) = either (has_all_handles t session) _ _ refl refl
-  open_directory_stays (Some (label, File m contents)) = refl
+  open_directory_stays _ = refl
 
   present_stays : (flags : OpenFlags) (found : Option (ℕ × Object)) → Stays (open_present t session number moment flags found)
-  present_stays flags None = refl
-  present_stays flags (Some (label, Directory m)) = refl
   present_stays flags (Some (label, File m contents)) = either (has_all_handles t session) _ _ refl (either (flags.truncate && flags.write) _ _ refl refl)
+  present_stays flags _ = refl
 
   open_stays : (p : Path) (flags : OpenFlags) (attrs : Attrs) (at : Lookup) → Stays (open_file t session number moment p flags attrs at)
   open_stays p flags attrs lookup.NoWay = refl
@@ -90,9 +84,8 @@ module _ (t : Tree) (session number moment : ℕ) where
   close_stays (Some handle) = refl
 
   stat_opened_stays : (o : Option (Handle × Object)) → Stays (stat_opened o)
-  stat_opened_stays None = refl
   stat_opened_stays (Some (handle, Directory m)) = refl
-  stat_opened_stays (Some (handle, File m contents)) = refl
+  stat_opened_stays _ = refl
 
   set_opened_stays : (attrs : Attrs) (o : Option (Handle × Object)) → Stays (set_opened moment attrs o)
   set_opened_stays attrs None = refl
@@ -100,24 +93,21 @@ module _ (t : Tree) (session number moment : ℕ) where
   set_opened_stays attrs (Some (handle, File m contents)) = either (is_some attrs.size && not handle.write) _ _ refl (sets_stays moment handle.label attrs (File m contents))
 
   read_stays : (offset len : ℕ) (o : Option (Handle × Object)) → Stays (read offset len o)
-  read_stays offset len None = refl
-  read_stays offset len (Some (handle, Directory m)) = refl
   read_stays offset len (Some (handle, File m contents)) = either (not handle.read) _ _ refl (either (nat_le (length contents) offset) _ _ refl refl)
+  read_stays offset len _ = refl
 
   write_stays : (offset : ℕ) (bytes : List ℕ) (o : Option (Handle × Object)) → Stays (write moment offset bytes o)
-  write_stays offset bytes None = refl
-  write_stays offset bytes (Some (handle, Directory m)) = refl
   write_stays offset bytes (Some (handle, File m contents)) =
       either (not handle.write) _ _ refl (either (is_nil bytes) _ _ refl (either (nat_lt MAX_FILE_SIZE (start_of handle contents offset + length bytes)) _ _ refl refl))
+  write_stays offset bytes _ = refl
 
   lists_stays : (handle : Handle) (es : List Entry) → Stays (lists number handle es)
   lists_stays handle [] = refl
   lists_stays handle (e ∷ es) = refl
 
   list_stays : (o : Option (Handle × Object)) → Stays (read_directory t number o)
-  list_stays None = refl
   list_stays (Some (handle, Directory m)) = lists_stays handle (listing_of t handle.listed (path_of t.names handle.label))
-  list_stays (Some (handle, File m contents)) = refl
+  list_stays _ = refl
 
 pub others_stay : (t : Tree) (session number moment : ℕ) (r : Request) → ((old new : Path) → r ≡ request.Rename old new → ⊥) → ((old new : Path) → r ≡ request.PosixRename old new → ⊥) → moved_by (answer_to t session number moment r).changes ≡ None
 others_stay t session number moment (request.Stat p) a b = stat_stays (found_at t p)

@@ -37,17 +37,15 @@ module _ (s : StoreState) (t : Tree) (k : Keeps s t) (moment : ℕ) (old new : P
   refused a code e = ap (λ (x : Outcome). moved_by x.changes) e
 
   rename_nested : (o : Lookup) → are_nested old new ≡ true → Stays (rename t moment old new o)
-  rename_nested lookup.NoWay e = refl
-  rename_nested lookup.Absent e = refl
   rename_nested (lookup.At label) e = ap (λ b. moved_by (cond {A = Outcome} b (refuses Failure) (rename_to t moment old new (look_up t new))).changes) e
+  rename_nested _ e = refl
 
   posix_nested : (o : Lookup) → are_nested old new ≡ true → Stays (posix_rename t moment old new o)
-  posix_nested lookup.NoWay e = refl
-  posix_nested lookup.Absent e = refl
   posix_nested (lookup.At label) e = elim (same_path old new) as (λ b. Stays (cond b (succeeds []) (unless_nested old new (replace_by t moment old new label (found_at t new))))) [
     | true ↦ refl
     | false ↦ ap (λ b. moved_by (cond {A = Outcome} b (refuses Failure) (replace_by t moment old new label (found_at t new))).changes) e
   ]
+  posix_nested _ e = refl
 
   rename_apart : (found : Located) → ways.path ≡ found → are_nested old new ≡ false → Stays (unless_root old (unless_root new (rename t moment old new (look_up t old))))
   rename_apart located.NoWay e apart =
@@ -86,17 +84,4 @@ module _ (s : StoreState) (t : Tree) (k : Keeps s t) (moment : ℕ) (old new : P
 pub nowhere_stays : {s : StoreState} {t : Tree} → Keeps s t → (session number moment : ℕ) (r : Request) (ways : Ways) → IsLocated s r ways → ways.new ≡ located.NoWay → Stays (answer_to t session number moment r)
 nowhere_stays {s = s} {t = t} k session number moment (request.Rename old new) ways are none = rename_stays s t k moment old new ways are none
 nowhere_stays {s = s} {t = t} k session number moment (request.PosixRename old new) ways are none = posix_stays s t k moment old new ways are none
-nowhere_stays {t = t} k session number moment (request.Stat p) ways are none = others_stay t session number moment (request.Stat p) (λ old new e. cc) (λ old new e. cc)
-nowhere_stays {t = t} k session number moment (request.SetStat p attrs) ways are none = others_stay t session number moment (request.SetStat p attrs) (λ old new e. cc) (λ old new e. cc)
-nowhere_stays {t = t} k session number moment (request.Mkdir p attrs) ways are none = others_stay t session number moment (request.Mkdir p attrs) (λ old new e. cc) (λ old new e. cc)
-nowhere_stays {t = t} k session number moment (request.Rmdir p) ways are none = others_stay t session number moment (request.Rmdir p) (λ old new e. cc) (λ old new e. cc)
-nowhere_stays {t = t} k session number moment (request.Remove p) ways are none = others_stay t session number moment (request.Remove p) (λ old new e. cc) (λ old new e. cc)
-nowhere_stays {t = t} k session number moment (request.OpenDir p) ways are none = others_stay t session number moment (request.OpenDir p) (λ old new e. cc) (λ old new e. cc)
-nowhere_stays {t = t} k session number moment (request.Open p flags attrs) ways are none = others_stay t session number moment (request.Open p flags attrs) (λ old new e. cc) (λ old new e. cc)
-nowhere_stays {t = t} k session number moment (request.Close handle) ways are none = others_stay t session number moment (request.Close handle) (λ old new e. cc) (λ old new e. cc)
-nowhere_stays {t = t} k session number moment (request.FStat handle) ways are none = others_stay t session number moment (request.FStat handle) (λ old new e. cc) (λ old new e. cc)
-nowhere_stays {t = t} k session number moment (request.FSetStat handle attrs) ways are none = others_stay t session number moment (request.FSetStat handle attrs) (λ old new e. cc) (λ old new e. cc)
-nowhere_stays {t = t} k session number moment (request.Read handle offset len) ways are none = others_stay t session number moment (request.Read handle offset len) (λ old new e. cc) (λ old new e. cc)
-nowhere_stays {t = t} k session number moment (request.Write handle offset bytes) ways are none = others_stay t session number moment (request.Write handle offset bytes) (λ old new e. cc) (λ old new e. cc)
-nowhere_stays {t = t} k session number moment (request.ReadDir handle) ways are none = others_stay t session number moment (request.ReadDir handle) (λ old new e. cc) (λ old new e. cc)
-nowhere_stays {t = t} k session number moment (request.Link old new) ways are none = others_stay t session number moment (request.Link old new) (λ old new e. cc) (λ old new e. cc)
+nowhere_stays {t = t} k session number moment r ways are none = others_stay t session number moment r (λ old new e. cc) (λ old new e. cc)

@@ -168,7 +168,7 @@ cut_node : (c : Content) (l label : ℕ) (k m : Metadata) (bytes : List ℕ) →
     → shown_as l (object_in k (with_bytes [] c)) ≡ shown_as label (File m [])
 cut_node (content.Directory es) l label k m bytes e =
     let objects : Some (Directory k) ≡ Some (File m bytes) = ap (option_map (λ (v : ℕ × Object). v.1)) e in
-    absurd (let x : ⊥ = cc in x)
+    cc
 cut_node (content.File contents) l label k m bytes e =
     let labels : Some l ≡ Some label = ap (option_map (λ (v : ℕ × Object). v.0)) e in
     let objects : Some (File k contents.bytes) ≡ Some (File m bytes) = ap (option_map (λ (v : ℕ × Object). v.1)) e in

@@ -41,16 +41,15 @@ directory_content nodes id l m (content.File contents) e d = cc
 pub shown_directory : (nodes : List (Option Node)) (id : ℕ) → is_directory_at nodes id ≡ true → IsShownDirectory nodes id
 shown_directory nodes id d =
     elim (node_in nodes id) as (λ o. node_in nodes id ≡ o → IsShownDirectory nodes id) [
-      | None ↦ λ e. let off = ap (λ (o : Option Node). option_map_or (λ (node : Node). is_directory_content node.content) o false) e in absurd (let x : ⊥ = cc in x)
+      | None ↦ λ e. let off = ap (λ (o : Option Node). option_map_or (λ (node : Node). is_directory_content node.content) o false) e in cc
       | Some node ↦ λ e.
           directory_content nodes id node.label node.metadata node.content (ap (option_map shown_node) e)
           (sym (ap (λ (o : Option Node). option_map_or (λ (it : Node). is_directory_content it.content) o false) e) ∙ d)
     ] refl
 
 content_bare : (c : Content) (n : Name) → is_bare_content c ≡ true → child_in c n ≡ None
-content_bare (content.Directory []) n e = refl
 content_bare (content.Directory (x ∷ es)) n e = cc
-content_bare (content.File contents) n e = refl
+content_bare _ n e = refl
 
 -- an inode without entries isn't its own entry
 pub bare_above : (nodes : List (Option Node)) (d : ℕ) (n : Name) → is_bare_at nodes d ≡ true → child_of nodes d n ≡ None
@@ -150,7 +149,7 @@ goes_served s new t p h o =
           let n = f.1 in
           let is : p ≡ r ++ n ∷ [] = f.2 in
           let kept : Keeps (unlinked s dir n) (changed t (GonePath (r ++ n ∷ []))) = keeps_unlinked r n h f.3 f.4 o.bare in
-          let other : child_of s.nodes dir n ≢ Some dir = λ own. (let same : dir ≡ o.node = (let g = f.4 in cc) in let none = bare_above s.nodes dir n (ap (is_bare_at s.nodes) same ∙ o.bare) in let x : ⊥ = cc in x) in
+          let other : child_of s.nodes dir n ≢ Some dir = λ own. (let same : dir ≡ o.node = (let g = f.4 in cc) in let none = bare_above s.nodes dir n (ap (is_bare_at s.nodes) same ∙ o.bare) in cc) in
           let after : Keeps (edited (with_metadata (modified_at moment)) (unlinked s dir n) dir) (done (changed t (GonePath (r ++ n ∷ []))) (touched t moment (parent (r ++ n ∷ [])))) =
           touches s (unlinked s dir n) t (changed t (GonePath (r ++ n ∷ []))) (record { above = r; name = n; node = dir; leads = f.3; directory = has_entry s.nodes dir n o.node f.4 }) moment h kept (unlinked_alike s dir n dir other).0 in
           let whole : Keeps new (done t (GonePath p ∷ touched t moment (parent p))) =

@@ -91,7 +91,7 @@ module _ (old mid : StoreState) (t : Tree) (p : Path) (most : ℕ) (looked : Loo
   stat_gone above y e sent =
       let w = node_located above y e in
       let are : None ≡ Some (attrs_of (object_in w.0.metadata w.0.content)) = sent ∙ ap (option_map (λ (it : Node). attrs_of (object_in it.metadata it.content))) w.1.0 in
-      absurd (let x : ⊥ = cc in x)
+      cc
 
   -- ---- SETSTAT
   set_content : (moment : ℕ) (attrs : Attrs) (l : ℕ) (m : Metadata) (c : Content) → set_stat moment attrs (Some (l, object_in m c)) ≡ sets moment l attrs (object_in m c)
@@ -181,7 +181,7 @@ module _ (old mid : StoreState) (t : Tree) (p : Path) (most : ℕ) (looked : Loo
 
   both_bare : (d b : Bool) → true ≡ (d && b) → b ≡ true
   both_bare true b e = sym e
-  both_bare false b e = absurd (let x : ⊥ = cc in x)
+  both_bare false b e = cc
 
   pub remove_directory_served : (new : StoreState) (moment above y : ℕ) → located.At above y ≡ way_from old.nodes old.root old.root p → true ≡ (is_directory_at mid.nodes y && is_bare_at mid.nodes y)
       → ((u : Tree) (node : ℕ) → Keeps mid u → way_from mid.nodes mid.root mid.root p ≡ located.At above node → is_bare_at mid.nodes node ≡ true → IsCarriedOut new u (goes u moment p) (reply.Status Success))

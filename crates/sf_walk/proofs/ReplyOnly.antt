@@ -35,5 +35,5 @@ on_err_any (Err e) P h = h
 
 -- "Out of memory" in place of success
 pub gives_none : {E : Type 0} (new : StoreState) (t : Tree) (answer : Outcome) (r : Result Reply E) → IsErr r → is_success answer.reply ≡ true → ServesOutcome new t answer r
-gives_none new t answer (Ok x) is h = absurd (let w : false ≡ true = is in let x : ⊥ = cc in x)
+gives_none new t answer (Ok x) is h = absurd (let w : false ≡ true = is in cc)
 gives_none new t answer (Err e) is h = h

@@ -1,21 +1,15 @@
 -- The located inodes, a reply with its copy, and allocation failures.
-use Rattle.std.specs.Prelude.{◌≡◌, ◌⊎◌, ◌&&◌, Bool, true, false, ℕ, IfOk, Ok, Err}
+use Rattle.std.specs.Prelude.{◌≡◌, ◌&&◌, Bool, true, false, ℕ, IfOk, Ok, Err}
 use Rattle.std.specs.declared.result.Result.{Result}
 use Rattle.std.specs.Result.{result_map_both}
-use Rattle.std.proofs.Common.{refl, sym, subst, ◌∙◌, inl, inr}
+use Rattle.std.proofs.Common.{refl, sym, subst, ◌∙◌}
 use Rattle.sf_path.specs.Names.{Path}
 use Rattle.sf_reply.specs.declared.reply.Reply.{Reply}
-use Rattle.sf_call.specs.Routes.{Route}
-use Rattle.sf_call.specs.Routes.Route.{NoPath, Along, Between}
-use Rattle.sf_call.specs.Tree.{Tree}
-use Rattle.sf_call.specs.Calls.{Outcome}
 use Rattle.sf_inode.specs.Stores.{StoreState}
-use Rattle.sf_walk.specs.declared.finding.Ways.{Ways}
 use Rattle.sf_walk.specs.declared.finding.Located.{Located}
-use Rattle.sf_walk.specs.Ways.{way_from, AreWays}
-use Rattle.sf_walk.specs.Served.{LookedUp, IsAlike, IsRefused, IsCarriedOut}
+use Rattle.sf_walk.specs.Ways.{way_from}
+use Rattle.sf_walk.specs.Served.{LookedUp}
 use Rattle.sf_walk.proofs.Looked.{way_looked}
-use Rattle.sf_walk.proofs.Holders.{alike_looked}
 
 -- the located inode is the same as before
 pub way_before : (old mid : StoreState) (most : ℕ) (p : Path) (l : Located) → LookedUp old mid most → l ≡ way_from mid.nodes mid.root mid.root p → l ≡ way_from old.nodes old.root old.root p
@@ -31,5 +25,5 @@ twice_copies {E} r both e = subst (λ (b : Result (Reply × Reply) E). IfOk {T =
 
 -- an allocation failed, so the reply may be "Out of memory"
 pub wanted_then : (takes told : Bool) → told ≡ true → (takes ≡ false → false ≡ true) → (takes && told) ≡ false → ⊥
-wanted_then true told e may sure = absurd (let x : ⊥ = cc in x)
-wanted_then false told e may sure = absurd (let w : false ≡ true = may refl in let x : ⊥ = cc in x)
+wanted_then true told e may sure = cc
+wanted_then false told e may sure = absurd (let w : false ≡ true = may refl in cc)

@@ -33,12 +33,12 @@ last_row o e [] n id h = ap (option_map (λ (r : Name × ℕ). r.0)) h
 last_row o e (x ∷ xs) n id h = last_row (Some e.0) x xs n id h
 
 last_of_rows : (es : List (Name × ℕ)) (n : Name) (id : ℕ) → slice_get es (length es - 1) ≡ Some (n, id) → last_or None (map (λ (r : Name × ℕ). r.0) es) ≡ Some n
-last_of_rows [] n id h = absurd (let x : ⊥ = cc in x)
+last_of_rows [] n id h = cc
 last_of_rows (e ∷ es) n id h = last_row None e es n id (ap (slice_get (e ∷ es)) (let k : length es ≡ length (e ∷ es) - 1 = omega arith in k) ∙ h)
 
 lists_last : (number : ℕ) (h : Handle) (entries : List Entry) (n : Name) → last_name entries ≡ Some n
     → lists number h entries ≡ record { reply = reply.Names entries; changes = SetHandle number (record h { listed = Some n }) ∷ [] }
-lists_last number h [] n e = absurd (let x : ⊥ = cc in x)
+lists_last number h [] n e = cc
 lists_last number h (x ∷ xs) n e = λ i. record { reply = reply.Names (x ∷ xs); changes = SetHandle number (record h { listed = e i }) ∷ [] }
 
 last_there : (e : Name × ℕ) (es : List (Name × ℕ)) → slice_get (e ∷ es) (length es) ≡ None → ⊥
@@ -63,10 +63,10 @@ some_are_taken (x ∷ es) some e = cc
 -- ---- READDIR
 list_content : (t : Tree) (number : ℕ) (h : Handle) (m : Metadata) (c : Content) → is_directory_content c ≡ true → read_directory t number (Some (h, object_in m c)) ≡ lists number h (listing_of t h.listed (path_of t.names h.label))
 list_content t number h m (content.Directory es) e = refl
-list_content t number h m (content.File contents) e = absurd (let x : ⊥ = cc in x)
+list_content t number h m (content.File contents) e = cc
 
 refuse_content : (t : Tree) (number : ℕ) (h : Handle) (m : Metadata) (c : Content) → is_directory_content c ≡ false → read_directory t number (Some (h, object_in m c)) ≡ refuses Failure
-refuse_content t number h m (content.Directory es) e = absurd (let x : ⊥ = cc in x)
+refuse_content t number h m (content.Directory es) e = cc
 refuse_content t number h m (content.File contents) e = refl
 
 module _ (s : StoreState) (t : Tree) (session number : ℕ) (h : OpenHandle) (o : IsOpen s t session number h) where

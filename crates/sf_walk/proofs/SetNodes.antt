@@ -137,7 +137,7 @@ set_cut s new t f h c =
 
 -- an inode that is no directory is a file
 file_object : (m : Metadata) (c : Content) → is_directory_content c ≡ false → (bytes : List ℕ) × (object_in m c ≡ File m bytes)
-file_object m (content.Directory es) d = absurd (let x : ⊥ = cc in x)
+file_object m (content.Directory es) d = cc
 file_object m (content.File contents) d = (contents.bytes, refl)
 
 pub set_sized : (s new : StoreState) (t : Tree) (node : ℕ) (it : Node) → Keeps s t → node_in s.nodes node ≡ Some it → is_directory_at s.nodes node ≡ false → (c : CutsFile s new node)

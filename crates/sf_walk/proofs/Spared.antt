@@ -26,7 +26,7 @@ same_label o p session h k e a b =
     ap (λ (z : Handle). z.label) y
 
 is_there : (o : Option OpenHandle) (p : Option OpenHandle) (session : ℕ) (h : OpenHandle) → option_map (shown_handle session) o ≡ option_map (shown_handle session) p → p ≡ Some h → (k : OpenHandle) × (o ≡ Some k)
-is_there None p session h e b = let x : None ≡ Some (shown_handle session h) = e ∙ ap (option_map (shown_handle session)) b in absurd (let y : ⊥ = cc in y)
+is_there None p session h e b = let x : None ≡ Some (shown_handle session h) = e ∙ ap (option_map (shown_handle session)) b in cc
 is_there (Some k) p session h e b = (k, refl)
 
 found_before : (o : Option Node) (node : Node) (N : Option ℕ → ℕ → Type 0) → IsAsBefore N o node → ((N node.holder node.label) → ⊥) → (was : Node) × (o ≡ Some was) × (node.holder ≡ was.holder) × (node.label ≡ was.label) × (blocks_left_in node.content ≡ blocks_left_in was.content)
@@ -54,7 +54,7 @@ module _ (s new : StoreState) (t t' : Tree) (number : ℕ) (keeps : Keeps s t) (
       let own : node.label ≡ it.label = led.1.1 ∙ (label ∙ sym labelled) in
       let object = keeps.shows.by.objects h.node it.label (shown_node it).1 (shown_there s h.node it there) in
       let was = found_before (node_in s.nodes k.node) node (λ holder l. (holder ≡ None) × (l ≡ number)) (stays.node k.node node led.1.0)
-      (λ e. let none : object_of t.objects it.label ≡ None = ap (object_of t.objects) (sym own ∙ e.1) ∙ unused in let x : ⊥ = cc in x) in
+      (λ e. let none : object_of t.objects it.label ≡ None = ap (object_of t.objects) (sym own ∙ e.1) ∙ unused in cc) in
       let alike : was.0.label ≡ it.label = sym was.3 ∙ own in
       let one : k.node ≡ h.node = keeps.shows.by.sound.labels k.node h.node it.label (shown_node was.0).1 (shown_node it).1
       (shown_there s k.node was.0 was.1 ∙ (λ i. Some (alike i, (shown_node was.0).1))) (shown_there s h.node it there) in

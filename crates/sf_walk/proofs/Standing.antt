@@ -87,9 +87,7 @@ module _ (holder : Option ℕ) (s : StoreState) (id : ℕ) where
 
 same_entered : (at : Stage) (s : StoreState) → IsSameGround s (entered at s)
 same_entered stage.Fresh s = same_itself s
-same_entered (stage.At walked node) s = same_looked s
-same_entered (stage.Ends common old new) s = same_looked s
-same_entered (stage.Copies node left) s = same_looked s
+same_entered _ s = same_looked s
 
 same_free : (b : Bool) (node : ℕ) (s : StoreState) → IsSameGround s (if b then s else edited (with_holder None) s node)
 same_free true node s = same_itself s

@@ -137,7 +137,7 @@ pub record NewEntryIn (old mid : StoreState) : Type 0 where
 pub undone : (old mid new : StoreState) (e : NewEntryIn old mid) → new ≡ unlinked mid e.dir e.name → IsAlike old new
 undone old mid new e state =
     elim (node_in old.nodes e.dir) as (λ o. node_in old.nodes e.dir ≡ o → IsAlike old new) [
-      | None ↦ λ at. let off = ap (λ (o : Option Node). option_map_or (λ (it : Node). is_directory_content it.content) o false) at in let d = e.directory in absurd (let x : ⊥ = cc in x)
+      | None ↦ λ at. let off = ap (λ (o : Option Node). option_map_or (λ (it : Node). is_directory_content it.content) o false) at in let d = e.directory in cc
       | Some above ↦ λ at. alike_again old mid e.dir e.name e.id e.node above at
           (sym (ap (λ (o : Option Node). option_map_or (λ (it : Node). is_directory_content it.content) o false) at) ∙ e.directory)
           (sym (ap (option_and_then (λ (it : Node). child_in it.content e.name)) at) ∙ e.free)

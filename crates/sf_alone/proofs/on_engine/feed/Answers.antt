@@ -10,7 +10,7 @@ use Rattle.sf_alone.proofs.on_engine.feed.Goals as goal
 -- the result of an event that succeeded
 some_ok : {T E : Type 0} (r : Result T E) → is_err r ≡ false → (x : T) × (r ≡ Ok x)
 some_ok (Ok x) e = (x, refl)
-some_ok (Err f) e = absurd (cc)
+some_ok (Err f) e = cc
 
 -- a vector of the first elements of another, at the same address
 abbrev front : (v : Vec ℕ) (n : ℕ) → n ≤ v.len → Vec ℕ

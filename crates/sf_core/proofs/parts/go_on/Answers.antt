@@ -17,9 +17,6 @@ use Rattle.sf_core.proofs.Walks.{moved_core, moved_more, moved_free, none_moved,
 use Rattle.sf_core.proofs.UnderWay.{staged_there, step_more, under_way, come_same, stage_stays}
 use Rattle.sf_core.proofs.parts.go_on.Goals as goal
 
-walked_is : {w v : Walk} → outcome.Walked w ≡ outcome.Walked v → w ≡ v
-walked_is e = cc
-
 pub loop-init : goal.loop-init
 loop-init c =
     let call = c.args.call.now in
@@ -63,10 +60,10 @@ loop-preserved c =
           (subst (λ (w : Walk). Advances c.loop.store to (walker call.number (route_in c.args.route) c.loop.stage) w) c.in-Moved.is c.advance.ensures)) in (
             suc it.0,
             omega (arith, it.1),
-            moved_more lane number refl it.0 p q q' (outcome.Walked (walk.Moved after)) it.2 stepped refl,
-            moved_core lane number refl q q' (outcome.Walked (walk.Moved after)) stepped refl,
+            moved_more lane number refl it.0 p q q' after it.2 stepped,
+            moved_core lane number refl q q' after stepped,
             record {
-              free = (moved_free lane number refl q q' (outcome.Walked (walk.Moved after)) stepped refl (at_stage after call)
+              free = (moved_free lane number refl q q' after stepped (at_stage after call)
                   (staged_there p.calls number after (at_stage c.args.stage.now call) on.call)).free;
             },
           );
@@ -89,7 +86,7 @@ returns-in_default c = λ p number on.
           (step_more number call p c.args.store.now c.loop.store to c.args.stage.now c.loop.stage result on it.3 it.4
           (subst (λ (k : ℕ). k < 2 ^ 64) c.look_ups-count.ensures c.look_ups-count.type_inv)
           (subst (λ (r : Route). Advances c.loop.store to (walker call.number r c.loop.stage) result) c.requires.route c.advance.ensures));
-      full = λ after e. absurd (c.in_default.not-Moved after (walked_is e));
+      full = λ after e. absurd (c.in_default.not-Moved after cc);
     }
 
 pub step-requires-clause-root : goal.step-requires-clause-root

@@ -5,7 +5,8 @@ use Rattle.sf_engine.specs.declared.event.Event.{Event}
 use Rattle.sf_engine.specs.declared.event.Happened.{Happened}
 use Rattle.sf_engine.specs.declared.event.EngineFault.{EngineFault}
 use Rattle.sf_engine.specs.Promise.{of_session, IsUnsent}
-use Rattle.sf_engine.proofs.Outcomes.{IsLogOf, no_log, log_push, last_got}
+use Rattle.sf_engine.proofs.Outcomes.{IsLogOf, no_log, log_push}
+use Rattle.sf_engine.proofs.Base.{get_push}
 use Rattle.sf_engine.proofs.promise.apply_all.Goals as goal
 
 pub events-init : goal.events-init
@@ -63,7 +64,7 @@ sessions-preserved g c =
         inv.log.1,
         inv.log.2,
         λ i output at.
-            elim (last_got c.sessions.outputs.items i v output (ap (λ (xs : List (Vec ℕ)). slice_get xs i) (sym c.in_ok-push-2.ensures.items) ∙ at)) [
+            elim (get_push c.sessions.outputs.items i v output (ap (λ (xs : List (Vec ℕ)). slice_get xs i) (sym c.in_ok-push-2.ensures.items) ∙ at)) [
               | inl old ↦ inv.log.3 i output old
               | inr new ↦
                   let index : c.sessions.session ≡ i = sym inv.count ∙ sym new.0 in

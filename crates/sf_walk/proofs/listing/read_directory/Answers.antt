@@ -61,7 +61,7 @@ returns-in_err-listed-clause-wants c = λ t h. on_err_any c.from_residual-in_err
 pub returns-in_err-found-clause-wants : goal.returns-in_err-found-clause-wants
 returns-in_err-found-clause-wants c = λ t h.
     let left = entries_past c.in-Some.handle.now.listed (node_entries c.args.store.now.nodes c.in-Some.handle.now.node) in
-    let some : left ≡ [] → ⊥ = λ none. let w : false ≡ true = c.in_err-found.ensures.none_left (ap (λ (last : Option Name). entries_past last (node_entries c.args.store.now.nodes c.in-Some.handle.now.node)) c.as_ref.ensures.value ∙ none) in let x : ⊥ = cc in x in
+    let some : left ≡ [] → ⊥ = λ none. let w : false ≡ true = c.in_err-found.ensures.none_left (ap (λ (last : Option Name). entries_past last (node_entries c.args.store.now.nodes c.in-Some.handle.now.node)) c.as_ref.ensures.value ∙ none) in cc in
     let end = last_is_there (take MAX_ENTRIES left) (some_are_taken left some) in
     on_err_any c.from_residual.result _
     (list_wants c.args.store.now t c.args.session c.args.number c.in-Some.handle.now

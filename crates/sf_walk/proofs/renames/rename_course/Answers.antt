@@ -1,4 +1,4 @@
-use Rattle.std.proofs.Common.{refl, sym, ◌∙◌}
+use Rattle.std.proofs.Common.{refl}
 use Rattle.sf_call.specs.Calls.{rename}
 use Rattle.sf_walk.proofs.Courses.{roots_refused, no_roots, nested_there, apart_there, old_named, new_named, old_found, new_found, old_no_way, old_missing, rename_nested, rename_no_way, rename_taken, rename_moves}
 use Rattle.sf_walk.proofs.renames.rename_course.Goals as goal

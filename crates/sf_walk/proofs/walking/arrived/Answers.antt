@@ -16,7 +16,7 @@ alike n m e = same_name_is n m (by (same_name n m) e)
   where
     by : (b : Bool) → false ≡ not b → b ≡ true
     by true e = refl
-    by false e = absurd (let x : ⊥ = cc in x)
+    by false e = cc
 
 pub returns-then-ne : goal.returns-then-ne
 returns-then-ne c =

@@ -12,15 +12,12 @@ use Rattle.sf_core.specs.Cores.{call_at}
 use Rattle.sf_core.specs.Parts.{PartsView}
 use Rattle.sf_core.specs.Finishing.{IsSettledWhereFree}
 use Rattle.sf_core.specs.Stepping.{HelpState, freed}
-use Rattle.sf_core.proofs.Maps.{none_some}
+use Rattle.sf_core.proofs.Maps.{some_eq, none_some}
 use Rattle.sf_core.proofs.Readying.{settled_decided}
 use Rattle.sf_core.proofs.Helped.{back_copy, requests_then, answered_request, back_same, book_same, settled_then, still_none, same_call, located_then, settled_call}
 use Rattle.sf_walk.specs.Files.{file_handle}
 use Rattle.sf_core.proofs.CopySteps.{path_no_write}
 use Rattle.sf_core.proofs.parts.Parts.help.Goals as goal
-
-some_request : (a b : Request) → Some a ≡ Some b → a ≡ b
-some_request a b e = cc
 
 pub returns-in_default-clause-helps : goal.returns-in_default-clause-helps
 returns-in_default-clause-helps c = λ it at fresh copied.
@@ -96,7 +93,7 @@ returns-clause-helps c = λ it at fresh copied.
     let same : call ≡ it = back_same call it back fresh in
     let given = c.decide-reply.result.0 in
     let request : c.in-Some-set_reply.request ≡ it.request =
-    some_request c.in-Some-set_reply.request it.request (c.in-Some-set_reply.ensures.copy ∙ ap (option_and_then (λ (x : Call). x.copy)) (sym c.in-Some.ensures) ∙ back_copy call it back ∙ copied) in
+    some_eq c.in-Some-set_reply.request it.request (c.in-Some-set_reply.ensures.copy ∙ ap (option_and_then (λ (x : Call). x.copy)) (sym c.in-Some.ensures) ∙ back_copy call it back ∙ copied) in
     let own : HelpState inside done call c.args.overtaken given = record {
       records = record {
         mid = c.decide-reply.new.store;

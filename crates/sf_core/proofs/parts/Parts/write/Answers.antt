@@ -12,12 +12,10 @@ use Rattle.sf_core.specs.Cores.{call_at}
 use Rattle.sf_core.specs.Parts.{PartsView}
 use Rattle.sf_core.specs.Stepping.{FinishState, freed, gone}
 use Rattle.sf_core.specs.Writing.{CopiesOne, WriteState, file_held}
+use Rattle.sf_core.proofs.Maps.{some_eq}
 use Rattle.sf_core.proofs.CopySteps.{stays_written}
 use Rattle.sf_core.proofs.Writers.{opens_same}
 use Rattle.sf_core.proofs.parts.Parts.write.Goals as goal
-
-some_call : (a b : Call) → Some a ≡ Some b → a ≡ b
-some_call a b e = cc
 
 pub start-reply-requires-clause-write : goal.start-reply-requires-clause-write
 start-reply-requires-clause-write c =
@@ -37,7 +35,7 @@ returns-in-None-clause-decided c = λ d at.
     let begun : PartsView = record inside { store = mid } in
     let here : call_at c.self.inside.calls c.args.number ≡ Some d = subst (λ (v : PartsView). call_at v.calls c.args.number ≡ Some d) (sym c.self.view_is) at in
     let call = c.in-Some.call.now in
-    let same : call ≡ d = some_call call d (c.in-Some.ensures ∙ here) in
+    let same : call ≡ d = some_eq call d (c.in-Some.ensures ∙ here) in
     let ready = c.requires.write d at in
     let r = c.start-reply.result.0 in
     let fresh : call.stage ≡ stage.Fresh = ap (λ (x : Call). x.stage) same ∙ ready.fresh in
@@ -83,7 +81,7 @@ returns-in-Some-left_to_copy-clause-begun c = λ d at.
     let begun : PartsView = record inside { store = mid } in
     let here : call_at c.self.inside.calls c.args.number ≡ Some d = subst (λ (v : PartsView). call_at v.calls c.args.number ≡ Some d) (sym c.self.view_is) at in
     let call = c.in-Some.call.now in
-    let same : call ≡ d = some_call call d (c.in-Some.ensures ∙ here) in
+    let same : call ≡ d = some_eq call d (c.in-Some.ensures ∙ here) in
     let ready = c.requires.write d at in
     let r = c.start-reply.result.0 in
     let copy = c.start-reply.result.1 in

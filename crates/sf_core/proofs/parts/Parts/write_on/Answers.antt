@@ -1,11 +1,12 @@
 use Rattle.sf_core.specs.Cores.{call_at}
 use Rattle.sf_core.specs.Writing.WritesOn.{ByFirstStep}
-use Rattle.sf_core.proofs.CopySteps.{begun_copies, call_there, written_on}
+use Rattle.sf_core.proofs.Maps.{there_is}
+use Rattle.sf_core.proofs.CopySteps.{begun_copies, written_on}
 use Rattle.sf_core.proofs.parts.Parts.write_on.Goals as goal
 
 pub copy_on-requires : goal.copy_on-requires
 copy_on-requires c =
-    let w = call_there (call_at c.args.self.now.calls c.args.number) c.requires.there in
+    let w = there_is (call_at c.args.self.now.calls c.args.number) c.requires.there in
     begun_copies c.args.self.now c.write.new.self w.0 c.args.number w.1 (c.in-None.ensures.begun w.0 w.1)
 
 pub returns-in-Some : goal.returns-in-Some
