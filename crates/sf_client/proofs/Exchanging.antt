@@ -9,8 +9,8 @@ use Rattle.sf_request.specs.declared.request.WireRequest.{WireRequest}
 use Rattle.sf_request.specs.Requests.{request_body}
 use Rattle.sf_reply.specs.declared.reply.Reply.{Reply}
 use Rattle.sf_reply.specs.Replies.{reply_body}
-use Rattle.sf_client.specs.Dues.{due_of, is_due}
-use Rattle.sf_client.specs.Exchanges.{ClientView, Exchange, Exchanged, SentAhead, Unanswered, Sent, Took, IsDueReply, id_after, last_id, requests_of, requests_from, replies_from}
+use Rattle.sf_client.specs.Pending.{pending_of, is_expected}
+use Rattle.sf_client.specs.Exchanges.{ClientView, Exchange, Exchanged, SentAhead, Unanswered, Sent, Took, IsExpected, id_after, last_id, requests_of, requests_from, replies_from}
 use Rattle.sf_client.specs.Outcomes.{asked}
 
 -- ---- lists
@@ -52,7 +52,7 @@ requests-shift xs q r qs = ap (λ (t : List WireRequest). t ++ qs) (map-append (
 
 pub exchanged_none : (v : ClientView) → v.failed ≡ false → Exchanged v [] v
 unfolding last_id requests_from replies_from
-exchanged_none v going = record { began = going; going = going; next = refl; wrote = Appends-nil v.outgoing; read = Consumes-nil v.incoming; due = tt; failures = omega arith }
+exchanged_none v going = record { began = going; going = going; next = refl; wrote = Appends-nil v.outgoing; read = Consumes-nil v.incoming; pending = tt; failures = omega arith }
 
 -- the packets of requests sent in two parts
 requests_in_parts : (id : ℕ) (xs ys : List Exchange) (later : List WireRequest) → requests_from id (requests_of (xs ++ ys) ++ later) ≡ requests_from id (requests_of xs ++ []) ++ requests_from (last_id id xs) (requests_of ys ++ later)
@@ -72,7 +72,7 @@ ahead_then u v w xs ys later p q =
       next = q.next ∙ ap (λ (n : ℕ). last_id n ys) p.next ∙ sym (last_id-append u.next xs ys);
       wrote = subst (Appends u.outgoing w.outgoing) (sym (requests_in_parts u.next xs ys later)) (Appends-trans _ _ _ _ _ p.wrote wrote);
       read = subst (Consumes u.incoming w.incoming) (sym (replies-append u.next xs ys)) (Consumes-trans _ _ _ _ _ p.read read);
-      due = all-append IsDueReply xs ys p.due q.due;
+      pending = all-append IsExpected xs ys p.pending q.pending;
       failures = omega (arith, p.failures, q.failures);
     }
 
@@ -102,14 +102,14 @@ sent_more {v} {u} {w} {xs} {qs} id q ahead is sent =
       next = next ∙ ahead.next;
       wrote = subst (Appends v.outgoing w.outgoing) all (Appends-trans _ _ _ _ _ ahead.wrote sent.wrote);
       read = subst (λ (t : Option (List ℕ)). Consumes v.incoming t (replies_from v.next xs)) (sym incoming) ahead.read;
-      due = ahead.due;
+      pending = ahead.pending;
       failures = omega (arith, ahead.failures, sent.failures);
     }
 
 -- the oldest pending reply was received
-pub took_one : {v u w : ClientView} {xs : List Exchange} {q : WireRequest} {qs : List WireRequest} {r : Reply} → SentAhead v xs (q ∷ qs) u → is_due (due_of q) r ≡ true → Took u r w → SentAhead v (xs ++ asked q r ∷ []) qs w
+pub took_one : {v u w : ClientView} {xs : List Exchange} {q : WireRequest} {qs : List WireRequest} {r : Reply} → SentAhead v xs (q ∷ qs) u → is_expected (pending_of q) r ≡ true → Took u r w → SentAhead v (xs ++ asked q r ∷ []) qs w
 unfolding replies_from last_id
-took_one {v} {u} {w} {xs} {q} {qs} {r} ahead due took =
+took_one {v} {u} {w} {xs} {q} {qs} {r} ahead pending took =
     let one : packet (reply_body u.next r) ≡ replies_from (last_id v.next xs) (asked q r ∷ []) = ap (λ (n : ℕ). packet (reply_body n r)) ahead.next ∙ sym (append-nil (packet (reply_body (last_id v.next xs) r))) in
     let all : replies_from v.next xs ++ packet (reply_body u.next r) ≡ replies_from v.next (xs ++ asked q r ∷ []) = ap (λ (t : List ℕ). replies_from v.next xs ++ t) one ∙ sym (replies-append v.next xs (asked q r ∷ [])) in
     let wrote : Appends v.outgoing w.outgoing (requests_from v.next (requests_of xs ++ q ∷ qs)) = subst (λ (t : Option (List ℕ)). Appends v.outgoing t (requests_from v.next (requests_of xs ++ q ∷ qs))) (sym took.outgoing) ahead.wrote in
@@ -119,6 +119,6 @@ took_one {v} {u} {w} {xs} {q} {qs} {r} ahead due took =
       next = took.next ∙ ap id_after ahead.next ∙ sym (last_id-append v.next xs (asked q r ∷ []));
       wrote = subst (λ (t : List WireRequest). Appends v.outgoing w.outgoing (requests_from v.next t)) (sym (requests-shift xs q r qs)) wrote;
       read = subst (Consumes v.incoming w.incoming) all (Consumes-trans _ _ _ _ _ ahead.read took.read);
-      due = all-append IsDueReply xs (asked q r ∷ []) ahead.due (due, tt);
+      pending = all-append IsExpected xs (asked q r ∷ []) ahead.pending (pending, tt);
       failures = omega (arith, ahead.failures, took.failures);
     }

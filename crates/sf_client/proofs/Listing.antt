@@ -1,5 +1,5 @@
 -- Listing a directory, pipelined.
-use Rattle.std.proofs.Common.{◌≡◌, ◌≢◌, ◌<◌, ℕ, List, [], ◌∷◌, ◌++◌, Bool, false, None, Some, Ok, inl, inr, refl, sym, ap, subst, ◌∙◌, append_assoc, append-nil}
+use Rattle.std.proofs.Common.{◌≡◌, ◌≢◌, ◌<◌, ℕ, List, [], ◌∷◌, ◌++◌, Bool, false, Option, None, Some, Ok, inl, inr, refl, sym, ap, subst, ◌∙◌, append_assoc, append-nil}
 use Rattle.std.specs.List.{AllByRecursion}
 use Rattle.sf_field.specs.Fields.{be64}
 use Rattle.sf_request.specs.declared.request.WireRequest.{WireRequest}
@@ -8,17 +8,17 @@ use Rattle.sf_reply.specs.declared.reply.Entry.{Entry}
 use Rattle.sf_reply.specs.declared.reply.Reply.TheVariants as reply
 use Rattle.sf_reply.specs.declared.reply.StatusCode.TheVariants as status
 use Rattle.sf_client.specs.declared.ahead.Ahead.{Ahead}
-use Rattle.sf_client.specs.declared.due.Due.TheVariants as due
+use Rattle.sf_client.specs.declared.pending.PendingReply.TheVariants as pending
 use Rattle.sf_client.specs.declared.fault.ClientFault.{ClientFault}
 use Rattle.sf_client.specs.declared.fault.ClientFault.TheVariants as fault
-use Rattle.sf_client.specs.Dues.{due_of}
+use Rattle.sf_client.specs.Pending.{pending_of}
 use Rattle.sf_client.specs.Exchanges.{ClientView, Exchange}
-use Rattle.sf_client.specs.Outcomes.{asked}
-use Rattle.sf_client.specs.Ahead.{ClientAhead, sender, EndsCallBy, GathersNames, SendsOn, TakesOn}
+use Rattle.sf_client.specs.Outcomes.{asked, EndsCallBy}
+use Rattle.sf_client.specs.Ahead.{ClientAhead, MaySendMore, sender, GathersNames, SendsOn, TakesOn}
 use Rattle.sf_client.specs.Calls.{DoesCall, EndsAtLast, IsListing, listings, all_entries, ListsAll, ended_by}
 use Rattle.sf_client.proofs.Exchanging.{all-append}
 use Rattle.sf_client.proofs.Runs.{CallEnded, eof_is}
-use Rattle.sf_client.proofs.Pipelines.{PipelinePhase, Going, Skipping, Stopped, Drops, Pipeline, Position, starts, HasRoom, sends_on, GathersWith, took_on, took_no_room, ended}
+use Rattle.sf_client.proofs.Pipelines.{PipelinePhase, Going, Dropping, Pipeline, Position, starts, sends_on, GathersWith, took_on, took_no_room, ended}
 
 -- ---- parts
 
@@ -52,19 +52,19 @@ pub record ListEndedBy (f : ClientFault) (n : ℕ) (entries : List Entry) (made 
 -- replies are discarded only after an error
 abbrev pub GathersEntries : ℕ → List Entry → PipelinePhase → List Exchange → List WireRequest → Type 0
 GathersEntries n entries Going made coming = Parts n entries made
-GathersEntries n entries Skipping made coming = ⊥
-GathersEntries n entries (Stopped f) made coming = ListEndedBy f n entries made
+GathersEntries n entries (Dropping None) made coming = ⊥
+GathersEntries n entries (Dropping (Some f)) made coming = ListEndedBy f n entries made
 
 abbrev pub AsksNames : ℕ → WireRequest → Type 0
 AsksNames n q = q ≡ request.ReadDir (be64 n)
 
-pub list_short : (n : ℕ) (entries : List Entry) (made : List Exchange) (coming : List WireRequest) → GathersEntries n entries Going made coming → GathersEntries n entries (Stopped fault.OutOfMemory) made coming
+pub list_short : (n : ℕ) (entries : List Entry) (made : List Exchange) (coming : List WireRequest) → GathersEntries n entries Going made coming → GathersEntries n entries (Dropping (Some fault.OutOfMemory)) made coming
 list_short n entries made coming h =
     let nil : listings n h.parts ≡ (listings n h.parts ++ []) ++ [] = sym (append-nil (listings n h.parts ++ []) ∙ append-nil (listings n h.parts)) in
     record { parts = h.parts; last = []; after = []; entries_are = λ e. h.entries_are; ends = inl (refl, refl); after_are = tt; made_are = h.made_are ∙ nil }
 
 pub list_stops : (n : ℕ) (entries : List Entry) (made : List Exchange) (coming : List WireRequest) (e : Exchange) (f : ClientFault) → AsksNames n e.request → EndsCallBy e.reply f → GathersEntries n entries Going made (e.request ∷ coming)
-    → GathersEntries n entries (Stopped f) (made ++ e ∷ []) coming
+    → GathersEntries n entries (Dropping (Some f)) (made ++ e ∷ []) coming
 list_stops n entries made coming e f one ends h =
     let last = asked (request.ReadDir (be64 n)) e.reply ∷ [] in
     record {
@@ -77,11 +77,10 @@ list_stops n entries made coming e f one ends h =
       made_are = ap (λ (t : List Exchange). t ++ e ∷ []) h.made_are ∙ ap (λ (q : WireRequest). listings n h.parts ++ asked q e.reply ∷ []) one ∙ sym (append-nil (listings n h.parts ++ last));
     }
 
-pub list_drops : (n : ℕ) (entries : List Entry) (phase : PipelinePhase) (made : List Exchange) (coming : List WireRequest) (e : Exchange) → Drops phase → AsksNames n e.request → GathersEntries n entries phase made (e.request ∷ coming)
-    → GathersEntries n entries phase (made ++ e ∷ []) coming
-list_drops n entries Going made coming e drops one h = absurd drops
-list_drops n entries Skipping made coming e drops one h = h
-list_drops n entries (Stopped f) made coming e drops one h = record {
+pub list_drops : (n : ℕ) (entries : List Entry) (by : Option ClientFault) (made : List Exchange) (coming : List WireRequest) (e : Exchange) → AsksNames n e.request → GathersEntries n entries (Dropping by) made (e.request ∷ coming)
+    → GathersEntries n entries (Dropping by) (made ++ e ∷ []) coming
+list_drops n entries None made coming e one h = h
+list_drops n entries (Some f) made coming e one h = record {
   parts = h.parts;
   last = h.last;
   after = h.after ++ e ∷ [];
@@ -95,8 +94,8 @@ list_drops n entries (Stopped f) made coming e drops one h = record {
 abbrev pub listing : ℕ → Pipeline
 listing n = record {
   IsOne = AsksNames n;
-  due = due.Names;
-  dues = λ q one. ap due_of one;
+  pending = pending.Names;
+  one_pending = λ q one. ap pending_of one;
   Gathered = List Entry;
   Gathers = GathersEntries n;
   skipped = λ entries made h. absurd h;
@@ -111,7 +110,7 @@ pub list_starts : (n : ℕ) (v : ClientView) (entries : List Entry) (a : Ahead) 
 unfolding listings
 list_starts n v entries a going nothing is = starts (listing n) v entries a going is (record { parts = []; entries_are = nothing; made_are = refl })
 
-pub list_asked : {v : ClientView} {y z : ClientAhead} (n : ℕ) (entries : List Entry) (sent : Bool) → Position (listing n) v entries y → HasRoom y.ahead → SendsOn y (request.ReadDir (be64 n)) (Ok sent) z → Position (listing n) v entries z
+pub list_asked : {v : ClientView} {y z : ClientAhead} (n : ℕ) (entries : List Entry) (sent : Bool) → Position (listing n) v entries y → MaySendMore y.ahead → SendsOn y (request.ReadDir (be64 n)) (Ok sent) z → Position (listing n) v entries z
 list_asked n entries sent at room h = sends_on at (request.ReadDir (be64 n)) sent room refl h (λ g. g)
 
 part_more : (n : ℕ) (entries part now : List Entry) (made : List Exchange) → now ≡ entries ++ part → GathersWith (listing n) entries made (reply.Names part) now Going
@@ -122,18 +121,18 @@ part_more n entries part now made is = λ q others one g. record {
 }
 
 -- the entries collected so far no longer count
-part_lost : (n : ℕ) (entries part now : List Entry) (made : List Exchange) → GathersWith (listing n) entries made (reply.Names part) now (Stopped fault.OutOfMemory)
+part_lost : (n : ℕ) (entries part now : List Entry) (made : List Exchange) → GathersWith (listing n) entries made (reply.Names part) now (Dropping (Some fault.OutOfMemory))
 part_lost n entries part now made = λ q others one g.
-    let h = list_stops n entries made others (asked q (reply.Names part)) fault.OutOfMemory one tt g in
+    let h = list_stops n entries made others (asked q (reply.Names part)) fault.OutOfMemory one (λ plain. plain) g in
     record { parts = h.parts; last = h.last; after = h.after; entries_are = λ e. absurd cc; ends = h.ends; after_are = h.after_are; made_are = h.made_are }
 
-pub list_gathered : {v : ClientView} {y z : ClientAhead} {a : Ahead} (n : ℕ) (entries part now : List Entry) → Position (listing n) v entries y → 0 < y.ahead.waiting → TakesOn y due.Names (Ok (Some (reply.Names part))) z
+pub list_gathered : {v : ClientView} {y z : ClientAhead} {a : Ahead} (n : ℕ) (entries part now : List Entry) → Position (listing n) v entries y → 0 < y.ahead.waiting → TakesOn y pending.Names (Ok (Some (reply.Names part))) z
     → GathersNames entries part now z.ahead a → Position (listing n) v now (sender z.client a)
 list_gathered {v} {y} {z} n entries part now at some h (inl k) =
     subst (λ (b : Ahead). Position (listing n) v now (sender z.client b)) (sym k.1) (took_on at (reply.Names part) now some h (part_more n entries part now at.made k.0))
 list_gathered n entries part now at some h (inr k) = took_no_room at (reply.Names part) now some h k (part_lost n entries part now at.made)
 
-list_ends : (n : ℕ) (entries : List Entry) (f : ClientFault) (made : List Exchange) → GathersEntries n entries (Stopped f) made [] → CallEnded (ListsAll n) made entries f
+list_ends : (n : ℕ) (entries : List Entry) (f : ClientFault) (made : List Exchange) → GathersEntries n entries (Dropping (Some f)) made [] → CallEnded (ListsAll n) made entries f
 list_ends n entries f made h =
     let kept = listings n h.parts ++ h.last in
     let ends = h.ends in

@@ -1,5 +1,5 @@
 -- Reading a file, pipelined.
-use Rattle.std.proofs.Common.{◌≡◌, ◌≢◌, ◌+◌, ◌*◌, ◌<◌, ◌≤◌, ◌⊎◌, ℕ, List, [], ◌∷◌, ◌++◌, length, Bool, true, false, None, Some, Result, Ok, Err, rules, inl, inr, refl, sym, ap, subst, ◌∙◌, append_assoc, append-nil, arith}
+use Rattle.std.proofs.Common.{◌≡◌, ◌≢◌, ◌+◌, ◌*◌, ◌<◌, ◌≤◌, ℕ, List, [], ◌∷◌, ◌++◌, length, Bool, true, false, Option, None, Some, Result, Ok, Err, rules, inl, inr, refl, sym, ap, subst, ◌∙◌, append_assoc, append-nil, arith}
 use Rattle.std.specs.List.{concat}
 use Rattle.std.proofs.lemmas.List.{length-append}
 use Rattle.sf_field.specs.Fields.{be64}
@@ -10,27 +10,23 @@ use Rattle.sf_reply.specs.declared.reply.Reply.TheVariants as reply
 use Rattle.sf_reply.specs.declared.reply.StatusCode.{StatusCode}
 use Rattle.sf_reply.specs.declared.reply.StatusCode.TheVariants as status
 use Rattle.sf_client.specs.declared.ahead.Ahead.{Ahead}
-use Rattle.sf_client.specs.declared.due.Due.TheVariants as due
+use Rattle.sf_client.specs.declared.pending.PendingReply.TheVariants as pending
 use Rattle.sf_client.specs.declared.fault.ClientFault.{ClientFault}
 use Rattle.sf_client.specs.declared.fault.ClientFault.TheVariants as fault
-use Rattle.sf_client.specs.Dues.{Refuses, due_of, is_answer, TakesMemory}
-use Rattle.sf_client.specs.Exchanges.{ClientView, Exchange, Exchanged}
-use Rattle.sf_client.specs.Outcomes.{asked}
-use Rattle.sf_client.specs.Ahead.{ClientAhead, sender, EndsCallBy, GathersPiece, SendsOn, TakesOn}
+use Rattle.sf_client.specs.Pending.{Refuses, pending_of, is_answer}
+use Rattle.sf_client.specs.Exchanges.{ClientView, Exchange}
+use Rattle.sf_client.specs.Outcomes.{asked, EndsCallBy}
+use Rattle.sf_client.specs.Ahead.{ClientAhead, MaySendMore, sender, GathersPiece, SendsOn, TakesOn}
 use Rattle.sf_client.specs.Calls.{DoesCall, EndsAtLast, IsReadOf, KeepsSome, read_from, reads, Reads, ReadsAll, AsksSize, size_of, most_gathered, ended_by}
-use Rattle.sf_client.proofs.Exchanging.{exchanged_none, exchanged_then, unanswered_then}
+use Rattle.sf_client.proofs.Exchanging.{exchanged_then, unanswered_then}
 use Rattle.sf_client.proofs.Steps.{broke_since}
-use Rattle.sf_client.proofs.Runs.{CallEnded, eof_is}
-use Rattle.sf_client.proofs.Pipelines.{PipelinePhase, Going, Skipping, Stopped, Drops, Pipeline, Position, starts, HasRoom, sends_on, GathersWith, took_on, took_short, took_no_room, ended}
+use Rattle.sf_client.proofs.Runs.{CallEnded, at_first, eof_is, not_refused}
+use Rattle.sf_client.proofs.Pipelines.{PipelinePhase, Going, Dropping, Pipeline, Position, starts, sends_on, GathersWith, took_on, took_short, took_no_room, ended}
 
 -- an error status has no size
 pub no_size : (r : Reply) (code : StatusCode) → Refuses r code → 0 ≡ size_of r
-no_size (reply.Status given) code h = refl
-no_size reply.NoMemory code h = refl
-no_size (reply.Handle number) code h = absurd h
-no_size (reply.Data bytes) code h = absurd h
-no_size (reply.Names entries) code h = absurd h
-no_size (reply.Attrs attrs) code h = absurd h
+no_size (reply.Attrs attrs) code h = cc
+no_size _ code h = refl
 
 -- ---- chunks
 
@@ -89,20 +85,20 @@ pub record ReadEndedBy (f : ClientFault) (n : ℕ) (bytes : List ℕ) (kept : Li
 
 abbrev pub KeptIn : PipelinePhase → ℕ → List ℕ → List Exchange → List WireRequest → Type 0
 KeptIn Going n bytes kept coming = Follows n (length bytes) coming × Pieces n bytes kept
-KeptIn Skipping n bytes kept coming = Pieces n bytes kept
-KeptIn (Stopped f) n bytes kept coming = ReadEndedBy f n bytes kept
+KeptIn (Dropping None) n bytes kept coming = Pieces n bytes kept
+KeptIn (Dropping (Some f)) n bytes kept coming = ReadEndedBy f n bytes kept
 
 -- of the replies received these were kept
 abbrev pub GathersBytes : ℕ → List ℕ → PipelinePhase → List Exchange → List WireRequest → Type 0
 GathersBytes n bytes phase made coming = (kept : List Exchange) × KeepsSome n made kept × KeptIn phase n bytes kept coming
 
-pub read_short : (n : ℕ) (bytes : List ℕ) (made : List Exchange) (coming : List WireRequest) → GathersBytes n bytes Going made coming → GathersBytes n bytes (Stopped fault.OutOfMemory) made coming
+pub read_short : (n : ℕ) (bytes : List ℕ) (made : List Exchange) (coming : List WireRequest) → GathersBytes n bytes Going made coming → GathersBytes n bytes (Dropping (Some fault.OutOfMemory)) made coming
 read_short n bytes made coming h =
     let so_far = h.2.1 in
     (h.0, h.1, record { pieces = so_far.pieces; last = []; bytes_are = λ e. so_far.bytes_are; ends = inl (refl, refl); kept_are = so_far.kept_are ∙ sym (append-nil (reads n 0 so_far.pieces)) })
 
 pub read_stops : (n : ℕ) (bytes : List ℕ) (made : List Exchange) (coming : List WireRequest) (e : Exchange) (f : ClientFault) → IsReadOf n e.request → EndsCallBy e.reply f → GathersBytes n bytes Going made (e.request ∷ coming)
-    → GathersBytes n bytes (Stopped f) (made ++ e ∷ []) coming
+    → GathersBytes n bytes (Dropping (Some f)) (made ++ e ∷ []) coming
 unfolding Follows
 read_stops n bytes made coming e f one ends h =
     let so_far = h.2.1 in
@@ -118,13 +114,12 @@ read_stops n bytes made coming e f one ends h =
       },
     )
 
-pub read_drops : (n : ℕ) (bytes : List ℕ) (phase : PipelinePhase) (made : List Exchange) (coming : List WireRequest) (e : Exchange) → Drops phase → IsReadOf n e.request → GathersBytes n bytes phase made (e.request ∷ coming)
-    → GathersBytes n bytes phase (made ++ e ∷ []) coming
-read_drops n bytes Going made coming e drops one h = absurd drops
-read_drops n bytes Skipping made coming e drops one h = (h.0, drops_more n made h.0 e one h.1, h.2)
-read_drops n bytes (Stopped f) made coming e drops one h = (h.0, drops_more n made h.0 e one h.1, h.2)
+pub read_drops : (n : ℕ) (bytes : List ℕ) (by : Option ClientFault) (made : List Exchange) (coming : List WireRequest) (e : Exchange) → IsReadOf n e.request → GathersBytes n bytes (Dropping by) made (e.request ∷ coming)
+    → GathersBytes n bytes (Dropping by) (made ++ e ∷ []) coming
+read_drops n bytes None made coming e one h = (h.0, drops_more n made h.0 e one h.1, h.2)
+read_drops n bytes (Some f) made coming e one h = (h.0, drops_more n made h.0 e one h.1, h.2)
 
-pub read_skipped : (n : ℕ) (bytes : List ℕ) (made : List Exchange) → GathersBytes n bytes Skipping made [] → GathersBytes n bytes Going made []
+pub read_skipped : (n : ℕ) (bytes : List ℕ) (made : List Exchange) → GathersBytes n bytes (Dropping None) made [] → GathersBytes n bytes Going made []
 unfolding Follows
 read_skipped n bytes made h = (h.0, h.1, (tt, h.2))
 
@@ -132,8 +127,8 @@ read_skipped n bytes made h = (h.0, h.1, (tt, h.2))
 abbrev pub reading : ℕ → Pipeline
 reading n = record {
   IsOne = IsReadOf n;
-  due = due.Data 32768;
-  dues = λ q one. ap due_of one.1;
+  pending = pending.Data 32768;
+  one_pending = λ q one. ap pending_of one.1;
   Gathered = List ℕ;
   Gathers = GathersBytes n;
   skipped = read_skipped n;
@@ -148,7 +143,7 @@ pub read_starts : (n : ℕ) (v : ClientView) (bytes : List ℕ) (a : Ahead) → 
 unfolding reads KeepsSome Follows
 read_starts n v bytes a going nothing is = starts (reading n) v bytes a going is ([], refl, (tt, record { pieces = []; bytes_are = nothing; kept_are = refl }))
 
-pub read_asked : {v : ClientView} {y z : ClientAhead} (n : ℕ) (bytes : List ℕ) (offset : ℕ) (sent : Bool) → Position (reading n) v bytes y → HasRoom y.ahead → offset ≡ length bytes + y.ahead.waiting * 32768 → SendsOn y (read_from n offset) (Ok sent) z
+pub read_asked : {v : ClientView} {y z : ClientAhead} (n : ℕ) (bytes : List ℕ) (offset : ℕ) (sent : Bool) → Position (reading n) v bytes y → MaySendMore y.ahead → offset ≡ length bytes + y.ahead.waiting * 32768 → SendsOn y (read_from n offset) (Ok sent) z
     → Position (reading n) v bytes z
 read_asked n bytes offset sent at room is h = sends_on at (read_from n offset) sent room (offset, refl) h (λ g. (g.0, g.1, (follows_more n (length bytes) at.coming offset (omega (arith, is, at.waiting)) g.2.0, g.2.1)))
 
@@ -164,7 +159,7 @@ piece_more {n} {bytes} {kept} piece now q so_far is asks =
     }
 
 -- at most the number requested
-data_most : (piece : List ℕ) → is_answer (due.Data 32768) (reply.Data piece) ≡ true → length piece ≤ 32768
+data_most : (piece : List ℕ) → is_answer (pending.Data 32768) (reply.Data piece) ≡ true → length piece ≤ 32768
 data_most piece h = search rules
 
 -- a complete chunk arrived: the next READ continues at its end
@@ -174,17 +169,17 @@ piece_whole n bytes piece now made is whole = λ q others one g.
     let end : length bytes + 32768 ≡ length now = omega (arith, ap length is, length-append bytes piece, whole) in
     (g.0 ++ asked q (reply.Data piece) ∷ [], keeps_more n made g.0 (asked q (reply.Data piece)) one g.1, (subst (λ (o : ℕ). Follows n o others) end g.2.0.1, piece_more piece now q g.2.1 is g.2.0.0))
 
-piece_short : (n : ℕ) (bytes piece now : List ℕ) (made : List Exchange) → now ≡ bytes ++ piece → GathersWith (reading n) bytes made (reply.Data piece) now Skipping
+piece_short : (n : ℕ) (bytes piece now : List ℕ) (made : List Exchange) → now ≡ bytes ++ piece → GathersWith (reading n) bytes made (reply.Data piece) now (Dropping None)
 unfolding Follows
 piece_short n bytes piece now made is = λ q others one g. (g.0 ++ asked q (reply.Data piece) ∷ [], keeps_more n made g.0 (asked q (reply.Data piece)) one g.1, piece_more piece now q g.2.1 is g.2.0.0)
 
 -- the bytes collected so far no longer count
-piece_lost : (n : ℕ) (bytes piece now : List ℕ) (made : List Exchange) → GathersWith (reading n) bytes made (reply.Data piece) now (Stopped fault.OutOfMemory)
+piece_lost : (n : ℕ) (bytes piece now : List ℕ) (made : List Exchange) → GathersWith (reading n) bytes made (reply.Data piece) now (Dropping (Some fault.OutOfMemory))
 piece_lost n bytes piece now made = λ q others one g.
-    let h = read_stops n bytes made others (asked q (reply.Data piece)) fault.OutOfMemory one tt g in
+    let h = read_stops n bytes made others (asked q (reply.Data piece)) fault.OutOfMemory one (λ plain. plain) g in
     (h.0, h.1, record { pieces = h.2.pieces; last = h.2.last; bytes_are = λ e. absurd cc; ends = h.2.ends; kept_are = h.2.kept_are })
 
-pub read_gathered : {v : ClientView} {y z : ClientAhead} {a : Ahead} (n : ℕ) (bytes piece now : List ℕ) → Position (reading n) v bytes y → 0 < y.ahead.waiting → TakesOn y (due.Data 32768) (Ok (Some (reply.Data piece))) z → GathersPiece bytes piece now z.ahead a
+pub read_gathered : {v : ClientView} {y z : ClientAhead} {a : Ahead} (n : ℕ) (bytes piece now : List ℕ) → Position (reading n) v bytes y → 0 < y.ahead.waiting → TakesOn y (pending.Data 32768) (Ok (Some (reply.Data piece))) z → GathersPiece bytes piece now z.ahead a
     → Position (reading n) v now (sender z.client a)
 read_gathered n bytes piece now at some h (inl (is, inl k)) = took_short at (reply.Data piece) now some h k.1 (piece_short n bytes piece now at.made is)
 read_gathered {v} {y} {z} n bytes piece now at some h (inl (is, inr k)) =
@@ -192,7 +187,7 @@ read_gathered {v} {y} {z} n bytes piece now at some h (inl (is, inr k)) =
     (took_on at (reply.Data piece) now some h (piece_whole n bytes piece now at.made is (let most = data_most piece h.0 in omega (arith, most, k.0))))
 read_gathered n bytes piece now at some h (inr k) = took_no_room at (reply.Data piece) now some h k (piece_lost n bytes piece now at.made)
 
-read_ends : (n : ℕ) (bytes : List ℕ) (f : ClientFault) (made : List Exchange) → GathersBytes n bytes (Stopped f) made [] → CallEnded (Reads n) made bytes f
+read_ends : (n : ℕ) (bytes : List ℕ) (f : ClientFault) (made : List Exchange) → GathersBytes n bytes (Dropping (Some f)) made [] → CallEnded (Reads n) made bytes f
 read_ends n bytes f made h =
     let k = h.2 in
     let ends = k.ends in
@@ -222,19 +217,8 @@ pub sized : (n : ℕ) (v u w : ClientView) (size : ℕ) (result : Result (List �
 sized n v u w size (Ok bytes) h small used = (_, (h.0, used.0, subst (λ (k : ℕ). k ≤ most_gathered) h.1 small, used.1, refl), exchanged_then v u w (asked (request.FStat (be64 n)) h.0 ∷ []) used.0 h.2 used.2)
 sized n v u w size (Err fault.Stream) h small used = broke_since v u w h.2.failures used
 sized n v u w size (Err fault.Protocol) h small used = (_, used.1, used.2, unanswered_then v u w (asked (request.FStat (be64 n)) h.0 ∷ []) used.0 used.1 used.2 h.2 used.3)
-sized n v u w size (Err (fault.Status code)) h small used = (_, inr (inr (h.0, used.0, subst (λ (k : ℕ). k ≤ most_gathered) h.1 small, used.1, refl)), exchanged_then v u w (asked (request.FStat (be64 n)) h.0 ∷ []) used.0 h.2 used.2)
-sized n v u w size (Err fault.OutOfMemory) h small used = (_, inr (inr (h.0, used.0, subst (λ (k : ℕ). k ≤ most_gathered) h.1 small, used.1, refl)), exchanged_then v u w (asked (request.FStat (be64 n)) h.0 ∷ []) used.0 h.2 used.2)
-sized n v u w size (Err (fault.TooLarge more)) h small used = (_, inr (inr (h.0, used.0, subst (λ (k : ℕ). k ≤ most_gathered) h.1 small, used.1, refl)), exchanged_then v u w (asked (request.FStat (be64 n)) h.0 ∷ []) used.0 h.2 used.2)
 sized n v u w size (Err fault.Failed) h small used = let going = h.2.going in let failed = used.0 in absurd cc
-
-no_room_for_size : (n : ℕ) (v w : ClientView) → v.failed ≡ false → (w ≡ v) ⊎ ((r : Reply) × TakesMemory r × Exchanged v (asked (request.FStat (be64 n)) r ∷ []) w) → DoesCall (ReadsAll n) v (Err fault.OutOfMemory) w
-no_room_for_size n v w began (inl same) = ([], inl (inl (refl, refl), refl), subst (Exchanged v []) (sym same) (exchanged_none v began))
-no_room_for_size n v w began (inr taken) = (asked (request.FStat (be64 n)) taken.0 ∷ [], inl (inr (taken.0, refl, taken.1), refl), taken.2)
+sized n v u w size (Err f) h small used = (_, inr (inr (h.0, used.0, subst (λ (k : ℕ). k ≤ most_gathered) h.1 small, used.1, refl)), exchanged_then v u w (asked (request.FStat (be64 n)) h.0 ∷ []) used.0 h.2 used.2)
 
 pub unsized : (n : ℕ) (v w : ClientView) (f : ClientFault) → AsksSize n v (Err f) w → DoesCall (ReadsAll n) v (Err f) w
-unsized n v w fault.Stream h = h.1
-unsized n v w fault.Protocol h = ([], request.FStat (be64 n), [], h.1)
-unsized n v w (fault.Status code) h = absurd (h.0 code refl)
-unsized n v w fault.OutOfMemory h = no_room_for_size n v w h.1.0 h.1.1
-unsized n v w (fault.TooLarge size) h = absurd h.1
-unsized n v w fault.Failed h = h.1
+unsized n v w f h = at_first v w (ReadsAll n) reply.Attrs (request.FStat (be64 n)) f (λ xs ends. inl (ends, not_refused (request.FStat (be64 n)) xs f h.0 ends)) h.1

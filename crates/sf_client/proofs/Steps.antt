@@ -1,5 +1,5 @@
 -- One request and its reply.
-use Rattle.std.proofs.Common.{◌≡◌, ◌^◌, ◌<◌, ◌≤◌, ℕ, List, [], ◌∷◌, ◌++◌, length, take, true, false, Option, Some, None, Ok, Err, inl, inr, refl, sym, ap, subst, ◌∙◌, append_assoc, arith, lit<, lit≤}
+use Rattle.std.proofs.Common.{◌≡◌, ◌^◌, ◌<◌, ◌≤◌, ℕ, List, [], ◌∷◌, ◌++◌, length, take, true, false, Option, Some, None, Result, Ok, Err, inl, inr, refl, sym, ap, subst, ◌∙◌, append_assoc, arith, lit<, lit≤}
 use Rattle.std.specs.Io.KnownBytes.{Consumes}
 use Rattle.std.proofs.lemmas.Bool.{cases_lt}
 use Rattle.std.proofs.lemmas.List.{take_at}
@@ -12,23 +12,23 @@ use Rattle.sf_reply.specs.declared.reply.Reply.TheVariants as reply
 use Rattle.sf_reply.specs.declared.reply.StatusCode.TheVariants as status
 use Rattle.sf_reply.specs.Replies.{reply_body, version_body}
 use Rattle.sf_reply.specs.Reading.{IsReply}
-use Rattle.sf_client.specs.declared.due.Due.{Due}
-use Rattle.sf_client.specs.declared.due.Due.TheVariants as due
+use Rattle.sf_client.specs.declared.pending.PendingReply.{PendingReply}
+use Rattle.sf_client.specs.declared.pending.PendingReply.TheVariants as pending
 use Rattle.sf_client.specs.declared.fault.ClientFault.{ClientFault}
 use Rattle.sf_client.specs.declared.fault.ClientFault.TheVariants as fault
 use Rattle.sf_client.specs.Packets.{HasNoPacket}
-use Rattle.sf_client.specs.Dues.{due_of, is_answer, is_due}
-use Rattle.sf_client.specs.Exchanges.{ClientView, Exchanged, SentAhead, Sent, Took, HasNoReply, HasNoVersion, last_id}
+use Rattle.sf_client.specs.Pending.{pending_of, is_answer, is_expected}
+use Rattle.sf_client.specs.Exchanges.{ClientView, Exchanged, SentAhead, Sent, HasNoReply, HasNoVersion, last_id}
 use Rattle.sf_client.specs.Outcomes.{asked, Broke, Comes, SettlesRequest, TakesReply}
 use Rattle.sf_client.proofs.Exchanging.{exchanged_none, sent_more, took_one}
-use Rattle.sf_client.proofs.Filling.{header_is, same_number}
+use Rattle.sf_client.proofs.Filling.{header_is, if_known, same_number}
 
 -- ---- no reply
 
 -- if the input doesn't begin with a packet, it doesn't begin with a reply
-pub no_packet : (a : Option (List ℕ)) (id : ℕ) (d : Due) → HasNoPacket a → HasNoReply a id d
+pub no_packet : (a : Option (List ℕ)) (id : ℕ) (d : PendingReply) → HasNoPacket a → HasNoReply a id d
 no_packet None id d h = tt
-no_packet (Some input) id d h = λ r rest fits due short e. h (reply_body id r) rest (record { some = omega arith; short = short }) e
+no_packet (Some input) id d h = λ r rest fits pending short e. h (reply_body id r) rest (record { some = omega arith; short = short }) e
 
 -- the body of the first packet
 same_body : (a b x y : List ℕ) → length a ≤ 262144 → length b ≤ 262144 → packet a ++ x ≡ packet b ++ y → a ≡ b
@@ -38,13 +38,10 @@ same_body a b x y short_a short_b e =
     sym (take_at a x (length b) len) ∙ ap (take (length b)) (sym parts.1) ∙ take_at b y (length b) refl
 
 -- if the packet's body encodes no expected reply, the input doesn't begin with one
-pub no_due : (a b : Option (List ℕ)) (id : ℕ) (d : Due) (body : List ℕ) → Consumes a b (packet body) → length body ≤ 262144 → id < 2 ^ 32 → ((r : Reply) → IsReply body id r → is_due d r ≡ true → ⊥)
+pub no_expected : (a b : Option (List ℕ)) (id : ℕ) (d : PendingReply) (body : List ℕ) → Consumes a b (packet body) → length body ≤ 262144 → id < 2 ^ 32 → ((r : Reply) → IsReply body id r → is_expected d r ≡ true → ⊥)
     → HasNoReply a id d
-no_due None b id d body read short fits none = tt
-no_due (Some input) None id d body read short fits none = absurd read
-no_due (Some input) (Some left) id d body read short fits none = λ r rest reply_fits due small e.
-    let same : body ≡ reply_body id r = same_body body (reply_body id r) left rest short small (sym read ∙ e) in
-    none r (record { id_fits = fits; fits = reply_fits; parts = same }) due
+no_expected a b id d body read short fits none = if_known _ a b (packet body) read (λ left is r rest reply_fits pending small e.
+    none r (record { id_fits = fits; fits = reply_fits; parts = same_body body (reply_body id r) left rest short small e }) pending)
 
 -- the packet's body encodes a reply
 pub a_reply : (a b : Option (List ℕ)) (id : ℕ) (body : List ℕ) (r : Reply) → Consumes a b (packet body) → IsReply body id r → Consumes a b (packet (reply_body id r))
@@ -52,18 +49,10 @@ a_reply a b id body r read is = subst (λ (t : List ℕ). Consumes a b (packet t
 
 -- ---- one exchange
 
--- The packet of one request was sent, and no other is in flight.
-pub record OneSent (v : ClientView) (bytes : List ℕ) (u : ClientView) : Type 0 where
-  pub began : v.failed ≡ false
-  pub sent : Sent v bytes u
-
--- the packet is this request's
-sent_alone : {v u : ClientView} {bytes : List ℕ} (q : WireRequest) → OneSent v bytes u → bytes ≡ packet (request_body v.next q) → SentAhead v [] (q ∷ []) u
+-- the packet of one request was sent, and no other is in flight
+sent_alone : {v u : ClientView} {bytes : List ℕ} (q : WireRequest) → v.failed ≡ false → Sent v bytes u → bytes ≡ packet (request_body v.next q) → SentAhead v [] (q ∷ []) u
 unfolding last_id
-sent_alone {v} {u} {bytes} q one is = sent_more v.next q (exchanged_none v one.began) refl (subst (λ (t : List ℕ). Sent v t u) is one.sent)
-
-one_exchanged : {v u w : ClientView} {bytes : List ℕ} (q : WireRequest) (r : Reply) → OneSent v bytes u → bytes ≡ packet (request_body v.next q) → is_due (due_of q) r ≡ true → Took u r w → Exchanged v (asked q r ∷ []) w
-one_exchanged q r one is due took = took_one (sent_alone q one is) due took
+sent_alone {v} {u} q began sent is = sent_more v.next q (exchanged_none v began) refl (subst (λ (t : List ℕ). Sent v t u) is sent)
 
 rose_since : (a b c : ℕ) → a ≤ b → b ≤ c → Rose b c → Rose a c
 rose_since a b c le grew (inl more) = inl (omega arith)
@@ -72,53 +61,34 @@ rose_since a b c le grew (inr end) = elim (cases_lt a c) [ inl lt ↦ inl lt | i
 pub broke_since : (u v w : ClientView) → u.failures ≤ v.failures → Broke v w → Broke u w
 broke_since u v w le broke = record { failed = broke.failed; grew = omega (arith, broke.grew); rose = rose_since u.failures v.failures w.failures le broke.grew broke.rose }
 
--- the reply didn't arrive, or memory ran out for it
-pub settled_err : {v u : ClientView} {bytes : List ℕ} (w : ClientView) (d : Due) (f : ClientFault) → OneSent v bytes u → TakesReply u d (Err f) w
-    → (q : WireRequest) → bytes ≡ packet (request_body v.next q) → d ≡ due_of q → SettlesRequest {X = Reply} (λ r. r) v q (Err f) w
-settled_err {v} {u} w d fault.Stream one takes q is due = broke_since v u w one.sent.failures takes
-settled_err {u = u} w d fault.Protocol one takes q is due = (u, sent_alone q one is, record { failed = takes.0; outgoing = takes.1; none = rw (← due) takes.2 })
-settled_err w d (fault.Status code) one takes q is due = absurd takes
-settled_err w d fault.OutOfMemory one takes q is due = (takes.0, takes.2, one_exchanged q takes.0 one is (rw (← due) takes.1) takes.3)
-settled_err w d (fault.TooLarge size) one takes q is due = absurd takes
-settled_err w d fault.Failed one takes q is due = absurd takes
+-- the reply arrived, or it didn't, or memory ran out for it
+pub settled_ok : {v u : ClientView} {bytes : List ℕ} (w : ClientView) (d : PendingReply) (r : Reply) → v.failed ≡ false → Sent v bytes u → TakesReply u d (Ok r) w
+    → (q : WireRequest) → bytes ≡ packet (request_body v.next q) → d ≡ pending_of q → Exchanged v (asked q r ∷ []) w
+settled_ok w d r began sent takes q is pending = took_one (sent_alone q began sent is) (rw (← pending) takes.0) takes.1
 
-pub settled_ok : {v u : ClientView} {bytes : List ℕ} (w : ClientView) (d : Due) (r : Reply) → OneSent v bytes u → TakesReply u d (Ok r) w
-    → (q : WireRequest) → bytes ≡ packet (request_body v.next q) → d ≡ due_of q → Exchanged v (asked q r ∷ []) w
-settled_ok w d r one takes q is due = one_exchanged q r one is (rw (← due) takes.0) takes.1
+pub settled_err : {v u : ClientView} {bytes : List ℕ} (w : ClientView) (d : PendingReply) (f : ClientFault) → v.failed ≡ false → Sent v bytes u → TakesReply u d (Err f) w
+    → (q : WireRequest) → bytes ≡ packet (request_body v.next q) → d ≡ pending_of q → SettlesRequest {X = Reply} (λ r. r) v q (Err f) w
+settled_err {v} {u} w d fault.Stream began sent takes q is pending = broke_since v u w sent.failures takes
+settled_err {u = u} w d fault.Protocol began sent takes q is pending = (u, sent_alone q began sent is, record { failed = takes.0; outgoing = takes.1; none = rw (← pending) takes.2 })
+settled_err w d fault.OutOfMemory began sent takes q is pending = (takes.0, takes.2, settled_ok w d takes.0 began sent (takes.1, takes.3) q is pending)
+settled_err w d _ began sent takes q is pending = absurd takes
 
-pub answer_due : (d : Due) (r : Reply) → is_answer d r ≡ true → is_due d r ≡ true
-answer_due d r answer = rw answer refl
+pub answer_expected : (d : PendingReply) (r : Reply) → is_answer d r ≡ true → is_expected d r ≡ true
+answer_expected d r answer = rw answer refl
 
-pub success_is : (r : Reply) → is_answer due.Success r ≡ true → r ≡ reply.Status status.Success
+pub success_is : (r : Reply) → is_answer pending.Success r ≡ true → r ≡ reply.Status status.Success
 success_is (reply.Status status.Success) e = refl
-success_is (reply.Status status.EndOfFile) e = absurd cc
-success_is (reply.Status status.NoSuchFile) e = absurd cc
-success_is (reply.Status status.PermissionDenied) e = absurd cc
-success_is (reply.Status status.Failure) e = absurd cc
-success_is (reply.Status status.BadMessage) e = absurd cc
-success_is (reply.Status status.OpUnsupported) e = absurd cc
-success_is reply.NoMemory e = absurd cc
-success_is (reply.Handle number) e = absurd cc
-success_is (reply.Data bytes) e = absurd cc
-success_is (reply.Names entries) e = absurd cc
-success_is (reply.Attrs attrs) e = absurd cc
+success_is _ e = cc
 
 -- an error's effect doesn't depend on the kind of result
 pub same_fault : {X Y : Type 0} (as_reply : X → Reply) (other : Y → Reply) (v w : ClientView) (q : WireRequest) (f : ClientFault) → SettlesRequest as_reply v q (Err f) w → SettlesRequest other v q (Err f) w
 same_fault as_reply other v w q fault.Stream h = h
-same_fault as_reply other v w q fault.Protocol h = h
-same_fault as_reply other v w q (fault.Status code) h = h
-same_fault as_reply other v w q fault.OutOfMemory h = h
-same_fault as_reply other v w q (fault.TooLarge size) h = h
-same_fault as_reply other v w q fault.Failed h = h
+same_fault as_reply other v w q _ h = h
 
-pub settled_comes : {X : Type 0} (as_reply : X → Reply) (v w : ClientView) (q : WireRequest) (f : ClientFault) → v.failed ≡ false → SettlesRequest as_reply v q (Err f) w → Comes as_reply v q (Err f) w
-settled_comes as_reply v w q fault.Stream began h = h
-settled_comes as_reply v w q fault.Protocol began h = h
-settled_comes as_reply v w q (fault.Status code) began h = h
-settled_comes as_reply v w q fault.OutOfMemory began h = (began, inr h)
-settled_comes as_reply v w q (fault.TooLarge size) began h = absurd h
-settled_comes as_reply v w q fault.Failed began h = absurd h
+pub settled_comes : {X : Type 0} (as_reply : X → Reply) (v w : ClientView) (q : WireRequest) (result : Result X ClientFault) → v.failed ≡ false → SettlesRequest as_reply v q result w → Comes as_reply v q result w
+settled_comes as_reply v w q (Err fault.OutOfMemory) began h = (began, inr h)
+settled_comes as_reply v w q (Err fault.Failed) began h = absurd h.1
+settled_comes as_reply v w q _ began h = h
 
 -- ---- VERSION
 
@@ -127,6 +97,4 @@ no_version None h = tt
 no_version (Some input) h = λ rest e. h version_body rest (record { some = lit< tt; short = lit≤ tt }) e
 
 pub other_version : (a b : Option (List ℕ)) (body : List ℕ) → Consumes a b (packet body) → length body ≤ 262144 → (body ≡ version_body → ⊥) → HasNoVersion a
-other_version None b body read short other = tt
-other_version (Some input) None body read short other = absurd read
-other_version (Some input) (Some left) body read short other = λ rest e. other (same_body body version_body left rest short (lit≤ tt) (sym read ∙ e))
+other_version a b body read short other = if_known _ a b (packet body) read (λ left is rest e. other (same_body body version_body left rest short (lit≤ tt) e))

@@ -1,3 +1,4 @@
+-- No public clause cites this module.
 -- Pipelining: requests are sent before the replies to earlier ones arrive.
 use Rattle.std.specs.Prelude.{◌≡◌, ◌<◌, ◌+◌, ◌-◌, ◌≤◌, ◌⊎◌, ℕ, List, ◌++◌, length, Bool, true, false, Option, Some, None, Result, Ok, Err}
 use Rattle.sf_field.specs.Fields.{packet}
@@ -6,25 +7,22 @@ use Rattle.sf_request.specs.Requests.{request_body}
 use Rattle.sf_reply.specs.declared.reply.Entry.{Entry}
 use Rattle.sf_reply.specs.declared.reply.Reply.{Reply}
 use Rattle.sf_client.specs.declared.ahead.Ahead.{Ahead}
-use Rattle.sf_client.specs.declared.due.Due.{Due}
+use Rattle.sf_client.specs.declared.pending.PendingReply.{PendingReply}
 use Rattle.sf_client.specs.declared.fault.ClientFault.{ClientFault}
 use Rattle.sf_client.specs.declared.fault.ClientFault.TheVariants as fault
-use Rattle.sf_client.specs.Dues.{is_answer, is_refusal, is_due, Refuses, TakesMemory}
+use Rattle.sf_client.specs.Pending.{is_answer, is_expected, error_code_of}
 use Rattle.sf_client.specs.Exchanges.{ClientView, Sent, Took, HasNoReply, id_after}
-use Rattle.sf_client.specs.Outcomes.{Broke}
+use Rattle.sf_client.specs.Outcomes.{Broke, EndsCallBy}
 
 -- the maximum number of requests in flight
 abbrev pub most_ahead : ℕ
 most_ahead = 64
 
--- the reply ends its call with this error: it is an error status, or memory ran out for it
-abbrev pub EndsCallBy : Reply → ClientFault → Type 0
-EndsCallBy r fault.Stream = ⊥
-EndsCallBy r fault.Protocol = ⊥
-EndsCallBy r (fault.Status code) = Refuses r code
-EndsCallBy r fault.OutOfMemory = TakesMemory r
-EndsCallBy r (fault.TooLarge size) = ⊥
-EndsCallBy r fault.Failed = ⊥
+-- another request may be sent
+pub record MaySendMore (a : Ahead) : Type 0 where
+  pub room : a.waiting < most_ahead
+  pub kept : a.dropped ≡ 0
+  pub going : a.stopped ≡ None
 
 -- A reply was discarded; or none was to be discarded, and this error stops the sending.
 abbrev pub Misses : ClientFault → Ahead → Ahead → Type 0
@@ -39,7 +37,7 @@ Misses f a b =
 -- how a reply is handled
 abbrev pub KeepsReply : Ahead → Reply → Option Reply → Ahead → Type 0
 KeepsReply a r (Some x) b =
-    (x ≡ r) × (is_refusal r ≡ false) × (a.dropped ≡ 0) × (b ≡ record a { waiting = a.waiting - 1 })
+    (x ≡ r) × (error_code_of r ≡ None) × (a.dropped ≡ 0) × (b ≡ record a { waiting = a.waiting - 1 })
 KeepsReply a r None b = (f : ClientFault) × ((a.dropped ≡ 0) → EndsCallBy r f) × Misses f a b
 
 -- A client and its requests in flight.
@@ -59,21 +57,19 @@ SendsOn x q (Ok false) y = (y.client ≡ x.client)
 SendsOn x q (Err f) y = (f ≡ fault.Stream) × Broke x.client y.client
 
 -- the effect of receiving the oldest pending reply
-abbrev pub TakesOn : ClientAhead → Due → Result (Option Reply) ClientFault → ClientAhead → Type 0
+abbrev pub TakesOn : ClientAhead → PendingReply → Result (Option Reply) ClientFault → ClientAhead
+    → Type 0
 TakesOn x d (Ok (Some r)) y =
     (is_answer d r ≡ true) × (x.ahead.dropped ≡ 0) × Took x.client r y.client
     × (y.ahead ≡ record x.ahead { waiting = x.ahead.waiting - 1 })
 TakesOn x d (Ok None) y =
-    (r : Reply) × (f : ClientFault) × (is_due d r ≡ true) × Took x.client r y.client
+    (r : Reply) × (f : ClientFault) × (is_expected d r ≡ true) × Took x.client r y.client
     × ((x.ahead.dropped ≡ 0) → EndsCallBy r f) × Misses f x.ahead y.ahead
 TakesOn x d (Err fault.Stream) y = Broke x.client y.client
 TakesOn x d (Err fault.Protocol) y =
     (y.client.failed ≡ true) × (y.client.outgoing ≡ x.client.outgoing)
     × HasNoReply x.client.incoming x.client.next d
-TakesOn x d (Err (fault.Status code)) y = ⊥
-TakesOn x d (Err fault.OutOfMemory) y = ⊥
-TakesOn x d (Err (fault.TooLarge size)) y = ⊥
-TakesOn x d (Err fault.Failed) y = ⊥
+TakesOn x d (Err _) y = ⊥
 
 -- memory ran out for a reply: nothing more is sent
 abbrev pub RunsShort : Ahead → Ahead → Type 0

@@ -13,26 +13,19 @@ use Rattle.sf_reply.specs.declared.reply.StatusCode.{StatusCode}
 use Rattle.sf_reply.specs.declared.reply.StatusCode.TheVariants.{Success, EndOfFile}
 use Rattle.sf_client.specs.declared.fault.ClientFault.{ClientFault}
 use Rattle.sf_client.specs.declared.fault.ClientFault.TheVariants as fault
-use Rattle.sf_client.specs.Dues.{Refuses}
+use Rattle.sf_client.specs.Pending.{Refuses}
 use Rattle.sf_client.specs.Exchanges.{ClientView, Exchange, Exchanged, Unanswered, requests_of}
-use Rattle.sf_client.specs.Outcomes.{asked, Broke, Comes, SettlesRequest}
-use Rattle.sf_client.specs.Ahead.{EndsCallBy}
+use Rattle.sf_client.specs.Outcomes.{asked, Broke, Comes, EndsCallBy, SettlesRequest}
 
 -- The effect of a call with the possible exchanges `Script`. It made such exchanges, and no reply
 -- is pending; or the transport failed; or after some exchanges the expected reply didn't arrive.
 abbrev pub DoesCall : {X : Type 0} → (List Exchange → Result X ClientFault → Type 0) → ClientView
     → Result X ClientFault → ClientView → Type 0
-DoesCall Script v (Ok x) w = (xs : List Exchange) × Script xs (Ok x) × Exchanged v xs w
 DoesCall Script v (Err fault.Stream) w = Broke v w
 DoesCall Script v (Err fault.Protocol) w = (xs : List Exchange) × (q : WireRequest)
     × (later : List WireRequest) × Unanswered v xs q later w
-DoesCall Script v (Err (fault.Status code)) w =
-    (xs : List Exchange) × Script xs (Err (fault.Status code)) × Exchanged v xs w
-DoesCall Script v (Err fault.OutOfMemory) w =
-    (xs : List Exchange) × Script xs (Err fault.OutOfMemory) × Exchanged v xs w
-DoesCall Script v (Err (fault.TooLarge size)) w =
-    (xs : List Exchange) × Script xs (Err (fault.TooLarge size)) × Exchanged v xs w
 DoesCall Script v (Err fault.Failed) w = (v.failed ≡ true) × (w ≡ v)
+DoesCall Script v result w = (xs : List Exchange) × Script xs result × Exchanged v xs w
 
 -- The last request ended the call with this error, or was not sent because memory ran out.
 abbrev pub EndsAtLast : WireRequest → List Exchange → ClientFault → Type 0
@@ -158,14 +151,11 @@ IsSuccess x = x.reply ≡ reply.Status Success
 
 -- The first error status has this code, or memory ran out.
 abbrev pub EndsAtRefusal : List Exchange → ClientFault → Type 0
-EndsAtRefusal xs fault.Stream = ⊥
-EndsAtRefusal xs fault.Protocol = ⊥
 EndsAtRefusal xs (fault.Status code) = (before : List Exchange) × (x : Exchange)
     × (after : List Exchange)
     × AllByRecursion IsSuccess before × Refuses x.reply code × (xs ≡ before ++ x ∷ after)
 EndsAtRefusal xs fault.OutOfMemory = Unit {0}
-EndsAtRefusal xs (fault.TooLarge size) = ⊥
-EndsAtRefusal xs fault.Failed = ⊥
+EndsAtRefusal xs _ = ⊥
 
 -- All chunks were written, in order; or only the first k, if a WRITE returned an error status or
 -- memory ran out.
@@ -203,48 +193,22 @@ abbrev pub items_of : {X : Type 0} → Result (Vec X) ClientFault → Result (Li
 items_of (Ok v) = Ok v.items
 items_of (Err f) = Err f
 
--- CLOSE was sent after an error. The call returns that error, unless the client fails in CLOSE.
-abbrev pub EndsAfter : ℕ → ClientFault → ClientView → ClientFault → ClientView → Type 0
-EndsAfter n first v f w =
-    ((f ≡ first) × ((r : Reply) × Exchanged v (asked (request.Close (be64 n)) r ∷ []) w))
-    ⊎ (((f ≡ fault.Stream) × Broke v w) ⊎ ((f ≡ fault.Protocol)
-    × Unanswered v [] (request.Close (be64 n)) [] w))
+-- the result of a call after CLOSE: the first error, unless the client failed in CLOSE
+abbrev pub after_closing : {X : Type 0} → Result X ClientFault → Result (Unit {0}) ClientFault
+    → Result X ClientFault
+after_closing result (Ok x) = result
+after_closing result (Err fault.Stream) = Err fault.Stream
+after_closing result (Err fault.Protocol) = Err fault.Protocol
+after_closing (Ok x) (Err f) = Err f
+after_closing (Err first) (Err f) = Err first
 
--- The effect of CLOSE on the result of a call with a handle. After a transport or protocol error it
--- is not sent.
+-- CLOSE, and its effect on the result of a call. A client that has failed doesn't send it.
 abbrev pub ClosesAfter : {X : Type 0} → ℕ → Result X ClientFault → ClientView → Result X ClientFault
     → ClientView → Type 0
-ClosesAfter n (Ok x) v (Ok y) w =
-    (y ≡ x) × Exchanged v (asked (request.Close (be64 n)) (reply.Status Success) ∷ []) w
-ClosesAfter n (Ok x) v (Err f) w =
-    SettlesRequest {X = Unit {0}} (λ _. reply.Status Success) v (request.Close (be64 n)) (Err f) w
-ClosesAfter n (Err f) v (Ok y) w = ⊥
-ClosesAfter n (Err fault.Stream) v (Err f) w = (f ≡ fault.Stream) × (w ≡ v)
-ClosesAfter n (Err fault.Protocol) v (Err f) w = (f ≡ fault.Protocol) × (w ≡ v)
-ClosesAfter n (Err (fault.Status code)) v (Err f) w = EndsAfter n (fault.Status code) v f w
-ClosesAfter n (Err fault.OutOfMemory) v (Err f) w = EndsAfter n fault.OutOfMemory v f w
-ClosesAfter n (Err (fault.TooLarge size)) v (Err f) w = EndsAfter n (fault.TooLarge size) v f w
-ClosesAfter n (Err fault.Failed) v (Err f) w = (f ≡ fault.Failed) × (w ≡ v)
-
--- the client remains usable after a success, an error status, out of memory and a too large file
-abbrev pub KeepsInStep : {X : Type 0} → Result X ClientFault → ClientView → Type 0
-KeepsInStep (Ok x) v = v.failed ≡ false
-KeepsInStep (Err fault.Stream) v = Unit {0}
-KeepsInStep (Err fault.Protocol) v = Unit {0}
-KeepsInStep (Err (fault.Status code)) v = v.failed ≡ false
-KeepsInStep (Err fault.OutOfMemory) v = v.failed ≡ false
-KeepsInStep (Err (fault.TooLarge size)) v = v.failed ≡ false
-KeepsInStep (Err fault.Failed) v = Unit {0}
-
--- the error of a call after a first error and CLOSE
-abbrev pub first_fault : ClientFault → Result (Unit {0}) ClientFault → ClientFault
-first_fault first (Ok x) = first
-first_fault first (Err fault.Stream) = fault.Stream
-first_fault first (Err fault.Protocol) = fault.Protocol
-first_fault first (Err (fault.Status code)) = first
-first_fault first (Err fault.OutOfMemory) = first
-first_fault first (Err (fault.TooLarge size)) = first
-first_fault first (Err fault.Failed) = first
+ClosesAfter n outcome v result w = ((v.failed ≡ true) × (result ≡ outcome) × (w ≡ v))
+    ⊎ ((v.failed ≡ false) × (closing : Result (Unit {0}) ClientFault)
+    × (result ≡ after_closing outcome closing)
+    × SettlesRequest (λ _. reply.Status Success) v (request.Close (be64 n)) closing w)
 
 -- EOF is not an error here: it ends the data
 abbrev pub ended_by : {X : Type 0} → Option ClientFault → X → Result X ClientFault

@@ -7,8 +7,8 @@ use Rattle.sf_request.specs.Requests.{request_body, init_body}
 use Rattle.sf_reply.specs.declared.reply.Reply.{Reply}
 use Rattle.sf_reply.specs.Replies.{reply_body, version_body, ReplyFits}
 use Rattle.sf_field.specs.Fields.{packet, max_body}
-use Rattle.sf_client.specs.declared.due.Due.{Due}
-use Rattle.sf_client.specs.Dues.{due_of, is_due}
+use Rattle.sf_client.specs.declared.pending.PendingReply.{PendingReply}
+use Rattle.sf_client.specs.Pending.{pending_of, is_expected}
 
 -- The observable state of a client:
 -- - `next`: the id of the oldest pending reply; if none is pending, of the next request;
@@ -48,8 +48,8 @@ replies_from id [] = []
 replies_from id (x ∷ xs) = packet (reply_body id x.reply) ++ replies_from (id_after id) xs
 
 -- the reply is of the expected kind or an error status
-abbrev pub IsDueReply : Exchange → Type 0
-IsDueReply x = is_due (due_of x.request) x.reply ≡ true
+abbrev pub IsExpected : Exchange → Type 0
+IsExpected x = is_expected (pending_of x.request) x.reply ≡ true
 
 -- The client sent these requests in order and received their replies. It also sent `later`
 -- requests; their replies are pending.
@@ -60,7 +60,7 @@ pub record SentAhead (v : ClientView) (xs : List Exchange) (later : List WireReq
   pub next : w.next ≡ last_id v.next xs
   pub wrote : Appends v.outgoing w.outgoing (requests_from v.next (requests_of xs ++ later))
   pub read : Consumes v.incoming w.incoming (replies_from v.next xs)
-  pub due : AllByRecursion IsDueReply xs
+  pub pending : AllByRecursion IsExpected xs
   pub failures : v.failures ≤ w.failures
 
 -- No reply is pending.
@@ -68,16 +68,16 @@ abbrev pub Exchanged : ClientView → List Exchange → ClientView → Type 0
 Exchanged v xs w = SentAhead v xs [] w
 
 -- The input doesn't begin with an expected reply with this id.
-abbrev pub HasNoReply : Option (List ℕ) → ℕ → Due → Type 0
+abbrev pub HasNoReply : Option (List ℕ) → ℕ → PendingReply → Type 0
 HasNoReply incoming id d = IfSome incoming (λ input. (r : Reply) (rest : List ℕ) → ReplyFits r
-    → is_due d r ≡ true → length (reply_body id r) ≤ max_body
+    → is_expected d r ≡ true → length (reply_body id r) ≤ max_body
     → input ≡ packet (reply_body id r) ++ rest → ⊥)
 
 -- The expected reply to a request didn't arrive. The client has failed.
 pub record Spoilt (v : ClientView) (q : WireRequest) (w : ClientView) : Type 0 where
   pub failed : w.failed ≡ true
   pub outgoing : w.outgoing ≡ v.outgoing
-  pub none : HasNoReply v.incoming v.next (due_of q)
+  pub none : HasNoReply v.incoming v.next (pending_of q)
 
 -- After these exchanges a request, and possibly later ones, was sent, and the expected reply didn't
 -- arrive.

@@ -1,5 +1,5 @@
 pub mod Packets
-pub mod Dues
+pub mod Pending
 pub mod Exchanges
 pub mod Outcomes
 pub mod Ahead

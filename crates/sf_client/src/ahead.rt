@@ -4,11 +4,11 @@ ghost use Rattle.std.specs.Prelude.{◌≡◌, ◌≢◌, ◌+◌, ◌-◌, ◌<
 ghost use Rattle.sf_request.specs.Requests.{request_body};
 ghost use Rattle.sf_client.specs.declared.fault.ClientFault.TheVariants as fault;
 ghost use Rattle.sf_client.specs.Exchanges.{id_after};
-ghost use Rattle.sf_client.specs.Ahead.{Misses, KeepsReply, SendsOn, TakesOn, most_ahead, sender};
+ghost use Rattle.sf_client.specs.Ahead.{MaySendMore, Misses, KeepsReply, SendsOn, TakesOn, most_ahead, sender};
 
 use crate::client::{Client, id_following};
-use crate::due::{Due, refusal};
 use crate::fault::ClientFault;
+use crate::pending::{PendingReply, refusal};
 use sf_line::Line;
 use sf_reply::Reply;
 use sf_request::WireRequest;
@@ -44,9 +44,7 @@ impl Ahead {
 
     /// Whether another request may be sent.
     pub(crate) fn has_room(&self) -> bool
-        ensures room { result ≡ true → self.now.waiting < most_ahead }
-        ensures kept { result ≡ true → self.now.dropped ≡ 0 }
-        ensures going { result ≡ true → self.now.stopped ≡ None }
+        ensures room { result ≡ true → MaySendMore self.now }
         ensures none { result ≡ false → self.now.waiting ≡ 0 → self.now.dropped ≡ 0
             → self.now.stopped ≢ None }
     {
@@ -56,9 +54,7 @@ impl Ahead {
     /// Whether another READ may be sent at this offset. Beyond the expected size only one is in
     /// flight.
     pub(crate) fn has_room_at(&self, offset: u64, expected: u64) -> bool
-        ensures room { result ≡ true → self.now.waiting < most_ahead }
-        ensures kept { result ≡ true → self.now.dropped ≡ 0 }
-        ensures going { result ≡ true → self.now.stopped ≡ None }
+        ensures room { result ≡ true → MaySendMore self.now }
         ensures none { result ≡ false → self.now.waiting ≡ 0 → self.now.dropped ≡ 0
             → self.now.stopped ≢ None }
     {
@@ -153,12 +149,12 @@ impl<L: Line + Drop> Client<L> {
     pub(crate) fn take_on(
         &mut self,
         ahead: &mut Ahead,
-        due: Due,
+        pending: PendingReply,
     ) -> Result<Option<Reply>, ClientFault>
         requires { 0 < ahead.old.waiting }
-        ensures { TakesOn (sender self.old ahead.old) due result (sender self.new ahead.new) }
+        ensures { TakesOn (sender self.old ahead.old) pending result (sender self.new ahead.new) }
     {
-        match self.take_reply(due) {
+        match self.take_reply(pending) {
             Ok(reply) => Ok(ahead.kept(reply)),
             Err(ClientFault::OutOfMemory) => {
                 ahead.missed();

@@ -6,12 +6,12 @@ ghost use Rattle.sf_request.specs.declared.request.WireRequest.TheVariants as re
 ghost use Rattle.sf_request.specs.Requests.{request_body};
 ghost use Rattle.sf_reply.specs.declared.reply.Reply.TheVariants as reply;
 ghost use Rattle.sf_reply.specs.declared.reply.StatusCode.TheVariants.{Success};
-ghost use Rattle.sf_client.specs.Dues.{due_of};
+ghost use Rattle.sf_client.specs.Pending.{pending_of};
 ghost use Rattle.sf_client.specs.Outcomes.{Comes};
 
 use crate::client::Client;
-use crate::due::Due;
 use crate::fault::ClientFault;
+use crate::pending::PendingReply;
 use sf_field::{Attrs, NO_ATTRS};
 use sf_line::Line;
 use sf_reply::Reply;
@@ -21,13 +21,11 @@ impl<L: Line + Drop> Client<L> {
     /// Sends a request that expects `SSH_FX_OK`.
     pub(crate) fn done(&mut self, request: &WireRequest) -> Result<(), ClientFault>
         requires short { length (request_body self.old.next request.now) < 2 ^ 32 }
-        requires due { due_of request.now ≡ Due.Success }
+        requires pending { pending_of request.now ≡ PendingReply.Success }
         ensures { Comes (λ _. reply.Status Success) self.old request.now result self.new }
     {
-        match self.exchange(request) {
-            Ok(_reply) => Ok(()),
-            Err(fault) => Err(fault),
-        }
+        self.exchange(request, PendingReply::Success)?;
+        Ok(())
     }
 
     /// Returns the attributes of the file or directory at `path`.
@@ -36,10 +34,9 @@ impl<L: Line + Drop> Client<L> {
         ensures { Comes reply.Attrs self.old (request.Stat path.now) result self.new }
     {
         let path = ByteStr::new(path);
-        match self.exchange(&WireRequest::Stat { path }) {
-            Ok(Reply::Attrs(attrs)) => Ok(attrs),
-            Ok(_) => unreachable!(),
-            Err(fault) => Err(fault),
+        match self.exchange(&WireRequest::Stat { path }, PendingReply::Attrs)? {
+            Reply::Attrs(attrs) => Ok(attrs),
+            _ => unreachable!(),
         }
     }
 

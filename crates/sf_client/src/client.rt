@@ -1,7 +1,7 @@
 //! The client, and the exchange of one request and its reply.
 
 ghost use Rattle.std.specs.Prelude.{◌≡◌, ◌≢◌, ◌+◌, ◌<◌, ◌≤◌, ◌^◌, ℕ, length, true, false, Ok, Err, IfOk, IfErr, OnOk, OnErr, vec_len, ◌⊎◌, None};
-ghost use Rattle.std.specs.Io.KnownBytes.{Appends, Consumes};
+ghost use Rattle.std.specs.Io.KnownBytes.{Consumes};
 ghost use Rattle.sf_line.specs.Lines.{Rose};
 ghost use Rattle.sf_field.specs.Fields.{be64, packet};
 ghost use Rattle.sf_request.specs.declared.request.WireRequest.{WireRequest};
@@ -9,14 +9,14 @@ ghost use Rattle.sf_request.specs.declared.request.WireRequest.TheVariants.{Clos
 ghost use Rattle.sf_request.specs.Requests.{request_body};
 ghost use Rattle.sf_reply.specs.declared.reply.Reply.TheVariants.{Status};
 ghost use Rattle.sf_reply.specs.declared.reply.StatusCode.TheVariants.{Success};
-ghost use Rattle.sf_client.specs.Dues.{due_of, is_answer};
-ghost use Rattle.sf_client.specs.Exchanges.{id_after, IsGreeted, IsStarted, HasNoVersion};
-ghost use Rattle.sf_client.specs.Outcomes.{Broke, Comes, MayNotStart, ReadsDue, Sends, SettlesRequest, TakesReply};
+ghost use Rattle.sf_client.specs.Pending.{pending_of, is_answer};
+ghost use Rattle.sf_client.specs.Exchanges.{id_after, IsGreeted, IsStarted, HasNoVersion, Sent};
+ghost use Rattle.sf_client.specs.Outcomes.{Broke, Comes, MayNotStart, ReadsPending, Sends, SettlesRequest, TakesReply};
 
 use crate::ahead::Ahead;
-use crate::due::{Due, find_due, made, refusal};
 use crate::fault::ClientFault;
 use crate::lines::read_packet;
+use crate::pending::{PendingReply, find_pending, made, refusal};
 use bytes::BytesMut;
 use sf_field::MAX_BODY;
 use sf_line::{Line, write_all};
@@ -43,15 +43,15 @@ fn packet_of(alloc: Global, id: u32, request: &WireRequest) -> Result<BytesMut, 
 }
 
 /// Reads the expected reply with this id.
-fn read_due<L: Line>(
+fn read_pending<L: Line>(
     alloc: Global,
     line: &mut L,
     buffer: &mut [u8],
     id: u32,
-    due: Due,
+    pending: PendingReply,
 ) -> Result<Reply, ClientFault>
     requires { length buffer.old ≡ MAX_BODY }
-    ensures reads { ReadsDue (L.incoming line.old) (L.incoming line.new) id due result }
+    ensures reads { ReadsPending (L.incoming line.old) (L.incoming line.new) id pending result }
     ensures outgoing { L.outgoing line.new ≡ L.outgoing line.old }
     ensures failures { L.failed line.old ≤ L.failed line.new }
     ensures fault { result ≡ Err ClientFault.Stream → Rose (L.failed line.old) (L.failed line.new) }
@@ -61,7 +61,7 @@ fn read_due<L: Line>(
         Ok(None) => return Err(ClientFault::Protocol),
         Err(_) => return Err(ClientFault::Stream),
     };
-    let Some(found) = find_due(&buffer[..len], id, due) else {
+    let Some(found) = find_pending(&buffer[..len], id, pending) else {
         return Err(ClientFault::Protocol);
     };
     match made(alloc, found) {
@@ -168,6 +168,13 @@ impl<L: Line + Drop> Client<L> {
         }
     }
 
+    /// Whether the client has failed.
+    pub(crate) fn has_failed(&self) -> bool
+        ensures { result ≡ self.now.failed }
+    {
+        self.failed
+    }
+
     /// The client's allocator.
     pub(crate) fn alloc(&self) -> Global {
         self.alloc
@@ -191,10 +198,7 @@ impl<L: Line + Drop> Client<L> {
 
     /// Sends a packet.
     fn send(&mut self, packet: &[u8]) -> Result<(), ClientFault>
-        ensures ok { OnOk result (Appends self.old.outgoing self.new.outgoing packet.now) }
-        ensures client { OnOk result (self.new
-            ≡ record self.old { outgoing = self.new.outgoing; failures = self.new.failures }) }
-        ensures failures { self.old.failures ≤ self.new.failures }
+        ensures ok { OnOk result (Sent self.old packet.now self.new) }
         ensures fault { IfErr result (λ fault. fault ≡ ClientFault.Stream) }
         ensures err { OnErr result (Broke self.old self.new) }
     {
@@ -217,10 +221,16 @@ impl<L: Line + Drop> Client<L> {
     }
 
     /// Receives the oldest pending reply.
-    pub(crate) fn take_reply(&mut self, due: Due) -> Result<Reply, ClientFault>
-        ensures { TakesReply self.old due result self.new }
+    pub(crate) fn take_reply(&mut self, pending: PendingReply) -> Result<Reply, ClientFault>
+        ensures { TakesReply self.old pending result self.new }
     {
-        match read_due(self.alloc, &mut self.line, &mut self.body, self.next, due) {
+        match read_pending(
+            self.alloc,
+            &mut self.line,
+            &mut self.body,
+            self.next,
+            pending,
+        ) {
             Ok(reply) => {
                 self.next = id_following(self.next);
                 Ok(reply)
@@ -234,29 +244,30 @@ impl<L: Line + Drop> Client<L> {
     }
 
     /// Sends the packet of a request and receives its reply.
-    fn settle(&mut self, bytes: &[u8], due: Due) -> Result<Reply, ClientFault>
+    fn settle(&mut self, bytes: &[u8], pending: PendingReply) -> Result<Reply, ClientFault>
         requires { self.old.failed ≡ false }
         ensures comes { (q : WireRequest) → bytes.now ≡ packet (request_body self.old.next q)
-            → due ≡ due_of q → SettlesRequest (λ r. r) self.old q result self.new }
-        ensures loosely { (q : WireRequest) → bytes.now ≡ packet (request_body self.old.next q)
-            → due ≡ due_of q → Comes (λ r. r) self.old q result self.new }
-        ensures answer { IfOk result (λ r. is_answer due r ≡ true) }
+            → pending ≡ pending_of q → SettlesRequest (λ r. r) self.old q result self.new }
+        ensures answer { IfOk result (λ r. is_answer pending r ≡ true) }
     {
         self.send(bytes)?;
-        match self.take_reply(due) {
-            Ok(reply) => match refusal(&reply) {
-                None => Ok(reply),
-                Some(code) => Err(ClientFault::Status(code)),
-            },
-            Err(fault) => Err(fault),
+        let reply = self.take_reply(pending)?;
+        match refusal(&reply) {
+            None => Ok(reply),
+            Some(code) => Err(ClientFault::Status(code)),
         }
     }
 
     /// Sends a request and receives its reply.
-    pub(crate) fn exchange(&mut self, request: &WireRequest) -> Result<Reply, ClientFault>
+    pub(crate) fn exchange(
+        &mut self,
+        request: &WireRequest,
+        pending: PendingReply,
+    ) -> Result<Reply, ClientFault>
         requires { length (request_body self.old.next request.now) < 2 ^ 32 }
-        ensures comes { Comes (λ r. r) self.old request.now result self.new }
-        ensures answer { IfOk result (λ r. is_answer (due_of request.now) r ≡ true) }
+        ensures comes { pending ≡ pending_of request.now
+            → Comes (λ r. r) self.old request.now result self.new }
+        ensures answer { IfOk result (λ r. is_answer pending r ≡ true) }
     {
         if self.failed {
             return Err(ClientFault::Failed);
@@ -264,7 +275,7 @@ impl<L: Line + Drop> Client<L> {
         let Ok(packet) = packet_of(self.alloc, self.next, request) else {
             return Err(ClientFault::OutOfMemory);
         };
-        self.settle(packet.as_slice(), Due::of(request))
+        self.settle(packet.as_slice(), pending)
     }
 
     /// Closes a handle. Sending CLOSE doesn't allocate.
@@ -274,9 +285,7 @@ impl<L: Line + Drop> Client<L> {
             result self.new }
     {
         let packet = close_packet(self.next, handle);
-        match self.settle(&packet, Due::Success) {
-            Ok(_reply) => Ok(()),
-            Err(fault) => Err(fault),
-        }
+        self.settle(&packet, PendingReply::Success)?;
+        Ok(())
     }
 }

@@ -1,22 +1,21 @@
 //! Calls with a handle: each opens it, uses it and closes it.
 
-ghost use Rattle.std.specs.Prelude.{◌≡◌, ◌≢◌, ◌+◌, ◌<◌, ◌≤◌, ◌^◌, length, false, Ok, Err, IfOk, IfSome, None, nat_lt};
+ghost use Rattle.std.specs.Prelude.{◌≡◌, ◌+◌, ◌<◌, ◌≤◌, ◌^◌, length, false, Ok, Err, IfOk, IfSome, nat_lt};
 ghost use Rattle.sf_field.specs.Fields.{be64};
 ghost use Rattle.sf_reply.specs.declared.reply.StatusCode.TheVariants.{Success};
 ghost use Rattle.sf_field.specs.Attributes.{no_attrs};
 ghost use Rattle.sf_request.specs.declared.request.WireRequest.TheVariants as request;
 ghost use Rattle.sf_request.specs.Requests.{request_body};
 ghost use Rattle.sf_reply.specs.declared.reply.Reply.TheVariants as reply;
-ghost use Rattle.sf_client.specs.Dues.{due_of};
+ghost use Rattle.sf_client.specs.Pending.{pending_of};
 ghost use Rattle.sf_client.specs.Outcomes.{Comes};
 ghost use Rattle.sf_client.specs.Ahead.{SendsOn, TakesOn, GathersPiece, GathersNames, most_ahead, sender};
-ghost use Rattle.sf_client.specs.Calls.{DoesCall, ByHandle, ClosesAfter, EndsAfter, KeepsInStep, AsksSize, first_fault, reply_by, ended_by, read_from, to_read, to_write, Reads, ReadsAll, WritesAll, ListsAll, items_of};
+ghost use Rattle.sf_client.specs.Calls.{DoesCall, ByHandle, ClosesAfter, AsksSize, after_closing, reply_by, ended_by, read_from, to_read, to_write, Reads, ReadsAll, WritesAll, ListsAll, items_of};
 
 use crate::ahead::Ahead;
 use crate::client::Client;
-use crate::due::Due;
 use crate::fault::ClientFault;
-use crate::gathered::Gathered;
+use crate::pending::PendingReply;
 use sf_field::{ByteString, NO_ATTRS, OpenFlags};
 use sf_line::Line;
 use sf_reply::{Entry, Listing, Reply, StatusCode};
@@ -51,15 +50,18 @@ const TO_WRITE: OpenFlags = OpenFlags {
     exclusive: false,
 };
 
-/// The error that a call returns after an error and its CLOSE: the first one, unless the client
-/// failed in CLOSE.
-fn fault_after(first: ClientFault, closing: Result<(), ClientFault>) -> ClientFault
-    ensures { result ≡ first_fault first closing }
+/// The result of a call after CLOSE: the first error, unless the client failed in CLOSE.
+fn after_closing<T: Drop>(
+    outcome: Result<T, ClientFault>,
+    closing: Result<(), ClientFault>,
+) -> Result<T, ClientFault>
+    ensures { result ≡ after_closing outcome closing }
 {
-    match closing {
-        Err(ClientFault::Stream) => ClientFault::Stream,
-        Err(ClientFault::Protocol) => ClientFault::Protocol,
-        _ => first,
+    match (outcome, closing) {
+        (_, Err(ClientFault::Stream)) => Err(ClientFault::Stream),
+        (_, Err(ClientFault::Protocol)) => Err(ClientFault::Protocol),
+        (Ok(_), Err(fault)) => Err(fault),
+        (outcome, _) => outcome,
     }
 }
 
@@ -88,17 +90,12 @@ fn gather_names(ahead: &mut Ahead, entries: &mut Vec<Entry>, names: Listing)
 }
 
 /// The collected items, if EOF ended the call.
-fn ended<T: Drop>(
-    stopped: Option<ClientFault>,
-    gathered: Gathered<T>,
-) -> Result<Gathered<T>, ClientFault>
-    requires { stopped ≢ None }
-    ensures { result ≡ ended_by stopped gathered }
+fn ended<T: Drop>(stopped: Option<ClientFault>, items: Vec<T>) -> Result<Vec<T>, ClientFault>
+    ensures { items_of result ≡ ended_by stopped items.items }
 {
     match stopped {
-        Some(ClientFault::Status(StatusCode::EndOfFile)) => Ok(gathered),
+        None | Some(ClientFault::Status(StatusCode::EndOfFile)) => Ok(items),
         Some(fault) => Err(fault),
-        None => unreachable!(),
     }
 }
 
@@ -106,13 +103,12 @@ impl<L: Line + Drop> Client<L> {
     /// Opens a handle.
     fn open(&mut self, request: &WireRequest) -> Result<u64, ClientFault>
         requires short { length (request_body self.old.next request.now) < 2 ^ 32 }
-        requires due { due_of request.now ≡ Due.Handle }
+        requires pending { pending_of request.now ≡ PendingReply.Handle }
         ensures { Comes reply.Handle self.old request.now result self.new }
     {
-        match self.exchange(request) {
-            Ok(Reply::Handle(number)) => Ok(number),
-            Ok(_) => unreachable!(),
-            Err(fault) => Err(fault),
+        match self.exchange(request, PendingReply::Handle)? {
+            Reply::Handle(number) => Ok(number),
+            _ => unreachable!(),
         }
     }
 
@@ -122,37 +118,13 @@ impl<L: Line + Drop> Client<L> {
         handle: u64,
         outcome: Result<T, ClientFault>,
     ) -> Result<T, ClientFault>
-        requires { KeepsInStep outcome self.old }
         ensures { ClosesAfter handle outcome self.old result self.new }
     {
-        match outcome {
-            Ok(value) => match self.close(handle) {
-                Ok(()) => Ok(value),
-                Err(fault) => Err(fault),
-            },
-            Err(ClientFault::Status(code)) => Err(self.close_after(
-                handle,
-                ClientFault::Status(code),
-            )),
-            Err(ClientFault::OutOfMemory) => Err(self.close_after(
-                handle,
-                ClientFault::OutOfMemory,
-            )),
-            Err(ClientFault::TooLarge(size)) => Err(self.close_after(
-                handle,
-                ClientFault::TooLarge(size),
-            )),
-            Err(fault) => Err(fault),
+        if self.has_failed() {
+            return outcome;
         }
-    }
-
-    /// Closes the handle after an error, and returns the error of the call.
-    fn close_after(&mut self, handle: u64, first: ClientFault) -> ClientFault
-        requires { self.old.failed ≡ false }
-        ensures { EndsAfter handle first self.old result self.new }
-    {
         let closing = self.close(handle);
-        fault_after(first, closing)
+        after_closing(outcome, closing)
     }
 
     /// The file's size from FSTAT; 0 if FSTAT returned an error status or no size.
@@ -162,7 +134,7 @@ impl<L: Line + Drop> Client<L> {
     {
         let number = handle.to_be_bytes();
         let handle = ByteStr::new(&number);
-        let attrs = match self.exchange(&WireRequest::FStat { handle }) {
+        let attrs = match self.exchange(&WireRequest::FStat { handle }, PendingReply::Attrs) {
             Ok(Reply::Attrs(attrs)) => attrs,
             Ok(_) => unreachable!(),
             Err(ClientFault::Status(_)) => return Ok(0),
@@ -195,22 +167,21 @@ impl<L: Line + Drop> Client<L> {
     /// Receives the data of a READ.
     fn take_piece(&mut self, ahead: &mut Ahead) -> Result<Option<ByteString>, ClientFault>
         requires { 0 < ahead.old.waiting }
-        ensures { TakesOn (sender self.old ahead.old) (Due.Data 32768) (reply_by reply.Data result)
-            (sender self.new ahead.new) }
+        ensures { TakesOn (sender self.old ahead.old) (PendingReply.Data 32768)
+            (reply_by reply.Data result) (sender self.new ahead.new) }
     {
-        match self.take_on(ahead, Due::Data(32768)) {
-            Ok(Some(Reply::Data(bytes))) => Ok(Some(bytes)),
-            Ok(Some(_)) => unreachable!(),
-            Ok(None) => Ok(None),
-            Err(fault) => Err(fault),
+        match self.take_on(ahead, PendingReply::Data(32768))? {
+            Some(Reply::Data(bytes)) => Ok(Some(bytes)),
+            Some(_) => unreachable!(),
+            None => Ok(None),
         }
     }
 
     /// Reads the file to its end. READs are pipelined up to the size from FSTAT. After a short
     /// chunk the READs in flight are useless, and reading continues with one READ at a time.
-    fn read_pieces(&mut self, handle: u64, size: u64) -> Result<Gathered<u8>, ClientFault>
+    fn read_pieces(&mut self, handle: u64, size: u64) -> Result<Vec<u8>, ClientFault>
         requires { self.old.failed ≡ false }
-        ensures { DoesCall (Reads handle) self.old result self.new }
+        ensures { DoesCall (Reads handle) self.old (items_of result) self.new }
     {
         let mut bytes = Vec::new(self.alloc());
         let mut ahead = self.ahead();
@@ -218,10 +189,7 @@ impl<L: Line + Drop> Client<L> {
         'pieces: loop {
             let offset = bytes.len() as u64 + u64::from(ahead.waiting) * PIECE as u64;
             if ahead.has_room_at(offset, expected) {
-                match self.ask_piece(&mut ahead, handle, offset) {
-                    Ok(_) => {}
-                    Err(fault) => return Err(fault),
-                }
+                self.ask_piece(&mut ahead, handle, offset)?;
             } else if ahead.waiting > 0 {
                 match self.take_piece(&mut ahead) {
                     Ok(Some(piece)) => {
@@ -233,20 +201,17 @@ impl<L: Line + Drop> Client<L> {
                     Err(fault) => return Err(fault),
                 }
             } else {
-                return ended(ahead.stopped, Gathered::from_vec(bytes));
+                return ended(ahead.stopped, bytes);
             }
         }
     }
 
     /// Reads the file, if its size is within the limit.
-    fn read_all(&mut self, handle: u64) -> Result<Gathered<u8>, ClientFault>
+    fn read_all(&mut self, handle: u64) -> Result<Vec<u8>, ClientFault>
         requires { self.old.failed ≡ false }
-        ensures { DoesCall (ReadsAll handle) self.old result self.new }
+        ensures { DoesCall (ReadsAll handle) self.old (items_of result) self.new }
     {
-        let size = match self.stated_size(handle) {
-            Ok(size) => size,
-            Err(fault) => return Err(fault),
-        };
+        let size = self.stated_size(handle)?;
         if size > MOST_GATHERED {
             return Err(ClientFault::TooLarge(size));
         }
@@ -278,13 +243,12 @@ impl<L: Line + Drop> Client<L> {
     /// Receives the `SSH_FX_OK` of a WRITE.
     fn take_success(&mut self, ahead: &mut Ahead) -> Result<Option<()>, ClientFault>
         requires { 0 < ahead.old.waiting }
-        ensures { TakesOn (sender self.old ahead.old) Due.Success
+        ensures { TakesOn (sender self.old ahead.old) PendingReply.Success
             (reply_by (λ _. reply.Status Success) result) (sender self.new ahead.new) }
     {
-        match self.take_on(ahead, Due::Success) {
-            Ok(Some(_reply)) => Ok(Some(())),
-            Ok(None) => Ok(None),
-            Err(fault) => Err(fault),
+        match self.take_on(ahead, PendingReply::Success)? {
+            Some(_reply) => Ok(Some(())),
+            None => Ok(None),
         }
     }
 
@@ -299,19 +263,12 @@ impl<L: Line + Drop> Client<L> {
         'pieces: loop {
             if ahead.has_room() && !rest.is_empty() {
                 let (piece, after) = rest.split_at(rest.len().min(PIECE));
-                match self.send_piece(&mut ahead, handle, offset, piece) {
-                    Ok(true) => {
-                        offset += piece.len() as u64;
-                        rest = after;
-                    }
-                    Ok(false) => {}
-                    Err(fault) => return Err(fault),
+                if self.send_piece(&mut ahead, handle, offset, piece)? {
+                    offset += piece.len() as u64;
+                    rest = after;
                 }
             } else if ahead.waiting > 0 {
-                match self.take_success(&mut ahead) {
-                    Ok(_) => {}
-                    Err(fault) => return Err(fault),
-                }
+                self.take_success(&mut ahead)?;
             } else {
                 return match ahead.stopped {
                     None => Ok(()),
@@ -335,30 +292,26 @@ impl<L: Line + Drop> Client<L> {
     /// Receives the names of a READDIR.
     fn take_names(&mut self, ahead: &mut Ahead) -> Result<Option<Listing>, ClientFault>
         requires { 0 < ahead.old.waiting }
-        ensures { TakesOn (sender self.old ahead.old) Due.Names (reply_by reply.Names result)
-            (sender self.new ahead.new) }
+        ensures { TakesOn (sender self.old ahead.old) PendingReply.Names
+            (reply_by reply.Names result) (sender self.new ahead.new) }
     {
-        match self.take_on(ahead, Due::Names) {
-            Ok(Some(Reply::Names(entries))) => Ok(Some(entries)),
-            Ok(Some(_)) => unreachable!(),
-            Ok(None) => Ok(None),
-            Err(fault) => Err(fault),
+        match self.take_on(ahead, PendingReply::Names)? {
+            Some(Reply::Names(entries)) => Ok(Some(entries)),
+            Some(_) => unreachable!(),
+            None => Ok(None),
         }
     }
 
     /// Lists the directory to its end, with at most two READDIRs in flight.
-    fn list_all(&mut self, handle: u64) -> Result<Gathered<Entry>, ClientFault>
+    fn list_all(&mut self, handle: u64) -> Result<Vec<Entry>, ClientFault>
         requires { self.old.failed ≡ false }
-        ensures { DoesCall (ListsAll handle) self.old result self.new }
+        ensures { DoesCall (ListsAll handle) self.old (items_of result) self.new }
     {
         let mut entries = Vec::new(self.alloc());
         let mut ahead = self.ahead();
         'parts: loop {
             if ahead.has_room() && ahead.waiting < LISTINGS {
-                match self.ask_names(&mut ahead, handle) {
-                    Ok(_) => {}
-                    Err(fault) => return Err(fault),
-                }
+                self.ask_names(&mut ahead, handle)?;
             } else if ahead.waiting > 0 {
                 match self.take_names(&mut ahead) {
                     Ok(Some(part)) => gather_names(&mut ahead, &mut entries, part),
@@ -366,7 +319,7 @@ impl<L: Line + Drop> Client<L> {
                     Err(fault) => return Err(fault),
                 }
             } else {
-                return ended(ahead.stopped, Gathered::from_vec(entries));
+                return ended(ahead.stopped, entries);
             }
         }
     }
@@ -394,41 +347,15 @@ impl<L: Line + Drop> Client<L> {
         self.open(&WireRequest::OpenDir { path })
     }
 
-    fn get_all(&mut self, path: &[u8]) -> Result<Gathered<u8>, ClientFault>
-        requires { length path.now < 2 ^ 31 }
-        ensures { DoesCall (ByHandle (request.Open path.now to_read no_attrs) ReadsAll)
-            self.old result self.new }
-    {
-        let handle = match self.open_file(path, TO_READ) {
-            Ok(handle) => handle,
-            Err(fault) => return Err(fault),
-        };
-        let bytes = self.read_all(handle);
-        self.closed(handle, bytes)
-    }
-
-    fn list_names(&mut self, path: &[u8]) -> Result<Gathered<Entry>, ClientFault>
-        requires { length path.now < 2 ^ 31 }
-        ensures { DoesCall (ByHandle (request.OpenDir path.now) ListsAll) self.old result self.new }
-    {
-        let handle = match self.open_directory(path) {
-            Ok(handle) => handle,
-            Err(fault) => return Err(fault),
-        };
-        let entries = self.list_all(handle);
-        self.closed(handle, entries)
-    }
-
     /// Reads a whole file. It returns `TooLarge` if the server reports a size above 2^30 bytes.
     pub fn get(&mut self, path: &[u8]) -> Result<Vec<u8>, ClientFault>
         requires { length path.now < 2 ^ 31 }
         ensures { DoesCall (ByHandle (request.Open path.now to_read no_attrs) ReadsAll) self.old
             (items_of result) self.new }
     {
-        match self.get_all(path) {
-            Ok(bytes) => Ok(bytes.into_vec()),
-            Err(fault) => Err(fault),
-        }
+        let handle = self.open_file(path, TO_READ)?;
+        let bytes = self.read_all(handle);
+        self.closed(handle, bytes)
     }
 
     /// Creates a file with these bytes, or truncates an existing file and writes them.
@@ -438,10 +365,7 @@ impl<L: Line + Drop> Client<L> {
             (ByHandle (request.Open path.now to_write no_attrs) (WritesAll bytes.now))
             self.old result self.new }
     {
-        let handle = match self.open_file(path, TO_WRITE) {
-            Ok(handle) => handle,
-            Err(fault) => return Err(fault),
-        };
+        let handle = self.open_file(path, TO_WRITE)?;
         let written = self.write_pieces(handle, bytes);
         self.closed(handle, written)
     }
@@ -452,9 +376,8 @@ impl<L: Line + Drop> Client<L> {
         ensures { DoesCall (ByHandle (request.OpenDir path.now) ListsAll) self.old
             (items_of result) self.new }
     {
-        match self.list_names(path) {
-            Ok(entries) => Ok(entries.into_vec()),
-            Err(fault) => Err(fault),
-        }
+        let handle = self.open_directory(path)?;
+        let entries = self.list_all(handle);
+        self.closed(handle, entries)
     }
 }

@@ -4,7 +4,7 @@
 //! request in `calls.rt`. `Comes` in `specs/Outcomes.antt` defines their outcome. `get`, `put` and
 //! `list` in `files.rt` pipeline their requests: `DoesCall` in `specs/Calls.antt` defines their
 //! outcome, and `ByHandle` their exchanges. An exchange is a request and the reply received for it
-//! (`specs/Exchanges.antt`). `specs/Dues.antt` defines the expected replies. After a transport
+//! (`specs/Exchanges.antt`). `specs/Pending.antt` defines the expected replies. After a transport
 //! error or an unexpected reply every call returns `Failed`. Internally, `Ahead` counts the
 //! requests in flight.
 #![tactic(auto)]
@@ -12,11 +12,10 @@
 mod ahead;
 mod calls;
 mod client;
-mod due;
 mod fault;
 mod files;
-mod gathered;
 mod lines;
+mod pending;
 
 pub use client::{Client, NotStarted};
 pub use fault::ClientFault;

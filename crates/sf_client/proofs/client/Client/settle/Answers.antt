@@ -1,21 +1,14 @@
-use Rattle.std.proofs.Common.{rules}
-use Rattle.sf_client.proofs.Steps.{OneSent, settled_err, settled_ok, settled_comes}
+use Rattle.std.proofs.lemmas.Result.{err_from_is_err_and}
+use Rattle.sf_client.proofs.Steps.{settled_err, settled_ok}
 use Rattle.sf_client.proofs.client.Client.settle.Goals as goal
 
-pub returns-in-Err : goal.returns-in-Err
-returns-in-Err g c =
-    let sent : OneSent c.args.self.now c.args.bytes.now c.send.new.self = record { began = c.requires; sent = record { wrote = c.in_ok-send.ensures.ok; client = c.in_ok-send.ensures.client; failures = c.send.ensures.failures } } in
-    let settled = settled_err _ c.args.due c.in-Err.fault sent c.in-Err.ensures in
-    record { comes = settled; loosely = λ q is due. settled_comes (λ r. r) _ _ q c.in-Err.fault c.requires (settled q is due); answer = tt }
+pub returns-in_err-reply-clause-comes : goal.returns-in_err-reply-clause-comes
+returns-in_err-reply-clause-comes g c =
+    let p = err_from_is_err_and c.from_residual-in_err-reply.result c.from_residual-in_err-reply.ensures.1 in
+    rw (p.1, p.2) (settled_err _ c.args.pending c.in_err-reply.field-0.0 c.requires c.in_ok-send.ensures.ok c.in_err-reply.ensures)
 
-pub returns-in-None : goal.returns-in-None
-returns-in-None g c =
-    let sent : OneSent c.args.self.now c.args.bytes.now c.send.new.self = record { began = c.requires; sent = record { wrote = c.in_ok-send.ensures.ok; client = c.in_ok-send.ensures.client; failures = c.send.ensures.failures } } in
-    let settled = settled_ok _ c.args.due c.in-Ok.reply sent c.in-Ok.ensures in
-    record { comes = settled; loosely = settled; answer = search rules }
+pub returns-in-None-clause-comes : goal.returns-in-None-clause-comes
+returns-in-None-clause-comes g c = settled_ok _ c.args.pending c.in_ok-reply.reply c.requires c.in_ok-send.ensures.ok c.in_ok-reply.ensures
 
-pub returns-in-Some : goal.returns-in-Some
-returns-in-Some g c =
-    let sent : OneSent c.args.self.now c.args.bytes.now c.send.new.self = record { began = c.requires; sent = record { wrote = c.in_ok-send.ensures.ok; client = c.in_ok-send.ensures.client; failures = c.send.ensures.failures } } in
-    let settled = settled_ok _ c.args.due c.in-Ok.reply sent c.in-Ok.ensures in
-    record { comes = λ q is due. (c.in-Ok.reply, c.in-Some.ensures, settled q is due); loosely = λ q is due. (c.in-Ok.reply, c.in-Some.ensures, settled q is due); answer = tt }
+pub returns-in-Some-clause-comes : goal.returns-in-Some-clause-comes
+returns-in-Some-clause-comes g c = λ q is pending. (c.in_ok-reply.reply, c.in-Some.ensures, settled_ok _ c.args.pending c.in_ok-reply.reply c.requires c.in_ok-send.ensures.ok c.in_ok-reply.ensures q is pending)

@@ -1,17 +1,16 @@
 //! The reply that a request expects.
 
-ghost use Rattle.std.specs.Prelude.{◌≡◌, IfSome, IfNone, IfOk, OnErr, MatchOption, true, false};
+ghost use Rattle.std.specs.Prelude.{◌≡◌, IfSome, IfNone, IfOk, OnErr, is_some, true};
 ghost use Rattle.sf_reply.specs.declared.reply.Reply.{Reply};
 ghost use Rattle.sf_reply.specs.Reading.{reply_of, HasCountedNames, IsReply};
-ghost use Rattle.sf_client.specs.Dues.{due_of, is_answer, is_refusal, is_due, Refuses, TakesMemory};
+ghost use Rattle.sf_client.specs.Pending.{is_answer, is_expected, error_code_of, TakesMemory};
 
 use sf_reply::{FoundReply, Reply, StatusCode, find_reply};
-use sf_request::WireRequest;
 use std::alloc::{AllocError, Global};
 
 /// The kind of reply to a successful request.
 #[derive(Clone, Copy, Debug, PartialEq, Eq)]
-pub(crate) enum Due {
+pub(crate) enum PendingReply {
     /// `SSH_FX_OK`.
     Success,
     Handle,
@@ -22,35 +21,20 @@ pub(crate) enum Due {
     Attrs,
 }
 
-impl Due {
-    /// The kind of reply to this request if it succeeds.
-    pub(crate) fn of(request: &WireRequest) -> Due
-        ensures { result ≡ due_of request.now }
-    {
-        match request {
-            WireRequest::Open { .. } | WireRequest::OpenDir { .. } => Due::Handle,
-            WireRequest::Read { len, .. } => Due::Data(*len),
-            WireRequest::ReadDir { .. } | WireRequest::RealPath { .. } => Due::Names,
-            WireRequest::LStat { .. } | WireRequest::FStat { .. } | WireRequest::Stat { .. } => {
-                Due::Attrs
-            }
-            _ => Due::Success,
-        }
-    }
-
+impl PendingReply {
     /// Whether the reply is of the expected kind.
     fn is_answered(self, found: &FoundReply<'_>) -> bool
         requires { HasCountedNames found.now }
         ensures { result ≡ is_answer self (reply_of found.now) }
     {
         match (self, found) {
-            (Due::Success, FoundReply::Status(StatusCode::Success)) => true,
-            (Due::Handle, FoundReply::Handle(_)) => true,
-            (Due::Data(most), FoundReply::Data(bytes)) => {
+            (PendingReply::Success, FoundReply::Status(StatusCode::Success)) => true,
+            (PendingReply::Handle, FoundReply::Handle(_)) => true,
+            (PendingReply::Data(most), FoundReply::Data(bytes)) => {
                 !bytes.is_empty() && bytes.len() <= most as usize
             }
-            (Due::Names, FoundReply::Names(count, _)) => *count > 0,
-            (Due::Attrs, FoundReply::Attrs(_)) => true,
+            (PendingReply::Names, FoundReply::Names(count, _)) => *count > 0,
+            (PendingReply::Attrs, FoundReply::Attrs(_)) => true,
             _ => false,
         }
     }
@@ -58,14 +42,14 @@ impl Due {
     /// Whether the reply is of the expected kind or an error status.
     pub(crate) fn allows(self, found: &FoundReply<'_>) -> bool
         requires { HasCountedNames found.now }
-        ensures { result ≡ is_due self (reply_of found.now) }
+        ensures { result ≡ is_expected self (reply_of found.now) }
     {
         self.is_answered(found) || is_refused(found)
     }
 }
 
 fn is_refused(found: &FoundReply<'_>) -> bool
-    ensures { result ≡ is_refusal (reply_of found.now) }
+    ensures { result ≡ is_some (error_code_of (reply_of found.now)) }
 {
     match found {
         FoundReply::Status(StatusCode::Success) => false,
@@ -76,7 +60,7 @@ fn is_refused(found: &FoundReply<'_>) -> bool
 
 /// The status code of an error reply.
 pub(crate) fn refusal(reply: &Reply) -> Option<StatusCode>
-    ensures { MatchOption result (is_refusal reply.now ≡ false) (Refuses reply.now) }
+    ensures { error_code_of reply.now ≡ result }
 {
     match reply {
         Reply::Status(StatusCode::Success) => None,
@@ -101,13 +85,14 @@ pub(crate) fn made(alloc: Global, found: FoundReply<'_>) -> Result<Reply, AllocE
 }
 
 /// The expected reply with this id, if the body encodes one.
-pub(crate) fn find_due(body: &[u8], id: u32, due: Due) -> Option<FoundReply<'_>>
+pub(crate) fn find_pending(body: &[u8], id: u32, pending: PendingReply) -> Option<FoundReply<'_>>
     ensures found { IfSome result (λ found. IsReply body.now id (reply_of found)
-        × (is_due due (reply_of found) ≡ true)) }
-    ensures none { IfNone result ((r : Reply) → IsReply body.now id r → is_due due r ≡ true → ⊥) }
+        × (is_expected pending (reply_of found) ≡ true)) }
+    ensures none { IfNone result ((r : Reply) → IsReply body.now id r
+        → is_expected pending r ≡ true → ⊥) }
 {
     let (found_id, found) = find_reply(body)?;
-    if found_id == id && due.allows(&found) {
+    if found_id == id && pending.allows(&found) {
         Some(found)
     } else {
         None
