@@ -1,5 +1,6 @@
 mod Values
+mod Moves
+mod Crossing
+mod Calls
 mod Settling
-mod TreeValues
-mod RefusalValues
 mod Reading

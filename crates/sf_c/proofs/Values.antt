@@ -1,4 +1,4 @@
--- The machine values of a `Loose` and of a `Held`, taken apart and put together.
+-- The machine values of a `RawBox`, taken apart and put together.
 use Rattle.std.proofs.Common.{◌≡◌, ℕ, List, [], ◌∷◌, ◌++◌, Option, Some, None, IsSome, refl, subst}
 use mathlib.Core.Bool.{Bool, true, false, ◌&&◌}
 use lib.Dec.{T}
@@ -22,44 +22,39 @@ use Rattle.core.specs.declared.alloc.Allocator.{Ghosts}
 use Rattle.core.proofs.alloc.Calls.{Al, handle_tells}
 use Rattle.core.proofs.cell.Inside.{Good}
 use Rattle.std_alloc.specs.Box.Ownership.{box_owns}
-use Rattle.sf_engine.specs.Views.{EngineView}
-use Rattle.sf_c.specs.Owned.{engine_owned}
+use Rattle.sf_c.specs.Owned.{box_owned}
 use Rattle.std_alloc.proofs.ResultValues.{and_tt}
-use Rattle.sf_c.specs.contracts.held.Loose as loose
-use Rattle.sf_c.specs.contracts.held.Held as held
-use Rattle.sf_engine.specs.contracts.engine.Engine as engine
-use Rattle.std.specs.contracts.alloc.Global as heap
-use Rattle.std.specs.contracts.impls.GlobalAllocator.TheImpl.{ghosts}
-use Rattle.std.proofs.alloc.Global.TheLaws.{the_row_laws}
+use Rattle.sf_c.specs.contracts.handle.RawBox as raw_box
 
 abbrev pub both : Val → Val → Val
 both v w = vstruct (vcons v (vcons w vnil))
 
 module _ (R Z : RattleType) (L : Laws Z) (g : Ghosts Z.Denot) where
-  abbrev pub Loose : RattleType
-  Loose = loose.the_row R Z g
+  abbrev pub RawBox : RattleType
+  RawBox = raw_box.the_row R Z g
 
   abbrev pub al : Al
   al = record { row = Z; laws = L; g = g; d = impl [] tnil dnil; drops = impl [] tnil dnil }
 
-  pub loose_good : (b o : ℕ) (h : Val) → Good (layout Z) h → T (has_ty (layout Z) h && true) × WT (both (vptr b o) h)
-  loose_good b o h fits = (and_tt (has_ty (layout Z) h) fits.0, (tt, (fits.1, tt)))
+  pub raw_good : (b o : ℕ) (h : Val) → Good (layout Z) h → T (has_ty (layout Z) h && true) × WT (both (vptr b o) h)
+  raw_good b o h fits = (and_tt (has_ty (layout Z) h) fits.0, (tt, (fits.1, tt)))
 
   module _ {M : Type 1} {𝓤 : Ura M} {𝓛 : Logic 𝓤} {K : Type 0} {Γ : List (Item 𝓤)} {G : Goal 𝓤 𝓛.H} where
-    pub loose_out : K → (d : Loose.Denot) (vs : List Val)
-        → ((b o : ℕ) (h : Val) → d.at ≡ block_ptr b o → vs ≡ both (vptr b o) h ∷ [] → Good (layout Z) h → Seq K 𝓛 (‵ (box_owns (g.dealloc_token d.alloc) R (block_ptr b o) d.value) ∷ ‵ (Z.own_val d.alloc (h ∷ [])) ∷ Γ) G)
-        → Seq K 𝓛 (‵ (Loose.own_val d vs) ∷ Γ) G
-    loose_out t d vs k =
+    pub raw_out : K → (d : RawBox.Denot) (x : R.Denot) → d.value ≡ Some x → (vs : List Val)
+        → ((b o : ℕ) (h : Val) → d.at ≡ block_ptr b o → vs ≡ both (vptr b o) h ∷ [] → Good (layout Z) h → Seq K 𝓛 (‵ (box_owns (g.dealloc_token d.alloc) R (block_ptr b o) x) ∷ ‵ (Z.own_val d.alloc (h ∷ [])) ∷ Γ) G)
+        → Seq K 𝓛 (‵ (RawBox.own_val d vs) ∷ Γ) G
+    raw_out t d x is vs k =
         fsplit t $ fpick t (λ vss. fsplit t $ feq_l t (λ ev. fsplit t $ feq_l t (λ ep. fsplit t $ handle_tells al t d.alloc vss.1.0 (λ h ea fits. move t (1 ∷ []) $ drop t $ move t (1 ∷ []) $
-        in_a_block t d.at (λ p. box_owns (g.dealloc_token d.alloc) R p d.value) (fst∗ 𝓤 (never 𝓤) (sem 𝓛 (g.dealloc_token d.alloc (bare (lone R.mir)) null_ptr))) (λ b o e. k b o h e
+        rewrite t 0 (λ (e : Option R.Denot). ‵ (box_owned (g.dealloc_token d.alloc) R d.at e)) is refl $
+        in_a_block t d.at (λ p. box_owns (g.dealloc_token d.alloc) R p x) (fst∗ 𝓤 (never 𝓤) (sem 𝓛 (g.dealloc_token d.alloc (bare (lone R.mir)) null_ptr))) (λ b o e. k b o h e
         (subst (λ (p : Ptr). vs ≡ vstruct (of_list (ptr_val p ∷ h ∷ [])) ∷ []) e
         (subst (λ (ws : List Val). vs ≡ vstruct (of_list (ptr_val d.at ∷ (ws ++ []))) ∷ []) ea (subst (λ (ps : List Val). vs ≡ vstruct (of_list (ps ++ (vss.1.0 ++ []))) ∷ []) ep ev))) fits)))))
 
-    pub loose_in : K → (b o : ℕ) (h : Val) (a : Z.Denot) (x : R.Denot)
-        → Step K 𝓛 (‵ (Loose.own_val (record { at = block_ptr b o; alloc = a; value = x }) (both (vptr b o) h ∷ [])) ∷ Γ) G (‵ (box_owns (g.dealloc_token a) R (block_ptr b o) x) ∷ ‵ (Z.own_val a (h ∷ [])) ∷ Γ) G
-    loose_in t b o h a x = step (λ s. let v : Val = both (vptr b o) h in
-        nothing t $ move t (2 ∷ 0 ∷ []) $ fjoin t $ feq_i t (List Val) (vptr b o ∷ []) (vptr b o ∷ []) refl $ fjoin t $ feq_i t (List Val) (v ∷ []) (v ∷ []) refl $ fjoin t $
-        fpack t (Valss (RawPtr ∷ Z ∷ [])) (within (shape (loose.the_type R Z g)) (block_ptr b o, (a, tt)) (v ∷ [])) (vptr b o ∷ [], (h ∷ [], tt)) $ fjoin t $ s)
+    pub raw_in : K → (p : Ptr) (h : Val) (a : Z.Denot) (x : Option R.Denot)
+        → Step K 𝓛 (‵ (RawBox.own_val (record { at = p; alloc = a; value = x }) (both (ptr_val p) h ∷ [])) ∷ Γ) G (‵ (box_owned (g.dealloc_token a) R p x) ∷ ‵ (Z.own_val a (h ∷ [])) ∷ Γ) G
+    raw_in t p h a x = step (λ s. let v : Val = both (ptr_val p) h in
+        nothing t $ move t (2 ∷ 0 ∷ []) $ fjoin t $ feq_i t (List Val) (ptr_val p ∷ []) (ptr_val p ∷ []) refl $ fjoin t $ feq_i t (List Val) (v ∷ []) (v ∷ []) refl $ fjoin t $
+        fpack t (Valss (RawPtr ∷ Z ∷ [])) (within (shape (raw_box.the_type R Z g)) (p, (a, tt)) (v ∷ [])) (ptr_val p ∷ [], (h ∷ [], tt)) $ fjoin t $ s)
 
 abbrev no_truth : Bool → Type 0
 no_truth true = ⊥
@@ -68,23 +63,3 @@ no_truth false = Unit {0}
 pub some_out : {A : Type 0} → (o : Option A) → IsSome o → (x : A) × (o ≡ Some x)
 some_out (Some x) is = (x, refl)
 some_out None is = absurd (subst no_truth is tt)
-
--- A `Held`: the same two machine values.
-module _ {M : Type 1} {𝓤 : Ura M} {𝓛 : Logic 𝓤} {K : Type 0} {Γ : List (Item 𝓤)} {G : Goal 𝓤 𝓛.H} where
-  pub held_out : K → (d : held.the_row.Denot) (x : EngineView) → d.engine ≡ Some x → (vs : List Val)
-      → ((b o : ℕ) (h : Val) → d.at ≡ block_ptr b o → vs ≡ both (vptr b o) h ∷ [] → Good (layout heap.the_row) h
-      → Seq K 𝓛 (‵ (box_owns (ghosts.dealloc_token d.alloc) engine.the_row (block_ptr b o) x) ∷ ‵ (heap.the_row.own_val d.alloc (h ∷ [])) ∷ Γ) G)
-      → Seq K 𝓛 (‵ (held.the_row.own_val d vs) ∷ Γ) G
-  held_out t d x is vs k =
-      fsplit t $ fpick t (λ vss. fsplit t $ feq_l t (λ ev. fsplit t $ feq_l t (λ ep. fsplit t $ handle_tells (al engine.the_row heap.the_row the_row_laws ghosts) t d.alloc vss.1.0 (λ h ea fits. move t (1 ∷ []) $ drop t $ move t (1 ∷ []) $
-      rewrite t 0 (λ (e : Option EngineView). ‵ (engine_owned d.alloc d.at e)) is refl $
-      in_a_block t d.at (λ p. box_owns (ghosts.dealloc_token d.alloc) engine.the_row p x) (fst∗ 𝓤 (never 𝓤) (sem 𝓛 (ghosts.dealloc_token d.alloc (bare (lone engine.the_row.mir)) null_ptr))) (λ b o e. k b o h e
-      (subst (λ (p : Ptr). vs ≡ vstruct (of_list (ptr_val p ∷ h ∷ [])) ∷ []) e
-      (subst (λ (ws : List Val). vs ≡ vstruct (of_list (ptr_val d.at ∷ (ws ++ []))) ∷ []) ea (subst (λ (ps : List Val). vs ≡ vstruct (of_list (ps ++ (vss.1.0 ++ []))) ∷ []) ep ev))) fits)))))
-
-  -- what is owned at `p`, beyond what a `Held` itself owns
-  pub held_in : K → (p : Ptr) (h : Val) (a : heap.the_row.Denot) (x : Option EngineView)
-      → Step K 𝓛 (‵ (held.the_row.own_val (record { at = p; alloc = a; engine = x }) (both (ptr_val p) h ∷ [])) ∷ Γ) G (‵ (engine_owned a p x) ∷ ‵ (heap.the_row.own_val a (h ∷ [])) ∷ Γ) G
-  held_in t p h a x = step (λ s. let v : Val = both (ptr_val p) h in
-      nothing t $ move t (2 ∷ 0 ∷ []) $ fjoin t $ feq_i t (List Val) (ptr_val p ∷ []) (ptr_val p ∷ []) refl $ fjoin t $ feq_i t (List Val) (v ∷ []) (v ∷ []) refl $ fjoin t $
-      fpack t (Valss (RawPtr ∷ heap.the_row ∷ [])) (within (shape held.the_type) (p, (((tt, tt), tt), tt)) (v ∷ [])) (ptr_val p ∷ [], (h ∷ [], tt)) $ fjoin t $ s)

@@ -14,7 +14,7 @@ use Rattle.sf_refusing.specs.declared.refusals.Refusals.{Refusals}
 use Rattle.sf_refusing.specs.Journal.{Act, Received, Delivered, Made, log_of, received_in, taken_in}
 use Rattle.sf_refusing.specs.Refusing.{Have, IsOwn, IsFed, IsTurn, IsNextOutput, MayRefuseFeed, MayRefuseSent}
 use Rattle.sf_c.specs.declared.turns.Settled.{Settled}
-use Rattle.sf_c.specs.Numbers.{IsNumber, IsFresh, leads_on, replies_of}
+use Rattle.sf_c.specs.Numbers.{IsNumber, leads_on, replies_of}
 
 -- ---- an engine and its refusals advance
 

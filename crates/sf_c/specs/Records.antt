@@ -1,15 +1,18 @@
 -- A record as numbers and bytes, for C.
-use Rattle.std.specs.Prelude.{◌≡◌, ◌+◌, ◌++◌, ◌∷◌, ◌⊎◌, ℕ, ℤ, pos, negsuc, List, [], length, take, drop, slice_get, Option, Some, None}
+use Rattle.std.specs.Prelude.{◌≡◌, ◌++◌, ◌∷◌, ◌⊎◌, ℕ, ℤ, pos, negsuc, List, [], length, take, drop, slice_get, Some, None}
 use Rattle.std.specs.List.{flat_map}
+use Rattle.std.specs.Option.{unwrap_or}
 use Rattle.sf_path.specs.Names.{text_of}
 use Rattle.sf_field.specs.declared.attrs.Attrs.{Attrs}
 use Rattle.sf_field.specs.declared.attrs.Owner.{Owner}
 use Rattle.sf_field.specs.declared.attrs.Times.{Times}
+use Rattle.sf_field.specs.Attributes.{flags_of, no_attrs}
 use Rattle.sf_field.specs.OpenFlags.{bits_of}
 use Rattle.sf_reply.specs.declared.reply.Entry.{Entry}
 use Rattle.sf_reply.specs.declared.reply.Reply.{Reply}
 use Rattle.sf_reply.specs.declared.reply.Reply.TheVariants as reply
 use Rattle.sf_reply.specs.Replies.{number_of}
+use Rattle.sf_call.specs.Requests.{Target, ByHandle, OnPath, OnPaths, target_of}
 use Rattle.sf_call.specs.declared.request.Request.{Request}
 use Rattle.sf_call.specs.declared.request.Request.TheVariants as request
 use Rattle.sf_call.specs.declared.record.Record.{Record}
@@ -21,50 +24,24 @@ use Rattle.sf_c.specs.declared.record_parts.Answered.{Answered}
 use Rattle.sf_c.specs.declared.record_parts.RecordParts.{RecordParts}
 use Rattle.sf_c.specs.declared.record_parts.Recounted.{Recounted}
 
--- the flag of each attribute that is present, and its numbers
-abbrev pub size_parts : Option ℕ → ℕ × ℕ
-size_parts (Some size) = (1, size)
-size_parts None = (0, 0)
-
-abbrev pub owner_parts : Option Owner → ℕ × ℕ × ℕ
-owner_parts (Some owner) = (2, owner.uid, owner.gid)
-owner_parts None = (0, 0, 0)
-
-abbrev pub permissions_parts : Option ℕ → ℕ × ℕ
-permissions_parts (Some permissions) = (4, permissions)
-permissions_parts None = (0, 0)
-
-abbrev pub times_parts : Option Times → ℕ × ℕ × ℕ
-times_parts (Some times) = (8, times.atime, times.mtime)
-times_parts None = (0, 0, 0)
-
+-- attributes: a flag for each one that is present, and 0 for a missing one
 abbrev pub attributes_parts : Attrs → Attributes
-attributes_parts attrs = record {
-  size = (size_parts attrs.size).1;
-  given = (size_parts attrs.size).0 + (owner_parts attrs.owner).0
-      + (permissions_parts attrs.permissions).0 + (times_parts attrs.times).0;
-  uid = (owner_parts attrs.owner).1;
-  gid = (owner_parts attrs.owner).2;
-  permissions = (permissions_parts attrs.permissions).1;
-  atime = (times_parts attrs.times).1;
-  mtime = (times_parts attrs.times).2;
-}
-
-abbrev pub no_attributes : Attributes
-no_attributes = record {
-  size = 0;
-  given = 0;
-  uid = 0;
-  gid = 0;
-  permissions = 0;
-  atime = 0;
-  mtime = 0;
-}
+attributes_parts attrs =
+    let owner : Owner = unwrap_or attrs.owner (record { uid = 0; gid = 0 }) in
+    let times : Times = unwrap_or attrs.times (record { atime = 0; mtime = 0 }) in record {
+      size = unwrap_or attrs.size 0;
+      given = flags_of attrs;
+      uid = owner.uid;
+      gid = owner.gid;
+      permissions = unwrap_or attrs.permissions 0;
+      atime = times.atime;
+      mtime = times.mtime;
+    }
 
 -- the numbers of a request, and of a reply: the packet type and its numeric fields
 abbrev pub plainly : ℕ → AskedParts
 plainly kind = record {
-  attributes = no_attributes;
+  attributes = attributes_parts no_attrs;
   handle = 0;
   offset = 0;
   length = 0;
@@ -103,7 +80,7 @@ asked_parts (request.PosixRename old new) = plainly 201
 asked_parts (request.Link old new) = plainly 202
 
 abbrev pub answer : ℕ → Answered
-answer kind = record { attributes = no_attributes; handle = 0; names = 0; kind = kind; status = 0 }
+answer kind = record { attributes = attributes_parts no_attrs; handle = 0; names = 0; kind = kind; status = 0 }
 
 abbrev pub answered_parts : Reply → Answered
 answered_parts (reply.Status code) = record (answer 101) { status = number_of code }
@@ -113,24 +90,14 @@ answered_parts (reply.Data bytes) = answer 103
 answered_parts (reply.Names entries) = record (answer 104) { names = length entries }
 answered_parts (reply.Attrs attrs) = record (answer 105) { attributes = attributes_parts attrs }
 
--- the texts of its paths, in their order
-abbrev pub first_text : Request → List ℕ
-first_text (request.Open path flags attrs) = text_of path
-first_text (request.SetStat path attrs) = text_of path
-first_text (request.Mkdir path attrs) = text_of path
-first_text (request.OpenDir path) = text_of path
-first_text (request.Remove path) = text_of path
-first_text (request.Rmdir path) = text_of path
-first_text (request.Stat path) = text_of path
-first_text (request.Rename old new) = text_of old
-first_text (request.PosixRename old new) = text_of old
-first_text (request.Link old new) = text_of old
-first_text _ = []
+-- the texts of a request's paths, in their order
+abbrev pub first_text : Target → List ℕ
+first_text (ByHandle handle) = []
+first_text (OnPath path) = text_of path
+first_text (OnPaths old new) = text_of old
 
-abbrev pub second_text : Request → List ℕ
-second_text (request.Rename old new) = text_of new
-second_text (request.PosixRename old new) = text_of new
-second_text (request.Link old new) = text_of new
+abbrev pub second_text : Target → List ℕ
+second_text (OnPaths old new) = text_of new
 second_text _ = []
 
 -- the bytes of a WRITE
@@ -159,13 +126,14 @@ IsRecounted number session moment q a r =
       session = session;
       asked = asked_parts q;
       answered = answered_parts a;
-      path = length (first_text q);
-      new_path = length (second_text q);
+      path = length (first_text (target_of q));
+      new_path = length (second_text (target_of q));
       written = length (data_parts q);
       answer = length (answer_bytes a);
       moment = moment;
     })
-    × (r.bytes.items ≡ ((first_text q ++ second_text q) ++ data_parts q) ++ answer_bytes a)
+    × (r.bytes.items ≡ ((first_text (target_of q) ++ second_text (target_of q)) ++ data_parts q)
+    ++ answer_bytes a)
 
 -- the record of a session that left
 abbrev pub left_parts : ℕ → RecordParts

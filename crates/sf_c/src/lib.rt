@@ -1,11 +1,12 @@
 //! The deterministic SFTP engine as a library for C.
 //!
-//! Start with `lucernetick_turn`. Each function takes an engine as a `Held` (`held.rt`), makes one
-//! event, and returns the engine and a number; `specs/Numbers.antt` defines the numbers. Bytes and
-//! turns pass through the engine's fault injection, a `HeldRefusals`: `specs/Journals.antt` says
-//! what they add to the journal of both, and `specs/Rules.antt` what a rule is. Sessions open and
-//! close on the engine itself (`sf_refusing::events_apart`), and so do those that build trees
-//! (`specs/Making.antt`). A snapshot of the tree is a `Kept` (`kept.rt`, `specs/Trees.antt`).
+//! Start with `lucernetick_turn`. Each function takes an engine as an `EngineHandle` (`handle.rt`),
+//! makes one event, and returns the engine and a number; `specs/Numbers.antt` defines the numbers.
+//! Bytes and turns pass through the engine's fault injection, a `RefusalsHandle`:
+//! `specs/Journals.antt` says what they add to the journal of both, and `specs/Rules.antt` what a
+//! rule is. Sessions open and close on the engine itself (`sf_refusing::events_apart`), and so do
+//! those that build trees (`specs/Making.antt`). A snapshot of the tree is a `TreeHandle`
+//! (`specs/Trees.antt`).
 //!
 //! `bindings/c/lucernetick.c` implements the functions of `include/lucernetick.h` by calling these.
 #![tactic(auto)]
@@ -20,9 +21,7 @@ ghost use Rattle.sf_c.specs.Making.{AnswersMade};
 ghost use Rattle.sf_c.specs.Trees.{TakesTree, TellsLeaf, ReadsLeaf, TellsGap};
 ghost use Rattle.sf_c.specs.Numbers.{AnswersNumber, KeepsLastRecords, RunsAll, IsFresh, IsNewEngine};
 
-mod held;
-mod held_refusals;
-mod kept;
+mod handle;
 mod leaves;
 mod making;
 mod number;
@@ -30,9 +29,7 @@ mod record_parts;
 mod rules;
 mod turns;
 
-use held::Held;
-use held_refusals::HeldRefusals;
-use kept::Kept;
+use handle::{EngineHandle, RefusalsHandle, TreeHandle};
 use leaves::{LeafParts, copy_leaf, gap_at, read_leaf, tree_of};
 use making::{At, link_in, make_directory_in, tell_made, write_file_in};
 use record_parts::{RecordParts, recount};
@@ -57,8 +54,8 @@ fn new_engine(alloc: Global, keep: u64) -> Result<Engine, AllocError>
 #[unsafe(no_mangle)]
 pub extern "C" fn lucernetick_new(
     alloc: Global,
-    held: &mut Held,
-    refusing: &mut HeldRefusals,
+    held: &mut EngineHandle,
+    refusing: &mut RefusalsHandle,
     keep: u64,
 ) -> i64
     requires engine { held.old.engine ≡ None }
@@ -81,7 +78,11 @@ pub extern "C" fn lucernetick_new(
 
 /// Drops an engine and its refusals.
 #[unsafe(no_mangle)]
-pub extern "C" fn lucernetick_free(alloc: Global, held: &mut Held, refusing: &mut HeldRefusals)
+pub extern "C" fn lucernetick_free(
+    alloc: Global,
+    held: &mut EngineHandle,
+    refusing: &mut RefusalsHandle,
+)
     requires engine { IsSome held.old.engine }
     requires refusals { IsSome refusing.old.refusals }
     ensures engine { held.new.engine ≡ None }
@@ -92,7 +93,7 @@ pub extern "C" fn lucernetick_free(alloc: Global, held: &mut Held, refusing: &mu
 }
 
 /// Applies an event, and returns its number.
-fn answer(alloc: Global, held: &mut Held, event: &Event) -> i64
+fn answer(alloc: Global, held: &mut EngineHandle, event: &Event) -> i64
     requires { IsSome held.old.engine }
     ensures { AnswersNumber held.old.engine event.now result held.new.engine }
 {
@@ -104,7 +105,7 @@ fn answer(alloc: Global, held: &mut Held, event: &Event) -> i64
 
 /// Opens a session.
 #[unsafe(no_mangle)]
-pub extern "C" fn lucernetick_open(alloc: Global, held: &mut Held) -> i64
+pub extern "C" fn lucernetick_open(alloc: Global, held: &mut EngineHandle) -> i64
     requires { IsSome held.old.engine }
     ensures { AnswersNumber held.old.engine event.Open result held.new.engine }
 {
@@ -115,8 +116,8 @@ pub extern "C" fn lucernetick_open(alloc: Global, held: &mut Held) -> i64
 #[unsafe(no_mangle)]
 pub extern "C" fn lucernetick_feed(
     alloc: Global,
-    held: &mut Held,
-    refusing: &mut HeldRefusals,
+    held: &mut EngineHandle,
+    refusing: &mut RefusalsHandle,
     session: u64,
     bytes: &[u8],
 ) -> i64
@@ -137,8 +138,8 @@ pub extern "C" fn lucernetick_feed(
 #[unsafe(no_mangle)]
 pub extern "C" fn lucernetick_turn(
     alloc: Global,
-    held: &mut Held,
-    refusing: &mut HeldRefusals,
+    held: &mut EngineHandle,
+    refusing: &mut RefusalsHandle,
     session: u64,
     moment: u32,
 ) -> i64
@@ -160,8 +161,8 @@ pub extern "C" fn lucernetick_turn(
 #[unsafe(no_mangle)]
 pub extern "C" fn lucernetick_settle(
     alloc: Global,
-    held: &mut Held,
-    refusing: &mut HeldRefusals,
+    held: &mut EngineHandle,
+    refusing: &mut RefusalsHandle,
     session: u64,
     moment: u32,
     most: u64,
@@ -182,7 +183,7 @@ pub extern "C" fn lucernetick_settle(
 
 /// Takes rounds of turns, until no call is unanswered. Returns the number of rounds.
 #[unsafe(no_mangle)]
-pub extern "C" fn lucernetick_run_all(alloc: Global, held: &mut Held) -> u64
+pub extern "C" fn lucernetick_run_all(alloc: Global, held: &mut EngineHandle) -> u64
     requires { IsSome held.old.engine }
     ensures { RunsAll held.old.engine result held.new.engine }
 {
@@ -194,7 +195,7 @@ pub extern "C" fn lucernetick_run_all(alloc: Global, held: &mut Held) -> u64
 
 /// Closes a session.
 #[unsafe(no_mangle)]
-pub extern "C" fn lucernetick_close(alloc: Global, held: &mut Held, session: u64) -> i64
+pub extern "C" fn lucernetick_close(alloc: Global, held: &mut EngineHandle, session: u64) -> i64
     requires { IsSome held.old.engine }
     ensures { AnswersNumber held.old.engine (event.Close session) result held.new.engine }
 {
@@ -205,8 +206,8 @@ pub extern "C" fn lucernetick_close(alloc: Global, held: &mut Held, session: u64
 #[unsafe(no_mangle)]
 pub extern "C" fn lucernetick_sent(
     alloc: Global,
-    held: &mut Held,
-    refusing: &mut HeldRefusals,
+    held: &mut EngineHandle,
+    refusing: &mut RefusalsHandle,
     session: u64,
     count: usize,
 ) -> i64
@@ -228,8 +229,8 @@ pub extern "C" fn lucernetick_sent(
 #[unsafe(no_mangle)]
 pub extern "C" fn lucernetick_wants_bytes(
     alloc: Global,
-    held: &mut Held,
-    refusing: &mut HeldRefusals,
+    held: &mut EngineHandle,
+    refusing: &mut RefusalsHandle,
     session: u64,
 ) -> bool
     requires engine { IsSome held.old.engine }
@@ -278,8 +279,8 @@ fn copy_output(engine: &Engine, refusals: &Refusals, session: u64, room: &mut [u
 #[unsafe(no_mangle)]
 pub extern "C" fn lucernetick_output(
     alloc: Global,
-    held: &mut Held,
-    refusing: &mut HeldRefusals,
+    held: &mut EngineHandle,
+    refusing: &mut RefusalsHandle,
     session: u64,
     room: &mut [u8],
 ) -> i64
@@ -302,7 +303,7 @@ pub extern "C" fn lucernetick_output(
 #[unsafe(no_mangle)]
 pub extern "C" fn lucernetick_refuse(
     alloc: Global,
-    refusing: &mut HeldRefusals,
+    refusing: &mut RefusalsHandle,
     parts: &RuleParts,
     text: &[u8],
 ) -> i64
@@ -319,7 +320,7 @@ pub extern "C" fn lucernetick_refuse(
 #[unsafe(no_mangle)]
 pub extern "C" fn lucernetick_refused(
     alloc: Global,
-    refusing: &mut HeldRefusals,
+    refusing: &mut RefusalsHandle,
     number: u64,
 ) -> i64
     requires { IsSome refusing.old.refusals }
@@ -358,7 +359,7 @@ fn copy_record(
 #[unsafe(no_mangle)]
 pub extern "C" fn lucernetick_call(
     alloc: Global,
-    held: &mut Held,
+    held: &mut EngineHandle,
     at: u64,
     parts: &mut RecordParts,
     room: &mut [u8],
@@ -379,7 +380,7 @@ pub extern "C" fn lucernetick_call(
 #[unsafe(no_mangle)]
 pub extern "C" fn lucernetick_make_directory(
     alloc: Global,
-    held: &mut Held,
+    held: &mut EngineHandle,
     path: &[u8],
     moment: u32,
     at: &mut At,
@@ -397,7 +398,7 @@ pub extern "C" fn lucernetick_make_directory(
 #[unsafe(no_mangle)]
 pub extern "C" fn lucernetick_write_file(
     alloc: Global,
-    held: &mut Held,
+    held: &mut EngineHandle,
     path: &[u8],
     contents: &[u8],
     moment: u32,
@@ -416,7 +417,7 @@ pub extern "C" fn lucernetick_write_file(
 #[unsafe(no_mangle)]
 pub extern "C" fn lucernetick_link(
     alloc: Global,
-    held: &mut Held,
+    held: &mut EngineHandle,
     old: &[u8],
     new: &[u8],
     moment: u32,
@@ -434,7 +435,11 @@ pub extern "C" fn lucernetick_link(
 /// Takes a snapshot of an engine's tree, into an empty handle. Returns 0, or -1 if memory runs out;
 /// the handle is then empty.
 #[unsafe(no_mangle)]
-pub extern "C" fn lucernetick_tree(alloc: Global, held: &mut Held, kept: &mut Kept) -> i64
+pub extern "C" fn lucernetick_tree(
+    alloc: Global,
+    held: &mut EngineHandle,
+    kept: &mut TreeHandle,
+) -> i64
     requires engine { IsSome held.old.engine }
     requires none { kept.old.tree ≡ None }
     ensures same { held.new.engine ≡ held.old.engine }
@@ -455,7 +460,7 @@ pub extern "C" fn lucernetick_tree(alloc: Global, held: &mut Held, kept: &mut Ke
 #[unsafe(no_mangle)]
 pub extern "C" fn lucernetick_tree_leaf(
     alloc: Global,
-    kept: &mut Kept,
+    kept: &mut TreeHandle,
     at: u64,
     parts: &mut LeafParts,
     room: &mut [u8],
@@ -476,7 +481,7 @@ pub extern "C" fn lucernetick_tree_leaf(
 #[unsafe(no_mangle)]
 pub extern "C" fn lucernetick_tree_read(
     alloc: Global,
-    kept: &mut Kept,
+    kept: &mut TreeHandle,
     at: u64,
     offset: u64,
     room: &mut [u8],
@@ -493,7 +498,12 @@ pub extern "C" fn lucernetick_tree_read(
 
 /// Returns the length of the hole at an offset of a leaf: zeros that take no memory.
 #[unsafe(no_mangle)]
-pub extern "C" fn lucernetick_tree_gap(alloc: Global, kept: &mut Kept, at: u64, offset: u64) -> i64
+pub extern "C" fn lucernetick_tree_gap(
+    alloc: Global,
+    kept: &mut TreeHandle,
+    at: u64,
+    offset: u64,
+) -> i64
     requires { IsSome kept.old.tree }
     ensures same { kept.new.tree ≡ kept.old.tree }
     ensures gap { IfSome kept.old.tree (λ t. TellsGap t at offset result) }
@@ -506,7 +516,7 @@ pub extern "C" fn lucernetick_tree_gap(alloc: Global, kept: &mut Kept, at: u64, 
 
 /// Drops a snapshot.
 #[unsafe(no_mangle)]
-pub extern "C" fn lucernetick_tree_free(alloc: Global, kept: &mut Kept)
+pub extern "C" fn lucernetick_tree_free(alloc: Global, kept: &mut TreeHandle)
     requires { IsSome kept.old.tree }
     ensures { kept.new.tree ≡ None }
 {

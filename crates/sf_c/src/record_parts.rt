@@ -1,10 +1,12 @@
 //! The engine's retained records, as numbers and bytes.
 
 ghost use Rattle.std.specs.Prelude.{◌≡◌, ◌≤◌, IfOk};
-ghost use Rattle.sf_c.specs.Records.{size_parts, owner_parts, permissions_parts, times_parts, attributes_parts, plainly, handle_parts, at_place, with_attributes, asked_parts, answer, answered_parts, first_text, second_text, data_parts, names_parts, answer_bytes, left_parts, IsRecounted, Recounts};
+ghost use Rattle.sf_call.specs.Requests.{target_of};
+ghost use Rattle.sf_field.specs.Attributes.{flags_of};
+ghost use Rattle.sf_c.specs.Records.{attributes_parts, plainly, handle_parts, at_place, with_attributes, asked_parts, answer, answered_parts, first_text, second_text, data_parts, names_parts, answer_bytes, left_parts, IsRecounted, Recounts};
 
 use sf_call::{Record, Request};
-use sf_field::{Attrs, Owner, Times};
+use sf_field::{Attrs, NO_ATTRS, Owner, Times};
 use sf_reply::{Entry, Reply};
 use std::alloc::{AllocError, Global};
 
@@ -60,82 +62,40 @@ pub struct RecordParts {
     pub moment: u32,
 }
 
-fn size_parts(size: Option<u64>) -> (u32, u64)
-    ensures is { result ≡ size_parts size }
-    ensures few { result.0 ≤ 1 }
+/// The bits of the attributes that are present.
+fn flags_of(attrs: &Attrs) -> u32
+    ensures { result ≡ flags_of attrs.now }
 {
-    match size {
-        Some(size) => (1, size),
-        None => (0, 0),
-    }
-}
-
-fn owner_parts(owner: Option<Owner>) -> (u32, u32, u32)
-    ensures is { result ≡ owner_parts owner }
-    ensures few { result.0 ≤ 2 }
-{
-    match owner {
-        Some(Owner { uid, gid }) => (2, uid, gid),
-        None => (0, 0, 0),
-    }
-}
-
-fn permissions_parts(permissions: Option<u32>) -> (u32, u32)
-    ensures is { result ≡ permissions_parts permissions }
-    ensures few { result.0 ≤ 4 }
-{
-    match permissions {
-        Some(permissions) => (4, permissions),
-        None => (0, 0),
-    }
-}
-
-fn times_parts(times: Option<Times>) -> (u32, u32, u32)
-    ensures is { result ≡ times_parts times }
-    ensures few { result.0 ≤ 8 }
-{
-    match times {
-        Some(Times { atime, mtime }) => (8, atime, mtime),
-        None => (0, 0, 0),
-    }
+    let size = if attrs.size.is_some() { 1 } else { 0 };
+    let owner = if attrs.owner.is_some() { 2 } else { 0 };
+    let permissions = if attrs.permissions.is_some() { 4 } else { 0 };
+    let times = if attrs.times.is_some() { 8 } else { 0 };
+    size + owner + permissions + times
 }
 
 /// Attributes for C: a bit of `given` for each one that is present, and 0 for a missing one.
 pub fn attributes_parts(attrs: &Attrs) -> Attributes
     ensures { result ≡ attributes_parts attrs.now }
 {
-    let (has_size, size) = size_parts(attrs.size);
-    let (has_owner, uid, gid) = owner_parts(attrs.owner);
-    let (has_permissions, permissions) = permissions_parts(attrs.permissions);
-    let (has_times, atime, mtime) = times_parts(attrs.times);
+    let owner = attrs.owner.unwrap_or(Owner { uid: 0, gid: 0 });
+    let times = attrs.times.unwrap_or(Times { atime: 0, mtime: 0 });
     Attributes {
-        size,
-        given: has_size + has_owner + has_permissions + has_times,
-        uid,
-        gid,
-        permissions,
-        atime,
-        mtime,
+        size: attrs.size.unwrap_or(0),
+        given: flags_of(attrs),
+        uid: owner.uid,
+        gid: owner.gid,
+        permissions: attrs.permissions.unwrap_or(0),
+        atime: times.atime,
+        mtime: times.mtime,
     }
 }
-
-/// No attributes.
-const NONE: Attributes = Attributes {
-    size: 0,
-    given: 0,
-    uid: 0,
-    gid: 0,
-    permissions: 0,
-    atime: 0,
-    mtime: 0,
-};
 
 /// A request of this type without further numbers.
 fn plainly(kind: u32) -> AskedParts
     ensures { result ≡ plainly kind }
 {
     AskedParts {
-        attributes: NONE,
+        attributes: attributes_parts(&NO_ATTRS),
         handle: 0,
         offset: 0,
         length: 0,
@@ -218,7 +178,7 @@ fn answer(kind: u32) -> Answered
     ensures { result ≡ answer kind }
 {
     Answered {
-        attributes: NONE,
+        attributes: attributes_parts(&NO_ATTRS),
         handle: 0,
         names: 0,
         kind,
@@ -255,35 +215,24 @@ fn answered_parts(reply: &Reply) -> Answered
     }
 }
 
-/// The text of a request's path, or of its old one; empty if it has none.
-fn first_text(alloc: Global, request: &Request) -> Result<Vec<u8>, AllocError>
-    ensures { IfOk result (λ text. text.items ≡ first_text request.now) }
+/// The texts of a request's path, or of its old one, and of its new path; empty for a missing one.
+fn path_texts(alloc: Global, request: &Request) -> Result<(Vec<u8>, Vec<u8>), AllocError>
+    ensures old { IfOk result (λ texts. texts.0.items ≡ first_text (target_of request.now)) }
+    ensures new { IfOk result (λ texts. texts.1.items ≡ second_text (target_of request.now)) }
 {
-    match request {
-        Request::Open(path, _, _) => path.text(alloc),
-        Request::SetStat(path, _) => path.text(alloc),
-        Request::Mkdir(path, _) => path.text(alloc),
-        Request::OpenDir(path) => path.text(alloc),
-        Request::Remove(path) => path.text(alloc),
-        Request::Rmdir(path) => path.text(alloc),
-        Request::Stat(path) => path.text(alloc),
-        Request::Rename(old, _) => old.text(alloc),
-        Request::PosixRename(old, _) => old.text(alloc),
-        Request::Link(old, _) => old.text(alloc),
-        _ => Ok(Vec::new(alloc)),
-    }
-}
-
-/// The text of a request's new path, if it has one.
-fn second_text(alloc: Global, request: &Request) -> Result<Vec<u8>, AllocError>
-    ensures { IfOk result (λ text. text.items ≡ second_text request.now) }
-{
-    match request {
-        Request::Rename(_, new) => new.text(alloc),
-        Request::PosixRename(_, new) => new.text(alloc),
-        Request::Link(_, new) => new.text(alloc),
-        _ => Ok(Vec::new(alloc)),
-    }
+    Ok(match request {
+        Request::Stat(path)
+        | Request::SetStat(path, _)
+        | Request::Mkdir(path, _)
+        | Request::Rmdir(path)
+        | Request::Remove(path)
+        | Request::OpenDir(path)
+        | Request::Open(path, _, _) => (path.text(alloc)?, Vec::new(alloc)),
+        Request::Rename(old, new) => (old.text(alloc)?, new.text(alloc)?),
+        Request::PosixRename(old, new) => (old.text(alloc)?, new.text(alloc)?),
+        Request::Link(old, new) => (old.text(alloc)?, new.text(alloc)?),
+        _ => (Vec::new(alloc), Vec::new(alloc)),
+    })
 }
 
 /// The bytes of a WRITE.
@@ -337,9 +286,8 @@ fn call_parts(
 ) -> Result<Recounted, AllocError>
     ensures { IfOk result (λ r. IsRecounted number session moment request.now reply.now r) }
 {
-    let mut bytes = first_text(alloc, request)?;
+    let (mut bytes, new) = path_texts(alloc, request)?;
     let path = bytes.len();
-    let new = second_text(alloc, request)?;
     let data = data_parts(request);
     let read = answer_bytes(alloc, reply)?;
     bytes.extend_from_slice(&new)?;

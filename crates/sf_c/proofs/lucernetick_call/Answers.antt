@@ -2,25 +2,21 @@ use Rattle.std.proofs.Common.{◌≡◌, ◌∙◌, ◌++◌, ℕ, ℤ, List, Op
 use Rattle.std.proofs.lemmas.List.{take-append-drop}
 use Rattle.sf_call.specs.declared.record.Record.{Record}
 use mir.Syntax.{w64}
-use mir.Val.{SFits, to_z, of_z}
-use Rattle.std.proofs.lemmas.Int.{to_z-of_z}
+use mir.Val.{to_z, of_z}
 use Rattle.sf_engine.specs.Views.{EngineView}
 use Rattle.sf_c.specs.Numbers.{KeepsLastRecords}
 use Rattle.sf_c.specs.Records.{TellsRecord}
+use Rattle.sf_c.proofs.Calls.{stored}
 use Rattle.sf_c.proofs.lucernetick_call.Goals as goal
 
 pub returns-clause-tells : goal.returns-clause-tells
 returns-clause-tells c =
     let n = c.copy_record-number.result in
-    let before = c.args.parts.now in
     let parts = c.copy_record-number.new.parts in
-    let old = c.args.room.now in
     let new = c.copy_record-number.new.room in
-    let shown = to_z w64 (of_z w64 n) in
-    let fits : SFits w64 n = search rules in
-    subst (λ (o : Option EngineView). IfSome o (λ e. TellsRecord e c.args.at before old shown parts new)) (sym c.take-engine.ensures.engine)
-    (subst (λ (m : ℤ). TellsRecord c.take-engine.result.value c.args.at before old m parts new) (sym (to_z-of_z w64 n fits))
-    (subst (λ (e : EngineView). TellsRecord e c.args.at before old n parts new) c.deref.ensures c.copy_record-number.ensures))
+    subst (λ (o : Option EngineView). IfSome o (λ e. TellsRecord e c.args.at c.args.parts.now c.args.room.now (to_z w64 (of_z w64 n)) parts new)) (sym c.take-engine.ensures.engine)
+    (stored (λ (m : ℤ). TellsRecord c.take-engine.result.value c.args.at c.args.parts.now c.args.room.now m parts new) n (search rules)
+    (subst (λ (e : EngineView). TellsRecord e c.args.at c.args.parts.now c.args.room.now n parts new) c.deref.ensures c.copy_record-number.ensures))
 
 last_of : (n : ℕ) (h rs : List Record) → rs ≡ drop n h → (gone : List Record) × (h ≡ gone ++ rs)
 last_of n h rs is = (take n h, sym (take-append-drop n h) ∙ ap (λ (xs : List Record). take n h ++ xs) (sym is))

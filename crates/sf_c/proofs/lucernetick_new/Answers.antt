@@ -1,4 +1,4 @@
-use Rattle.std.proofs.Common.{◌∙◌, ℕ, [], Option, Some, refl, ap, sym, subst, inr}
+use Rattle.std.proofs.Common.{[], refl, sym, subst, inr}
 use Rattle.sf_engine.specs.Views.{EngineView}
 use Rattle.sf_refusing.specs.declared.refusals.Refusals.{Refusals}
 use Rattle.sf_refusing.specs.Refusing.{HasJournal}

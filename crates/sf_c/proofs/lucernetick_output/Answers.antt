@@ -1,23 +1,13 @@
-use Rattle.std.proofs.Common.{ℤ, sym, subst, rules}
+use Rattle.std.proofs.Common.{ℤ, rules}
 use mir.Syntax.{w64}
-use mir.Val.{SFits}
-use Rattle.std.proofs.lemmas.Int.{to_z-of_z}
-use Rattle.sf_engine.specs.Views.{EngineView}
-use Rattle.sf_refusing.specs.declared.refusals.Refusals.{Refusals}
+use mir.Val.{to_z, of_z}
 use Rattle.sf_c.specs.Journals.{Outputs}
+use Rattle.sf_c.proofs.Calls.{stored, of_both}
 use Rattle.sf_c.proofs.lucernetick_output.Goals as goal
 
 pub returns-clause-copied : goal.returns-clause-copied
 returns-clause-copied c =
     let n = c.copy_output-number.result in
-    let old = c.args.room.now in
     let new = c.copy_output-number.new.room in
-    let fits : SFits w64 n = search rules in (
-      c.take-engine.result.value,
-      c.take-refusals.result.value,
-      c.take-engine.ensures.engine,
-      c.take-refusals.ensures.refusals,
-      subst (λ (m : ℤ). Outputs c.take-engine.result.value c.take-refusals.result.value c.args.session old m new) (sym (to_z-of_z w64 n fits))
-          (subst (λ (e : EngineView). Outputs e c.take-refusals.result.value c.args.session old n new) c.deref.ensures
-          (subst (λ (r : Refusals). Outputs c.deref.result.now r c.args.session old n new) c.deref-2.ensures c.copy_output-number.ensures)),
-    )
+    let copied = stored (λ (m : ℤ). Outputs c.deref.result.now c.deref-2.result.now c.args.session c.args.room.now m new) n (search rules) c.copy_output-number.ensures in
+    of_both (λ e r. Outputs e r c.args.session c.args.room.now (to_z w64 (of_z w64 n)) new) c.take-engine.ensures.engine c.take-refusals.ensures.refusals c.deref.ensures c.deref-2.ensures copied

@@ -1,12 +1,7 @@
-use Rattle.std.proofs.Common.{ℤ, sym, subst, rules}
-use mir.Syntax.{w64}
-use mir.Val.{SFits}
-use Rattle.std.proofs.lemmas.Int.{to_z-of_z}
+use Rattle.std.proofs.Common.{rules}
 use Rattle.sf_c.specs.Numbers.{IsNumber}
+use Rattle.sf_c.proofs.Calls.{stored}
 use Rattle.sf_c.proofs.turns.turn.Goals as goal
 
 pub returns : goal.returns
-returns c =
-    let n = c.number_of.result in
-    let fits : SFits w64 n = search rules in
-    (c.turn.result, subst (λ (m : ℤ). IsNumber c.turn.result m) (sym (to_z-of_z w64 n fits)) c.number_of.ensures, c.turn.ensures)
+returns c = (c.turn.result, stored (IsNumber c.turn.result) c.number_of.result (search rules) c.number_of.ensures, c.turn.ensures)
