@@ -1,5 +1,6 @@
 //! Where the program writes replies, without blocking.
 
+ghost use Rattle.std.specs.Prelude.{◌≡◌};
 ghost use Rattle.std.specs.Io.{WritesAtMost};
 
 use crate::descriptors::Outlet;
@@ -22,7 +23,10 @@ fn last_error() -> io::Error {
 }
 
 /// An entry for `poll`. A descriptor below 0 is ignored.
-pub(crate) fn asked(fd: RawFd, events: i16) -> pollfd {
+pub fn asked(fd: RawFd, events: i16) -> pollfd
+    ensures fd { result.fd ≡ fd }
+    ensures events { result.events ≡ events }
+{
     pollfd {
         fd,
         events,

@@ -3,7 +3,7 @@ use Rattle.std.proofs.Common.{◌≡◌, ◌<◌, ◌+◌, ◌∙◌, ℕ, zero,
 use Rattle.std.proofs.lemmas.List.Elements.{filter_map-append}
 use Rattle.sf_pool.specs.SessionLanes.{Notes}
 use Rattle.sf_server.specs.declared.accepting.Stopped.TheVariants as stopped
-use Rattle.sf_server.specs.Accepting.{nothing, lines_in, GivesNext, TakesLines}
+use Rattle.sf_server.specs.Accepting.{nothing, lines_in, GivesNext, GivesNone, TakesLines}
 
 -- ---- what is kept in order
 
@@ -72,4 +72,15 @@ taker_ended {given = given} {given' = given'} {taken = taken} most given'' line 
   notes_more given given' given'' t.asked (nothing gives.0 ++ Some line ∷ []) t.gave gives.1,
   subst (λ x. Notes taken x t.lines) (sym same) t.took,
   (omega (arith, t.many, few), (line, each_more t.asked t.lines gives.0 line t.each)),
+)
+
+-- no more will come
+pub no_more : {L : Type 0} {given given' : Option (List (Option L))} {taken taken' : Option (List L)} {count : ℕ} (most : ℕ) (given'' : Option (List (Option L))) → Taking given given' taken taken' count → count < most → GivesNone given' given''
+    → TakesLines most stopped.Closed given given'' taken taken'
+no_more {given = given} {given' = given'} most given'' t few none = (
+  t.asked ++ nothing none.0,
+  t.lines,
+  notes_more given given' given'' t.asked (nothing none.0) t.gave none.1,
+  t.took,
+  (omega (arith, t.many, few), filter_map-append (λ x. x) t.asked (nothing none.0) ∙ ap (λ l. lines_in t.asked ++ l) (lines_in_nothing none.0) ∙ append-nil (lines_in t.asked) ∙ t.each),
 )

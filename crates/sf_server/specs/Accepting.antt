@@ -16,13 +16,18 @@ lines_in asked = filter_map (λ x. x) asked
 abbrev pub GivesNext : {L : Type 0} → (given given' : Option (List (Option L))) → L → Type 0
 GivesNext given given' line = (n : ℕ) × Notes given given' (nothing n ++ Some line ∷ [])
 
+-- Nothing was given any more.
+abbrev pub GivesNone : {L : Type 0} → (given given' : Option (List (Option L))) → Type 0
+GivesNone given given' = (n : ℕ) × Notes given given' (nothing n)
+
 -- These connections were taken, of what was given: each once and in order. They are the requested
--- number; or fewer, and one more was given when the taker had ended.
+-- number; or fewer, and one more was given when the taker had ended, or no more was given.
 abbrev pub TakesThese : {L : Type 0} → (most : ℕ) → Stopped → (asked : List (Option L)) → List L
     → Type 0
 TakesThese most stopped.All asked lines = (length lines ≡ most) × (lines_in asked ≡ lines)
 TakesThese {L = L} most stopped.Ended asked lines =
     (length lines < most) × ((last : L) × (lines_in asked ≡ lines ++ last ∷ []))
+TakesThese most stopped.Closed asked lines = (length lines < most) × (lines_in asked ≡ lines)
 
 abbrev pub TakesLines : {L : Type 0} → (most : ℕ) → Stopped
     → (given given' : Option (List (Option L)))

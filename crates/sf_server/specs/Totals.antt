@@ -64,3 +64,9 @@ pub record HasWrittenTotals (requested : Option ℕ) (loads : ℕ) (old new : Op
     pub agree : AgreesWith ended.core.records ended.core.folded ended.transcripts.items
     pub wrote : (h : List Record) → IsHistory ended.core h → Appends old new
         (totals_text (ended.sessions - loads) (count_by is_call h) ended.core.folded)
+
+-- A server has ended. If a number of sessions was requested, it has written their totals, and else
+-- nothing.
+abbrev pub HasServedToEnd : (requested : Option ℕ) → (loads : ℕ) → (old new : Option (List ℕ)) → Type 0
+HasServedToEnd None loads old new = (ended : Ended) × HasServedAll None loads ended × (new ≡ old)
+HasServedToEnd (Some n) loads old new = HasWrittenTotals (Some n) loads old new

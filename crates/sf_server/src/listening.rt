@@ -2,9 +2,12 @@
 
 use crate::accepting::Acceptor;
 use crate::outage::Outage;
+use libc::net::{POLLIN, poll};
+use sf_program::output::asked;
 use sf_program::reporting::report;
 use std::fs::{File, Metadata, TryLockError};
-use std::io::{self, ErrorKind};
+use std::io::{self, ErrorKind, Read, Stdin};
+use std::os::fd::AsRawFd;
 use std::os::unix::fs::{FileTypeExt, MetadataExt};
 use std::os::unix::net::{UnixListener, UnixStream};
 use std::time::Duration;
@@ -97,6 +100,49 @@ pub(crate) fn listen(rt: &HostRuntime, path: &str) -> io::Result<Bound> {
     Ok(Bound { listener, file })
 }
 
+/// What a supervisor may send to the server's standard input at once. It is ignored.
+const IGNORED: usize = 4096;
+
+/// Standard input, whose end ends the server.
+#[derive(Drop)]
+struct Supervisor {
+    input: Stdin,
+    has_ended: bool,
+}
+
+impl Supervisor {
+    fn new(rt: &HostRuntime) -> Supervisor {
+        Supervisor {
+            input: rt.stdin(),
+            has_ended: false,
+        }
+    }
+
+    /// Reads once. An input that can't be read has ended.
+    fn read(&mut self) {
+        let mut ignored = [0u8; IGNORED];
+        self.has_ended = match self.input.read(&mut ignored) {
+            Ok(n) => n == 0,
+            Err(error) => !matches!(error.kind(), ErrorKind::Interrupted | ErrorKind::WouldBlock),
+        };
+    }
+
+    /// Waits for a client or for input, which it reads. Returns whether there is a client.
+    fn wait_for_client(&mut self, listener: &UnixListener) -> bool {
+        let mut both = [
+            asked(self.input.as_raw_fd(), POLLIN),
+            asked(listener.as_raw_fd(), POLLIN),
+        ];
+        if poll(&mut both, -1) < 0 {
+            return false;
+        }
+        if both[0].revents != 0 {
+            self.read();
+        }
+        both[1].revents != 0 && !self.has_ended
+    }
+}
+
 /// Connections to a listener.
 #[derive(Drop)]
 pub(crate) struct Connections<'a> {
@@ -104,20 +150,28 @@ pub(crate) struct Connections<'a> {
     listener: &'a UnixListener,
     path: &'a str,
     failures: Outage,
+    supervisor: Option<Supervisor>,
 }
 
 impl<'a> Connections<'a> {
-    /// Connections to a listener at a path, of which none has failed.
+    /// Connections to a listener at a path, of which none has failed: until standard input has
+    /// ended, if `until_eof`.
     pub(crate) fn new(
         rt: &'a HostRuntime,
         listener: &'a UnixListener,
         path: &'a str,
+        until_eof: bool,
     ) -> Connections<'a> {
         Connections {
             rt,
             listener,
             path,
             failures: Outage::none(),
+            supervisor: if until_eof {
+                Some(Supervisor::new(rt))
+            } else {
+                None
+            },
         }
     }
 
@@ -142,13 +196,27 @@ impl Acceptor<UnixStream> for Connections<'_> {
     // What the system returns is not known.
     ghost given = { λ _. None };
 
+    ghost closed = { λ _. Unit {0} };
+
     fn accept(&mut self) -> Option<UnixStream> {
+        if let Some(supervisor) = &mut self.supervisor {
+            if !supervisor.wait_for_client(self.listener) {
+                return None;
+            }
+        }
         match self.try_accept() {
             Ok(socket) => Some(socket),
             Err(error) => {
                 self.report_failure(&error);
                 None
             }
+        }
+    }
+
+    fn is_closed(&self) -> bool {
+        match &self.supervisor {
+            Some(supervisor) => supervisor.has_ended,
+            None => false,
         }
     }
 

@@ -133,7 +133,9 @@ impl<'a, T: Wait, G: ClientObserver> SocketPoller<'a, T, G> {
                 }
             }
         }
-        if self.links.has_idle_timeout() {
+        if self.links.are_ending() {
+            self.untried = self.keys;
+        } else if self.links.has_idle_timeout() {
             self.try_idle_ones();
         }
     }

@@ -3,9 +3,9 @@
 ghost use Rattle.std.specs.Prelude.{◌≡◌, ◌<◌, ◌≤◌, ◌-◌, ◌^◌, [], true, is_some, vec_len, IfOk, OnOk};
 ghost use Rattle.sf_core.specs.Histories.{IsHistory};
 ghost use Rattle.sf_workers.specs.Streams.{HasServed};
-ghost use Rattle.sf_server.specs.Totals.{loads_of, AreAllStreams, HasServedAll, HasWrittenTotals};
+ghost use Rattle.sf_server.specs.Totals.{loads_of, AreAllStreams, HasServedAll, HasServedToEnd};
 
-use crate::accepting::{Taker, accept_all};
+use crate::accepting::{Stopped, Taker, accept_all};
 use crate::listening::{Connections, listen, pause};
 use crate::loading::load_by_stream;
 use crate::poller::SocketPoller;
@@ -155,7 +155,8 @@ fn report_fewer_workers(rt: &HostRuntime, links: &WorkerLinks) {
 }
 
 /// Listens, prints the socket's path on standard error, and accepts until `serving.sessions` were
-/// accepted or all workers have ended. Removes the socket's file at the end.
+/// accepted, all workers have ended, or standard input has ended. Removes the socket's file at the
+/// end.
 fn listen_and_accept<T: Wait, S: Ledger>(
     rt: &HostRuntime,
     threads: &T,
@@ -172,10 +173,13 @@ fn listen_and_accept<T: Wait, S: Ledger>(
     };
     let _ = writeln!(rt.stderr(), "sftpd: listening at {path}");
     report_fewer_workers(rt, workers.links);
-    let mut connections = Connections::new(rt, &bound.listener, path);
+    let mut connections = Connections::new(rt, &bound.listener, path, serving.until_eof);
     let most = serving.sessions.unwrap_or(u64::MAX);
-    accept_all(threads, &mut connections, workers, most);
+    let stopped = accept_all(threads, &mut connections, workers, most);
     bound.remove_file(rt, path);
+    if stopped == Stopped::Closed {
+        workers.links.end_sessions();
+    }
     Ok(())
 }
 
@@ -463,7 +467,8 @@ fn serve_core<
 /// Serves connections at the socket's path, where it listens once the folder is loaded. If
 /// `serving.sessions` is given, it ends after that number of connections and writes the totals to
 /// `output`. They count the sessions that were served. The session that loads the folder is not
-/// counted, but its calls are. The observer receives all sessions, calls and refused clients.
+/// counted, but its calls are. With `serving.until_eof` it ends once standard input has ended, and
+/// writes nothing. The observer receives all sessions, calls and refused clients.
 pub fn serve<T: Threads + Wait + Sync, G: StepObserver + ClientObserver + Sync, W: Write>(
     rt: &HostRuntime,
     threads: &T,
@@ -472,12 +477,15 @@ pub fn serve<T: Threads + Wait + Sync, G: StepObserver + ClientObserver + Sync, 
     output: &mut W,
 ) -> Result<(), ServerFault>
     requires { 0 < serving.keep }
-    ensures { OnOk result (HasWrittenTotals serving.entry.sessions (loads_of serving.entry.tree)
+    ensures { OnOk result (HasServedToEnd serving.entry.sessions (loads_of serving.entry.tree)
         (W.contents output.old) (W.contents output.new)) }
 {
     let core = Core::with_keep(rt.alloc(), serving.keep)?;
     let blank = Blank::new(u64::MAX);
     let ended = serve_core::<Brand, T, G>(rt, threads, serving, core, blank, observer)?;
+    if serving.sessions.is_none() {
+        return Ok(());
+    }
     let sessions = ended.sessions.saturating_sub(loads(serving));
     tell(&ended.core, ended.transcripts.as_slice(), sessions, output)
 }

@@ -29,7 +29,8 @@ const TRIES_INTERRUPTED: u32 = 1024;
 ///
 /// If there is an idle timeout, the poller reports each stream once a second. One from which
 /// nothing was read, and to which nothing was written, for so long is shut down for reading. So its
-/// session ends as if the client had ended it. If replies can't be written, it has failed.
+/// session ends as if the client had ended it. If replies can't be written, it has failed. So do all
+/// sessions end when the server ends.
 #[derive(Drop)]
 pub struct SocketStream<'a> {
     socket: UnixStream,
@@ -144,7 +145,7 @@ impl<'a> SocketStream<'a> {
         ensures same { OnOk result (self.new.failures ≡ self.old.failures) }
         ensures fault { OnErr result (Rose self.old.failures self.new.failures) }
     {
-        if self.is_idle() {
+        if self.is_idle() || self.links.are_ending() {
             return Err(self.fail());
         }
         self.is_full = true;
@@ -165,6 +166,9 @@ impl Stream for SocketStream<'_> {
     ghost view = { λ s. record { incoming = None; outgoing = None; failed = s.failures } };
 
     fn try_read(&mut self, buffer: &mut [u8]) -> Result<Option<usize>, LineFault> {
+        if self.links.are_ending() {
+            return Ok(Some(0));
+        }
         if self.is_empty() {
             self.note_blocked_read();
             return Ok(None);

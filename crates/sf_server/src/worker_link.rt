@@ -137,6 +137,8 @@ pub(crate) struct WorkerLinks {
     seconds: AtomicU64,
     all_sent: AtomicBool,
     have_ended: AtomicBool,
+    // All sessions are to end.
+    are_ending: AtomicBool,
 }
 
 impl WorkerLinks {
@@ -157,6 +159,7 @@ impl WorkerLinks {
             seconds: AtomicU64::new(0),
             all_sent: AtomicBool::new(false),
             have_ended: AtomicBool::new(false),
+            are_ending: AtomicBool::new(false),
         })
     }
 
@@ -223,6 +226,16 @@ impl WorkerLinks {
     /// Whether no worker takes a stream any more.
     pub(crate) fn have_ended(&self) -> bool {
         self.have_ended.load(Ordering::SeqCst)
+    }
+
+    /// All sessions are to end. The workers learn it when `close` wakes them.
+    pub(crate) fn end_sessions(&self) {
+        self.are_ending.store(true, Ordering::SeqCst);
+    }
+
+    /// Whether all sessions are to end.
+    pub(crate) fn are_ending(&self) -> bool {
+        self.are_ending.load(Ordering::SeqCst)
     }
 
     /// Of the workers that have begun, the first one with the fewest streams.

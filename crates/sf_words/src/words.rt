@@ -33,6 +33,8 @@ pub struct Serving<'a> {
     pub idle_timeout: Option<u64>,
     /// The server exits after this number of sessions; without a number it doesn't.
     pub sessions: Option<u64>,
+    /// The server exits once its standard input has ended.
+    pub until_eof: bool,
     /// The number of call records retained.
     pub keep: usize,
     /// The local folder that is copied into the file system at the start; empty without one.
@@ -159,12 +161,18 @@ fn serve_words<'a>(alloc: Global) -> Result<Command<'a>, AllocError> {
         .value_name("K")
         .value_parser(ValueParser::unsigned(1, MOST_SERVED))
         .help("Ends after so many sessions, and compares what they were told: 1 to 1000000");
+    let until_eof = Arg::new(alloc, "until-eof")
+        .long("until-eof")
+        .action(ArgAction::SetTrue)
+        .help("Ends, with all sessions, once standard input has ended")
+        .conflicts_with("sessions")?;
     Command::new(alloc, "serve")
         .about("Serves sessions at a Unix socket, many at once, on one tree")
         .arg(socket_word(alloc))?
         .arg(workers)?
         .arg(idle_timeout)?
         .arg(sessions)?
+        .arg(until_eof)?
         .arg(keep_word(alloc))?
         .arg(tree_word(alloc))?
         .arg(tree_strict_word(alloc)?)?
@@ -248,6 +256,7 @@ fn serve_action<'a>(matches: &ArgMatches<'a>) -> Serving<'a>
         workers: matches.get_one::<u32>("workers"),
         idle_timeout: matches.get_one::<u64>("idle-timeout"),
         sessions: matches.get_one::<u64>("sessions"),
+        until_eof: matches.get_flag("until-eof"),
         keep: matches.get_one::<usize>("keep").unwrap_or(KEEP).max(1),
         tree: matches.get_str("tree"),
         tree_strict: matches.get_flag("tree-strict"),

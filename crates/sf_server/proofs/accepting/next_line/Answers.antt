@@ -13,3 +13,9 @@ loop-preserved g c =
     let start = g.A.Acceptor.given c.args.acceptor.now in
     let more = subst (λ asked. Notes start (g.A.Acceptor.given c.accept.new.self) asked) (nothing_more n) (notes_more start _ _ (nothing n) _ so_far c.in_default.ensures) in
     (n + 1, subst (λ given. Notes start given (nothing (n + 1))) (sym c.wait.ensures) more)
+
+pub returns-then-is_closed-clause-none : goal.returns-then-is_closed-clause-none
+returns-then-is_closed-clause-none g c =
+    let (n, so_far) = c.loop.invariant in
+    let start = g.A.Acceptor.given c.args.acceptor.now in
+    ((n + 1, subst (λ asked. Notes start (g.A.Acceptor.given c.accept.new.self) asked) (nothing_more n) (notes_more start _ _ (nothing n) _ so_far c.in_default.ensures)), c.if-is_closed.ensures refl)
