@@ -5,7 +5,7 @@ ghost use Rattle.sf_block.specs.Blocks.{entry_in, row_in, block_in, byte_in, Has
 
 use crate::copies::{TryCopy, copy_of};
 use crate::row::Row;
-use crate::spare::{LONGEST, has_memory};
+use crate::spare::{LONGEST, allowance};
 use crate::{BLOCK, ROW};
 use sf_field::ByteString;
 use std::alloc::{AllocError, Global};
@@ -156,7 +156,7 @@ impl Blocks {
         ensures less { (k : ℕ) → length (block_in self.new k) ≤ length (block_in self.old k) }
     {
         self.shed_from(n);
-        if !self.shed.is_empty() && !has_memory(self.near.allocator(), LONGEST) {
+        if !self.shed.is_empty() && allowance(self.near.allocator(), LONGEST).is_none() {
             self.shed.clear();
         }
     }

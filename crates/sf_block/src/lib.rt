@@ -22,7 +22,7 @@ mod whole;
 
 pub use block_laws::{copied_whole, few_blocks};
 pub use contents::Contents;
-pub use spare::has_memory;
+pub use spare::allowance;
 pub use whole::WholeContents;
 
 /// Bytes of a whole block.

@@ -16,15 +16,20 @@ const PIECE: usize = 96 << 10;
 /// Bytes of the longest packet.
 pub(crate) const LONGEST: usize = 1 << 18;
 
-/// Whether memory is left for packets like one with so many bytes of data. It may lie in pieces,
-/// each for a few of them. No clause says this, since no clause sees the allocator.
-pub fn has_memory(alloc: Global, size: usize) -> bool {
+/// How many bytes calls may take before memory is checked again, so that it is left for packets
+/// like one with `size` bytes of data. `None` if too little is left. It may lie in pieces, each for
+/// a few packets. No clause says this, since no clause sees the allocator.
+pub fn allowance(alloc: Global, size: usize) -> Option<usize> {
+    if spare(alloc, AMPLE).is_ok() {
+        return Some(AMPLE / 2);
+    }
     let piece = if size <= 1 << 15 {
         PIECE
     } else {
         size.saturating_mul(4).clamp(PIECE, LEFT)
     };
-    spare(alloc, AMPLE).is_ok() || spare_pieces(alloc, piece).is_ok()
+    spare_pieces(alloc, piece).ok()?;
+    Some(LEFT / 8)
 }
 
 /// Memory, which the caller frees at once.
