@@ -1,5 +1,5 @@
 -- What a server prints when it ends.
-use Rattle.std.specs.Prelude.{◌≡◌, ◌+◌, ◌-◌, ℕ, nat_eq, if◌then◌else◌, Option, Some, None, is_some, List, [], ◌∷◌, ◌++◌, codes}
+use Rattle.std.specs.Prelude.{◌≡◌, ◌+◌, ◌-◌, ℕ, nat_eq, Bool, true, if◌then◌else◌, Option, Some, None, is_some, List, [], ◌∷◌, ◌++◌, codes}
 use Rattle.std.specs.List.{count_by}
 use Rattle.std.specs.Fmt.{decimal}
 use Rattle.std.specs.Io.KnownBytes.{Appends}
@@ -66,7 +66,9 @@ pub record HasWrittenTotals (requested : Option ℕ) (loads : ℕ) (old new : Op
         (totals_text (ended.sessions - loads) (count_by is_call h) ended.core.folded)
 
 -- A server has ended. If a number of sessions was requested, it has written their totals, and else
--- nothing.
-abbrev pub HasServedToEnd : (requested : Option ℕ) → (loads : ℕ) → (old new : Option (List ℕ)) → Type 0
-HasServedToEnd None loads old new = (ended : Ended) × HasServedAll None loads ended × (new ≡ old)
-HasServedToEnd (Some n) loads old new = HasWrittenTotals (Some n) loads old new
+-- nothing. Without that number it ends only if it was to end with its standard input.
+abbrev pub HasServedToEnd : (requested : Option ℕ) → (until_eof : Bool) → (loads : ℕ)
+    → (old new : Option (List ℕ)) → Type 0
+HasServedToEnd None until_eof loads old new =
+    (until_eof ≡ true) × (ended : Ended) × HasServedAll None loads ended × (new ≡ old)
+HasServedToEnd (Some n) until_eof loads old new = HasWrittenTotals (Some n) loads old new

@@ -464,6 +464,17 @@ fn serve_core<
     }
 }
 
+/// Whether a server may end without a number of sessions.
+fn ends_with_input(serving: Serving<'_>) -> Result<(), ServerFault>
+    ensures { OnOk result (serving.entry.until_eof ≡ true) }
+{
+    if serving.until_eof {
+        Ok(())
+    } else {
+        Err(ServerFault::Unserved)
+    }
+}
+
 /// Serves connections at the socket's path, where it listens once the folder is loaded. If
 /// `serving.sessions` is given, it ends after that number of connections and writes the totals to
 /// `output`. They count the sessions that were served. The session that loads the folder is not
@@ -477,14 +488,14 @@ pub fn serve<T: Threads + Wait + Sync, G: StepObserver + ClientObserver + Sync, 
     output: &mut W,
 ) -> Result<(), ServerFault>
     requires { 0 < serving.keep }
-    ensures { OnOk result (HasServedToEnd serving.entry.sessions (loads_of serving.entry.tree)
-        (W.contents output.old) (W.contents output.new)) }
+    ensures { OnOk result (HasServedToEnd serving.entry.sessions serving.entry.until_eof
+        (loads_of serving.entry.tree) (W.contents output.old) (W.contents output.new)) }
 {
     let core = Core::with_keep(rt.alloc(), serving.keep)?;
     let blank = Blank::new(u64::MAX);
     let ended = serve_core::<Brand, T, G>(rt, threads, serving, core, blank, observer)?;
     if serving.sessions.is_none() {
-        return Ok(());
+        return ends_with_input(serving);
     }
     let sessions = ended.sessions.saturating_sub(loads(serving));
     tell(&ended.core, ended.transcripts.as_slice(), sessions, output)
