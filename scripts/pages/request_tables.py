@@ -1,7 +1,7 @@
-"""docs/generated/request-tables.md: the places that distinguish requests.
+"""docs/generated/request-tables.md: the places that distinguish operations.
 
-A table is a `match` in Rust, or a definition by cases in a crate's specs, over the requests of
-packets (`WireRequest`) or of calls (`Request`)."""
+A table is a `match` in Rust, or a definition by cases in a crate's specs, over the operations of
+requests (`PathOp`, `PairOp` and `HandleOp`)."""
 
 import re
 
@@ -10,26 +10,28 @@ from sources import WORD
 
 PATH = "docs/generated/request-tables.md"
 
-ENUMS = {"Request": "sf_call", "WireRequest": "sf_request"}
+# Each enum of operations, and the variant of a request that has one.
+ENUMS = {"PathOp": "OnPath", "PairOp": "OnPaths", "HandleOp": "ByHandle"}
 
 
 class Table:
-    """A table of requests: the variants that it names, and whether it has a default case."""
+    """A table of operations of one enum: the variants that it names, and whether it has a default
+    case."""
 
     def __init__(self, source, name, enum, variants, has_default):
         self.crate, self.file = source.crate, source.file()
         self.name, self.enum = name, enum
         self.variants, self.has_default = variants, has_default
 
-    def row(self, count):
-        named = "all" if len(self.variants) == count else f"{len(self.variants)} of {count}"
-        default = "yes" if self.has_default else "no"
-        return f"`{self.crate}/{self.file}`", f"`{self.name}`", f"`{self.enum}`", named, default
+    def cell(self, count):
+        if len(self.variants) == count:
+            return "all"
+        return f"{len(self.variants)} of {count}{', default' if self.has_default else ''}"
 
 
 def variants_of(sources, enum):
     """The variants of an enum."""
-    text = sources.rust_item(ENUMS[enum], enum).text
+    text = sources.rust_item("sf_field", enum).text
     return re.findall(r"^    ([A-Z]\w*)", text, re.M)
 
 
@@ -60,11 +62,11 @@ def rust_tables(source):
         if not re.search(r"\bmatch\b.*\{$", line) or line.strip().startswith("//"):
             continue
         patterns = list(arms(source.lines, at))
-        for enum in ENUMS:
-            found = [re.findall(rf"\b{enum}::(\w+)", pattern) for pattern in patterns]
-            variants = {variant for names in found for variant in names}
+        for enum, shape in ENUMS.items():
+            variants = set(re.findall(rf"\b{enum}::(\w+)", " ".join(patterns)))
             if variants:
-                has_default = any(re.match(r"^(_|[a-z]\w*)( if .*)?$", p) for p in patterns)
+                others = rf"^(_|[a-z]\w*)( if .*)?$|\b{shape}\((_|[a-z]\w*),"
+                has_default = any(re.search(others, pattern) for pattern in patterns)
                 yield Table(source, function, enum, variants, has_default)
 
 
@@ -73,16 +75,18 @@ def spec_tables(sources, source):
     scope = sources.scope_of(source)
     for definition in source.own.values():
         sides = re.findall(rf"^{re.escape(definition.name)} ([^=]*)=", definition.text, re.M)
-        named = [list(requests_in(side, scope)) for side in sides]
-        for enum in ENUMS:
+        named = [list(operations_in(side, scope)) for side in sides]
+        for enum, shape in ENUMS.items():
             variants = {variant for names in named for kind, variant in names if kind == enum}
             if variants:
-                has_default = any(not names for names in named)
+                other = re.compile(rf"\b{shape} [a-z_]\w* ")
+                pairs = zip(sides, named)
+                has_default = any(not names or other.search(side) for side, names in pairs)
                 yield Table(source, definition.name, enum, variants, has_default)
 
 
-def requests_in(side, scope):
-    """The requests that the left side of a row names."""
+def operations_in(side, scope):
+    """The operations that the left side of a row names."""
     for word in WORD.findall(side):
         meaning = scope.get(word.split(".")[0])
         if not callable(meaning) and meaning and meaning.kind == "enum" and meaning.name in ENUMS:
@@ -106,10 +110,15 @@ def tables(sources):
 
 def page(sources):
     counts = {enum: len(variants_of(sources, enum)) for enum in ENUMS}
-    rows = [made.row(counts[made.enum]) for made in tables(sources)]
+    rows = {}
+    for made in tables(sources):
+        row = rows.setdefault((f"`{made.crate}/{made.file}`", f"`{made.name}`"), {})
+        row[made.enum] = made.cell(counts[made.enum])
     head = (
-        "This page lists each `match` and each definition by cases that distinguishes requests. A "
-        "new request falls silently through the tables with a default case: look at each of them."
+        "This page lists each `match` and each definition by cases that distinguishes operations, "
+        "and how many operations of each enum it names. A new operation falls silently through "
+        "the tables with a default case: look at each of them."
     )
     head = ["# Tables of requests", "", *wrapped(head), ""]
-    return head + table(["File", "Table", "Over", "Named", "Default"], rows)
+    titles = ["File", "Table", *(f"`{enum}`" for enum in ENUMS)]
+    return head + table(titles, [(*key, *(row.get(enum, "") for enum in ENUMS)) for key, row in rows.items()])

@@ -3,7 +3,7 @@
 ghost use Rattle.std.specs.Prelude.{◌≡◌, ◌↔◌, IsTrue};
 
 use sf_call::Request;
-use sf_field::{Attrs, ByteString, OpenFlags};
+use sf_field::{Attrs, ByteString, HandleOp, OpenFlags, PairOp, PathOp};
 use sf_path::Path;
 use sf_reply::{Listing, Reply};
 
@@ -37,35 +37,65 @@ fn same_listing(a: &Listing, b: &Listing) -> bool
     a.as_slice() == b.as_slice()
 }
 
+fn same_path_op(a: PathOp, b: PathOp) -> bool
+    ensures { IsTrue result ↔ (a ≡ b) }
+{
+    match (a, b) {
+        (PathOp::Stat, PathOp::Stat)
+        | (PathOp::Rmdir, PathOp::Rmdir)
+        | (PathOp::Remove, PathOp::Remove)
+        | (PathOp::OpenDir, PathOp::OpenDir) => true,
+        (PathOp::SetStat(a), PathOp::SetStat(b)) => same_attrs(a, b),
+        (PathOp::Mkdir(a), PathOp::Mkdir(b)) => same_attrs(a, b),
+        (PathOp::Open(f, a), PathOp::Open(g, b)) => same_flags(f, g) && same_attrs(a, b),
+        _ => false,
+    }
+}
+
+fn same_pair_op(a: PairOp, b: PairOp) -> bool
+    ensures { IsTrue result ↔ (a ≡ b) }
+{
+    match (a, b) {
+        (PairOp::Rename, PairOp::Rename)
+        | (PairOp::PosixRename, PairOp::PosixRename)
+        | (PairOp::Link, PairOp::Link) => true,
+        _ => false,
+    }
+}
+
+fn same_handle_op(a: HandleOp, b: HandleOp) -> bool
+    ensures { IsTrue result ↔ (a ≡ b) }
+{
+    match (a, b) {
+        (HandleOp::Close, HandleOp::Close)
+        | (HandleOp::FStat, HandleOp::FStat)
+        | (HandleOp::ReadDir, HandleOp::ReadDir) => true,
+        (HandleOp::FSetStat(a), HandleOp::FSetStat(b)) => same_attrs(a, b),
+        (
+            HandleOp::Read {
+                offset: from,
+                len: m,
+            },
+            HandleOp::Read { offset: to, len: n },
+        ) => from == to && m == n,
+        _ => false,
+    }
+}
+
 /// Whether two requests are equal.
 pub(crate) fn same_request(a: &Request, b: &Request) -> bool
     ensures { IsTrue result ↔ (a.now ≡ b.now) }
 {
     match (a, b) {
-        (Request::Stat(a), Request::Stat(b)) => same_path(a, b),
-        (Request::SetStat(a, x), Request::SetStat(b, y)) => same_path(a, b) && same_attrs(*x, *y),
-        (Request::Mkdir(a, x), Request::Mkdir(b, y)) => same_path(a, b) && same_attrs(*x, *y),
-        (Request::Rmdir(a), Request::Rmdir(b)) => same_path(a, b),
-        (Request::Remove(a), Request::Remove(b)) => same_path(a, b),
-        (Request::OpenDir(a), Request::OpenDir(b)) => same_path(a, b),
-        (Request::Open(a, f, x), Request::Open(b, g, y)) => {
-            same_path(a, b) && same_flags(*f, *g) && same_attrs(*x, *y)
+        (Request::OnPath(op, a), Request::OnPath(other, b)) => {
+            same_path(a, b) && same_path_op(*op, *other)
         }
-        (Request::Close(a), Request::Close(b)) => *a == *b,
-        (Request::FStat(a), Request::FStat(b)) => *a == *b,
-        (Request::FSetStat(a, x), Request::FSetStat(b, y)) => *a == *b && same_attrs(*x, *y),
-        (
-            Request::Read {
-                handle: a,
-                offset: from,
-                len: m,
-            },
-            Request::Read {
-                handle: b,
-                offset: to,
-                len: n,
-            },
-        ) => *a == *b && *from == *to && *m == *n,
+        (Request::OnPaths(op, a, c), Request::OnPaths(other, b, d)) => {
+            same_path(a, b) && same_path(c, d) && same_pair_op(*op, *other)
+        }
+        (Request::ByHandle(op, a), Request::ByHandle(other, b)) => {
+            *a == *b && same_handle_op(*op, *other)
+        }
         (
             Request::Write {
                 handle: a,
@@ -78,12 +108,6 @@ pub(crate) fn same_request(a: &Request, b: &Request) -> bool
                 data: y,
             },
         ) => *a == *b && *from == *to && same_bytes(x, y),
-        (Request::ReadDir(a), Request::ReadDir(b)) => *a == *b,
-        (Request::Rename(a, c), Request::Rename(b, d)) => same_path(a, b) && same_path(c, d),
-        (Request::PosixRename(a, c), Request::PosixRename(b, d)) => {
-            same_path(a, b) && same_path(c, d)
-        }
-        (Request::Link(a, c), Request::Link(b, d)) => same_path(a, b) && same_path(c, d),
         _ => false,
     }
 }

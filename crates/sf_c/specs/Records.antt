@@ -14,6 +14,9 @@ use Rattle.sf_reply.specs.declared.reply.Reply.TheVariants as reply
 use Rattle.sf_reply.specs.Replies.{number_of}
 use Rattle.sf_call.specs.Requests.{Target, ByHandle, OnPath, OnPaths, target_of}
 use Rattle.sf_call.specs.declared.request.Request.{Request}
+use Rattle.sf_field.specs.declared.operation.PathOp.TheVariants as path_op
+use Rattle.sf_field.specs.declared.operation.PairOp.TheVariants as pair_op
+use Rattle.sf_field.specs.declared.operation.HandleOp.TheVariants as handle_op
 use Rattle.sf_call.specs.declared.request.Request.TheVariants as request
 use Rattle.sf_call.specs.declared.record.Record.{Record}
 use Rattle.sf_call.specs.declared.record.Record.TheVariants as record_of
@@ -60,24 +63,24 @@ abbrev pub with_attributes : ℕ → Attrs → AskedParts
 with_attributes kind attrs = record (plainly kind) { attributes = attributes_parts attrs }
 
 abbrev pub asked_parts : Request → AskedParts
-asked_parts (request.Open path flags attrs) =
+asked_parts (request.OnPath (path_op.Open flags attrs) path) =
     record (with_attributes 3 attrs) { flags = bits_of flags }
-asked_parts (request.Close handle) = handle_parts 4 handle
-asked_parts (request.Read handle offset len) = at_place 5 handle offset len
+asked_parts (request.ByHandle handle_op.Close handle) = handle_parts 4 handle
+asked_parts (request.ByHandle (handle_op.Read offset len) handle) = at_place 5 handle offset len
 asked_parts (request.Write handle offset written) = at_place 6 handle offset (length written)
-asked_parts (request.FStat handle) = handle_parts 8 handle
-asked_parts (request.SetStat path attrs) = with_attributes 9 attrs
-asked_parts (request.FSetStat handle attrs) =
+asked_parts (request.ByHandle handle_op.FStat handle) = handle_parts 8 handle
+asked_parts (request.OnPath (path_op.SetStat attrs) path) = with_attributes 9 attrs
+asked_parts (request.ByHandle (handle_op.FSetStat attrs) handle) =
     record (with_attributes 10 attrs) { handle = handle }
-asked_parts (request.OpenDir path) = plainly 11
-asked_parts (request.ReadDir handle) = handle_parts 12 handle
-asked_parts (request.Remove path) = plainly 13
-asked_parts (request.Mkdir path attrs) = with_attributes 14 attrs
-asked_parts (request.Rmdir path) = plainly 15
-asked_parts (request.Stat path) = plainly 17
-asked_parts (request.Rename old new) = plainly 18
-asked_parts (request.PosixRename old new) = plainly 201
-asked_parts (request.Link old new) = plainly 202
+asked_parts (request.OnPath path_op.OpenDir path) = plainly 11
+asked_parts (request.ByHandle handle_op.ReadDir handle) = handle_parts 12 handle
+asked_parts (request.OnPath path_op.Remove path) = plainly 13
+asked_parts (request.OnPath (path_op.Mkdir attrs) path) = with_attributes 14 attrs
+asked_parts (request.OnPath path_op.Rmdir path) = plainly 15
+asked_parts (request.OnPath path_op.Stat path) = plainly 17
+asked_parts (request.OnPaths pair_op.Rename old new) = plainly 18
+asked_parts (request.OnPaths pair_op.PosixRename old new) = plainly 201
+asked_parts (request.OnPaths pair_op.Link old new) = plainly 202
 
 abbrev pub answer : ℕ → Answered
 answer kind = record { attributes = attributes_parts no_attrs; handle = 0; names = 0; kind = kind; status = 0 }

@@ -6,7 +6,7 @@ ghost use Rattle.sf_field.specs.Attributes.{flags_of};
 ghost use Rattle.sf_c.specs.Records.{attributes_parts, plainly, handle_parts, at_place, with_attributes, asked_parts, answer, answered_parts, first_text, second_text, data_parts, names_parts, answer_bytes, left_parts, IsRecounted, Recounts};
 
 use sf_call::{Record, Request};
-use sf_field::{Attrs, NO_ATTRS, Owner, Times};
+use sf_field::{Attrs, HandleOp, NO_ATTRS, Owner, PairOp, PathOp, Times};
 use sf_reply::{Entry, Reply};
 use std::alloc::{AllocError, Global};
 
@@ -140,36 +140,34 @@ fn asked_parts(request: &Request) -> AskedParts
     ensures { result ≡ asked_parts request.now }
 {
     match request {
-        Request::Open(_, flags, attrs) => AskedParts {
+        Request::OnPath(PathOp::Open(flags, attrs), _) => AskedParts {
             flags: flags.bits(),
             ..with_attributes(3, attrs)
         },
-        Request::Close(handle) => handle_parts(4, *handle),
-        Request::Read {
-            handle,
-            offset,
-            len,
-        } => at_place(5, *handle, *offset, u64::from(*len)),
+        Request::ByHandle(HandleOp::Close, handle) => handle_parts(4, *handle),
+        Request::ByHandle(HandleOp::Read { offset, len }, handle) => {
+            at_place(5, *handle, *offset, u64::from(*len))
+        }
         Request::Write {
             handle,
             offset,
             data,
         } => at_place(6, *handle, *offset, data.as_slice().len() as u64),
-        Request::FStat(handle) => handle_parts(8, *handle),
-        Request::SetStat(_, attrs) => with_attributes(9, attrs),
-        Request::FSetStat(handle, attrs) => AskedParts {
+        Request::ByHandle(HandleOp::FStat, handle) => handle_parts(8, *handle),
+        Request::OnPath(PathOp::SetStat(attrs), _) => with_attributes(9, attrs),
+        Request::ByHandle(HandleOp::FSetStat(attrs), handle) => AskedParts {
             handle: *handle,
             ..with_attributes(10, attrs)
         },
-        Request::OpenDir(_) => plainly(11),
-        Request::ReadDir(handle) => handle_parts(12, *handle),
-        Request::Remove(_) => plainly(13),
-        Request::Mkdir(_, attrs) => with_attributes(14, attrs),
-        Request::Rmdir(_) => plainly(15),
-        Request::Stat(_) => plainly(17),
-        Request::Rename(_, _) => plainly(18),
-        Request::PosixRename(_, _) => plainly(201),
-        Request::Link(_, _) => plainly(202),
+        Request::OnPath(PathOp::OpenDir, _) => plainly(11),
+        Request::ByHandle(HandleOp::ReadDir, handle) => handle_parts(12, *handle),
+        Request::OnPath(PathOp::Remove, _) => plainly(13),
+        Request::OnPath(PathOp::Mkdir(attrs), _) => with_attributes(14, attrs),
+        Request::OnPath(PathOp::Rmdir, _) => plainly(15),
+        Request::OnPath(PathOp::Stat, _) => plainly(17),
+        Request::OnPaths(PairOp::Rename, _, _) => plainly(18),
+        Request::OnPaths(PairOp::PosixRename, _, _) => plainly(201),
+        Request::OnPaths(PairOp::Link, _, _) => plainly(202),
     }
 }
 
@@ -221,17 +219,9 @@ fn path_texts(alloc: Global, request: &Request) -> Result<(Vec<u8>, Vec<u8>), Al
     ensures new { IfOk result (λ texts. texts.1.items ≡ second_text (target_of request.now)) }
 {
     Ok(match request {
-        Request::Stat(path)
-        | Request::SetStat(path, _)
-        | Request::Mkdir(path, _)
-        | Request::Rmdir(path)
-        | Request::Remove(path)
-        | Request::OpenDir(path)
-        | Request::Open(path, _, _) => (path.text(alloc)?, Vec::new(alloc)),
-        Request::Rename(old, new) => (old.text(alloc)?, new.text(alloc)?),
-        Request::PosixRename(old, new) => (old.text(alloc)?, new.text(alloc)?),
-        Request::Link(old, new) => (old.text(alloc)?, new.text(alloc)?),
-        _ => (Vec::new(alloc), Vec::new(alloc)),
+        Request::OnPath(_, path) => (path.text(alloc)?, Vec::new(alloc)),
+        Request::OnPaths(_, old, new) => (old.text(alloc)?, new.text(alloc)?),
+        Request::ByHandle(_, _) | Request::Write { .. } => (Vec::new(alloc), Vec::new(alloc)),
     })
 }
 

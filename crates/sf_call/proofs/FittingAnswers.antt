@@ -23,7 +23,10 @@ use Rattle.sf_call.specs.declared.metadata.Metadata.{Metadata}
 use Rattle.sf_call.specs.declared.lookup.Lookup.{Lookup}
 use Rattle.sf_call.specs.declared.lookup.Lookup.TheVariants.{NoWay, Absent, At}
 use Rattle.sf_call.specs.declared.request.Request.{Request}
-use Rattle.sf_call.specs.declared.request.Request.TheVariants.{Stat, SetStat, Mkdir, Rmdir, Remove, OpenDir, Open, Close, FStat, FSetStat, Read, Write, ReadDir, Rename, PosixRename, Link}
+use Rattle.sf_field.specs.declared.operation.PathOp.TheVariants as path_op
+use Rattle.sf_field.specs.declared.operation.PairOp.TheVariants as pair_op
+use Rattle.sf_field.specs.declared.operation.HandleOp.TheVariants as handle_op
+use Rattle.sf_call.specs.declared.request.Request.TheVariants.{OnPath, OnPaths, ByHandle, Write}
 use Rattle.sf_call.specs.Attributes.{Object, made_at, modified_at, new_id, new_owner, with_parts, attrs_of}
 use Rattle.sf_call.specs.Attributes.Object.{Directory, File}
 use Rattle.sf_block.specs.Contents.{resized, written}
@@ -320,22 +323,22 @@ module _ (tree : Tree) (fits : TreeFits tree) (few : (label : ℕ) → links tre
     rooted (n ∷ path) answer f = f
 
     answered : (request : Request) → IsRequest request → AnswerFits (answer_to tree session number moment request)
-    answered (Stat path) r = told (found_at tree path) (path_found path)
-    answered (SetStat path attrs) r = rooted path _ (set_found attrs (found_at tree path) r.1 (path_found path))
-    answered (Mkdir path attrs) r = rooted path _ (made path attrs (look_up tree path) r.0 r.1)
-    answered (Rmdir path) r = rooted path _ (directory_removed path (found_at tree path))
-    answered (Remove path) r = rooted path _ (file_removed path (found_at tree path))
-    answered (OpenDir path) r = directory_opened (found_at tree path)
-    answered (Open path flags attrs) r = rooted path _ (file_opened path flags attrs (look_up tree path) r.0 r.1)
-    answered (Close handle) r = closed handle (handle_in tree session handle)
-    answered (FStat handle) r = told_opened (opened tree session handle) (handle_opened (handle_in tree session handle))
-    answered (FSetStat handle attrs) r = set_by_handle attrs (opened tree session handle) r.1 (handle_opened (handle_in tree session handle))
-    answered (Read handle offset len) r = was_read offset len (opened tree session handle)
+    answered (OnPath path_op.Stat path) r = told (found_at tree path) (path_found path)
+    answered (OnPath (path_op.SetStat attrs) path) r = rooted path _ (set_found attrs (found_at tree path) r.1 (path_found path))
+    answered (OnPath (path_op.Mkdir attrs) path) r = rooted path _ (made path attrs (look_up tree path) r.0 r.1)
+    answered (OnPath path_op.Rmdir path) r = rooted path _ (directory_removed path (found_at tree path))
+    answered (OnPath path_op.Remove path) r = rooted path _ (file_removed path (found_at tree path))
+    answered (OnPath path_op.OpenDir path) r = directory_opened (found_at tree path)
+    answered (OnPath (path_op.Open flags attrs) path) r = rooted path _ (file_opened path flags attrs (look_up tree path) r.0 r.1)
+    answered (ByHandle handle_op.Close handle) r = closed handle (handle_in tree session handle)
+    answered (ByHandle handle_op.FStat handle) r = told_opened (opened tree session handle) (handle_opened (handle_in tree session handle))
+    answered (ByHandle (handle_op.FSetStat attrs) handle) r = set_by_handle attrs (opened tree session handle) r.1 (handle_opened (handle_in tree session handle))
+    answered (ByHandle (handle_op.Read offset len) handle) r = was_read offset len (opened tree session handle)
     answered (Write handle offset bytes) r = was_written offset bytes (opened tree session handle) (handle_opened (handle_in tree session handle))
-    answered (ReadDir handle) r = directory_read handle (opened tree session handle)
-    answered (Rename old new) r = rename_cases AnswerFits (λ code. (tt, tt)) (tt, tt) tree moment old new (λ _ _. moved_fits old new r.1) session number
-    answered (PosixRename old new) r = posix_rename_cases AnswerFits (λ code. (tt, tt)) (tt, tt) tree moment old new (λ _ _. moved_fits old new r.1) session number
-    answered (Link old new) r =
+    answered (ByHandle handle_op.ReadDir handle) r = directory_read handle (opened tree session handle)
+    answered (OnPaths pair_op.Rename old new) r = rename_cases AnswerFits (λ code. (tt, tt)) (tt, tt) tree moment old new (λ _ _. moved_fits old new r.1) session number
+    answered (OnPaths pair_op.PosixRename old new) r = posix_rename_cases AnswerFits (λ code. (tt, tt)) (tt, tt) tree moment old new (λ _ _. moved_fits old new r.1) session number
+    answered (OnPaths pair_op.Link old new) r =
         link_cases AnswerFits (λ code. (tt, tt)) tree moment old new
         (λ label _ _ _. link_to_cases AnswerFits (λ code. (tt, tt)) tree moment new label (look_up tree new) refl (λ _ _. (tt, (r.1, touched_fits (parent new))))) session number
 

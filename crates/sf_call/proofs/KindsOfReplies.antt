@@ -10,7 +10,10 @@ use Rattle.sf_reply.specs.declared.reply.Reply.TheVariants as reply
 use Rattle.sf_call.specs.Histories.{after_reply}
 use Rattle.sf_call.specs.declared.limits.TheConstants.{MAX_FILE_SIZE}
 use Rattle.sf_call.specs.declared.request.Request.{Request}
-use Rattle.sf_call.specs.declared.request.Request.TheVariants.{Stat, SetStat, Mkdir, Rmdir, Remove, OpenDir, Open, Close, FStat, FSetStat, Read, Write, ReadDir, Rename, PosixRename, Link}
+use Rattle.sf_field.specs.declared.operation.PathOp.TheVariants as path_op
+use Rattle.sf_field.specs.declared.operation.PairOp.TheVariants as pair_op
+use Rattle.sf_field.specs.declared.operation.HandleOp.TheVariants as handle_op
+use Rattle.sf_call.specs.declared.request.Request.TheVariants.{OnPath, OnPaths, ByHandle, Write}
 use Rattle.sf_call.specs.declared.lookup.Lookup.{Lookup}
 use Rattle.sf_call.specs.declared.lookup.Lookup.TheVariants.{NoWay, Absent, At}
 use Rattle.sf_call.specs.Attributes.{Object}
@@ -19,7 +22,9 @@ use Rattle.sf_call.specs.Tree.{Tree, Handle, look_up, found_at, object_of, is_em
 use Rattle.sf_call.specs.Handles.{handle_in, opened}
 use Rattle.sf_call.specs.Listings.{path_of, listing_of}
 use Rattle.sf_call.specs.Calls.{Outcome, apply, stat, refuses_size, sets, set_stat, make_directory, remove_directory, remove_file, has_all_handles, open_directory, open_present, open_file, close, stat_opened, set_opened, read, start_of, write, lists, read_directory, unless_root}
-use Rattle.sf_call.specs.ReplyKinds.{IsStatus, IsStatusOrAttrs, IsStatusOrHandle, IsStatusOrData, IsStatusOrNames, IsReplyTo}
+use Rattle.sf_call.specs.ReplyKinds.{IsStatus, IsStatusOrAttrs, IsStatusOrHandle, IsStatusOrData, IsStatusOrNames, IsWanted, IsReplyTo}
+use Rattle.sf_call.specs.Requests.{Wanted, wanted_by}
+use Rattle.sf_call.specs.Requests.Wanted.{StatusAlone, Attributes, NewHandle, Bytes, Entries}
 use Rattle.sf_call.proofs.RenameCases.{rename_cases, posix_rename_cases, link_cases, link_to_cases}
 
 -- a choice between two replies of a kind is of that kind
@@ -113,42 +118,34 @@ directory_read tree number (Some (h, File m contents)) = tt
 directory_read tree number (Some (h, Directory m)) = listed number h (listing_of tree h.listed (path_of tree.names h.label))
 
 pub applied : (tree : Tree) (session number moment : ℕ) (request : Request) → IsReplyTo number request (apply tree session number moment request).reply
-applied tree session number moment (Stat path) = told (found_at tree path)
-applied tree session number moment (SetStat path attrs) = rooted IsStatus path _ tt (set_found moment attrs (found_at tree path))
-applied tree session number moment (Mkdir path attrs) = rooted IsStatus path _ tt (made tree number moment path attrs (look_up tree path))
-applied tree session number moment (Rmdir path) = rooted IsStatus path _ tt (directory_removed tree moment path (found_at tree path))
-applied tree session number moment (Remove path) = rooted IsStatus path _ tt (file_removed tree moment path (found_at tree path))
-applied tree session number moment (OpenDir path) = directory_opened tree session number (found_at tree path)
-applied tree session number moment (Open path flags attrs) = rooted (IsStatusOrHandle number) path _ tt (file_opened tree session number moment path flags attrs (look_up tree path))
-applied tree session number moment (Close handle) = closed handle (handle_in tree session handle)
-applied tree session number moment (FStat handle) = told_opened (opened tree session handle)
-applied tree session number moment (FSetStat handle attrs) = set_by_handle moment attrs (opened tree session handle)
-applied tree session number moment (Read handle offset len) = was_read offset len (opened tree session handle)
+applied tree session number moment (OnPath path_op.Stat path) = told (found_at tree path)
+applied tree session number moment (OnPath (path_op.SetStat attrs) path) = rooted IsStatus path _ tt (set_found moment attrs (found_at tree path))
+applied tree session number moment (OnPath (path_op.Mkdir attrs) path) = rooted IsStatus path _ tt (made tree number moment path attrs (look_up tree path))
+applied tree session number moment (OnPath path_op.Rmdir path) = rooted IsStatus path _ tt (directory_removed tree moment path (found_at tree path))
+applied tree session number moment (OnPath path_op.Remove path) = rooted IsStatus path _ tt (file_removed tree moment path (found_at tree path))
+applied tree session number moment (OnPath path_op.OpenDir path) = directory_opened tree session number (found_at tree path)
+applied tree session number moment (OnPath (path_op.Open flags attrs) path) = rooted (IsStatusOrHandle number) path _ tt (file_opened tree session number moment path flags attrs (look_up tree path))
+applied tree session number moment (ByHandle handle_op.Close handle) = closed handle (handle_in tree session handle)
+applied tree session number moment (ByHandle handle_op.FStat handle) = told_opened (opened tree session handle)
+applied tree session number moment (ByHandle (handle_op.FSetStat attrs) handle) = set_by_handle moment attrs (opened tree session handle)
+applied tree session number moment (ByHandle (handle_op.Read offset len) handle) = was_read offset len (opened tree session handle)
 applied tree session number moment (Write handle offset bytes) = was_written moment offset bytes (opened tree session handle)
-applied tree session number moment (ReadDir handle) = directory_read tree handle (opened tree session handle)
-applied tree session number moment (Rename old new) = rename_cases (λ answer. IsStatus answer.reply) (λ code. tt) tt tree moment old new (λ _ _. tt) session number
-applied tree session number moment (PosixRename old new) = posix_rename_cases (λ answer. IsStatus answer.reply) (λ code. tt) tt tree moment old new (λ _ _. tt) session number
-applied tree session number moment (Link old new) =
+applied tree session number moment (ByHandle handle_op.ReadDir handle) = directory_read tree handle (opened tree session handle)
+applied tree session number moment (OnPaths pair_op.Rename old new) = rename_cases (λ answer. IsStatus answer.reply) (λ code. tt) tt tree moment old new (λ _ _. tt) session number
+applied tree session number moment (OnPaths pair_op.PosixRename old new) = posix_rename_cases (λ answer. IsStatus answer.reply) (λ code. tt) tt tree moment old new (λ _ _. tt) session number
+applied tree session number moment (OnPaths pair_op.Link old new) =
     link_cases (λ answer. IsStatus answer.reply) (λ code. tt) tree moment old new
     (λ label _ _ _. link_to_cases (λ answer. IsStatus answer.reply) (λ code. tt) tree moment new label (look_up tree new) refl (λ _ _. tt)) session number
 
+no_memory_wanted : (number : ℕ) (wanted : Wanted) → IsWanted number wanted reply.NoMemory → ⊥
+no_memory_wanted number StatusAlone k = k
+no_memory_wanted number Attributes k = k
+no_memory_wanted number NewHandle k = k
+no_memory_wanted number Bytes k = k
+no_memory_wanted number Entries k = k
+
 pub never_refused : (number : ℕ) (request : Request) → IsReplyTo number request reply.NoMemory → ⊥
-never_refused number (Stat path) k = k
-never_refused number (SetStat path attrs) k = k
-never_refused number (Mkdir path attrs) k = k
-never_refused number (Rmdir path) k = k
-never_refused number (Remove path) k = k
-never_refused number (OpenDir path) k = k
-never_refused number (Open path flags attrs) k = k
-never_refused number (Close handle) k = k
-never_refused number (FStat handle) k = k
-never_refused number (FSetStat handle attrs) k = k
-never_refused number (Read handle offset len) k = k
-never_refused number (Write handle offset bytes) k = k
-never_refused number (ReadDir handle) k = k
-never_refused number (Rename old new) k = k
-never_refused number (PosixRename old new) k = k
-never_refused number (Link old new) k = k
+never_refused number request k = no_memory_wanted number (wanted_by request) k
 
 goes_on : (tree next : Tree) (number : ℕ) (request : Request) (given : Reply) → IsReplyTo number request given → after_reply tree next given ≡ next
 goes_on tree next number request reply.NoMemory k = absurd (never_refused number request k)

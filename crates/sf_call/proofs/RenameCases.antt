@@ -8,7 +8,8 @@ use Rattle.sf_reply.specs.declared.reply.StatusCode.TheVariants.{NoSuchFile, Fai
 use Rattle.sf_call.specs.declared.limits.TheConstants.{MAX_LINKS}
 use Rattle.sf_call.specs.declared.lookup.Lookup.{Lookup}
 use Rattle.sf_call.specs.declared.lookup.Lookup.TheVariants.{NoWay, Absent, At}
-use Rattle.sf_call.specs.declared.request.Request.TheVariants.{Rename, PosixRename, Link}
+use Rattle.sf_field.specs.declared.operation.PairOp.TheVariants as pair_op
+use Rattle.sf_call.specs.declared.request.Request.TheVariants.{OnPaths}
 use Rattle.sf_call.specs.declared.metadata.Metadata.{Metadata}
 use Rattle.sf_call.specs.Tree.{Tree, after_front, links, look_up, found_at, is_directory, is_faulty_way, is_empty}
 use Rattle.sf_call.specs.Changes.{touched}
@@ -61,10 +62,10 @@ module _ (P : Outcome → Type 0) (refused : (code : StatusCode) → P (refuses 
       either (same_path old new) _ _ idle
       (apart P old new _ (refused Failure) (λ not_inside not_around. replaced label (found_at tree new) (moved not_inside not_around)))
 
-  pub rename_cases : (session number : ℕ) → P (answer_to tree session number moment (Rename old new))
+  pub rename_cases : (session number : ℕ) → P (answer_to tree session number moment (OnPaths pair_op.Rename old new))
   rename_cases session number = rooted old _ (rooted new _ (renamed (look_up tree old)))
 
-  pub posix_rename_cases : (session number : ℕ) → P (answer_to tree session number moment (PosixRename old new))
+  pub posix_rename_cases : (session number : ℕ) → P (answer_to tree session number moment (OnPaths pair_op.PosixRename old new))
   posix_rename_cases session number = rooted old _ (rooted new _ (posix_renamed (look_up tree old)))
 
 module _ (P : Outcome → Type 0) (refused : (code : StatusCode) → P (refuses code)) (tree : Tree) (moment : ℕ) (old new : Path)
@@ -78,7 +79,7 @@ module _ (P : Outcome → Type 0) (refused : (code : StatusCode) → P (refuses 
   if_rooted [] answer p = refused Failure
   if_rooted (n ∷ path) answer p = p
 
-  pub link_cases : (session number : ℕ) → P (answer_to tree session number moment (Link old new))
+  pub link_cases : (session number : ℕ) → P (answer_to tree session number moment (OnPaths pair_op.Link old new))
   link_cases session number = if_rooted old _ (if_rooted new _ (link_found (found_at tree old) refl))
 
 -- a link to a path fails or is allowed

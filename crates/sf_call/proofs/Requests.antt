@@ -21,7 +21,10 @@ use Rattle.sf_call.specs.declared.metadata.FileType.TheVariants as file_type
 use Rattle.sf_call.specs.declared.lookup.Lookup.{Lookup}
 use Rattle.sf_call.specs.declared.lookup.Lookup.TheVariants.{NoWay, Absent, At}
 use Rattle.sf_call.specs.declared.request.Request.{Request}
-use Rattle.sf_call.specs.declared.request.Request.TheVariants.{Stat, SetStat, Mkdir, Rmdir, Remove, OpenDir, Open, Close, FStat, FSetStat, Read, Write, ReadDir, Rename, PosixRename, Link}
+use Rattle.sf_field.specs.declared.operation.PathOp.TheVariants as path_op
+use Rattle.sf_field.specs.declared.operation.PairOp.TheVariants as pair_op
+use Rattle.sf_field.specs.declared.operation.HandleOp.TheVariants as handle_op
+use Rattle.sf_call.specs.declared.request.Request.TheVariants.{OnPath, OnPaths, ByHandle, Write}
 use Rattle.sf_call.specs.Attributes.{Object, modified_at}
 use Rattle.sf_call.specs.Attributes.Object.{Directory, File}
 use Rattle.sf_call.specs.Tree.{Tree, Handle, label_at, object_of, handle_of, directory_metadata, directory_at, links, is_directory_object, is_directory, is_faulty_way, lookup_of, look_up, found_place, found_at, after_front, only_name, children, is_nil, is_empty}
@@ -462,19 +465,19 @@ module _ (tree : Tree) (number moment : ℕ) (unused : (q : Path) → label_at t
     linked_object (Some (File m contents)) is = linked_to new label m contents is
 
   pub allowed : (session : ℕ) (request : Request) → AreAllowed number tree (answer_to tree session number moment request).changes
-  allowed session (Stat path) = found_stat (found_at tree path)
-  allowed session (SetStat path attrs) = rooted path _ (λ not_root. set_place attrs (look_up tree path))
-  allowed session (Mkdir path attrs) = rooted path _ (λ not_root. made path attrs (look_up tree path) refl)
-  allowed session (Rmdir path) = rooted path _ (λ not_root. directory_removed path not_root (look_up tree path) refl)
-  allowed session (Remove path) = rooted path _ (λ not_root. file_removed path not_root (look_up tree path) refl)
-  allowed session (OpenDir path) = directory_opened session (found_at tree path)
-  allowed session (Open path flags attrs) = rooted path _ (λ not_root. file_opened session path flags attrs (look_up tree path) refl)
-  allowed session (Close handle) = closed handle (handle_in tree session handle)
-  allowed session (FStat handle) = opened_stat (opened tree session handle)
-  allowed session (FSetStat handle attrs) = set_by_handle attrs (handle_in tree session handle)
-  allowed session (Read handle offset len) = was_read offset len (opened tree session handle)
+  allowed session (OnPath path_op.Stat path) = found_stat (found_at tree path)
+  allowed session (OnPath (path_op.SetStat attrs) path) = rooted path _ (λ not_root. set_place attrs (look_up tree path))
+  allowed session (OnPath (path_op.Mkdir attrs) path) = rooted path _ (λ not_root. made path attrs (look_up tree path) refl)
+  allowed session (OnPath path_op.Rmdir path) = rooted path _ (λ not_root. directory_removed path not_root (look_up tree path) refl)
+  allowed session (OnPath path_op.Remove path) = rooted path _ (λ not_root. file_removed path not_root (look_up tree path) refl)
+  allowed session (OnPath path_op.OpenDir path) = directory_opened session (found_at tree path)
+  allowed session (OnPath (path_op.Open flags attrs) path) = rooted path _ (λ not_root. file_opened session path flags attrs (look_up tree path) refl)
+  allowed session (ByHandle handle_op.Close handle) = closed handle (handle_in tree session handle)
+  allowed session (ByHandle handle_op.FStat handle) = opened_stat (opened tree session handle)
+  allowed session (ByHandle (handle_op.FSetStat attrs) handle) = set_by_handle attrs (handle_in tree session handle)
+  allowed session (ByHandle (handle_op.Read offset len) handle) = was_read offset len (opened tree session handle)
   allowed session (Write handle offset bytes) = was_written offset bytes (handle_in tree session handle)
-  allowed session (ReadDir handle) = directory_read session handle (handle_in tree session handle) refl
-  allowed session (Rename old new) = rooted old _ (λ _. rooted new _ (λ _. renamed old new (look_up tree old) refl))
-  allowed session (PosixRename old new) = rooted old _ (λ _. rooted new _ (λ _. posix_renamed old new (look_up tree old) refl))
-  allowed session (Link old new) = rooted old _ (λ _. rooted new _ (λ _. linked new (look_up tree old)))
+  allowed session (ByHandle handle_op.ReadDir handle) = directory_read session handle (handle_in tree session handle) refl
+  allowed session (OnPaths pair_op.Rename old new) = rooted old _ (λ _. rooted new _ (λ _. renamed old new (look_up tree old) refl))
+  allowed session (OnPaths pair_op.PosixRename old new) = rooted old _ (λ _. rooted new _ (λ _. posix_renamed old new (look_up tree old) refl))
+  allowed session (OnPaths pair_op.Link old new) = rooted old _ (λ _. rooted new _ (λ _. linked new (look_up tree old)))

@@ -12,7 +12,10 @@ use Rattle.sf_path.specs.Order.{parent, same_path}
 use Rattle.sf_path.specs.Names.{Path}
 use Rattle.sf_call.specs.declared.limits.TheConstants.{MAX_FILE_SIZE, MAX_READ, MAX_HANDLES, MAX_LINKS}
 use Rattle.sf_call.specs.declared.request.Request.{Request}
-use Rattle.sf_call.specs.declared.request.Request.TheVariants.{Stat, SetStat, Mkdir, Rmdir, Remove, OpenDir, Open, Close, FStat, FSetStat, Read, Write, ReadDir, Rename, PosixRename, Link}
+use Rattle.sf_field.specs.declared.operation.PathOp.TheVariants as path_op
+use Rattle.sf_field.specs.declared.operation.PairOp.TheVariants as pair_op
+use Rattle.sf_field.specs.declared.operation.HandleOp.TheVariants as handle_op
+use Rattle.sf_call.specs.declared.request.Request.TheVariants.{OnPath, OnPaths, ByHandle, Write}
 use Rattle.sf_call.specs.declared.lookup.Lookup.TheVariants.{NoWay, Absent, At}
 use Rattle.sf_call.specs.Attributes.{Metadata, Object, new_metadata, with_parts, modified_at, attrs_of}
 use Rattle.sf_call.specs.Attributes.Object.{Directory, File}
@@ -298,35 +301,37 @@ unless_root (name ∷ path) answer = answer
 
 -- the reply to a request of this session, with this call number, at this timestamp, and its changes
 abbrev pub answer_to : Tree → ℕ → ℕ → ℕ → Request → Outcome
-answer_to tree session number moment (Stat path) = stat (found_at tree path)
-answer_to tree session number moment (SetStat path attrs) =
+answer_to tree session number moment (OnPath path_op.Stat path) = stat (found_at tree path)
+answer_to tree session number moment (OnPath (path_op.SetStat attrs) path) =
     unless_root path (set_stat moment attrs (found_at tree path))
-answer_to tree session number moment (Mkdir path attrs) =
+answer_to tree session number moment (OnPath (path_op.Mkdir attrs) path) =
     unless_root path (make_directory tree number moment path attrs (look_up tree path))
-answer_to tree session number moment (Rmdir path) =
+answer_to tree session number moment (OnPath path_op.Rmdir path) =
     unless_root path (remove_directory tree moment path (found_at tree path))
-answer_to tree session number moment (Remove path) =
+answer_to tree session number moment (OnPath path_op.Remove path) =
     unless_root path (remove_file tree moment path (found_at tree path))
-answer_to tree session number moment (OpenDir path) =
+answer_to tree session number moment (OnPath path_op.OpenDir path) =
     open_directory tree session number (found_at tree path)
-answer_to tree session number moment (Open path flags attrs) =
+answer_to tree session number moment (OnPath (path_op.Open flags attrs) path) =
     unless_root path (open_file tree session number moment path flags attrs (look_up tree path))
-answer_to tree session number moment (Close handle) = close handle (handle_in tree session handle)
-answer_to tree session number moment (FStat handle) = stat_opened (opened tree session handle)
-answer_to tree session number moment (FSetStat handle attrs) =
+answer_to tree session number moment (OnPaths pair_op.Rename old new) =
+    unless_root old (unless_root new (rename tree moment old new (look_up tree old)))
+answer_to tree session number moment (OnPaths pair_op.PosixRename old new) =
+    unless_root old (unless_root new (posix_rename tree moment old new (look_up tree old)))
+answer_to tree session number moment (OnPaths pair_op.Link old new) =
+    unless_root old (unless_root new (link tree moment new (found_at tree old)))
+answer_to tree session number moment (ByHandle handle_op.Close handle) =
+    close handle (handle_in tree session handle)
+answer_to tree session number moment (ByHandle handle_op.FStat handle) =
+    stat_opened (opened tree session handle)
+answer_to tree session number moment (ByHandle (handle_op.FSetStat attrs) handle) =
     set_opened moment attrs (opened tree session handle)
-answer_to tree session number moment (Read handle offset len) =
+answer_to tree session number moment (ByHandle (handle_op.Read offset len) handle) =
     read offset len (opened tree session handle)
+answer_to tree session number moment (ByHandle handle_op.ReadDir handle) =
+    read_directory tree handle (opened tree session handle)
 answer_to tree session number moment (Write handle offset bytes) =
     write moment offset bytes (opened tree session handle)
-answer_to tree session number moment (ReadDir handle) =
-    read_directory tree handle (opened tree session handle)
-answer_to tree session number moment (Rename old new) =
-    unless_root old (unless_root new (rename tree moment old new (look_up tree old)))
-answer_to tree session number moment (PosixRename old new) =
-    unless_root old (unless_root new (posix_rename tree moment old new (look_up tree old)))
-answer_to tree session number moment (Link old new) =
-    unless_root old (unless_root new (link tree moment new (found_at tree old)))
 
 -- the reply to a call, and the tree after it
 pub record Applied : Type 0 where

@@ -39,21 +39,9 @@ impl Request {
         ensures { route_along result ≡ route_of self.now }
     {
         match self {
-            Request::Stat(path)
-            | Request::SetStat(path, _)
-            | Request::Mkdir(path, _)
-            | Request::Rmdir(path)
-            | Request::Remove(path)
-            | Request::OpenDir(path)
-            | Request::Open(path, _, _) => RequestPaths::OnePath(path),
-            Request::Rename(old, new) | Request::PosixRename(old, new) | Request::Link(old, new) =>
-                RequestPaths::TwoPaths(old, new),
-            Request::Close(_)
-            | Request::FStat(_)
-            | Request::FSetStat(_, _)
-            | Request::Read { .. }
-            | Request::Write { .. }
-            | Request::ReadDir(_) => RequestPaths::NoPath,
+            Request::OnPath(_, path) => RequestPaths::OnePath(path),
+            Request::OnPaths(_, old, new) => RequestPaths::TwoPaths(old, new),
+            Request::ByHandle(_, _) | Request::Write { .. } => RequestPaths::NoPath,
         }
     }
 

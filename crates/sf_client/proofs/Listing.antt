@@ -3,6 +3,7 @@ use Rattle.std.proofs.Common.{◌≡◌, ◌≢◌, ◌<◌, ℕ, List, [], ◌�
 use Rattle.std.specs.List.{AllByRecursion}
 use Rattle.sf_field.specs.Fields.{be64}
 use Rattle.sf_request.specs.declared.request.WireRequest.{WireRequest}
+use Rattle.sf_field.specs.declared.operation.HandleOp.TheVariants as handle_op
 use Rattle.sf_request.specs.declared.request.WireRequest.TheVariants as request
 use Rattle.sf_reply.specs.declared.reply.Entry.{Entry}
 use Rattle.sf_reply.specs.declared.reply.Reply.TheVariants as reply
@@ -26,10 +27,10 @@ entries_more : (parts : List (List Entry)) (part : List Entry) → all_entries (
 entries_more [] part = append-nil part
 entries_more (x ∷ parts) part = ap (λ (t : List Entry). x ++ t) (entries_more parts part) ∙ sym (append_assoc x (all_entries parts) part)
 
-listings_more : (n : ℕ) (parts : List (List Entry)) (part : List Entry) → listings n (parts ++ part ∷ []) ≡ listings n parts ++ asked (request.ReadDir (be64 n)) (reply.Names part) ∷ []
+listings_more : (n : ℕ) (parts : List (List Entry)) (part : List Entry) → listings n (parts ++ part ∷ []) ≡ listings n parts ++ asked (request.ByHandle handle_op.ReadDir (be64 n)) (reply.Names part) ∷ []
 unfolding listings
 listings_more n [] part = refl
-listings_more n (x ∷ parts) part = ap (λ (t : List Exchange). asked (request.ReadDir (be64 n)) (reply.Names x) ∷ t) (listings_more n parts part)
+listings_more n (x ∷ parts) part = ap (λ (t : List Exchange). asked (request.ByHandle handle_op.ReadDir (be64 n)) (reply.Names x) ∷ t) (listings_more n parts part)
 
 -- ---- what was listed
 
@@ -45,7 +46,7 @@ pub record ListEndedBy (f : ClientFault) (n : ℕ) (entries : List Entry) (made 
   pub last : List Exchange
   pub after : List Exchange
   pub entries_are : f ≡ fault.Status status.EndOfFile → entries ≡ all_entries parts
-  pub ends : EndsAtLast (request.ReadDir (be64 n)) last f
+  pub ends : EndsAtLast (request.ByHandle handle_op.ReadDir (be64 n)) last f
   pub after_are : AllByRecursion (IsListing n) after
   pub made_are : made ≡ (listings n parts ++ last) ++ after
 
@@ -56,7 +57,7 @@ GathersEntries n entries (Dropping None) made coming = ⊥
 GathersEntries n entries (Dropping (Some f)) made coming = ListEndedBy f n entries made
 
 abbrev pub AsksNames : ℕ → WireRequest → Type 0
-AsksNames n q = q ≡ request.ReadDir (be64 n)
+AsksNames n q = q ≡ request.ByHandle handle_op.ReadDir (be64 n)
 
 pub list_short : (n : ℕ) (entries : List Entry) (made : List Exchange) (coming : List WireRequest) → GathersEntries n entries Going made coming → GathersEntries n entries (Dropping (Some fault.OutOfMemory)) made coming
 list_short n entries made coming h =
@@ -66,7 +67,7 @@ list_short n entries made coming h =
 pub list_stops : (n : ℕ) (entries : List Entry) (made : List Exchange) (coming : List WireRequest) (e : Exchange) (f : ClientFault) → AsksNames n e.request → EndsCallBy e.reply f → GathersEntries n entries Going made (e.request ∷ coming)
     → GathersEntries n entries (Dropping (Some f)) (made ++ e ∷ []) coming
 list_stops n entries made coming e f one ends h =
-    let last = asked (request.ReadDir (be64 n)) e.reply ∷ [] in
+    let last = asked (request.ByHandle handle_op.ReadDir (be64 n)) e.reply ∷ [] in
     record {
       parts = h.parts;
       last = last;
@@ -110,8 +111,8 @@ pub list_starts : (n : ℕ) (v : ClientView) (entries : List Entry) (a : Ahead) 
 unfolding listings
 list_starts n v entries a going nothing is = starts (listing n) v entries a going is (record { parts = []; entries_are = nothing; made_are = refl })
 
-pub list_asked : {v : ClientView} {y z : ClientAhead} (n : ℕ) (entries : List Entry) (sent : Bool) → Position (listing n) v entries y → MaySendMore y.ahead → SendsOn y (request.ReadDir (be64 n)) (Ok sent) z → Position (listing n) v entries z
-list_asked n entries sent at room h = sends_on at (request.ReadDir (be64 n)) sent room refl h (λ g. g)
+pub list_asked : {v : ClientView} {y z : ClientAhead} (n : ℕ) (entries : List Entry) (sent : Bool) → Position (listing n) v entries y → MaySendMore y.ahead → SendsOn y (request.ByHandle handle_op.ReadDir (be64 n)) (Ok sent) z → Position (listing n) v entries z
+list_asked n entries sent at room h = sends_on at (request.ByHandle handle_op.ReadDir (be64 n)) sent room refl h (λ g. g)
 
 part_more : (n : ℕ) (entries part now : List Entry) (made : List Exchange) → now ≡ entries ++ part → GathersWith (listing n) entries made (reply.Names part) now Going
 part_more n entries part now made is = λ q others one g. record {
@@ -137,14 +138,14 @@ list_ends n entries f made h =
     let kept = listings n h.parts ++ h.last in
     let ends = h.ends in
     record {
-      request = request.ReadDir (be64 n);
+      request = request.ByHandle handle_op.ReadDir (be64 n);
       last = h.last;
       ends = ends;
       err = (kept, h.after, (h.parts, h.last, ends, refl), h.after_are, h.made_are);
       ok = λ e. (
         kept,
         h.after,
-        (h.parts, h.entries_are e, ap (λ (t : List Exchange). listings n h.parts ++ t) (eof_is (request.ReadDir (be64 n)) h.last f e ends)),
+        (h.parts, h.entries_are e, ap (λ (t : List Exchange). listings n h.parts ++ t) (eof_is (request.ByHandle handle_op.ReadDir (be64 n)) h.last f e ends)),
         h.after_are,
         h.made_are,
       );

@@ -4,6 +4,7 @@ use Rattle.std.specs.List.{concat}
 use Rattle.std.proofs.lemmas.List.{length-append}
 use Rattle.sf_field.specs.Fields.{be64}
 use Rattle.sf_request.specs.declared.request.WireRequest.{WireRequest}
+use Rattle.sf_field.specs.declared.operation.HandleOp.TheVariants as handle_op
 use Rattle.sf_request.specs.declared.request.WireRequest.TheVariants as request
 use Rattle.sf_reply.specs.declared.reply.Reply.{Reply}
 use Rattle.sf_reply.specs.declared.reply.Reply.TheVariants as reply
@@ -214,11 +215,11 @@ read_ended n bytes at none some = ended (Reads n) at none some (λ f. read_ends 
 -- ---- with FSTAT before
 
 pub sized : (n : ℕ) (v u w : ClientView) (size : ℕ) (result : Result (List ℕ) ClientFault) → AsksSize n v (Ok size) u → size ≤ most_gathered → DoesCall (Reads n) u result w → DoesCall (ReadsAll n) v result w
-sized n v u w size (Ok bytes) h small used = (_, (h.0, used.0, subst (λ (k : ℕ). k ≤ most_gathered) h.1 small, used.1, refl), exchanged_then v u w (asked (request.FStat (be64 n)) h.0 ∷ []) used.0 h.2 used.2)
+sized n v u w size (Ok bytes) h small used = (_, (h.0, used.0, subst (λ (k : ℕ). k ≤ most_gathered) h.1 small, used.1, refl), exchanged_then v u w (asked (request.ByHandle handle_op.FStat (be64 n)) h.0 ∷ []) used.0 h.2 used.2)
 sized n v u w size (Err fault.Stream) h small used = broke_since v u w h.2.failures used
-sized n v u w size (Err fault.Protocol) h small used = (_, used.1, used.2, unanswered_then v u w (asked (request.FStat (be64 n)) h.0 ∷ []) used.0 used.1 used.2 h.2 used.3)
+sized n v u w size (Err fault.Protocol) h small used = (_, used.1, used.2, unanswered_then v u w (asked (request.ByHandle handle_op.FStat (be64 n)) h.0 ∷ []) used.0 used.1 used.2 h.2 used.3)
 sized n v u w size (Err fault.Failed) h small used = let going = h.2.going in let failed = used.0 in absurd cc
-sized n v u w size (Err f) h small used = (_, inr (inr (h.0, used.0, subst (λ (k : ℕ). k ≤ most_gathered) h.1 small, used.1, refl)), exchanged_then v u w (asked (request.FStat (be64 n)) h.0 ∷ []) used.0 h.2 used.2)
+sized n v u w size (Err f) h small used = (_, inr (inr (h.0, used.0, subst (λ (k : ℕ). k ≤ most_gathered) h.1 small, used.1, refl)), exchanged_then v u w (asked (request.ByHandle handle_op.FStat (be64 n)) h.0 ∷ []) used.0 h.2 used.2)
 
 pub unsized : (n : ℕ) (v w : ClientView) (f : ClientFault) → AsksSize n v (Err f) w → DoesCall (ReadsAll n) v (Err f) w
-unsized n v w f h = at_first v w (ReadsAll n) reply.Attrs (request.FStat (be64 n)) f (λ xs ends. inl (ends, not_refused (request.FStat (be64 n)) xs f h.0 ends)) h.1
+unsized n v w f h = at_first v w (ReadsAll n) reply.Attrs (request.ByHandle handle_op.FStat (be64 n)) f (λ xs ends. inl (ends, not_refused (request.ByHandle handle_op.FStat (be64 n)) xs f h.0 ends)) h.1

@@ -3,6 +3,7 @@ use Rattle.std.proofs.Common.{◌≡◌, ◌≢◌, ◌⊎◌, ℕ, List, [], �
 use Rattle.std.specs.Global.{Vec}
 use Rattle.sf_field.specs.Fields.{be64}
 use Rattle.sf_request.specs.declared.request.WireRequest.{WireRequest}
+use Rattle.sf_field.specs.declared.operation.HandleOp.TheVariants as handle_op
 use Rattle.sf_request.specs.declared.request.WireRequest.TheVariants as request
 use Rattle.sf_reply.specs.declared.reply.Reply.{Reply}
 use Rattle.sf_reply.specs.declared.reply.Reply.TheVariants as reply
@@ -48,9 +49,9 @@ pub record ByScript {X : Type 0} (Script : List Exchange → Result X ClientFaul
   pub exchanged : Exchanged v made w
 
 -- all exchanges of a call with a handle
-whole_call : {opening : WireRequest} {v m w : ClientView} {ys : List Exchange} (h : HandleOpened opening v) (r : Reply) → Exchanged h.client ys m → Exchanged m (asked (request.Close (be64 h.number)) r ∷ []) w
-    → Exchanged v (asked opening (reply.Handle h.number) ∷ (ys ++ asked (request.Close (be64 h.number)) r ∷ [])) w
-whole_call {opening} {v} {m} {w} {ys} h r used closed = exchanged_then v h.client w (asked opening (reply.Handle h.number) ∷ []) (ys ++ asked (request.Close (be64 h.number)) r ∷ []) h.exchanged (exchanged_then h.client m w ys _ used closed)
+whole_call : {opening : WireRequest} {v m w : ClientView} {ys : List Exchange} (h : HandleOpened opening v) (r : Reply) → Exchanged h.client ys m → Exchanged m (asked (request.ByHandle handle_op.Close (be64 h.number)) r ∷ []) w
+    → Exchanged v (asked opening (reply.Handle h.number) ∷ (ys ++ asked (request.ByHandle handle_op.Close (be64 h.number)) r ∷ [])) w
+whole_call {opening} {v} {m} {w} {ys} h r used closed = exchanged_then v h.client w (asked opening (reply.Handle h.number) ∷ []) (ys ++ asked (request.ByHandle handle_op.Close (be64 h.number)) r ∷ []) h.exchanged (exchanged_then h.client m w ys _ used closed)
 
 -- A call failed the client; or it made exchanges that its script allows.
 came_to : {X : Type 0} {opening : WireRequest} {v : ClientView} (S : ℕ → List Exchange → Result X ClientFault → Type 0) (h : HandleOpened opening v) (outcome : Result X ClientFault) (m : ClientView) → DoesCall (S h.number) h.client outcome m
@@ -65,22 +66,22 @@ came_to S h _ m used = inr (record { made = used.0; script = used.1; exchanged =
 -- CLOSE after these exchanges
 closes : {X : Type 0} {opening : WireRequest} {v m : ClientView} (S : ℕ → List Exchange → Result X ClientFault → Type 0) (h : HandleOpened opening v) (outcome : Result X ClientFault) (closing : Result (Unit {0}) ClientFault) (w : ClientView)
     → ByScript (S h.number) h.client outcome m → (ByScript (ByHandle opening S) v outcome w → DoesCall (ByHandle opening S) v outcome w)
-    → SettlesRequest {X = Unit {0}} (λ _. reply.Status Success) m (request.Close (be64 h.number)) closing w → DoesCall (ByHandle opening S) v (after_closing outcome closing) w
+    → SettlesRequest {X = Unit {0}} (λ _. reply.Status Success) m (request.ByHandle handle_op.Close (be64 h.number)) closing w → DoesCall (ByHandle opening S) v (after_closing outcome closing) w
 closes S h (Ok x) (Ok t) w used does c =
-    (_, (h.number, used.made ++ asked (request.Close (be64 h.number)) (reply.Status Success) ∷ [], (used.made, used.script, refl), refl), whole_call h (reply.Status Success) used.exchanged c)
+    (_, (h.number, used.made ++ asked (request.ByHandle handle_op.Close (be64 h.number)) (reply.Status Success) ∷ [], (used.made, used.script, refl), refl), whole_call h (reply.Status Success) used.exchanged c)
 closes S h (Err first) (Ok t) w used does c = does (record {
   made = _;
-  script = inr (h.number, used.made ++ asked (request.Close (be64 h.number)) (reply.Status Success) ∷ [], (used.made, reply.Status Success, inl used.script, refl), refl);
+  script = inr (h.number, used.made ++ asked (request.ByHandle handle_op.Close (be64 h.number)) (reply.Status Success) ∷ [], (used.made, reply.Status Success, inl used.script, refl), refl);
   exchanged = whole_call h (reply.Status Success) used.exchanged c;
 })
 closes {v = v} {m = m} S h outcome (Err fault.Stream) w used does c = broke_since v m w (omega (arith, h.exchanged.failures, used.exchanged.failures)) c
 closes {opening = opening} {v = v} {m = m} S h outcome (Err fault.Protocol) w used does c =
-    (_, request.Close (be64 h.number), [], unanswered_then v m w _ [] (request.Close (be64 h.number)) [] (exchanged_then v h.client m (asked opening (reply.Handle h.number) ∷ []) used.made h.exchanged used.exchanged) c)
+    (_, request.ByHandle handle_op.Close (be64 h.number), [], unanswered_then v m w _ [] (request.ByHandle handle_op.Close (be64 h.number)) [] (exchanged_then v h.client m (asked opening (reply.Handle h.number) ∷ []) used.made h.exchanged used.exchanged) c)
 closes S h (Ok x) (Err fault.Failed) w used does c = absurd c.1
-closes S h (Ok x) (Err f) w used does c = (_, inr (h.number, used.made ++ asked (request.Close (be64 h.number)) c.0 ∷ [], (used.made, c.0, inr (x, used.script, c.1), refl), refl), whole_call h c.0 used.exchanged c.2)
+closes S h (Ok x) (Err f) w used does c = (_, inr (h.number, used.made ++ asked (request.ByHandle handle_op.Close (be64 h.number)) c.0 ∷ [], (used.made, c.0, inr (x, used.script, c.1), refl), refl), whole_call h c.0 used.exchanged c.2)
 closes S h (Err first) (Err f) w used does c = does (record {
   made = _;
-  script = inr (h.number, used.made ++ asked (request.Close (be64 h.number)) c.0 ∷ [], (used.made, c.0, inl used.script, refl), refl);
+  script = inr (h.number, used.made ++ asked (request.ByHandle handle_op.Close (be64 h.number)) c.0 ∷ [], (used.made, c.0, inl used.script, refl), refl);
   exchanged = whole_call h c.0 used.exchanged c.2;
 })
 

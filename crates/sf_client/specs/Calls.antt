@@ -5,6 +5,7 @@ use Rattle.std.specs.Global.{Vec}
 use Rattle.sf_field.specs.Fields.{be64}
 use Rattle.sf_field.specs.declared.open_flags.OpenFlags.{OpenFlags}
 use Rattle.sf_request.specs.declared.request.WireRequest.{WireRequest}
+use Rattle.sf_field.specs.declared.operation.HandleOp.TheVariants as handle_op
 use Rattle.sf_request.specs.declared.request.WireRequest.TheVariants as request
 use Rattle.sf_reply.specs.declared.reply.Entry.{Entry}
 use Rattle.sf_reply.specs.declared.reply.Reply.{Reply}
@@ -38,10 +39,10 @@ EndsAtLast q last f =
 abbrev pub Closes : {X : Type 0} → (List Exchange → Result X ClientFault → Type 0) → ℕ
     → List Exchange → Result X ClientFault → Type 0
 Closes {X} Script n xs (Ok x) = (ys : List Exchange) × Script ys (Ok x)
-    × (xs ≡ ys ++ asked (request.Close (be64 n)) (reply.Status Success) ∷ [])
+    × (xs ≡ ys ++ asked (request.ByHandle handle_op.Close (be64 n)) (reply.Status Success) ∷ [])
 Closes {X} Script n xs (Err f) = (ys : List Exchange) × (r : Reply)
     × (Script ys (Err f) ⊎ ((x : X) × Script ys (Ok x) × EndsCallBy r f))
-    × (xs ≡ ys ++ asked (request.Close (be64 n)) r ∷ [])
+    × (xs ≡ ys ++ asked (request.ByHandle handle_op.Close (be64 n)) r ∷ [])
 
 -- A request that opens a handle, exchanges with it, and CLOSE. CLOSE is missing only if no handle
 -- was opened.
@@ -77,7 +78,7 @@ to_write = record {
 
 -- READs of 32768 bytes, each from the end of the chunk before
 abbrev pub read_from : ℕ → ℕ → WireRequest
-read_from n offset = request.Read (be64 n) offset 32768
+read_from n offset = request.ByHandle (handle_op.Read offset 32768) (be64 n)
 
 unfoldable pub reads : ℕ → ℕ → List (List ℕ) → List Exchange
 reads n offset [] = []
@@ -113,9 +114,10 @@ size_of _ = 0
 -- the effect of FSTAT; an error status yields 0
 abbrev pub AsksSize : ℕ → ClientView → Result ℕ ClientFault → ClientView → Type 0
 AsksSize n v (Ok size) w =
-    (r : Reply) × (size ≡ size_of r) × Exchanged v (asked (request.FStat (be64 n)) r ∷ []) w
+    (r : Reply) × (size ≡ size_of r)
+    × Exchanged v (asked (request.ByHandle handle_op.FStat (be64 n)) r ∷ []) w
 AsksSize n v (Err f) w = ((code : StatusCode) → f ≢ fault.Status code)
-    × Comes reply.Attrs v (request.FStat (be64 n)) (Err f) w
+    × Comes reply.Attrs v (request.ByHandle handle_op.FStat (be64 n)) (Err f) w
 
 -- the maximum size in bytes of a file to get
 abbrev pub most_gathered : ℕ
@@ -124,15 +126,16 @@ most_gathered = 2 ^ 30
 -- FSTAT returned a larger size.
 abbrev pub IsTooLarge : ℕ → List Exchange → ClientFault → Type 0
 IsTooLarge n xs f = (r : Reply) × (most_gathered < size_of r) × (f ≡ fault.TooLarge (size_of r))
-    × (xs ≡ asked (request.FStat (be64 n)) r ∷ [])
+    × (xs ≡ asked (request.ByHandle handle_op.FStat (be64 n)) r ∷ [])
 
 -- FSTAT and the file's READs; no READs if the size is too large
 abbrev pub ReadsAll : ℕ → List Exchange → Result (List ℕ) ClientFault → Type 0
 ReadsAll n xs (Ok bytes) = (r : Reply) × (ys : List Exchange) × (size_of r ≤ most_gathered)
-    × Reads n ys (Ok bytes) × (xs ≡ asked (request.FStat (be64 n)) r ∷ ys)
-ReadsAll n xs (Err f) = (EndsAtLast (request.FStat (be64 n)) xs f × (f ≡ fault.OutOfMemory))
+    × Reads n ys (Ok bytes) × (xs ≡ asked (request.ByHandle handle_op.FStat (be64 n)) r ∷ ys)
+ReadsAll n xs (Err f) =
+    (EndsAtLast (request.ByHandle handle_op.FStat (be64 n)) xs f × (f ≡ fault.OutOfMemory))
     ⊎ (IsTooLarge n xs f ⊎ ((r : Reply) × (ys : List Exchange) × (size_of r ≤ most_gathered)
-    × Reads n ys (Err f) × (xs ≡ asked (request.FStat (be64 n)) r ∷ ys)))
+    × Reads n ys (Err f) × (xs ≡ asked (request.ByHandle handle_op.FStat (be64 n)) r ∷ ys)))
 
 -- chunks of 32768 bytes, the last one shorter: their number, and the WRITE of the k-th
 abbrev pub count_of_pieces : List ℕ → ℕ
@@ -169,19 +172,21 @@ WritesAll bytes n xs (Err f) =
 unfoldable pub listings : ℕ → List (List Entry) → List Exchange
 listings n [] = []
 listings n (entries ∷ others) =
-    asked (request.ReadDir (be64 n)) (reply.Names entries) ∷ listings n others
+    asked (request.ByHandle handle_op.ReadDir (be64 n)) (reply.Names entries) ∷ listings n others
 
 abbrev pub all_entries : List (List Entry) → List Entry
 all_entries parts = flat_map (λ (entries : List Entry). entries) parts
 
 abbrev pub ListsOn : ℕ → List Exchange → Result (List Entry) ClientFault → Type 0
 ListsOn n xs (Ok entries) = (parts : List (List Entry)) × (entries ≡ all_entries parts)
-    × (xs ≡ listings n parts ++ asked (request.ReadDir (be64 n)) (reply.Status EndOfFile) ∷ [])
+    × (xs ≡ listings n parts
+    ++ asked (request.ByHandle handle_op.ReadDir (be64 n)) (reply.Status EndOfFile) ∷ [])
 ListsOn n xs (Err f) = (parts : List (List Entry)) × (last : List Exchange)
-    × EndsAtLast (request.ReadDir (be64 n)) last f × (xs ≡ listings n parts ++ last)
+    × EndsAtLast (request.ByHandle handle_op.ReadDir (be64 n)) last f
+    × (xs ≡ listings n parts ++ last)
 
 abbrev pub IsListing : ℕ → Exchange → Type 0
-IsListing n x = x.request ≡ request.ReadDir (be64 n)
+IsListing n x = x.request ≡ request.ByHandle handle_op.ReadDir (be64 n)
 
 -- Pipelined READDIRs; the replies after the last that counts were discarded.
 abbrev pub ListsAll : ℕ → List Exchange → Result (List Entry) ClientFault → Type 0
@@ -208,7 +213,8 @@ abbrev pub ClosesAfter : {X : Type 0} → ℕ → Result X ClientFault → Clien
 ClosesAfter n outcome v result w = ((v.failed ≡ true) × (result ≡ outcome) × (w ≡ v))
     ⊎ ((v.failed ≡ false) × (closing : Result (Unit {0}) ClientFault)
     × (result ≡ after_closing outcome closing)
-    × SettlesRequest (λ _. reply.Status Success) v (request.Close (be64 n)) closing w)
+    × SettlesRequest (λ _. reply.Status Success) v (request.ByHandle handle_op.Close (be64 n))
+    closing w)
 
 -- EOF is not an error here: it ends the data
 abbrev pub ended_by : {X : Type 0} → Option ClientFault → X → Result X ClientFault

@@ -1,6 +1,8 @@
 -- The reply that a request expects.
 use Rattle.std.specs.Prelude.{◌≡◌, length, Bool, true, false, Option, Some, None, is_some, nat_lt, nat_le, ◌&&◌, ◌||◌}
 use Rattle.sf_request.specs.declared.request.WireRequest.{WireRequest}
+use Rattle.sf_field.specs.declared.operation.PathOp.TheVariants as path_op
+use Rattle.sf_field.specs.declared.operation.HandleOp.TheVariants as handle_op
 use Rattle.sf_request.specs.declared.request.WireRequest.TheVariants as request
 use Rattle.sf_reply.specs.declared.reply.Reply.{Reply}
 use Rattle.sf_reply.specs.declared.reply.Reply.TheVariants as reply
@@ -12,14 +14,14 @@ use Rattle.sf_client.specs.declared.pending.PendingReply.TheVariants as pending
 
 -- the kind of reply to a successful request
 abbrev pub pending_of : WireRequest → PendingReply
-pending_of (request.Open filename flags attrs) = pending.Handle
-pending_of (request.OpenDir path) = pending.Handle
-pending_of (request.Read handle offset len) = pending.Data len
-pending_of (request.ReadDir handle) = pending.Names
+pending_of (request.OnPath (path_op.Open flags attrs) filename) = pending.Handle
+pending_of (request.OnPath path_op.OpenDir path) = pending.Handle
+pending_of (request.ByHandle (handle_op.Read offset len) handle) = pending.Data len
+pending_of (request.ByHandle handle_op.ReadDir handle) = pending.Names
 pending_of (request.RealPath path) = pending.Names
 pending_of (request.LStat path) = pending.Attrs
-pending_of (request.FStat handle) = pending.Attrs
-pending_of (request.Stat path) = pending.Attrs
+pending_of (request.ByHandle handle_op.FStat handle) = pending.Attrs
+pending_of (request.OnPath path_op.Stat path) = pending.Attrs
 pending_of _ = pending.Success
 
 -- Whether the reply is of the expected kind: `SSH_FX_OK`, a handle, at least one and at most `most`

@@ -5,7 +5,8 @@ ghost use Rattle.std.specs.Io.KnownBytes.{Consumes};
 ghost use Rattle.sf_line.specs.Lines.{Rose};
 ghost use Rattle.sf_field.specs.Fields.{be64, packet};
 ghost use Rattle.sf_request.specs.declared.request.WireRequest.{WireRequest};
-ghost use Rattle.sf_request.specs.declared.request.WireRequest.TheVariants.{Close};
+ghost use Rattle.sf_field.specs.declared.operation.HandleOp.TheVariants as handle_op;
+ghost use Rattle.sf_request.specs.declared.request.WireRequest.TheVariants.{ByHandle};
 ghost use Rattle.sf_request.specs.Requests.{request_body};
 ghost use Rattle.sf_reply.specs.declared.reply.Reply.TheVariants.{Status};
 ghost use Rattle.sf_reply.specs.declared.reply.StatusCode.TheVariants.{Success};
@@ -281,8 +282,8 @@ impl<L: Line + Drop> Client<L> {
     /// Closes a handle. Sending CLOSE doesn't allocate.
     pub(crate) fn close(&mut self, handle: u64) -> Result<(), ClientFault>
         requires { self.old.failed ≡ false }
-        ensures { SettlesRequest (λ _. Status Success) self.old (Close (be64 handle))
-            result self.new }
+        ensures { SettlesRequest (λ _. Status Success) self.old
+            (ByHandle handle_op.Close (be64 handle)) result self.new }
     {
         let packet = close_packet(self.next, handle);
         self.settle(&packet, PendingReply::Success)?;

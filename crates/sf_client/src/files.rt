@@ -4,6 +4,8 @@ ghost use Rattle.std.specs.Prelude.{◌≡◌, ◌+◌, ◌<◌, ◌≤◌, ◌^
 ghost use Rattle.sf_field.specs.Fields.{be64};
 ghost use Rattle.sf_reply.specs.declared.reply.StatusCode.TheVariants.{Success};
 ghost use Rattle.sf_field.specs.Attributes.{no_attrs};
+ghost use Rattle.sf_field.specs.declared.operation.PathOp.TheVariants as path_op;
+ghost use Rattle.sf_field.specs.declared.operation.HandleOp.TheVariants as handle_op;
 ghost use Rattle.sf_request.specs.declared.request.WireRequest.TheVariants as request;
 ghost use Rattle.sf_request.specs.Requests.{request_body};
 ghost use Rattle.sf_reply.specs.declared.reply.Reply.TheVariants as reply;
@@ -16,7 +18,7 @@ use crate::ahead::Ahead;
 use crate::client::Client;
 use crate::fault::ClientFault;
 use crate::pending::PendingReply;
-use sf_field::{ByteString, NO_ATTRS, OpenFlags};
+use sf_field::{ByteString, HandleOp, NO_ATTRS, OpenFlags, PathOp};
 use sf_line::Line;
 use sf_reply::{Entry, Listing, Reply, StatusCode};
 use sf_request::{ByteStr, WireRequest};
@@ -133,8 +135,8 @@ impl<L: Line + Drop> Client<L> {
         ensures { AsksSize handle self.old result self.new }
     {
         let number = handle.to_be_bytes();
-        let handle = ByteStr::new(&number);
-        let attrs = match self.exchange(&WireRequest::FStat { handle }, PendingReply::Attrs) {
+        let request = WireRequest::ByHandle(HandleOp::FStat, ByteStr::new(&number));
+        let attrs = match self.exchange(&request, PendingReply::Attrs) {
             Ok(Reply::Attrs(attrs)) => attrs,
             Ok(_) => unreachable!(),
             Err(ClientFault::Status(_)) => return Ok(0),
@@ -155,13 +157,8 @@ impl<L: Line + Drop> Client<L> {
             (sender self.new ahead.new) }
     {
         let number = handle.to_be_bytes();
-        let handle = ByteStr::new(&number);
-        let request = WireRequest::Read {
-            handle,
-            offset,
-            len: 32768,
-        };
-        self.send_on(ahead, &request)
+        let op = HandleOp::Read { offset, len: 32768 };
+        self.send_on(ahead, &WireRequest::ByHandle(op, ByteStr::new(&number)))
     }
 
     /// Receives the data of a READ.
@@ -281,12 +278,12 @@ impl<L: Line + Drop> Client<L> {
     /// Sends a READDIR.
     fn ask_names(&mut self, ahead: &mut Ahead, handle: u64) -> Result<bool, ClientFault>
         requires { ahead.old.waiting < most_ahead }
-        ensures { SendsOn (sender self.old ahead.old) (request.ReadDir (be64 handle)) result
-            (sender self.new ahead.new) }
+        ensures { SendsOn (sender self.old ahead.old) (request.ByHandle handle_op.ReadDir (be64 handle))
+            result (sender self.new ahead.new) }
     {
         let number = handle.to_be_bytes();
-        let handle = ByteStr::new(&number);
-        self.send_on(ahead, &WireRequest::ReadDir { handle })
+        let request = WireRequest::ByHandle(HandleOp::ReadDir, ByteStr::new(&number));
+        self.send_on(ahead, &request)
     }
 
     /// Receives the names of a READDIR.
@@ -327,31 +324,28 @@ impl<L: Line + Drop> Client<L> {
     /// Opens a file.
     fn open_file(&mut self, path: &[u8], flags: OpenFlags) -> Result<u64, ClientFault>
         requires { length path.now < 2 ^ 31 }
-        ensures { Comes reply.Handle self.old (request.Open path.now flags no_attrs) result
-            self.new }
+        ensures { Comes reply.Handle self.old
+            (request.OnPath (path_op.Open flags no_attrs) path.now) result self.new }
     {
-        let filename = ByteStr::new(path);
-        self.open(&WireRequest::Open {
-            filename,
-            flags,
-            attrs: NO_ATTRS,
-        })
+        let op = PathOp::Open(flags, NO_ATTRS);
+        self.open(&WireRequest::OnPath(op, ByteStr::new(path)))
     }
 
     /// Opens a directory.
     fn open_directory(&mut self, path: &[u8]) -> Result<u64, ClientFault>
         requires { length path.now < 2 ^ 31 }
-        ensures { Comes reply.Handle self.old (request.OpenDir path.now) result self.new }
+        ensures { Comes reply.Handle self.old (request.OnPath path_op.OpenDir path.now) result
+            self.new }
     {
-        let path = ByteStr::new(path);
-        self.open(&WireRequest::OpenDir { path })
+        self.open(&WireRequest::OnPath(PathOp::OpenDir, ByteStr::new(path)))
     }
 
     /// Reads a whole file. It returns `TooLarge` if the server reports a size above 2^30 bytes.
     pub fn get(&mut self, path: &[u8]) -> Result<Vec<u8>, ClientFault>
         requires { length path.now < 2 ^ 31 }
-        ensures { DoesCall (ByHandle (request.Open path.now to_read no_attrs) ReadsAll) self.old
-            (items_of result) self.new }
+        ensures { DoesCall
+            (ByHandle (request.OnPath (path_op.Open to_read no_attrs) path.now) ReadsAll)
+            self.old (items_of result) self.new }
     {
         let handle = self.open_file(path, TO_READ)?;
         let bytes = self.read_all(handle);
@@ -362,7 +356,8 @@ impl<L: Line + Drop> Client<L> {
     pub fn put(&mut self, path: &[u8], bytes: &[u8]) -> Result<(), ClientFault>
         requires { length path.now < 2 ^ 31 }
         ensures { DoesCall
-            (ByHandle (request.Open path.now to_write no_attrs) (WritesAll bytes.now))
+            (ByHandle (request.OnPath (path_op.Open to_write no_attrs) path.now)
+            (WritesAll bytes.now))
             self.old result self.new }
     {
         let handle = self.open_file(path, TO_WRITE)?;
@@ -373,8 +368,8 @@ impl<L: Line + Drop> Client<L> {
     /// Lists a directory.
     pub fn list(&mut self, path: &[u8]) -> Result<Vec<Entry>, ClientFault>
         requires { length path.now < 2 ^ 31 }
-        ensures { DoesCall (ByHandle (request.OpenDir path.now) ListsAll) self.old
-            (items_of result) self.new }
+        ensures { DoesCall (ByHandle (request.OnPath path_op.OpenDir path.now) ListsAll)
+            self.old (items_of result) self.new }
     {
         let handle = self.open_directory(path)?;
         let entries = self.list_all(handle);

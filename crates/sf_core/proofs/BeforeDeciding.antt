@@ -96,11 +96,11 @@ pub record Prepared (p m : PartsView) (h : List Record) (c : Call) (ways : Ways)
 
 -- a rename and a link change no file's bytes
 no_handle_by : (r : Request) (number : ℕ) (old new : Path) → target_of r ≡ OnPaths old new → file_handle r ≡ Some number → ⊥
-no_handle_by (request.Stat path) number old new e f = cc
+no_handle_by (request.OnPath op path) number old new e f = cc
 no_handle_by _ number old new e f = cc
 
 no_cut_by : (r : Request) (old new : Path) → target_of r ≡ OnPaths old new → cuts_file r ≡ true → ⊥
-no_cut_by (request.Stat path) old new e f = cc
+no_cut_by (request.OnPath op path) old new e f = cc
 no_cut_by _ old new e f = cc
 
 settled_paths : (s : StoreState) (session : ℕ) (r : Request) (found : Located) (old new : Path) → target_of r ≡ OnPaths old new → IsSettled s session r found

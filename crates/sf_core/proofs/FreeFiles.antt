@@ -8,6 +8,7 @@ use Rattle.sf_call.specs.declared.call.Stage.{Stage}
 use Rattle.sf_call.specs.declared.call.Stage.TheVariants as stage
 use Rattle.sf_call.specs.declared.record.Record.{Record}
 use Rattle.sf_call.specs.declared.request.Request.{Request}
+use Rattle.sf_field.specs.declared.operation.PathOp.TheVariants as path_op
 use Rattle.sf_call.specs.declared.request.Request.TheVariants as request
 use Rattle.sf_call.specs.declared.metadata.Metadata.{Metadata}
 use Rattle.sf_call.specs.Attributes.{Object}
@@ -76,7 +77,7 @@ no_path_moved : (g after : Stage) → IsPosition NoPath after → AdvancesOne g 
 no_path_moved g after is on = walked_on g after on (only_fresh NoPath after refl is)
 
 pub handle_route : (r : Request) (number : ℕ) → file_handle r ≡ Some number → route_of r ≡ NoPath
-handle_route (request.Stat path) number e = cc
+handle_route (request.OnPath op path) number e = cc
 handle_route _ number e = cc
 
 pub no_handle_moved : (r : Request) (g after : Stage) → IsPosition (route_of r) after → AdvancesOne g after → (number : ℕ) → file_handle r ≡ Some number → ⊥
@@ -104,8 +105,8 @@ module _ (p : PartsView) (h : List Record) (sound : Sound p h) (c : Call) (at : 
   by_path ways (x ∷ path) w free parent node there = left_free node (subst (λ (f : Located). IsFreeThere (holder_of p.store.nodes) c.number f) there free)
 
   on_path_by : (r : Request) (ways : Ways) → AreWays p.store (route_of r) ways → AreFree (holder_of p.store.nodes) c.number (route_of r) ways → (parent node : ℕ) → cuts_file r ≡ true → ways.path ≡ located.At parent node → blocks_left_at p.store.nodes node ≡ 0
-  on_path_by (request.SetStat path attrs) ways w free parent node cuts there = by_path ways path w free parent node there
-  on_path_by (request.Open path flags attrs) ways w free parent node cuts there = by_path ways path w free parent node there
+  on_path_by (request.OnPath (path_op.SetStat attrs) path) ways w free parent node cuts there = by_path ways path w free parent node there
+  on_path_by (request.OnPath (path_op.Open flags attrs) path) ways w free parent node cuts there = by_path ways path w free parent node there
   on_path_by _ ways w free parent node cuts there = cc
 
   -- so a call that is decided finds its files complete

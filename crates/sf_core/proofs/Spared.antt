@@ -6,6 +6,8 @@ use Rattle.std.proofs.Common.{sym, ap, subst, ◌∙◌, inl, inr}
 use Rattle.sf_path.specs.Names.{Path}
 use Rattle.sf_reply.specs.declared.reply.Reply.{Reply}
 use Rattle.sf_call.specs.declared.request.Request.{Request}
+use Rattle.sf_field.specs.declared.operation.PathOp.TheVariants as path_op
+use Rattle.sf_field.specs.declared.operation.PairOp.TheVariants as pair_op
 use Rattle.sf_call.specs.declared.request.Request.TheVariants as request
 use Rattle.sf_call.specs.declared.record.Record.{Record}
 use Rattle.sf_call.specs.declared.record.Record.TheVariants.{Did}
@@ -42,27 +44,27 @@ use Rattle.sf_core.proofs.Maps.{by_test}
 
 -- the paths that a rename changes begin with one of its paths
 pub own_either : (r : Request) (old new q : Path) → target_of r ≡ OnPaths old new → IsOwnPath r q → IsSome (after_front old q) ⊎ IsSome (after_front new q)
-own_either (request.Rename a b) old new q e own = let f : a ≡ old = cc in let g : b ≡ new = cc in rw (← f, ← g) own
-own_either (request.PosixRename a b) old new q e own = let f : a ≡ old = cc in let g : b ≡ new = cc in rw (← f, ← g) own
-own_either (request.Link a b) old new q e own = let g : new ≡ q = cc in inr (rw (g, front_itself q) refl)
+own_either (request.OnPaths pair_op.Rename a b) old new q e own = let f : a ≡ old = cc in let g : b ≡ new = cc in rw (← f, ← g) own
+own_either (request.OnPaths pair_op.PosixRename a b) old new q e own = let f : a ≡ old = cc in let g : b ≡ new = cc in rw (← f, ← g) own
+own_either (request.OnPaths pair_op.Link a b) old new q e own = let g : new ≡ q = cc in inr (rw (g, front_itself q) refl)
 own_either _ old new q e own = cc
 
 -- a request on one path has this path
 own_is : (r : Request) (q path : Path) → target_of r ≡ OnPath path → IsOwnPath r q → q ≡ path
-own_is (request.Stat p) q path e own = absurd own
+own_is (request.OnPath path_op.Stat p) q path e own = absurd own
 own_is _ q path e own = first_of (cc, search own)
 
 -- a call by handle has no path
 by_handle : (r : Request) (handle : ℕ) (q : Path) → target_of r ≡ ByHandle handle → IsOwnPath r q → ⊥
-by_handle (request.Stat p) h q e own = own
+by_handle (request.OnPath op p) h q e own = cc
 by_handle _ h q e own = first_of (cc, search own)
 
 -- no call on the root's path changes the root's label
 root_by : (t : Tree) (session number moment : ℕ) (r : Request) → target_of r ≡ OnPath [] → label_at (apply t session number moment r).tree.names [] ≡ label_at t.names []
-root_by t session number moment (request.Mkdir [] attrs) e = refl
-root_by t session number moment (request.Rmdir []) e = refl
-root_by t session number moment (request.Remove []) e = refl
-root_by t session number moment (request.Open [] flags attrs) e = refl
+root_by t session number moment (request.OnPath (path_op.Mkdir attrs) []) e = refl
+root_by t session number moment (request.OnPath path_op.Rmdir []) e = refl
+root_by t session number moment (request.OnPath path_op.Remove []) e = refl
+root_by t session number moment (request.OnPath (path_op.Open flags attrs) []) e = refl
 root_by t session number moment r e = other_labels t session number moment r [] (λ own. first_of (cc, search own))
 
 -- an inode that path resolution finds is located there

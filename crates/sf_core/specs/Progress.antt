@@ -28,8 +28,10 @@ waiting_reply c = c.reply
 
 -- whether a call is a WRITE
 abbrev pub is_write : Request → Bool
+is_write (request.OnPath op path) = false
+is_write (request.OnPaths op old new) = false
+is_write (request.ByHandle op handle) = false
 is_write (request.Write handle offset bytes) = true
-is_write other = false
 
 -- Whether a session's call is decided as it begins: it looks up nothing, is no WRITE, and no call
 -- holds a file that it reads or sets.
@@ -40,8 +42,10 @@ is_at_once s session request =
 
 -- the most blocks that a call copies: those of a WRITE's data, at any offset
 abbrev pub blocks_in : Request → ℕ
+blocks_in (request.OnPath op path) = 0
+blocks_in (request.OnPaths op old new) = 0
+blocks_in (request.ByHandle op handle) = 0
 blocks_in (request.Write handle offset bytes) = most_blocks bytes
-blocks_in other = 0
 
 -- the most steps that a call takes, without those in which it is blocked
 unfoldable pub bound_of : Request → ℕ
@@ -117,8 +121,10 @@ did c given = Did c.number c.session c.moment c.request given
 -- A call on a path may be helped by another call, and a WRITE's record is written before its last
 -- block. So these calls have a second copy of their request.
 abbrev pub copy_by_handle : Request → Option Request
+copy_by_handle (request.OnPath op path) = None
+copy_by_handle (request.OnPaths op old new) = None
+copy_by_handle (request.ByHandle op handle) = None
 copy_by_handle (request.Write handle offset bytes) = Some (request.Write handle offset bytes)
-copy_by_handle other = None
 
 abbrev pub copy_of : Route → Request → Option Request
 copy_of NoPath request = copy_by_handle request

@@ -3,6 +3,7 @@
 
 use sf_block::allowance;
 use sf_call::Request;
+use sf_field::{PairOp, PathOp};
 use std::alloc::Global;
 
 /// Bytes that calls may take before the first check.
@@ -48,9 +49,9 @@ impl Room {
 /// The bytes that a call may take for good.
 fn bytes_of(request: &Request) -> usize {
     match request {
+        Request::OnPath(PathOp::Open(flags, _), _) if flags.create => NAME,
+        Request::OnPath(PathOp::Mkdir(_), _) | Request::OnPaths(PairOp::Link, _, _) => NAME,
         Request::Write { data, .. } => data.len().saturating_add(NAME + BLOCK),
-        Request::Open(_, flags, _) if flags.create => NAME,
-        Request::Mkdir(..) | Request::Link(..) => NAME,
         _ => 0,
     }
 }

@@ -1,15 +1,15 @@
 -- The calls of an engine together have few steps left, as paths are short and sessions are few.
-use Rattle.std.proofs.Common.{is_none, ◌≡◌, ℕ, zero, suc, ◌+◌, ◌-◌, ◌*◌, ◌^◌, ◌≤◌, ◌<◌, List, [], ◌∷◌, ◌++◌, Bool, true, false, Option, Some, None, cond, slice_get, length, map, refl, ap, sym, ◌∙◌, subst, arith, length-append}
+use Rattle.std.proofs.Common.{is_none, ◌≡◌, ℕ, ◌+◌, ◌^◌, ◌≤◌, ◌<◌, List, [], ◌∷◌, ◌++◌, Bool, true, false, Option, Some, None, cond, length, refl, ap, sym, ◌∙◌, subst, arith, length-append}
 use Rattle.std.specs.Prelude.{nat_lt, ◌==◌, if◌then◌else◌, option_map, option_and_then}
-use Rattle.std.specs.List.{sum_by, count_by, flat_map, list_any}
+use Rattle.std.specs.List.{flat_map, list_any}
 use Rattle.std.proofs.lemmas.Bool.{ltb-false}
-use Rattle.std.proofs.lemmas.List.Sums.{sum_by-cons}
 use Rattle.sf_path.specs.Names.{Path, slashed, text_of}
 use Rattle.sf_path.specs.Normal.{parts, norm, fault_of}
 use Rattle.sf_path.specs.declared.fault.PathFault.{PathFault}
 use Rattle.sf_path.specs.declared.fault.PathFault.TheVariants.{TooLong, NameTooLong, NulByte}
 use Rattle.sf_path.proofs.Laws.{length-text_of-norm}
 use Rattle.sf_request.specs.declared.request.WireRequest.{WireRequest}
+use Rattle.sf_field.specs.declared.operation.PathOp.TheVariants as path_op
 use Rattle.sf_request.specs.declared.request.WireRequest.TheVariants as wire
 use Rattle.sf_request.specs.declared.request.Asked.{Asked}
 use Rattle.sf_request.specs.declared.request.Asked.TheVariants as asked
@@ -24,7 +24,7 @@ use Rattle.sf_session.specs.Asking.{path_at, handle_number, call_of, failure, re
 use Rattle.sf_request.specs.Requests.{Asks, RequestFits}
 use Rattle.sf_request.proofs.Laws.{asked_fits}
 use Rattle.sf_core.specs.Progress.{bound_of, blocks_in}
-use Rattle.sf_session.specs.Responses.{ask_behind, AreAsked}
+use Rattle.sf_session.specs.Responses.{AreAsked}
 use Rattle.sf_engine.specs.Promise.{most_steps}
 use Rattle.std.specs.Option.{option_map_or}
 use Rattle.sf_session.specs.declared.local_reply.LocalReply.TheVariants.{Plain}
@@ -90,24 +90,12 @@ write_short offset bytes None short = tt
 write_short offset bytes (Some handle) short = omega (arith, short)
 
 call_short : (request : WireRequest) → RequestFits request → IsShortCall (call_of request)
-call_short (wire.Open text flags attrs) fits = one_path (λ path. call.Open path flags attrs) (λ path. omega arith) (path_at text) (path_short text)
-call_short (wire.LStat text) fits = one_path call.Stat (λ path. omega arith) (path_at text) (path_short text)
-call_short (wire.SetStat text attrs) fits = one_path (λ path. call.SetStat path attrs) (λ path. omega arith) (path_at text) (path_short text)
-call_short (wire.OpenDir text) fits = one_path call.OpenDir (λ path. omega arith) (path_at text) (path_short text)
-call_short (wire.Remove text) fits = one_path call.Remove (λ path. omega arith) (path_at text) (path_short text)
-call_short (wire.Mkdir text attrs) fits = one_path (λ path. call.Mkdir path attrs) (λ path. omega arith) (path_at text) (path_short text)
-call_short (wire.Rmdir text) fits = one_path call.Rmdir (λ path. omega arith) (path_at text) (path_short text)
-call_short (wire.RealPath text) fits = tt
-call_short (wire.Stat text) fits = one_path call.Stat (λ path. omega arith) (path_at text) (path_short text)
-call_short (wire.Rename old new) fits = two_paths call.Rename (λ a b. omega arith) (path_at old) (path_at new) (path_short old) (path_short new)
-call_short (wire.PosixRename old new) fits = two_paths call.PosixRename (λ a b. omega arith) (path_at old) (path_at new) (path_short old) (path_short new)
-call_short (wire.Link old new) fits = two_paths call.Link (λ a b. omega arith) (path_at old) (path_at new) (path_short old) (path_short new)
-call_short (wire.Close handle) fits = by_handle call.Close (λ n. omega arith) (handle_number handle)
-call_short (wire.Read handle offset len) fits = by_handle (λ n. call.Read n offset len) (λ n. omega arith) (handle_number handle)
+call_short (wire.OnPath op text) fits = one_path (call.OnPath op) (λ path. omega arith) (path_at text) (path_short text)
+call_short (wire.OnPaths op old new) fits = two_paths (call.OnPaths op) (λ a b. omega arith) (path_at old) (path_at new) (path_short old) (path_short new)
+call_short (wire.ByHandle op handle) fits = by_handle (call.ByHandle op) (λ n. omega arith) (handle_number handle)
 call_short (wire.Write handle offset bytes) fits = write_short offset bytes (handle_number handle) fits.2
-call_short (wire.FStat handle) fits = by_handle call.FStat (λ n. omega arith) (handle_number handle)
-call_short (wire.FSetStat handle attrs) fits = by_handle (λ n. call.FSetStat n attrs) (λ n. omega arith) (handle_number handle)
-call_short (wire.ReadDir handle) fits = by_handle call.ReadDir (λ n. omega arith) (handle_number handle)
+call_short (wire.LStat text) fits = one_path (call.OnPath path_op.Stat) (λ path. omega arith) (path_at text) (path_short text)
+call_short (wire.RealPath text) fits = tt
 
 call_ask_short : (id : ℕ) (o : Option Request) → IsShortCall o → IsShortAsk (option_map_or (ask.Call id) o (failure id))
 call_ask_short id None h = tt
@@ -161,19 +149,7 @@ pub most_is : (q : Request) → bound_of q ≡ most_steps q
 most_is q = bound_is q ∙ names_are q
   where
     names_are : (q : Request) → request_names q + 3 + blocks_in q ≡ most_steps q
-    names_are (call.Stat path) = omega arith
-    names_are (call.SetStat path attrs) = omega arith
-    names_are (call.Mkdir path attrs) = omega arith
-    names_are (call.Rmdir path) = omega arith
-    names_are (call.Remove path) = omega arith
-    names_are (call.OpenDir path) = omega arith
-    names_are (call.Open path flags attrs) = omega arith
-    names_are (call.Rename old new) = omega arith
-    names_are (call.PosixRename old new) = omega arith
-    names_are (call.Link old new) = omega arith
+    names_are (call.OnPath op path) = omega arith
+    names_are (call.OnPaths op old new) = omega arith
+    names_are (call.ByHandle op handle) = refl
     names_are (call.Write handle offset bytes) = refl
-    names_are (call.Close handle) = refl
-    names_are (call.FStat handle) = refl
-    names_are (call.FSetStat handle attrs) = refl
-    names_are (call.Read handle offset len) = refl
-    names_are (call.ReadDir handle) = refl

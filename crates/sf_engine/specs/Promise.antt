@@ -246,18 +246,10 @@ IsDueAfter _ closed bodies rest due = Unit {0}
 -- the most steps of a call, without those in which it is blocked: three, one for each component of
 -- its paths, and one for each block of a WRITE and one more
 abbrev pub most_steps : Request → ℕ
-most_steps (request.Stat path) = length path + 3
-most_steps (request.SetStat path attrs) = length path + 3
-most_steps (request.Mkdir path attrs) = length path + 3
-most_steps (request.Rmdir path) = length path + 3
-most_steps (request.Remove path) = length path + 3
-most_steps (request.OpenDir path) = length path + 3
-most_steps (request.Open path flags attrs) = length path + 3
-most_steps (request.Rename old new) = length old + length new + 3
-most_steps (request.PosixRename old new) = length old + length new + 3
-most_steps (request.Link old new) = length old + length new + 3
+most_steps (request.OnPath op path) = length path + 3
+most_steps (request.OnPaths op old new) = length old + length new + 3
+most_steps (request.ByHandle op handle) = 3
 most_steps (request.Write handle offset bytes) = 3 + ((length bytes + 4095) / 4096 + 1)
-most_steps _ = 3
 
 -- a pending call has moved fewer times
 abbrev pub HasFewMoves : Due → ℕ → Type 0

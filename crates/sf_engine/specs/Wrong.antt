@@ -6,6 +6,7 @@ use Rattle.sf_reply.specs.declared.reply.Reply.{Reply}
 use Rattle.sf_reply.specs.declared.reply.Reply.TheVariants as reply
 use Rattle.sf_reply.specs.declared.reply.StatusCode.TheVariants.{Success, Failure}
 use Rattle.sf_call.specs.declared.request.Request.{Request}
+use Rattle.sf_field.specs.declared.operation.PathOp.TheVariants as path_op
 use Rattle.sf_call.specs.declared.request.Request.TheVariants as request
 use Rattle.sf_call.specs.declared.record.Record.{Record}
 use Rattle.sf_call.specs.declared.record.Record.TheVariants.{Did}
@@ -20,7 +21,7 @@ abbrev pub init_packet : List ℕ
 init_packet = 0 ∷ 0 ∷ 0 ∷ 5 ∷ 1 ∷ 0 ∷ 0 ∷ 0 ∷ 3 ∷ []
 
 abbrev pub mkdir : Request
-mkdir = request.Mkdir (a ∷ []) no_attrs
+mkdir = request.OnPath (path_op.Mkdir no_attrs) (a ∷ [])
 
 abbrev pub succeeded : Reply
 succeeded = reply.Status Success

@@ -2,6 +2,7 @@
 
 use sf_book::Book;
 use sf_call::{Record, Request};
+use sf_field::HandleOp;
 use sf_reply::{Reply, StatusCode};
 use std::test::*;
 
@@ -11,7 +12,7 @@ fn close(number: u64) -> Record {
         number,
         session: 1,
         moment: 100,
-        request: Request::Close(9),
+        request: Request::ByHandle(HandleOp::Close, 9),
         reply: Reply::Status(StatusCode::Success),
     }
 }

@@ -1,7 +1,7 @@
 //! The slow tree: one request of each kind.
 
 use sf_call::Request;
-use sf_field::{Attrs, ByteString, NO_ATTRS, OpenFlags, Owner, Times};
+use sf_field::{Attrs, ByteString, HandleOp, NO_ATTRS, OpenFlags, Owner, PairOp, PathOp, Times};
 use sf_path::Path;
 use sf_plain::PlainTree;
 use sf_reply::{Reply, StatusCode};
@@ -64,8 +64,10 @@ fn attrs(size: u64, permissions: u32) -> Attrs {
 
 /// Makes `/d`, and opens `/d/f` as handle 2.
 fn makes_a_file(rt: &impl Abort, alloc: Global, plain: &mut Plain) -> Result<(), Fail> {
-    plain.succeeds(rt, Request::Mkdir(path(alloc, b"/d")?, NO_ATTRS));
-    let opened = Request::Open(path(alloc, b"/d/f")?, OpenFlags::from_bits(FLAGS), NO_ATTRS);
+    let made = Request::OnPath(PathOp::Mkdir(NO_ATTRS), path(alloc, b"/d")?);
+    plain.succeeds(rt, made);
+    let open = PathOp::Open(OpenFlags::from_bits(FLAGS), NO_ATTRS);
+    let opened = Request::OnPath(open, path(alloc, b"/d/f")?);
     plain.replies(rt, opened, Reply::Handle(2));
     let written = Request::Write {
         handle: 2,
@@ -73,11 +75,7 @@ fn makes_a_file(rt: &impl Abort, alloc: Global, plain: &mut Plain) -> Result<(),
         data: ByteString::from_slice(alloc, b"abc")?,
     };
     plain.succeeds(rt, written);
-    let read = Request::Read {
-        handle: 2,
-        offset: 1,
-        len: 9,
-    };
+    let read = Request::ByHandle(HandleOp::Read { offset: 1, len: 9 }, 2);
     let data = ByteString::from_slice(alloc, b"bc")?;
     plain.replies(rt, read, Reply::Data(data));
     Ok(())
@@ -85,33 +83,40 @@ fn makes_a_file(rt: &impl Abort, alloc: Global, plain: &mut Plain) -> Result<(),
 
 /// Sets the size of the file by its handle and by its path.
 fn resizes(rt: &impl Abort, alloc: Global, plain: &mut Plain) -> Result<(), Fail> {
-    plain.replies(rt, Request::FStat(2), Reply::Attrs(attrs(3, 0o100644)));
-    plain.succeeds(rt, Request::FSetStat(2, sized(2)));
-    let resized = Request::SetStat(path(alloc, b"/d/f")?, sized(5));
+    let stat = Request::ByHandle(HandleOp::FStat, 2);
+    plain.replies(rt, stat, Reply::Attrs(attrs(3, 0o100644)));
+    let resized = Request::ByHandle(HandleOp::FSetStat(sized(2)), 2);
     plain.succeeds(rt, resized);
-    let stat = Request::Stat(path(alloc, b"/d/f")?);
+    let resized = Request::OnPath(PathOp::SetStat(sized(5)), path(alloc, b"/d/f")?);
+    plain.succeeds(rt, resized);
+    let stat = Request::OnPath(PathOp::Stat, path(alloc, b"/d/f")?);
     plain.replies(rt, stat, Reply::Attrs(attrs(5, 0o100644)));
     Ok(())
 }
 
 /// Opens `/d` as handle 9. The file gets one more name, and loses it.
 fn renames_and_removes(rt: &impl Abort, alloc: Global, plain: &mut Plain) -> Result<(), Fail> {
-    let opened = Request::OpenDir(path(alloc, b"/d")?);
+    let opened = Request::OnPath(PathOp::OpenDir, path(alloc, b"/d")?);
     plain.replies(rt, opened, Reply::Handle(9));
-    let linked = Request::Link(path(alloc, b"/d/f")?, path(alloc, b"/g")?);
+    let linked = Request::OnPaths(PairOp::Link, path(alloc, b"/d/f")?, path(alloc, b"/g")?);
     plain.succeeds(rt, linked);
-    let renamed = Request::Rename(path(alloc, b"/g")?, path(alloc, b"/d/h")?);
+    let renamed = Request::OnPaths(PairOp::Rename, path(alloc, b"/g")?, path(alloc, b"/d/h")?);
     plain.succeeds(rt, renamed);
-    match plain.ask(rt, Request::ReadDir(9)) {
+    match plain.ask(rt, Request::ByHandle(HandleOp::ReadDir, 9)) {
         Reply::Names(names) => assert_eq!(rt; names.as_slice().len(), 2),
         reply => panic!(rt; "{reply:?}"),
     }
-    let renamed = Request::PosixRename(path(alloc, b"/d/h")?, path(alloc, b"/d/i")?);
+    let renamed = Request::OnPaths(
+        PairOp::PosixRename,
+        path(alloc, b"/d/h")?,
+        path(alloc, b"/d/i")?,
+    );
     plain.succeeds(rt, renamed);
-    plain.succeeds(rt, Request::Remove(path(alloc, b"/d/i")?));
-    let removed = Request::Rmdir(path(alloc, b"/d")?);
+    let removed = Request::OnPath(PathOp::Remove, path(alloc, b"/d/i")?);
+    plain.succeeds(rt, removed);
+    let removed = Request::OnPath(PathOp::Rmdir, path(alloc, b"/d")?);
     plain.replies(rt, removed, Reply::Status(StatusCode::Failure));
-    plain.succeeds(rt, Request::Close(2));
+    plain.succeeds(rt, Request::ByHandle(HandleOp::Close, 2));
     Ok(())
 }
 
@@ -132,8 +137,9 @@ fn each_kind_of_request(rt: HostRuntime) -> Result<(), Fail> {
     };
     copy.tree.leave(1);
     let failure = Reply::Status(StatusCode::Failure);
-    copy.replies(&rt, Request::FStat(9), failure);
-    plain.replies(&rt, Request::FStat(9), Reply::Attrs(attrs(0, 0o40755)));
+    copy.replies(&rt, Request::ByHandle(HandleOp::FStat, 9), failure);
+    let stat = Request::ByHandle(HandleOp::FStat, 9);
+    plain.replies(&rt, stat, Reply::Attrs(attrs(0, 0o40755)));
     assert_eq!(rt; copy.tree.object_count(), 3);
     assert_eq!(rt; plain.tree.leaves()?.len(), 3);
     Ok(())

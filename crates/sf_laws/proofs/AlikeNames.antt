@@ -10,7 +10,8 @@ use Rattle.sf_path.specs.Order.{path_cmp, path_total, same_path}
 use Rattle.sf_field.specs.declared.attrs.Attrs.{Attrs}
 use Rattle.sf_field.specs.declared.open_flags.OpenFlags.{OpenFlags}
 use Rattle.sf_call.specs.declared.record.Record.{Record}
-use Rattle.sf_call.specs.declared.request.Request.TheVariants.{Stat, SetStat, OpenDir, Open}
+use Rattle.sf_field.specs.declared.operation.PathOp.TheVariants as path_op
+use Rattle.sf_call.specs.declared.request.Request.TheVariants.{OnPath}
 use Rattle.sf_call.specs.declared.lookup.Lookup.{Lookup}
 use Rattle.sf_call.specs.declared.lookup.Lookup.TheVariants.{NoWay, At}
 use Rattle.sf_call.specs.Tree.{Tree, label_at, links, lookup_of, look_up, found_place, is_directory}
@@ -33,10 +34,10 @@ module _ (history : List Record) (legal : IsLegal history) where
       let same : [] ≡ n ∷ path = one_path history [] (n ∷ path) label legal is root at in cc
 
   module _ (session number moment : ℕ) where
-    pub stat_alike : (path other : Path) → NameOne tree path other → answer_to tree session number moment (Stat path) ≡ answer_to tree session number moment (Stat other)
+    pub stat_alike : (path other : Path) → NameOne tree path other → answer_to tree session number moment (OnPath path_op.Stat path) ≡ answer_to tree session number moment (OnPath path_op.Stat other)
     stat_alike path other one = ap (λ (p : Lookup). stat (found_place tree.objects p)) (leads path one.label one.first ∙ sym (leads other one.label one.second))
 
-    pub directory_alike : (path other : Path) → NameOne tree path other → answer_to tree session number moment (OpenDir path) ≡ answer_to tree session number moment (OpenDir other)
+    pub directory_alike : (path other : Path) → NameOne tree path other → answer_to tree session number moment (OnPath path_op.OpenDir path) ≡ answer_to tree session number moment (OnPath path_op.OpenDir other)
     directory_alike path other one =
         ap (λ (p : Lookup). open_directory tree session number (found_place tree.objects p)) (leads path one.label one.first ∙ sym (leads other one.label one.second))
 
@@ -50,11 +51,11 @@ module _ (history : List Record) (legal : IsLegal history) where
         ap (to (n ∷ path)) (leads (n ∷ path) label first) ∙ alike (n ∷ path) (m ∷ other) ∙ sym (ap (to (m ∷ other)) (leads (m ∷ other) label second))
 
     pub set_alike : (attrs : Attrs) (path other : Path) → NameOne tree path other
-        → answer_to tree session number moment (SetStat path attrs) ≡ answer_to tree session number moment (SetStat other attrs)
+        → answer_to tree session number moment (OnPath (path_op.SetStat attrs) path) ≡ answer_to tree session number moment (OnPath (path_op.SetStat attrs) other)
     set_alike attrs path other one = by_label (λ _ p. set_stat moment attrs (found_place tree.objects p)) one.label (λ _ _. refl) path other one.first one.second
 
     pub open_alike : (flags : OpenFlags) (attrs : Attrs) (path other : Path) → NameOne tree path other
-        → answer_to tree session number moment (Open path flags attrs) ≡ answer_to tree session number moment (Open other flags attrs)
+        → answer_to tree session number moment (OnPath (path_op.Open flags attrs) path) ≡ answer_to tree session number moment (OnPath (path_op.Open flags attrs) other)
     open_alike flags attrs path other one =
         by_label (λ path p. open_file tree session number moment path flags attrs p) one.label (λ _ _. refl) path other one.first one.second
 

@@ -10,7 +10,8 @@ use Rattle.sf_reply.specs.declared.reply.Reply.TheVariants as reply
 use Rattle.sf_reply.specs.declared.reply.StatusCode.TheVariants.{Success, Failure}
 use Rattle.sf_call.specs.declared.limits.TheConstants.{MAX_LINKS}
 use Rattle.sf_call.specs.declared.metadata.Metadata.{Metadata}
-use Rattle.sf_call.specs.declared.request.Request.TheVariants.{Link}
+use Rattle.sf_field.specs.declared.operation.PairOp.TheVariants as pair_op
+use Rattle.sf_call.specs.declared.request.Request.TheVariants.{OnPaths}
 use Rattle.sf_call.specs.declared.lookup.Lookup.{Lookup}
 use Rattle.sf_call.specs.declared.lookup.Lookup.TheVariants.{Absent, At}
 use Rattle.sf_call.specs.Attributes.{Object}
@@ -73,5 +74,5 @@ module _ (tree : Tree) (moment : ℕ) (old new : Path) where
   rooted [] answer p = λ e. cc
   rooted (n ∷ path) answer p = p
 
-  pub links_it : (session number : ℕ) → LinksIt (answer_to tree session number moment (Link old new))
+  pub links_it : (session number : ℕ) → LinksIt (answer_to tree session number moment (OnPaths pair_op.Link old new))
   links_it session number = rooted old _ (rooted new _ (of_place (look_up tree old) refl))

@@ -7,7 +7,8 @@ use Rattle.std.specs.Cmp.{tied_itself}
 use Rattle.sf_path.specs.Names.{Name, Path}
 use Rattle.sf_path.specs.Order.{same_path, path_total}
 use Rattle.sf_call.specs.declared.metadata.FileType.TheVariants as file_type
-use Rattle.sf_call.specs.declared.request.Request.TheVariants.{Rename, PosixRename}
+use Rattle.sf_field.specs.declared.operation.PairOp.TheVariants as pair_op
+use Rattle.sf_call.specs.declared.request.Request.TheVariants.{OnPaths}
 use Rattle.sf_call.specs.declared.lookup.Lookup.TheVariants.{NoWay, At}
 use Rattle.sf_call.specs.Attributes.{Object}
 use Rattle.sf_call.specs.Attributes.Object.{Directory, File}
@@ -117,18 +118,18 @@ module _ (tree : Tree) (moment : ℕ) (old new : Path) (object : (path : Path) (
       ∙ ap (λ place. replace_by tree moment old new may.label (found_place tree.objects place)) (place_open tree new (label_at tree.names new) may.way refl)
       ∙ replaces (label_at tree.names new) refl
 
-  plain_answer : (session number : ℕ) → label_at tree.names new ≡ None → answer_to tree session number moment (Rename old new) ≡ moves tree moment old new
+  plain_answer : (session number : ℕ) → label_at tree.names new ≡ None → answer_to tree session number moment (OnPaths pair_op.Rename old new) ≡ moves tree moment old new
   plain_answer session number free = not_rooted (rename tree moment old new (look_up tree old)) ∙ plain_moves free
 
-  posix_answer : (session number : ℕ) → answer_to tree session number moment (PosixRename old new) ≡ moves tree moment old new
+  posix_answer : (session number : ℕ) → answer_to tree session number moment (OnPaths pair_op.PosixRename old new) ≡ moves tree moment old new
   posix_answer session number = not_rooted (posix_rename tree moment old new (look_up tree old)) ∙ posix_moves
 
 pub rename_moves : (history : List Record) (session number moment : ℕ) (old new : Path) → IsLegal history → IsMove (replay history) old new
-    → label_at (replay history).names new ≡ None → answer_to (replay history) session number moment (Rename old new) ≡ moves (replay history) moment old new
+    → label_at (replay history).names new ≡ None → answer_to (replay history) session number moment (OnPaths pair_op.Rename old new) ≡ moves (replay history) moment old new
 rename_moves history session number moment old new legal may free =
     plain_answer (replay history) moment old new (λ path label. named_object history path label legal) (λ path label. named_way history path label legal) may session number free
 
 pub posix_rename_moves : (history : List Record) (session number moment : ℕ) (old new : Path) → IsLegal history → IsMove (replay history) old new
-    → answer_to (replay history) session number moment (PosixRename old new) ≡ moves (replay history) moment old new
+    → answer_to (replay history) session number moment (OnPaths pair_op.PosixRename old new) ≡ moves (replay history) moment old new
 posix_rename_moves history session number moment old new legal may =
     posix_answer (replay history) moment old new (λ path label. named_object history path label legal) (λ path label. named_way history path label legal) may session number

@@ -10,7 +10,8 @@ use Rattle.sf_field.specs.declared.attrs.Attrs.{Attrs}
 use Rattle.sf_field.specs.declared.open_flags.OpenFlags.{OpenFlags}
 use Rattle.sf_reply.specs.declared.reply.Reply.TheVariants as reply
 use Rattle.sf_call.specs.declared.metadata.Metadata.{Metadata}
-use Rattle.sf_call.specs.declared.request.Request.TheVariants.{OpenDir, Open}
+use Rattle.sf_field.specs.declared.operation.PathOp.TheVariants as path_op
+use Rattle.sf_call.specs.declared.request.Request.TheVariants.{OnPath}
 use Rattle.sf_call.specs.declared.handle.Handle.{Handle}
 use Rattle.sf_call.specs.Tree.{Tree, label_at, handle_of, directory_at}
 use Rattle.sf_call.specs.Handles.{if_of}
@@ -60,7 +61,7 @@ module _ (tree : Tree) (session number : ℕ) (path : Path) (read write append :
   }
 
 module _ (tree : Tree) (session number moment : ℕ) (path : Path) where
-  directory_made : (answer : Outcome) → Shape tree session number moment (OpenDir path) answer → OpensIt tree session number path false false false answer
+  directory_made : (answer : Outcome) → Shape tree session number moment (OnPath path_op.OpenDir path) answer → OpensIt tree session number path false false false answer
   directory_made answer (OpensDirectory p label object at is free) = λ given e. given_number tree session number path false false false _ given e (record {
     handle = directory_handle session label;
     is_open = in_session tree.handles session number (directory_handle session label) refl;
@@ -73,9 +74,9 @@ module _ (tree : Tree) (session number moment : ℕ) (path : Path) where
   })
   directory_made answer _ = λ given e. cc
 
-  pub directory_handle_made : (given : ℕ) → (apply tree session number moment (OpenDir path)).reply ≡ reply.Handle given
-      → IsJustOpened (apply tree session number moment (OpenDir path)).tree session given path (allowing false false false)
-  directory_handle_made = directory_made _ (shape_of tree session number moment (OpenDir path))
+  pub directory_handle_made : (given : ℕ) → (apply tree session number moment (OnPath path_op.OpenDir path)).reply ≡ reply.Handle given
+      → IsJustOpened (apply tree session number moment (OnPath path_op.OpenDir path)).tree session given path (allowing false false false)
+  directory_handle_made = directory_made _ (shape_of tree session number moment (OnPath path_op.OpenDir path))
 
   module _ (flags : OpenFlags) (attrs : Attrs) where
     -- in a tree with this handle, in which the path has its inode number
@@ -96,7 +97,7 @@ module _ (tree : Tree) (session number moment : ℕ) (path : Path) where
         → IsJustOpened t session given path (allowing (flags.read || not flags.write) flags.write flags.append)
     this_number = given_number tree session number path (flags.read || not flags.write) flags.write flags.append
 
-    file_made : (answer : Outcome) → Shape tree session number moment (Open path flags attrs) answer → OpensIt tree session number path (flags.read || not flags.write) flags.write flags.append answer
+    file_made : (answer : Outcome) → Shape tree session number moment (OnPath (path_op.Open flags attrs) path) answer → OpensIt tree session number path (flags.read || not flags.write) flags.write flags.append answer
     file_made answer (OpensFile p f a label object at is free) = λ given e. this_number _ given e (file_handle_put _ label refl at)
     file_made answer (CutsFile p f a label object cut at is free) = λ given e. this_number _ given e (file_handle_put _ label refl at)
     file_made answer (MakesFile p f a object free) = λ given e.
@@ -104,6 +105,6 @@ module _ (tree : Tree) (session number moment : ℕ) (path : Path) where
         (file_handle_put _ number refl (path_put tree.names path number)))
     file_made answer _ = λ given e. cc
 
-    pub file_handle_made : (given : ℕ) → (apply tree session number moment (Open path flags attrs)).reply ≡ reply.Handle given
-        → IsJustOpened (apply tree session number moment (Open path flags attrs)).tree session given path (allowing (flags.read || not flags.write) flags.write flags.append)
-    file_handle_made = file_made _ (shape_of tree session number moment (Open path flags attrs))
+    pub file_handle_made : (given : ℕ) → (apply tree session number moment (OnPath (path_op.Open flags attrs) path)).reply ≡ reply.Handle given
+        → IsJustOpened (apply tree session number moment (OnPath (path_op.Open flags attrs) path)).tree session given path (allowing (flags.read || not flags.write) flags.write flags.append)
+    file_handle_made = file_made _ (shape_of tree session number moment (OnPath (path_op.Open flags attrs) path))

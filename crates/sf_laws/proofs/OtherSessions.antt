@@ -2,7 +2,9 @@
 use Rattle.std.proofs.Common.{◌≡◌, ◌≢◌, ℕ, nat_eq, true, false, if◌then◌else◌, option_and_then, Option, Some, None, IsSome, refl, sym, ap, ◌∙◌, eqb-true}
 use Rattle.sf_call.specs.declared.handle.Handle.{Handle}
 use Rattle.sf_call.specs.declared.request.Request.{Request}
-use Rattle.sf_call.specs.declared.request.Request.TheVariants.{OpenDir, Open, Close, ReadDir}
+use Rattle.sf_field.specs.declared.operation.PathOp.TheVariants as path_op
+use Rattle.sf_field.specs.declared.operation.HandleOp.TheVariants as handle_op
+use Rattle.sf_call.specs.declared.request.Request.TheVariants.{OnPath, ByHandle}
 use Rattle.sf_call.specs.Tree.{Tree, handle_of}
 use Rattle.sf_call.specs.Handles.{if_of, handle_in}
 use Rattle.sf_call.specs.Calls.{answer_to, apply}
@@ -38,10 +40,10 @@ module _ (tree : Tree) (session number other handle : ℕ) (h : Handle) (apart :
       apart (sym there.0 ∙ ap (λ (x : Handle). x.session) (sym one) ∙ s.0)
 
   not_own : (r : Request) → IsOwnHandle tree session number r handle → ⊥
-  not_own (OpenDir path) is = not_new is
-  not_own (Open path flags attrs) is = not_new is
-  not_own (Close asked) is = not_asked asked is
-  not_own (ReadDir asked) is = not_asked asked is
+  not_own (OnPath path_op.OpenDir path) is = not_new is
+  not_own (OnPath (path_op.Open flags attrs) path) is = not_new is
+  not_own (ByHandle handle_op.Close asked) is = not_asked asked is
+  not_own (ByHandle handle_op.ReadDir asked) is = not_asked asked is
   not_own _ is = is
 
   pub others_handles : (moment : ℕ) (request : Request) → handle_in (apply tree session number moment request).tree other handle ≡ handle_in tree other handle

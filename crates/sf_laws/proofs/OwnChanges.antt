@@ -5,7 +5,9 @@ use Rattle.sf_path.specs.Names.{Path}
 use Rattle.sf_path.specs.Order.{parent}
 use Rattle.sf_call.specs.declared.metadata.Metadata.{Metadata}
 use Rattle.sf_call.specs.declared.request.Request.{Request}
-use Rattle.sf_call.specs.declared.request.Request.TheVariants.{Mkdir, Rmdir, Remove, Open, Rename, PosixRename, Link}
+use Rattle.sf_field.specs.declared.operation.PathOp.TheVariants as path_op
+use Rattle.sf_field.specs.declared.operation.PairOp.TheVariants as pair_op
+use Rattle.sf_call.specs.declared.request.Request.TheVariants.{OnPath, OnPaths}
 use Rattle.sf_call.specs.Tree.{Tree, label_at, object_of, handle_of, directory_at}
 use Rattle.sf_call.specs.Handles.{opened}
 use Rattle.sf_call.specs.Changes.{Change, changed, done, touch, touched}
@@ -57,19 +59,19 @@ module _ (tree : Tree) (session number : ℕ) where
     shape_own r answer (SetsAt path attrs label object at) = (at, tt)
     shape_own r answer (SetsOpen handle attrs h object at) = ((h, at, refl), tt)
     shape_own r answer (Writes handle offset bytes h object at) = ((h, at, refl), tt)
-    shape_own r answer (MakesDirectory path attrs object) = ((refl, refl), touch_own (Mkdir path attrs) (parent path) (directory_at tree (parent path)) refl (λ label e. e))
-    shape_own r answer (RemovesDirectory path) = (refl, touch_own (Rmdir path) (parent path) (directory_at tree (parent path)) refl (λ label e. e))
-    shape_own r answer (RemovesFile path) = (refl, touch_own (Remove path) (parent path) (directory_at tree (parent path)) refl (λ label e. e))
+    shape_own r answer (MakesDirectory path attrs object) = ((refl, refl), touch_own (OnPath (path_op.Mkdir attrs) path) (parent path) (directory_at tree (parent path)) refl (λ label e. e))
+    shape_own r answer (RemovesDirectory path) = (refl, touch_own (OnPath path_op.Rmdir path) (parent path) (directory_at tree (parent path)) refl (λ label e. e))
+    shape_own r answer (RemovesFile path) = (refl, touch_own (OnPath path_op.Remove path) (parent path) (directory_at tree (parent path)) refl (λ label e. e))
     shape_own r answer (OpensDirectory path label object at is free) = (refl, tt)
     shape_own r answer (OpensFile path flags attrs label object at is free) = (refl, tt)
     shape_own r answer (CutsFile path flags attrs label object cut at is free) = (refl, (inl at, tt))
     shape_own r answer (MakesFile path flags attrs object free) =
-        (refl, ((refl, refl), touch_own (Open path flags attrs) (parent path) (directory_at tree (parent path)) refl (λ label there. inr there)))
+        (refl, ((refl, refl), touch_own (OnPath (path_op.Open flags attrs) path) (parent path) (directory_at tree (parent path)) refl (λ label there. inr there)))
     shape_own r answer (Closes handle h at) = ((refl, ap (λ x. is_some x) at), tt)
     shape_own r answer (Lists handle h e es at) = ((refl, ap (λ x. is_some x) at), tt)
-    shape_own r answer (Renames old new) = moved_own (Rename old new) old new (λ path of. of) (λ label at. inl at) (λ label at. inr at)
-    shape_own r answer (Replaces old new) = moved_own (PosixRename old new) old new (λ path of. of) (λ label at. inl at) (λ label at. inr at)
-    shape_own r answer (Links old new label) = (refl, touch_own (Link old new) (parent new) (directory_at tree (parent new)) refl (λ l at. at))
+    shape_own r answer (Renames old new) = moved_own (OnPaths pair_op.Rename old new) old new (λ path of. of) (λ label at. inl at) (λ label at. inr at)
+    shape_own r answer (Replaces old new) = moved_own (OnPaths pair_op.PosixRename old new) old new (λ path of. of) (λ label at. inl at) (λ label at. inr at)
+    shape_own r answer (Links old new label) = (refl, touch_own (OnPaths pair_op.Link old new) (parent new) (directory_at tree (parent new)) refl (λ l at. at))
     shape_own r answer _ = tt
 
     pub own : (request : Request) → AreOwn request (answer_to tree session number moment request).changes

@@ -15,7 +15,9 @@ use Rattle.sf_call.specs.declared.metadata.Metadata.{Metadata}
 use Rattle.sf_call.specs.declared.lookup.Lookup.{Lookup}
 use Rattle.sf_call.specs.declared.lookup.Lookup.TheVariants.{NoWay, Absent, At}
 use Rattle.sf_call.specs.declared.request.Request.{Request}
-use Rattle.sf_call.specs.declared.request.Request.TheVariants.{Mkdir, Rmdir, Remove, Open, Rename, PosixRename, Link}
+use Rattle.sf_field.specs.declared.operation.PathOp.TheVariants as path_op
+use Rattle.sf_field.specs.declared.operation.PairOp.TheVariants as pair_op
+use Rattle.sf_call.specs.declared.request.Request.TheVariants.{OnPath, OnPaths}
 use Rattle.sf_call.specs.Attributes.{Object, modified_at}
 use Rattle.sf_call.specs.Attributes.Object.{Directory, File}
 use Rattle.sf_call.specs.Tree.{Tree, label_at, object_of, directory_at, look_up, found_at, is_empty, after_front}
@@ -140,34 +142,34 @@ module _ (tree : Tree) (session number moment label : ℕ) (m : Metadata) (apart
   abbrev pub StillThere : Outcome → Type 0
   StillThere answer = MayBeTouched tree moment label m is (done tree answer.changes)
 
-  mkdir : (path : Path) (attrs : Attrs) → KeepsParent path (Mkdir path attrs)
+  mkdir : (path : Path) (attrs : Attrs) → KeepsParent path (OnPath (path_op.Mkdir attrs) path)
   mkdir [] attrs named = inl is
   mkdir (n ∷ path) attrs named = made tree session number moment label (n ∷ path) m apart named is attrs (look_up tree (n ∷ path))
 
-  rmdir : (path : Path) → KeepsParent path (Rmdir path)
+  rmdir : (path : Path) → KeepsParent path (OnPath path_op.Rmdir path)
   rmdir [] named = inl is
   rmdir (n ∷ path) named = directory_removed tree session number moment label (n ∷ path) m apart named is (other_parent n path) (found_at tree (n ∷ path))
 
-  remove : (path : Path) → KeepsParent path (Remove path)
+  remove : (path : Path) → KeepsParent path (OnPath path_op.Remove path)
   remove [] named = inl is
   remove (n ∷ path) named = file_removed tree session number moment label (n ∷ path) m apart named is (other_parent n path) (found_at tree (n ∷ path))
 
-  open' : (path : Path) (flags : OpenFlags) (attrs : Attrs) → KeepsParent path (Open path flags attrs)
+  open' : (path : Path) (flags : OpenFlags) (attrs : Attrs) → KeepsParent path (OnPath (path_op.Open flags attrs) path)
   open' [] flags attrs named = inl is
   open' (n ∷ path) flags attrs named = file_opened tree session number moment label (n ∷ path) m apart named is flags attrs (look_up tree (n ∷ path))
 
   pub parents : (request : Request) (path : Path) → NamesEntry request path → KeepsParent path request
-  parents (Mkdir p attrs) path own = subst (λ (q : Path). KeepsParent path (Mkdir q attrs)) own (mkdir path attrs)
-  parents (Rmdir p) path own = subst (λ (q : Path). KeepsParent path (Rmdir q)) own (rmdir path)
-  parents (Remove p) path own = subst (λ (q : Path). KeepsParent path (Remove q)) own (remove path)
-  parents (Open p flags attrs) path own = subst (λ (q : Path). KeepsParent path (Open q flags attrs)) own (open' path flags attrs)
-  parents (Rename old new) path own = λ named.
+  parents (OnPath (path_op.Mkdir attrs) p) path own = subst (λ (q : Path). KeepsParent path (OnPath (path_op.Mkdir attrs) q)) own (mkdir path attrs)
+  parents (OnPath path_op.Rmdir p) path own = subst (λ (q : Path). KeepsParent path (OnPath path_op.Rmdir q)) own (rmdir path)
+  parents (OnPath path_op.Remove p) path own = subst (λ (q : Path). KeepsParent path (OnPath path_op.Remove q)) own (remove path)
+  parents (OnPath (path_op.Open flags attrs) p) path own = subst (λ (q : Path). KeepsParent path (OnPath (path_op.Open flags attrs) q)) own (open' path flags attrs)
+  parents (OnPaths pair_op.Rename old new) path own = λ named.
       rename_cases StillThere (λ code. inl is) (inl is) tree moment old new
       (λ not_inside not_around. both_ends tree moment label m is old new path own not_inside not_around named) session number
-  parents (PosixRename old new) path own = λ named.
+  parents (OnPaths pair_op.PosixRename old new) path own = λ named.
       posix_rename_cases StillThere (λ code. inl is) (inl is) tree moment old new
       (λ not_inside not_around. both_ends tree moment label m is old new path own not_inside not_around named) session number
-  parents (Link old new) path own = λ named.
+  parents (OnPaths pair_op.Link old new) path own = λ named.
       link_cases StillThere (λ code. inl is) tree moment old new
       (λ l _ _ _. link_to_cases StillThere (λ code. inl is) tree moment new l (look_up tree new) refl
       (λ _ _. touched_or_not tree moment label m is (changed tree (NewName new l)) (parent new) (directory_at tree (parent new)) refl (inl is))) session number

@@ -11,7 +11,8 @@ use Rattle.sf_reply.specs.declared.reply.StatusCode.TheVariants.{Success}
 use Rattle.sf_call.specs.declared.metadata.Metadata.{Metadata}
 use Rattle.sf_call.specs.declared.lookup.Lookup.{Lookup}
 use Rattle.sf_call.specs.declared.lookup.Lookup.TheVariants.{At}
-use Rattle.sf_call.specs.declared.request.Request.TheVariants.{Remove}
+use Rattle.sf_field.specs.declared.operation.PathOp.TheVariants as path_op
+use Rattle.sf_call.specs.declared.request.Request.TheVariants.{OnPath}
 use Rattle.sf_call.specs.Attributes.{Object}
 use Rattle.sf_call.specs.Attributes.Object.{Directory, File}
 use Rattle.sf_call.specs.Tree.{Tree, IsOrderedTree, label_at, object_of, links, is_used, directory_at, look_up, found_place}
@@ -79,5 +80,5 @@ module _ (tree : Tree) (ordered : IsOrderedTree tree) (moment : ℕ) (path : Pat
   rooted [] answer holds = λ e. cc
   rooted (n ∷ p) answer holds = holds
 
-  pub removes_it : (session number : ℕ) → RemovesIt (answer_to tree session number moment (Remove path))
+  pub removes_it : (session number : ℕ) → RemovesIt (answer_to tree session number moment (OnPath path_op.Remove path))
   removes_it session number = rooted path _ (of_place (look_up tree path) refl)

@@ -11,6 +11,9 @@ use Rattle.sf_call.specs.declared.lookup.Lookup.TheVariants.{Absent, At}
 use Rattle.sf_call.specs.Attributes.{Object}
 use Rattle.sf_call.specs.Attributes.Object.{File}
 use Rattle.sf_call.specs.declared.request.Request.{Request}
+use Rattle.sf_field.specs.declared.operation.PathOp.TheVariants as path_op
+use Rattle.sf_field.specs.declared.operation.PairOp.{PairOp}
+use Rattle.sf_field.specs.declared.operation.PairOp.TheVariants as pair_op
 use Rattle.sf_call.specs.declared.request.Request.TheVariants as request
 use Rattle.sf_call.specs.Requests.{Target, target_of}
 use Rattle.sf_call.specs.Requests.Target.{ByHandle, OnPath, OnPaths}
@@ -36,13 +39,13 @@ IsOfTarget (OnPath path) q = q ≡ path
 IsOfTarget (OnPaths old new) q = BeginsWithEither old new q
 
 own_of_target : (r : Request) (q : Path) → IsOwnPath r q → IsOfTarget (target_of r) q
-own_of_target (request.Mkdir path attrs) q own = own
-own_of_target (request.Rmdir path) q own = own
-own_of_target (request.Remove path) q own = own
-own_of_target (request.Open path flags attrs) q own = own
-own_of_target (request.Rename old new) q own = own
-own_of_target (request.PosixRename old new) q own = own
-own_of_target (request.Link old new) q own = inr (ap (λ o. is_some o) (ap (after_front new) own ∙ front_itself new))
+own_of_target (request.OnPath (path_op.Mkdir attrs) path) q own = own
+own_of_target (request.OnPath path_op.Rmdir path) q own = own
+own_of_target (request.OnPath path_op.Remove path) q own = own
+own_of_target (request.OnPath (path_op.Open flags attrs) path) q own = own
+own_of_target (request.OnPaths pair_op.Rename old new) q own = own
+own_of_target (request.OnPaths pair_op.PosixRename old new) q own = own
+own_of_target (request.OnPaths pair_op.Link old new) q own = inr (ap (λ o. is_some o) (ap (after_front new) own ∙ front_itself new))
 own_of_target _ q own = absurd own
 
 own_of : (r : Request) (target : Target) (q : Path) → target_of r ≡ target → IsOwnPath r q → IsOfTarget target q
@@ -56,11 +59,9 @@ labels_by_target tree session number moment r target q e other =
 
 -- ---- moved paths
 
--- the request is one of the renames, or a link
-by_target : (r : Request) (old new : Path) → target_of r ≡ OnPaths old new → (r ≡ request.Rename old new) ⊎ ((r ≡ request.PosixRename old new) ⊎ (r ≡ request.Link old new))
-by_target (request.Rename a b) old new e = let first : a ≡ old = cc in let second : b ≡ new = cc in inl cc
-by_target (request.PosixRename a b) old new e = let first : a ≡ old = cc in let second : b ≡ new = cc in inr (inl cc)
-by_target (request.Link a b) old new e = let first : a ≡ old = cc in let second : b ≡ new = cc in inr (inr cc)
+-- the request is on these two paths
+by_target : (r : Request) (old new : Path) → target_of r ≡ OnPaths old new → (op : PairOp) × (r ≡ request.OnPaths op old new)
+by_target (request.OnPaths op a b) old new e = let first : a ≡ old = cc in let second : b ≡ new = cc in (op, cc)
 by_target _ old new e = cc
 
 -- setting a modification time moves nothing
@@ -101,7 +102,7 @@ module _ (tree : Tree) (session number moment : ℕ) (r : Request) (old new : Pa
     pub label : ℕ
     pub metadata : Metadata
     pub contents : List ℕ
-    pub is_link : r ≡ request.Link old new
+    pub is_link : r ≡ request.OnPaths pair_op.Link old new
     pub file : found_at tree old ≡ Some (label, File metadata contents)
     pub free : look_up tree new ≡ Absent
     pub unmoved : moved_by changes ≡ None
@@ -110,19 +111,18 @@ module _ (tree : Tree) (session number moment : ℕ) (r : Request) (old new : Pa
   abbrev pub IsStillOrMoves : List Change → Type 0
   IsStillOrMoves changes = (changes ≡ []) ⊎ ((changes ≡ (moves tree moment old new).changes) ⊎ Links changes)
 
+  by_op : (op : PairOp) → r ≡ request.OnPaths op old new → IsStillOrMoves (answer_to tree session number moment (request.OnPaths op old new)).changes
+  by_op pair_op.Rename is = rename_cases (λ answer. IsStillOrMoves answer.changes) (λ code. inl refl) (inl refl) tree moment old new (λ _ _. inr (inl refl)) session number
+  by_op pair_op.PosixRename is = posix_rename_cases (λ answer. IsStillOrMoves answer.changes) (λ code. inl refl) (inl refl) tree moment old new (λ _ _. inr (inl refl)) session number
+  by_op pair_op.Link is =
+      link_cases (λ answer. IsStillOrMoves answer.changes) (λ code. inl refl) tree moment old new
+      (λ label m contents file. link_to_cases (λ answer. IsStillOrMoves answer.changes) (λ code. inl refl) tree moment new label (look_up tree new) refl
+      (λ free _. inr (inr (record { label = label; metadata = m; contents = contents; is_link = is; file = file; free = free; unmoved = touch_moves moment (directory_at tree (parent new)) })))) session number
+
   still_or_moves : IsStillOrMoves (answer_to tree session number moment r).changes
-  still_or_moves = elim (by_target r old new e) [
-    | inl is ↦ subst (λ (q : Request). IsStillOrMoves (answer_to tree session number moment q).changes) (sym is)
-        (rename_cases (λ answer. IsStillOrMoves answer.changes) (λ code. inl refl) (inl refl) tree moment old new (λ _ _. inr (inl refl)) session number)
-    | inr other ↦ elim other [
-      | inl is ↦ subst (λ (q : Request). IsStillOrMoves (answer_to tree session number moment q).changes) (sym is)
-          (posix_rename_cases (λ answer. IsStillOrMoves answer.changes) (λ code. inl refl) (inl refl) tree moment old new (λ _ _. inr (inl refl)) session number)
-      | inr is ↦ subst (λ (q : Request). IsStillOrMoves (answer_to tree session number moment q).changes) (sym is)
-          (link_cases (λ answer. IsStillOrMoves answer.changes) (λ code. inl refl) tree moment old new
-          (λ label m contents file. link_to_cases (λ answer. IsStillOrMoves answer.changes) (λ code. inl refl) tree moment new label (look_up tree new) refl
-          (λ free _. inr (inr (record { label = label; metadata = m; contents = contents; is_link = is; file = file; free = free; unmoved = touch_moves moment (directory_at tree (parent new)) })))) session number)
-    ]
-  ]
+  still_or_moves =
+      let on = by_target r old new e in
+      subst (λ (q : Request). IsStillOrMoves (answer_to tree session number moment q).changes) (sym on.1) (by_op on.0 on.1)
 
   pub moved_changes : (p : Path) → moved_by (answer_to tree session number moment r).changes ≡ Some p → (p ≡ old) × ((answer_to tree session number moment r).changes ≡ (moves tree moment old new).changes)
   moved_changes p some = elim still_or_moves [

@@ -12,7 +12,10 @@ use Rattle.sf_reply.specs.declared.reply.StatusCode.{StatusCode}
 use Rattle.sf_reply.specs.declared.reply.StatusCode.TheVariants.{EndOfFile, NoSuchFile, PermissionDenied, Failure}
 use Rattle.sf_call.specs.declared.limits.TheConstants.{MAX_FILE_SIZE}
 use Rattle.sf_call.specs.declared.request.Request.{Request}
-use Rattle.sf_call.specs.declared.request.Request.TheVariants.{Stat, SetStat, Mkdir, Rmdir, Remove, OpenDir, Open, Close, FStat, FSetStat, Read, Write, ReadDir, Rename, PosixRename, Link}
+use Rattle.sf_field.specs.declared.operation.PathOp.TheVariants as path_op
+use Rattle.sf_field.specs.declared.operation.PairOp.TheVariants as pair_op
+use Rattle.sf_field.specs.declared.operation.HandleOp.TheVariants as handle_op
+use Rattle.sf_call.specs.declared.request.Request.TheVariants.{OnPath, OnPaths, ByHandle, Write}
 use Rattle.sf_call.specs.declared.lookup.Lookup.{Lookup}
 use Rattle.sf_call.specs.declared.lookup.Lookup.TheVariants.{NoWay, Absent, At}
 use Rattle.sf_call.specs.Attributes.{Object}
@@ -33,28 +36,28 @@ pub data Shape (tree : Tree) (session number moment : ℕ) : Request → Outcome
   TellsAttrs : (r : Request) (attrs : Attrs) → Shape tree session number moment r (tells (reply.Attrs attrs))
   TellsData : (r : Request) (bytes : List ℕ) → Shape tree session number moment r (tells (reply.Data bytes))
   SetsAt : (path : Path) (attrs : Attrs) (label : ℕ) (object : Object) → label_at tree.names path ≡ Some label
-      → Shape tree session number moment (SetStat path attrs) (succeeds (SetObject label object ∷ []))
+      → Shape tree session number moment (OnPath (path_op.SetStat attrs) path) (succeeds (SetObject label object ∷ []))
   SetsOpen : (handle : ℕ) (attrs : Attrs) (h : Handle) (object : Object) → handle_in tree session handle ≡ Some h
-      → Shape tree session number moment (FSetStat handle attrs) (succeeds (SetObject h.label object ∷ []))
+      → Shape tree session number moment (ByHandle (handle_op.FSetStat attrs) handle) (succeeds (SetObject h.label object ∷ []))
   Writes : (handle offset : ℕ) (bytes : List ℕ) (h : Handle) (object : Object) → handle_in tree session handle ≡ Some h
       → Shape tree session number moment (Write handle offset bytes) (succeeds (SetObject h.label object ∷ []))
   MakesDirectory : (path : Path) (attrs : Attrs) (object : Object)
-      → Shape tree session number moment (Mkdir path attrs) (succeeds (NewPath path number object ∷ touched tree moment (parent path)))
-  RemovesDirectory : (path : Path) → Shape tree session number moment (Rmdir path) (goes tree moment path)
-  RemovesFile : (path : Path) → Shape tree session number moment (Remove path) (goes tree moment path)
+      → Shape tree session number moment (OnPath (path_op.Mkdir attrs) path) (succeeds (NewPath path number object ∷ touched tree moment (parent path)))
+  RemovesDirectory : (path : Path) → Shape tree session number moment (OnPath path_op.Rmdir path) (goes tree moment path)
+  RemovesFile : (path : Path) → Shape tree session number moment (OnPath path_op.Remove path) (goes tree moment path)
   OpensDirectory : (path : Path) (label : ℕ) (object : Object) → label_at tree.names path ≡ Some label → object_of tree.objects label ≡ Some object → has_all_handles tree session ≡ false
-      → Shape tree session number moment (OpenDir path) (opens number (directory_handle session label) [])
+      → Shape tree session number moment (OnPath path_op.OpenDir path) (opens number (directory_handle session label) [])
   OpensFile : (path : Path) (flags : OpenFlags) (attrs : Attrs) (label : ℕ) (object : Object) → label_at tree.names path ≡ Some label → object_of tree.objects label ≡ Some object → has_all_handles tree session ≡ false
-      → Shape tree session number moment (Open path flags attrs) (opens number (new_file_handle session label flags) [])
+      → Shape tree session number moment (OnPath (path_op.Open flags attrs) path) (opens number (new_file_handle session label flags) [])
   CutsFile : (path : Path) (flags : OpenFlags) (attrs : Attrs) (label : ℕ) (object cut : Object) → label_at tree.names path ≡ Some label → object_of tree.objects label ≡ Some object → has_all_handles tree session ≡ false
-      → Shape tree session number moment (Open path flags attrs) (opens number (new_file_handle session label flags) (SetObject label cut ∷ []))
+      → Shape tree session number moment (OnPath (path_op.Open flags attrs) path) (opens number (new_file_handle session label flags) (SetObject label cut ∷ []))
   MakesFile : (path : Path) (flags : OpenFlags) (attrs : Attrs) (object : Object) → has_all_handles tree session ≡ false
-      → Shape tree session number moment (Open path flags attrs) (opens number (new_file_handle session number flags) (NewPath path number object ∷ touched tree moment (parent path)))
-  Closes : (handle : ℕ) (h : Handle) → handle_in tree session handle ≡ Some h → Shape tree session number moment (Close handle) (succeeds (CloseHandle handle ∷ []))
-  Lists : (handle : ℕ) (h : Handle) (e : Entry) (es : List Entry) → handle_in tree session handle ≡ Some h → Shape tree session number moment (ReadDir handle) (lists handle h (e ∷ es))
-  Renames : (old new : Path) → Shape tree session number moment (Rename old new) (moves tree moment old new)
-  Replaces : (old new : Path) → Shape tree session number moment (PosixRename old new) (moves tree moment old new)
-  Links : (old new : Path) (label : ℕ) → Shape tree session number moment (Link old new) (succeeds (NewName new label ∷ touched tree moment (parent new)))
+      → Shape tree session number moment (OnPath (path_op.Open flags attrs) path) (opens number (new_file_handle session number flags) (NewPath path number object ∷ touched tree moment (parent path)))
+  Closes : (handle : ℕ) (h : Handle) → handle_in tree session handle ≡ Some h → Shape tree session number moment (ByHandle handle_op.Close handle) (succeeds (CloseHandle handle ∷ []))
+  Lists : (handle : ℕ) (h : Handle) (e : Entry) (es : List Entry) → handle_in tree session handle ≡ Some h → Shape tree session number moment (ByHandle handle_op.ReadDir handle) (lists handle h (e ∷ es))
+  Renames : (old new : Path) → Shape tree session number moment (OnPaths pair_op.Rename old new) (moves tree moment old new)
+  Replaces : (old new : Path) → Shape tree session number moment (OnPaths pair_op.PosixRename old new) (moves tree moment old new)
+  Links : (old new : Path) (label : ℕ) → Shape tree session number moment (OnPaths pair_op.Link old new) (succeeds (NewName new label ∷ touched tree moment (parent new)))
 
 module _ (tree : Tree) (session number moment : ℕ) where
   abbrev HasShape : Request → Outcome → Type 0
@@ -82,72 +85,72 @@ module _ (tree : Tree) (session number moment : ℕ) where
   told_opened r (Some (h, Directory m)) = TellsAttrs r _
   told_opened r (Some (h, File m contents)) = TellsAttrs r _
 
-  set_object : (path : Path) (attrs : Attrs) (label : ℕ) (o : Option Object) → label_at tree.names path ≡ Some label → HasShape (SetStat path attrs) (set_stat moment attrs (option_map (λ (object : Object). (label, object)) o))
-  set_object path attrs label None e = Refuses (SetStat path attrs) NoSuchFile
-  set_object path attrs label (Some (Directory m)) e = either (SetStat path attrs) (refuses_size (Directory m) attrs.size) _ _ (Refuses (SetStat path attrs) Failure) (SetsAt path attrs label _ e)
-  set_object path attrs label (Some (File m contents)) e = either (SetStat path attrs) (refuses_size (File m contents) attrs.size) _ _ (Refuses (SetStat path attrs) Failure) (SetsAt path attrs label _ e)
+  set_object : (path : Path) (attrs : Attrs) (label : ℕ) (o : Option Object) → label_at tree.names path ≡ Some label → HasShape (OnPath (path_op.SetStat attrs) path) (set_stat moment attrs (option_map (λ (object : Object). (label, object)) o))
+  set_object path attrs label None e = Refuses (OnPath (path_op.SetStat attrs) path) NoSuchFile
+  set_object path attrs label (Some (Directory m)) e = either (OnPath (path_op.SetStat attrs) path) (refuses_size (Directory m) attrs.size) _ _ (Refuses (OnPath (path_op.SetStat attrs) path) Failure) (SetsAt path attrs label _ e)
+  set_object path attrs label (Some (File m contents)) e = either (OnPath (path_op.SetStat attrs) path) (refuses_size (File m contents) attrs.size) _ _ (Refuses (OnPath (path_op.SetStat attrs) path) Failure) (SetsAt path attrs label _ e)
 
-  set_place : (path : Path) (attrs : Attrs) (place : Lookup) → look_up tree path ≡ place → HasShape (SetStat path attrs) (set_stat moment attrs (found_place tree.objects place))
+  set_place : (path : Path) (attrs : Attrs) (place : Lookup) → look_up tree path ≡ place → HasShape (OnPath (path_op.SetStat attrs) path) (set_stat moment attrs (found_place tree.objects place))
   set_place path attrs (At label) e = set_object path attrs label (object_of tree.objects label) (place_label tree path label e)
-  set_place path attrs _ e = Refuses (SetStat path attrs) NoSuchFile
+  set_place path attrs _ e = Refuses (OnPath (path_op.SetStat attrs) path) NoSuchFile
 
-  made : (path : Path) (attrs : Attrs) (place : Lookup) → HasShape (Mkdir path attrs) (make_directory tree number moment path attrs place)
-  made path attrs NoWay = Refuses (Mkdir path attrs) NoSuchFile
-  made path attrs (At label) = Refuses (Mkdir path attrs) Failure
+  made : (path : Path) (attrs : Attrs) (place : Lookup) → HasShape (OnPath (path_op.Mkdir attrs) path) (make_directory tree number moment path attrs place)
+  made path attrs NoWay = Refuses (OnPath (path_op.Mkdir attrs) path) NoSuchFile
+  made path attrs (At label) = Refuses (OnPath (path_op.Mkdir attrs) path) Failure
   made path attrs Absent = MakesDirectory path attrs _
 
-  directory_removed : (path : Path) (found : Option (ℕ × Object)) → HasShape (Rmdir path) (remove_directory tree moment path found)
-  directory_removed path None = Refuses (Rmdir path) NoSuchFile
-  directory_removed path (Some (label, File m contents)) = Refuses (Rmdir path) Failure
-  directory_removed path (Some (label, Directory m)) = either (Rmdir path) (is_empty tree.names path) _ _ (RemovesDirectory path) (Refuses (Rmdir path) Failure)
+  directory_removed : (path : Path) (found : Option (ℕ × Object)) → HasShape (OnPath path_op.Rmdir path) (remove_directory tree moment path found)
+  directory_removed path None = Refuses (OnPath path_op.Rmdir path) NoSuchFile
+  directory_removed path (Some (label, File m contents)) = Refuses (OnPath path_op.Rmdir path) Failure
+  directory_removed path (Some (label, Directory m)) = either (OnPath path_op.Rmdir path) (is_empty tree.names path) _ _ (RemovesDirectory path) (Refuses (OnPath path_op.Rmdir path) Failure)
 
-  file_removed : (path : Path) (found : Option (ℕ × Object)) → HasShape (Remove path) (remove_file tree moment path found)
-  file_removed path None = Refuses (Remove path) NoSuchFile
-  file_removed path (Some (label, Directory m)) = Refuses (Remove path) Failure
+  file_removed : (path : Path) (found : Option (ℕ × Object)) → HasShape (OnPath path_op.Remove path) (remove_file tree moment path found)
+  file_removed path None = Refuses (OnPath path_op.Remove path) NoSuchFile
+  file_removed path (Some (label, Directory m)) = Refuses (OnPath path_op.Remove path) Failure
   file_removed path (Some (label, File m contents)) = RemovesFile path
 
-  directory_object : (path : Path) (label : ℕ) (o : Option Object) → label_at tree.names path ≡ Some label → object_of tree.objects label ≡ o → HasShape (OpenDir path) (open_directory tree session number (option_map (λ (object : Object). (label, object)) o))
-  directory_object path label None e is = Refuses (OpenDir path) NoSuchFile
-  directory_object path label (Some (File m contents)) e is = Refuses (OpenDir path) Failure
-  directory_object path label (Some (Directory m)) e is = unless (OpenDir path) (has_all_handles tree session) _ _ (Refuses (OpenDir path) Failure) (λ free. OpensDirectory path label (Directory m) e is free)
+  directory_object : (path : Path) (label : ℕ) (o : Option Object) → label_at tree.names path ≡ Some label → object_of tree.objects label ≡ o → HasShape (OnPath path_op.OpenDir path) (open_directory tree session number (option_map (λ (object : Object). (label, object)) o))
+  directory_object path label None e is = Refuses (OnPath path_op.OpenDir path) NoSuchFile
+  directory_object path label (Some (File m contents)) e is = Refuses (OnPath path_op.OpenDir path) Failure
+  directory_object path label (Some (Directory m)) e is = unless (OnPath path_op.OpenDir path) (has_all_handles tree session) _ _ (Refuses (OnPath path_op.OpenDir path) Failure) (λ free. OpensDirectory path label (Directory m) e is free)
 
-  directory_opened : (path : Path) (place : Lookup) → look_up tree path ≡ place → HasShape (OpenDir path) (open_directory tree session number (found_place tree.objects place))
+  directory_opened : (path : Path) (place : Lookup) → look_up tree path ≡ place → HasShape (OnPath path_op.OpenDir path) (open_directory tree session number (found_place tree.objects place))
   directory_opened path (At label) e = directory_object path label (object_of tree.objects label) (place_label tree path label e) refl
-  directory_opened path _ e = Refuses (OpenDir path) NoSuchFile
+  directory_opened path _ e = Refuses (OnPath path_op.OpenDir path) NoSuchFile
 
   file_present : (path : Path) (flags : OpenFlags) (attrs : Attrs) (label : ℕ) (o : Option Object) → label_at tree.names path ≡ Some label → object_of tree.objects label ≡ o
-      → HasShape (Open path flags attrs) (open_present tree session number moment flags (option_map (λ (object : Object). (label, object)) o))
-  file_present path flags attrs label None e is = Refuses (Open path flags attrs) NoSuchFile
-  file_present path flags attrs label (Some (Directory m)) e is = Refuses (Open path flags attrs) Failure
+      → HasShape (OnPath (path_op.Open flags attrs) path) (open_present tree session number moment flags (option_map (λ (object : Object). (label, object)) o))
+  file_present path flags attrs label None e is = Refuses (OnPath (path_op.Open flags attrs) path) NoSuchFile
+  file_present path flags attrs label (Some (Directory m)) e is = Refuses (OnPath (path_op.Open flags attrs) path) Failure
   file_present path flags attrs label (Some (File m contents)) e is =
-      let r = Open path flags attrs in
+      let r = OnPath (path_op.Open flags attrs) path in
       unless r (has_all_handles tree session) _ _ (Refuses r Failure) (λ free.
       either r (flags.truncate && flags.write) _ _ (CutsFile path flags attrs label (File m contents) _ e is free) (OpensFile path flags attrs label (File m contents) e is free))
 
-  file_opened : (path : Path) (flags : OpenFlags) (attrs : Attrs) (place : Lookup) → look_up tree path ≡ place → HasShape (Open path flags attrs) (open_file tree session number moment path flags attrs place)
-  file_opened path flags attrs NoWay e = Refuses (Open path flags attrs) NoSuchFile
+  file_opened : (path : Path) (flags : OpenFlags) (attrs : Attrs) (place : Lookup) → look_up tree path ≡ place → HasShape (OnPath (path_op.Open flags attrs) path) (open_file tree session number moment path flags attrs place)
+  file_opened path flags attrs NoWay e = Refuses (OnPath (path_op.Open flags attrs) path) NoSuchFile
   file_opened path flags attrs (At label) e =
-      let r = Open path flags attrs in
+      let r = OnPath (path_op.Open flags attrs) path in
       either r (flags.create && flags.exclusive) _ _ (Refuses r Failure) (file_present path flags attrs label (object_of tree.objects label) (place_label tree path label e) refl)
   file_opened path flags attrs Absent e =
-      let r = Open path flags attrs in
+      let r = OnPath (path_op.Open flags attrs) path in
       either r (not flags.create) _ _ (Refuses r NoSuchFile) (unless r (has_all_handles tree session) _ _ (Refuses r Failure) (λ free. MakesFile path flags attrs _ free))
 
-  closed : (handle : ℕ) (o : Option Handle) → handle_in tree session handle ≡ o → HasShape (Close handle) (close handle o)
-  closed handle None e = Refuses (Close handle) Failure
+  closed : (handle : ℕ) (o : Option Handle) → handle_in tree session handle ≡ o → HasShape (ByHandle handle_op.Close handle) (close handle o)
+  closed handle None e = Refuses (ByHandle handle_op.Close handle) Failure
   closed handle (Some h) e = Closes handle h e
 
-  set_by_object : (handle : ℕ) (attrs : Attrs) (h : Handle) (o : Option Object) → handle_in tree session handle ≡ Some h → HasShape (FSetStat handle attrs) (set_opened moment attrs (option_map (λ (object : Object). (h, object)) o))
-  set_by_object handle attrs h None e = Refuses (FSetStat handle attrs) Failure
+  set_by_object : (handle : ℕ) (attrs : Attrs) (h : Handle) (o : Option Object) → handle_in tree session handle ≡ Some h → HasShape (ByHandle (handle_op.FSetStat attrs) handle) (set_opened moment attrs (option_map (λ (object : Object). (h, object)) o))
+  set_by_object handle attrs h None e = Refuses (ByHandle (handle_op.FSetStat attrs) handle) Failure
   set_by_object handle attrs h (Some (Directory m)) e =
-      let r = FSetStat handle attrs in
+      let r = ByHandle (handle_op.FSetStat attrs) handle in
       either r (nat_eq h.label 0) _ _ (Refuses r Failure) (either r (refuses_size (Directory m) attrs.size) _ _ (Refuses r Failure) (SetsOpen handle attrs h _ e))
   set_by_object handle attrs h (Some (File m contents)) e =
-      let r = FSetStat handle attrs in
+      let r = ByHandle (handle_op.FSetStat attrs) handle in
       either r (is_some attrs.size && not h.write) _ _ (Refuses r PermissionDenied) (either r (refuses_size (File m contents) attrs.size) _ _ (Refuses r Failure) (SetsOpen handle attrs h _ e))
 
-  set_by_handle : (handle : ℕ) (attrs : Attrs) (o : Option Handle) → handle_in tree session handle ≡ o → HasShape (FSetStat handle attrs) (set_opened moment attrs (option_and_then (opened_by tree) o))
-  set_by_handle handle attrs None e = Refuses (FSetStat handle attrs) Failure
+  set_by_handle : (handle : ℕ) (attrs : Attrs) (o : Option Handle) → handle_in tree session handle ≡ o → HasShape (ByHandle (handle_op.FSetStat attrs) handle) (set_opened moment attrs (option_and_then (opened_by tree) o))
+  set_by_handle handle attrs None e = Refuses (ByHandle (handle_op.FSetStat attrs) handle) Failure
   set_by_handle handle attrs (Some h) e = set_by_object handle attrs h (object_of tree.objects h.label) e
 
   was_read : (r : Request) (offset len : ℕ) (o : Option (Handle × Object)) → HasShape r (read offset len o)
@@ -165,36 +168,36 @@ module _ (tree : Tree) (session number moment : ℕ) where
   was_written handle offset bytes None e = Refuses (Write handle offset bytes) Failure
   was_written handle offset bytes (Some h) e = written_object handle offset bytes h (object_of tree.objects h.label) e
 
-  listed : (handle : ℕ) (h : Handle) (entries : List Entry) → handle_in tree session handle ≡ Some h → HasShape (ReadDir handle) (lists handle h entries)
-  listed handle h [] e = Refuses (ReadDir handle) EndOfFile
+  listed : (handle : ℕ) (h : Handle) (entries : List Entry) → handle_in tree session handle ≡ Some h → HasShape (ByHandle handle_op.ReadDir handle) (lists handle h entries)
+  listed handle h [] e = Refuses (ByHandle handle_op.ReadDir handle) EndOfFile
   listed handle h (x ∷ xs) e = Lists handle h x xs e
 
-  listed_object : (handle : ℕ) (h : Handle) (o : Option Object) → handle_in tree session handle ≡ Some h → HasShape (ReadDir handle) (read_directory tree handle (option_map (λ (object : Object). (h, object)) o))
+  listed_object : (handle : ℕ) (h : Handle) (o : Option Object) → handle_in tree session handle ≡ Some h → HasShape (ByHandle handle_op.ReadDir handle) (read_directory tree handle (option_map (λ (object : Object). (h, object)) o))
   listed_object handle h (Some (Directory m)) e = listed handle h (listing_of tree h.listed (path_of tree.names h.label)) e
-  listed_object handle h _ e = Refuses (ReadDir handle) Failure
+  listed_object handle h _ e = Refuses (ByHandle handle_op.ReadDir handle) Failure
 
-  directory_read : (handle : ℕ) (o : Option Handle) → handle_in tree session handle ≡ o → HasShape (ReadDir handle) (read_directory tree handle (option_and_then (opened_by tree) o))
-  directory_read handle None e = Refuses (ReadDir handle) Failure
+  directory_read : (handle : ℕ) (o : Option Handle) → handle_in tree session handle ≡ o → HasShape (ByHandle handle_op.ReadDir handle) (read_directory tree handle (option_and_then (opened_by tree) o))
+  directory_read handle None e = Refuses (ByHandle handle_op.ReadDir handle) Failure
   directory_read handle (Some h) e = listed_object handle h (object_of tree.objects h.label) e
 
   pub shape_of : (r : Request) → HasShape r (answer_to tree session number moment r)
-  shape_of (Stat path) = told (Stat path) (found_at tree path)
-  shape_of (SetStat path attrs) = rooted (SetStat path attrs) path _ (set_place path attrs (look_up tree path) refl)
-  shape_of (Mkdir path attrs) = rooted (Mkdir path attrs) path _ (made path attrs (look_up tree path))
-  shape_of (Rmdir path) = rooted (Rmdir path) path _ (directory_removed path (found_at tree path))
-  shape_of (Remove path) = rooted (Remove path) path _ (file_removed path (found_at tree path))
-  shape_of (OpenDir path) = directory_opened path (look_up tree path) refl
-  shape_of (Open path flags attrs) = rooted (Open path flags attrs) path _ (file_opened path flags attrs (look_up tree path) refl)
-  shape_of (Close handle) = closed handle (handle_in tree session handle) refl
-  shape_of (FStat handle) = told_opened (FStat handle) (opened tree session handle)
-  shape_of (FSetStat handle attrs) = set_by_handle handle attrs (handle_in tree session handle) refl
-  shape_of (Read handle offset len) = was_read (Read handle offset len) offset len (opened tree session handle)
+  shape_of (OnPath path_op.Stat path) = told (OnPath path_op.Stat path) (found_at tree path)
+  shape_of (OnPath (path_op.SetStat attrs) path) = rooted (OnPath (path_op.SetStat attrs) path) path _ (set_place path attrs (look_up tree path) refl)
+  shape_of (OnPath (path_op.Mkdir attrs) path) = rooted (OnPath (path_op.Mkdir attrs) path) path _ (made path attrs (look_up tree path))
+  shape_of (OnPath path_op.Rmdir path) = rooted (OnPath path_op.Rmdir path) path _ (directory_removed path (found_at tree path))
+  shape_of (OnPath path_op.Remove path) = rooted (OnPath path_op.Remove path) path _ (file_removed path (found_at tree path))
+  shape_of (OnPath path_op.OpenDir path) = directory_opened path (look_up tree path) refl
+  shape_of (OnPath (path_op.Open flags attrs) path) = rooted (OnPath (path_op.Open flags attrs) path) path _ (file_opened path flags attrs (look_up tree path) refl)
+  shape_of (ByHandle handle_op.Close handle) = closed handle (handle_in tree session handle) refl
+  shape_of (ByHandle handle_op.FStat handle) = told_opened (ByHandle handle_op.FStat handle) (opened tree session handle)
+  shape_of (ByHandle (handle_op.FSetStat attrs) handle) = set_by_handle handle attrs (handle_in tree session handle) refl
+  shape_of (ByHandle (handle_op.Read offset len) handle) = was_read (ByHandle (handle_op.Read offset len) handle) offset len (opened tree session handle)
   shape_of (Write handle offset bytes) = was_written handle offset bytes (handle_in tree session handle) refl
-  shape_of (ReadDir handle) = directory_read handle (handle_in tree session handle) refl
-  shape_of (Rename old new) =
-      rename_cases (HasShape (Rename old new)) (Refuses (Rename old new)) (DoesNothing (Rename old new)) tree moment old new (λ _ _. Renames old new) session number
-  shape_of (PosixRename old new) =
-      posix_rename_cases (HasShape (PosixRename old new)) (Refuses (PosixRename old new)) (DoesNothing (PosixRename old new)) tree moment old new (λ _ _. Replaces old new) session number
-  shape_of (Link old new) =
-      link_cases (HasShape (Link old new)) (Refuses (Link old new)) tree moment old new
-      (λ label _ _ _. link_to_cases (HasShape (Link old new)) (Refuses (Link old new)) tree moment new label (look_up tree new) refl (λ _ _. Links old new label)) session number
+  shape_of (ByHandle handle_op.ReadDir handle) = directory_read handle (handle_in tree session handle) refl
+  shape_of (OnPaths pair_op.Rename old new) =
+      rename_cases (HasShape (OnPaths pair_op.Rename old new)) (Refuses (OnPaths pair_op.Rename old new)) (DoesNothing (OnPaths pair_op.Rename old new)) tree moment old new (λ _ _. Renames old new) session number
+  shape_of (OnPaths pair_op.PosixRename old new) =
+      posix_rename_cases (HasShape (OnPaths pair_op.PosixRename old new)) (Refuses (OnPaths pair_op.PosixRename old new)) (DoesNothing (OnPaths pair_op.PosixRename old new)) tree moment old new (λ _ _. Replaces old new) session number
+  shape_of (OnPaths pair_op.Link old new) =
+      link_cases (HasShape (OnPaths pair_op.Link old new)) (Refuses (OnPaths pair_op.Link old new)) tree moment old new
+      (λ label _ _ _. link_to_cases (HasShape (OnPaths pair_op.Link old new)) (Refuses (OnPaths pair_op.Link old new)) tree moment new label (look_up tree new) refl (λ _ _. Links old new label)) session number

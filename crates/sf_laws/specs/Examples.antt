@@ -9,7 +9,9 @@ use Rattle.sf_reply.specs.declared.reply.Reply.TheVariants as reply
 use Rattle.sf_reply.specs.declared.reply.StatusCode.{StatusCode}
 use Rattle.sf_reply.specs.declared.reply.StatusCode.TheVariants.{Success, NoSuchFile, Failure}
 use Rattle.sf_call.specs.declared.request.Request.{Request}
-use Rattle.sf_call.specs.declared.request.Request.TheVariants.{Stat, Mkdir, Open, Rename, PosixRename, Link}
+use Rattle.sf_field.specs.declared.operation.PathOp.TheVariants as path_op
+use Rattle.sf_field.specs.declared.operation.PairOp.TheVariants as pair_op
+use Rattle.sf_call.specs.declared.request.Request.TheVariants.{OnPath, OnPaths}
 use Rattle.sf_call.specs.declared.record.Record.{Record}
 use Rattle.sf_call.specs.declared.record.Record.TheVariants.{Did, Left}
 use Rattle.sf_call.specs.declared.metadata.Metadata.{Metadata}
@@ -88,9 +90,9 @@ tells_attrs tree attrs = record { reply = reply.Attrs attrs; tree = tree }
 -- ends.
 abbrev pub history : List Record
 history =
-    Did 7 1 100 (Mkdir (a ∷ []) no_attrs) (reply.Status Success)
-    ∷ Did 9 1 200 (Mkdir (b ∷ []) no_attrs) reply.NoMemory
-    ∷ Did 8 1 300 (Stat (b ∷ [])) (reply.Status NoSuchFile) ∷ Left 1 ∷ []
+    Did 7 1 100 (OnPath (path_op.Mkdir no_attrs) (a ∷ [])) (reply.Status Success)
+    ∷ Did 9 1 200 (OnPath (path_op.Mkdir no_attrs) (b ∷ [])) reply.NoMemory
+    ∷ Did 8 1 300 (OnPath path_op.Stat (b ∷ [])) (reply.Status NoSuchFile) ∷ Left 1 ∷ []
 
 -- the replies to these requests of session 1 in turn, numbered from `number` on, at the timestamp
 -- 100
@@ -159,21 +161,23 @@ abbrev pub g : Name
 g = codes "g"
 
 abbrev pub new_file : Name → Request
-new_file name = Open (name ∷ []) (flags true true false true) no_attrs
+new_file name = OnPath (path_op.Open (flags true true false true) no_attrs) (name ∷ [])
 
 -- the directories `/a`, `/a/b` and `/b` and the open files `/f` and `/g`, made by calls 1 to 5
 abbrev pub of_five : Tree
-of_five = tree_after empty_tree 1 (Mkdir (a ∷ []) no_attrs ∷ Mkdir (a ∷ b ∷ []) no_attrs
-    ∷ Mkdir (b ∷ []) no_attrs ∷ new_file f ∷ new_file g ∷ [])
+of_five = tree_after empty_tree 1 (OnPath (path_op.Mkdir no_attrs) (a ∷ [])
+    ∷ OnPath (path_op.Mkdir no_attrs) (a ∷ b ∷ []) ∷ OnPath (path_op.Mkdir no_attrs) (b ∷ [])
+    ∷ new_file f ∷ new_file g ∷ [])
 
 -- the replies to RENAME and to posix-rename on that tree, each alone
 abbrev pub renames : Path → Path → List Reply
 renames old new =
-    (call of_five (Rename old new)).reply ∷ (call of_five (PosixRename old new)).reply ∷ []
+    (call of_five (OnPaths pair_op.Rename old new)).reply
+    ∷ (call of_five (OnPaths pair_op.PosixRename old new)).reply ∷ []
 
 -- the reply to a link on that tree
 abbrev pub linking : Path → Path → Reply
-linking old new = (call of_five (Link old new)).reply
+linking old new = (call of_five (OnPaths pair_op.Link old new)).reply
 
 -- the attributes of a file created and modified at the timestamp 100
 abbrev pub file_attrs : ℕ → Attrs

@@ -2,7 +2,10 @@
 
 ghost use Rattle.std.specs.Prelude.{◌≡◌, ◌≢◌, ◌<◌, ℕ, true, List, [], ◌∷◌, Some, None, IsSome};
 ghost use Rattle.sf_call.specs.declared.request.Request.{Request};
-ghost use Rattle.sf_call.specs.declared.request.Request.TheVariants.{Stat, SetStat, Remove, OpenDir, Open, FStat, FSetStat, Read, Write, Rename, PosixRename, Link};
+ghost use Rattle.sf_field.specs.declared.operation.PathOp.TheVariants.{Stat, SetStat, Remove, OpenDir, Open};
+ghost use Rattle.sf_field.specs.declared.operation.PairOp.TheVariants.{Rename, PosixRename, Link};
+ghost use Rattle.sf_field.specs.declared.operation.HandleOp.TheVariants.{FStat, FSetStat, Read};
+ghost use Rattle.sf_call.specs.declared.request.Request.TheVariants.{OnPath, OnPaths, ByHandle, Write};
 ghost use Rattle.sf_call.specs.declared.record.Record.{Record};
 ghost use Rattle.sf_path.specs.Names.{Name, Path};
 ghost use Rattle.sf_path.specs.Order.{parent};
@@ -78,15 +81,15 @@ pub fn refusals_change_nothing()
 /// without bytes.
 pub fn idle_calls()
     ensures stat { (tree : Tree) (session number moment : ℕ) (path : Path)
-        → (apply tree session number moment (Stat path)).tree ≡ tree }
+        → (apply tree session number moment (OnPath Stat path)).tree ≡ tree }
     ensures stat_by_handle { (tree : Tree) (session number moment handle : ℕ)
-        → (apply tree session number moment (FStat handle)).tree ≡ tree }
+        → (apply tree session number moment (ByHandle FStat handle)).tree ≡ tree }
     ensures read { (tree : Tree) (session number moment handle offset len : ℕ)
-        → (apply tree session number moment (Read handle offset len)).tree ≡ tree }
+        → (apply tree session number moment (ByHandle (Read offset len) handle)).tree ≡ tree }
     ensures set_stat { (tree : Tree) (session number moment : ℕ) (path : Path)
-        → (apply tree session number moment (SetStat path no_attrs)).tree ≡ tree }
+        → (apply tree session number moment (OnPath (SetStat no_attrs) path)).tree ≡ tree }
     ensures set_stat_by_handle { (tree : Tree) (session number moment handle : ℕ)
-        → (apply tree session number moment (FSetStat handle no_attrs)).tree ≡ tree }
+        → (apply tree session number moment (ByHandle (FSetStat no_attrs) handle)).tree ≡ tree }
     ensures write { (tree : Tree) (session number moment handle offset : ℕ)
         → (apply tree session number moment (Write handle offset [])).tree ≡ tree }
 {}
@@ -116,11 +119,11 @@ pub fn moving_renames()
     ensures plain { (history : List Record) (session number moment : ℕ) (old new : Path)
         → IsLegal history → IsMove (replay history) old new
         → label_at (replay history).names new ≡ None
-        → answer_to (replay history) session number moment (Rename old new)
+        → answer_to (replay history) session number moment (OnPaths Rename old new)
         ≡ moves (replay history) moment old new }
     ensures posix { (history : List Record) (session number moment : ℕ) (old new : Path)
         → IsLegal history → IsMove (replay history) old new
-        → answer_to (replay history) session number moment (PosixRename old new)
+        → answer_to (replay history) session number moment (OnPaths PosixRename old new)
         ≡ moves (replay history) moment old new }
 {}
 
@@ -139,8 +142,8 @@ pub fn still_moves()
 /// at most 1024.
 pub fn linked_files()
     ensures { (tree : Tree) (session number moment : ℕ) (old new : Path)
-        → (apply tree session number moment (Link old new)).reply ≡ Status Success
-        → IsLinked tree (apply tree session number moment (Link old new)).tree old new }
+        → (apply tree session number moment (OnPaths Link old new)).reply ≡ Status Success
+        → IsLinked tree (apply tree session number moment (OnPaths Link old new)).tree old new }
 {}
 
 /// Hard links. After a legal history, requests on two paths of one object have equal replies and
@@ -148,21 +151,21 @@ pub fn linked_files()
 pub fn names_of_one_file()
     ensures stat { (history : List Record) (session number moment : ℕ) (path other : Path)
         → IsLegal history → NameOne (replay history) path other
-        → answer_to (replay history) session number moment (Stat path)
-        ≡ answer_to (replay history) session number moment (Stat other) }
+        → answer_to (replay history) session number moment (OnPath Stat path)
+        ≡ answer_to (replay history) session number moment (OnPath Stat other) }
     ensures set_stat { (history : List Record) (session number moment : ℕ) (attrs : Attrs)
         (path other : Path) → IsLegal history → NameOne (replay history) path other
-        → answer_to (replay history) session number moment (SetStat path attrs)
-        ≡ answer_to (replay history) session number moment (SetStat other attrs) }
+        → answer_to (replay history) session number moment (OnPath (SetStat attrs) path)
+        ≡ answer_to (replay history) session number moment (OnPath (SetStat attrs) other) }
     ensures open { (history : List Record) (session number moment : ℕ) (flags : OpenFlags)
         (attrs : Attrs) (path other : Path) → IsLegal history
         → NameOne (replay history) path other
-        → answer_to (replay history) session number moment (Open path flags attrs)
-        ≡ answer_to (replay history) session number moment (Open other flags attrs) }
+        → answer_to (replay history) session number moment (OnPath (Open flags attrs) path)
+        ≡ answer_to (replay history) session number moment (OnPath (Open flags attrs) other) }
     ensures open_directory { (history : List Record) (session number moment : ℕ)
         (path other : Path) → IsLegal history → NameOne (replay history) path other
-        → answer_to (replay history) session number moment (OpenDir path)
-        ≡ answer_to (replay history) session number moment (OpenDir other) }
+        → answer_to (replay history) session number moment (OnPath OpenDir path)
+        ≡ answer_to (replay history) session number moment (OnPath OpenDir other) }
     ensures still { (tree : Tree) (session number moment : ℕ) (request : Request)
         (path other : Path) → NameOne tree path other → ¬ IsOwnPath request path
         → ¬ IsOwnPath request other
@@ -173,9 +176,9 @@ pub fn names_of_one_file()
 /// a link or an open handle.
 pub fn removed_names()
     ensures { (history : List Record) (session number moment : ℕ) (path : Path) → IsLegal history
-        → (apply (replay history) session number moment (Remove path)).reply ≡ Status Success
+        → (apply (replay history) session number moment (OnPath Remove path)).reply ≡ Status Success
         → IsRemoved (replay history)
-        (apply (replay history) session number moment (Remove path)).tree path }
+        (apply (replay history) session number moment (OnPath Remove path)).tree path }
 {}
 
 /// After a legal history each directory has one path.

@@ -6,7 +6,8 @@ ghost use Rattle.sf_call.specs.declared.metadata.Metadata.{Metadata};
 ghost use Rattle.sf_call.specs.declared.record.Record.{Record};
 ghost use Rattle.sf_call.specs.Attributes.Object.{File};
 ghost use Rattle.sf_call.specs.Histories.{replay, IsLegal};
-ghost use Rattle.sf_call.specs.declared.request.Request.TheVariants.{OpenDir, Open};
+ghost use Rattle.sf_field.specs.declared.operation.PathOp.TheVariants.{OpenDir, Open};
+ghost use Rattle.sf_call.specs.declared.request.Request.TheVariants.{OnPath};
 ghost use Rattle.sf_path.specs.Names.{Path, IsPath};
 ghost use Rattle.sf_call.specs.Tree.{Tree, label_at, object_of, handle_of};
 ghost use Rattle.sf_call.specs.Calls.{apply};
@@ -19,14 +20,14 @@ ghost use Rattle.sf_reply.specs.declared.reply.Reply.TheVariants.{Handle};
 /// requested access mode.
 pub fn new_handles()
     ensures directory { (tree : Tree) (session number moment given : ℕ) (path : Path)
-        → (apply tree session number moment (OpenDir path)).reply ≡ Handle given
-        → IsJustOpened (apply tree session number moment (OpenDir path)).tree session given path
-        (allowing false false false) }
+        → (apply tree session number moment (OnPath OpenDir path)).reply ≡ Handle given
+        → IsJustOpened (apply tree session number moment (OnPath OpenDir path)).tree
+        session given path (allowing false false false) }
     ensures file { (tree : Tree) (session number moment given : ℕ) (path : Path) (flags : OpenFlags)
         (attrs : Attrs)
-        → (apply tree session number moment (Open path flags attrs)).reply ≡ Handle given
-        → IsJustOpened (apply tree session number moment (Open path flags attrs)).tree session given
-        path (allowing (flags.read || not flags.write) flags.write flags.append) }
+        → (apply tree session number moment (OnPath (Open flags attrs) path)).reply ≡ Handle given
+        → IsJustOpened (apply tree session number moment (OnPath (Open flags attrs) path)).tree
+        session given path (allowing (flags.read || not flags.write) flags.write flags.append) }
 {}
 
 /// After a legal history each open handle refers to an object.

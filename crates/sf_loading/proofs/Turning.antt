@@ -1,5 +1,5 @@
 -- Items that are made in sequence.
-use Rattle.std.proofs.Common.{◌≡◌, ◌∙◌, ◌+◌, ◌-◌, ◌^◌, ◌≤◌, ◌++◌, ℕ, List, [], ◌∷◌, length, Option, Some, None, Result, Ok, Err, inl, refl, sym, ap, subst, append_assoc, length-append, arith}
+use Rattle.std.proofs.Common.{◌≡◌, ◌∙◌, ◌+◌, ◌++◌, ℕ, List, [], ◌∷◌, length, Option, Some, None, Result, Ok, Err, inl, refl, sym, ap, subst, append_assoc, length-append, arith}
 use Rattle.sf_field.specs.Fields.{be64}
 use Rattle.sf_reply.specs.declared.reply.Reply.{Reply}
 use Rattle.sf_trees.specs.declared.fault.TreeFault.{TreeFault}

@@ -4,6 +4,8 @@ use Rattle.sf_field.specs.Fields.{be64}
 use Rattle.sf_field.specs.Attributes.{no_attrs}
 use Rattle.sf_field.specs.declared.open_flags.OpenFlags.{OpenFlags}
 use Rattle.sf_request.specs.declared.request.WireRequest.{WireRequest}
+use Rattle.sf_field.specs.declared.operation.PathOp.TheVariants as path_op
+use Rattle.sf_field.specs.declared.operation.HandleOp.TheVariants as handle_op
 use Rattle.sf_request.specs.declared.request.WireRequest.TheVariants as request
 use Rattle.sf_reply.specs.declared.reply.Reply.{Reply}
 use Rattle.sf_reply.specs.declared.reply.Reply.TheVariants as reply
@@ -29,12 +31,13 @@ to_make = record {
 
 -- the request for an item, with the handle of the last file
 abbrev pub request_of : List ℕ → Item → WireRequest
-request_of handle (item.Directory path) = request.Mkdir path.items no_attrs
-request_of handle (item.DirectoryAttributes path attrs) = request.SetStat path.items attrs
-request_of handle (item.File path) = request.Open path.items to_make no_attrs
+request_of handle (item.Directory path) = request.OnPath (path_op.Mkdir no_attrs) path.items
+request_of handle (item.DirectoryAttributes path attrs) =
+    request.OnPath (path_op.SetStat attrs) path.items
+request_of handle (item.File path) = request.OnPath (path_op.Open to_make no_attrs) path.items
 request_of handle (item.Bytes offset bytes) = request.Write handle offset bytes.items
-request_of handle (item.FileAttributes attrs) = request.FSetStat handle attrs
-request_of handle item.FileEnd = request.Close handle
+request_of handle (item.FileAttributes attrs) = request.ByHandle (handle_op.FSetStat attrs) handle
+request_of handle item.FileEnd = request.ByHandle handle_op.Close handle
 
 -- the handle of an opened file
 abbrev pub handle_in_reply : Result Reply TreeFault → Result ℕ TreeFault

@@ -6,7 +6,7 @@ ghost use Rattle.sf_trees.specs.Operations.{Does, IsAsked, fault_in_reply};
 ghost use Rattle.sf_loading.specs.Loading.{request_of, settled_by, handle_in_reply, done_with, MakesOneItem, MakesItems, Loads};
 
 use crate::folder::{Folder, FolderFault, Item};
-use sf_field::{NO_ATTRS, OpenFlags};
+use sf_field::{HandleOp, NO_ATTRS, OpenFlags, PathOp};
 use sf_reply::{Reply, StatusCode};
 use sf_request::{ByteStr, WireRequest};
 use sf_trees::{Server, TreeFault};
@@ -40,31 +40,24 @@ fn request_of<'a>(handle: &'a [u8], item: &'a Item) -> WireRequest<'a>
     ensures { result ≡ request_of handle.now item.now }
 {
     match item {
-        Item::Directory(path) => WireRequest::Mkdir {
-            path: ByteStr::new(path),
-            attrs: NO_ATTRS,
-        },
-        Item::DirectoryAttributes(path, attrs) => WireRequest::SetStat {
-            path: ByteStr::new(path),
-            attrs: *attrs,
-        },
-        Item::File(path) => WireRequest::Open {
-            filename: ByteStr::new(path),
-            flags: TO_MAKE,
-            attrs: NO_ATTRS,
-        },
+        Item::Directory(path) => {
+            WireRequest::OnPath(PathOp::Mkdir(NO_ATTRS), ByteStr::new(path))
+        }
+        Item::DirectoryAttributes(path, attrs) => {
+            WireRequest::OnPath(PathOp::SetStat(*attrs), ByteStr::new(path))
+        }
+        Item::File(path) => {
+            WireRequest::OnPath(PathOp::Open(TO_MAKE, NO_ATTRS), ByteStr::new(path))
+        }
         Item::Bytes(offset, bytes) => WireRequest::Write {
             handle: ByteStr::new(handle),
             offset: *offset,
             data: ByteStr::new(bytes),
         },
-        Item::FileAttributes(attrs) => WireRequest::FSetStat {
-            handle: ByteStr::new(handle),
-            attrs: *attrs,
-        },
-        Item::FileEnd => WireRequest::Close {
-            handle: ByteStr::new(handle),
-        },
+        Item::FileAttributes(attrs) => {
+            WireRequest::ByHandle(HandleOp::FSetStat(*attrs), ByteStr::new(handle))
+        }
+        Item::FileEnd => WireRequest::ByHandle(HandleOp::Close, ByteStr::new(handle)),
     }
 }
 

@@ -13,6 +13,9 @@ use Rattle.sf_reply.specs.Replies.{message_of}
 use Rattle.sf_call.specs.declared.fault.JoinFault.{JoinFault}
 use Rattle.sf_call.specs.declared.fault.JoinFault.TheVariants as refusal
 use Rattle.sf_call.specs.declared.request.Request.{Request}
+use Rattle.sf_field.specs.declared.operation.PathOp.TheVariants as path_op
+use Rattle.sf_field.specs.declared.operation.PairOp.TheVariants as pair_op
+use Rattle.sf_field.specs.declared.operation.HandleOp.TheVariants as handle_op
 use Rattle.sf_call.specs.declared.request.Request.TheVariants as request
 use Rattle.sf_session.specs.declared.cause.Cause.{Cause}
 use Rattle.sf_session.specs.declared.cause.Cause.TheVariants as cause
@@ -113,26 +116,26 @@ abbrev pub range_text : (offset len : ℕ) → List ℕ
 range_text offset len = codes " offset " ++ decimal offset ++ codes " length " ++ decimal len
 
 abbrev pub request_text : Request → List ℕ
-request_text (request.Stat path) = by_path (codes "stat") path
-request_text (request.SetStat path attrs) = by_path (codes "setstat") path ++ logged_attrs attrs
-request_text (request.Mkdir path attrs) = by_path (codes "mkdir") path ++ logged_attrs attrs
-request_text (request.Rmdir path) = by_path (codes "rmdir") path
-request_text (request.Remove path) = by_path (codes "remove") path
-request_text (request.OpenDir path) = by_path (codes "opendir") path
-request_text (request.Open path flags attrs) =
+request_text (request.OnPath path_op.Stat path) = by_path (codes "stat") path
+request_text (request.OnPath (path_op.SetStat attrs) path) = by_path (codes "setstat") path ++ logged_attrs attrs
+request_text (request.OnPath (path_op.Mkdir attrs) path) = by_path (codes "mkdir") path ++ logged_attrs attrs
+request_text (request.OnPath path_op.Rmdir path) = by_path (codes "rmdir") path
+request_text (request.OnPath path_op.Remove path) = by_path (codes "remove") path
+request_text (request.OnPath path_op.OpenDir path) = by_path (codes "opendir") path
+request_text (request.OnPath (path_op.Open flags attrs) path) =
     by_path (codes "open") path ++ flags_text flags ++ logged_attrs attrs
-request_text (request.Close handle) = by_handle (codes "close") handle
-request_text (request.FStat handle) = by_handle (codes "fstat") handle
-request_text (request.FSetStat handle attrs) = by_handle (codes "fsetstat") handle
+request_text (request.ByHandle handle_op.Close handle) = by_handle (codes "close") handle
+request_text (request.ByHandle handle_op.FStat handle) = by_handle (codes "fstat") handle
+request_text (request.ByHandle (handle_op.FSetStat attrs) handle) = by_handle (codes "fsetstat") handle
     ++ logged_attrs attrs
-request_text (request.Read handle offset len) =
+request_text (request.ByHandle (handle_op.Read offset len) handle) =
     by_handle (codes "read") handle ++ range_text offset len
 request_text (request.Write handle offset bytes) =
     by_handle (codes "write") handle ++ range_text offset (length bytes)
-request_text (request.ReadDir handle) = by_handle (codes "readdir") handle
-request_text (request.Rename old new) = by_paths (codes "rename") old new
-request_text (request.PosixRename old new) = by_paths (codes "posix-rename") old new
-request_text (request.Link old new) = by_paths (codes "hardlink") old new
+request_text (request.ByHandle handle_op.ReadDir handle) = by_handle (codes "readdir") handle
+request_text (request.OnPaths pair_op.Rename old new) = by_paths (codes "rename") old new
+request_text (request.OnPaths pair_op.PosixRename old new) = by_paths (codes "posix-rename") old new
+request_text (request.OnPaths pair_op.Link old new) = by_paths (codes "hardlink") old new
 
 -- after a space
 abbrev pub reply_text : Reply → List ℕ

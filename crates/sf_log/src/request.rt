@@ -6,7 +6,7 @@ ghost use Rattle.sf_log.specs.Lines.{logged_size, logged_owner, logged_mode, log
 
 use crate::path::QuotedPath;
 use sf_call::Request;
-use sf_field::{Attrs, OpenFlags, Owner, Times};
+use sf_field::{Attrs, HandleOp, OpenFlags, Owner, PairOp, PathOp, Times};
 use std::fmt;
 
 /// The attributes that are present, each after a space.
@@ -142,33 +142,31 @@ impl fmt::Display for RequestText<'_> {
 
     fn fmt<W: fmt::Write>(&self, f: &mut fmt::Formatter<W>) -> fmt::Result {
         match self.0 {
-            Request::Stat(path) => write!(f, "stat {}", QuotedPath(path)),
-            Request::SetStat(path, attrs) => {
+            Request::OnPath(PathOp::Stat, path) => write!(f, "stat {}", QuotedPath(path)),
+            Request::OnPath(PathOp::SetStat(attrs), path) => {
                 write!(f, "setstat {}{}", QuotedPath(path), AttrsText(attrs))
             }
-            Request::Mkdir(path, attrs) => {
+            Request::OnPath(PathOp::Mkdir(attrs), path) => {
                 write!(f, "mkdir {}{}", QuotedPath(path), AttrsText(attrs))
             }
-            Request::Rmdir(path) => write!(f, "rmdir {}", QuotedPath(path)),
-            Request::Remove(path) => write!(f, "remove {}", QuotedPath(path)),
-            Request::OpenDir(path) => write!(f, "opendir {}", QuotedPath(path)),
-            Request::Open(path, flags, attrs) => write!(
+            Request::OnPath(PathOp::Rmdir, path) => write!(f, "rmdir {}", QuotedPath(path)),
+            Request::OnPath(PathOp::Remove, path) => write!(f, "remove {}", QuotedPath(path)),
+            Request::OnPath(PathOp::OpenDir, path) => write!(f, "opendir {}", QuotedPath(path)),
+            Request::OnPath(PathOp::Open(flags, attrs), path) => write!(
                 f,
                 "open {}{}{}",
                 QuotedPath(path),
                 FlagsText(*flags),
                 AttrsText(attrs)
             ),
-            Request::Close(handle) => write!(f, "close handle {handle}"),
-            Request::FStat(handle) => write!(f, "fstat handle {handle}"),
-            Request::FSetStat(handle, attrs) => {
+            Request::ByHandle(HandleOp::Close, handle) => write!(f, "close handle {handle}"),
+            Request::ByHandle(HandleOp::FStat, handle) => write!(f, "fstat handle {handle}"),
+            Request::ByHandle(HandleOp::FSetStat(attrs), handle) => {
                 write!(f, "fsetstat handle {handle}{}", AttrsText(attrs))
             }
-            Request::Read {
-                handle,
-                offset,
-                len,
-            } => write!(f, "read handle {handle} offset {offset} length {len}"),
+            Request::ByHandle(HandleOp::Read { offset, len }, handle) => {
+                write!(f, "read handle {handle} offset {offset} length {len}")
+            }
             Request::Write {
                 handle,
                 offset,
@@ -177,14 +175,14 @@ impl fmt::Display for RequestText<'_> {
                 let len = data.len();
                 write!(f, "write handle {handle} offset {offset} length {len}")
             }
-            Request::ReadDir(handle) => write!(f, "readdir handle {handle}"),
-            Request::Rename(old, new) => {
+            Request::ByHandle(HandleOp::ReadDir, handle) => write!(f, "readdir handle {handle}"),
+            Request::OnPaths(PairOp::Rename, old, new) => {
                 write!(f, "rename {} {}", QuotedPath(old), QuotedPath(new))
             }
-            Request::PosixRename(old, new) => {
+            Request::OnPaths(PairOp::PosixRename, old, new) => {
                 write!(f, "posix-rename {} {}", QuotedPath(old), QuotedPath(new))
             }
-            Request::Link(old, new) => {
+            Request::OnPaths(PairOp::Link, old, new) => {
                 write!(f, "hardlink {} {}", QuotedPath(old), QuotedPath(new))
             }
         }

@@ -16,7 +16,7 @@ use crate::node::Node;
 use crate::sweep::{close_all, sweep};
 use sf_block::WholeContents;
 use sf_call::{Handle, Lookup, Metadata, Request};
-use sf_field::{Attrs, Owner, Times};
+use sf_field::{HandleOp, Owner, PairOp, PathOp, Times};
 use sf_path::{Name, Path};
 use sf_reply::Reply;
 use std::alloc::{AllocError, Global};
@@ -88,34 +88,32 @@ impl PlainTree {
         ensures err { OnErr result (self.new ≡ self.old) }
     {
         match request {
-            Request::Stat(path) => self.stat(path),
-            Request::SetStat(path, attrs) => self.set_stat(moment, path, attrs),
-            Request::Mkdir(path, attrs) => self.mkdir(number, moment, path, attrs),
-            Request::Rmdir(path) => self.rmdir(moment, path),
-            Request::Remove(path) => self.remove(moment, path),
-            Request::OpenDir(path) => self.open_directory(session, number, path),
-            Request::Open(path, flags, attrs) => {
+            Request::OnPath(PathOp::Stat, path) => self.stat(path),
+            Request::OnPath(PathOp::SetStat(attrs), path) => self.set_stat(moment, path, attrs),
+            Request::OnPath(PathOp::Mkdir(attrs), path) => self.mkdir(number, moment, path, attrs),
+            Request::OnPath(PathOp::Rmdir, path) => self.rmdir(moment, path),
+            Request::OnPath(PathOp::Remove, path) => self.remove(moment, path),
+            Request::OnPath(PathOp::OpenDir, path) => self.open_directory(session, number, path),
+            Request::OnPath(PathOp::Open(flags, attrs), path) => {
                 self.open(session, number, moment, path, *flags, attrs)
             }
-            Request::Close(handle) => Ok(self.close(session, *handle)),
-            Request::FStat(handle) => Ok(self.stat_handle(session, *handle)),
-            Request::FSetStat(handle, attrs) => {
+            Request::OnPaths(PairOp::Rename, old, new) => self.rename(moment, old, new),
+            Request::OnPaths(PairOp::PosixRename, old, new) => self.posix_rename(moment, old, new),
+            Request::OnPaths(PairOp::Link, old, new) => self.link(moment, old, new),
+            Request::ByHandle(HandleOp::Close, handle) => Ok(self.close(session, *handle)),
+            Request::ByHandle(HandleOp::FStat, handle) => Ok(self.stat_handle(session, *handle)),
+            Request::ByHandle(HandleOp::FSetStat(attrs), handle) => {
                 self.set_stat_handle(session, moment, *handle, attrs)
             }
-            Request::Read {
-                handle,
-                offset,
-                len,
-            } => self.read(session, *handle, *offset, *len),
+            Request::ByHandle(HandleOp::Read { offset, len }, handle) => {
+                self.read(session, *handle, *offset, *len)
+            }
+            Request::ByHandle(HandleOp::ReadDir, handle) => self.read_directory(session, *handle),
             Request::Write {
                 handle,
                 offset,
                 data,
             } => self.write(session, moment, *handle, *offset, data),
-            Request::ReadDir(handle) => self.read_directory(session, *handle),
-            Request::Rename(old, new) => self.rename(moment, old, new),
-            Request::PosixRename(old, new) => self.posix_rename(moment, old, new),
-            Request::Link(old, new) => self.link(moment, old, new),
         }
     }
 

@@ -10,6 +10,7 @@ use crate::transcript_lane::{EndedLane, TranscriptLane};
 use crate::wait_queue::{LOOKS, WaitQueue};
 use sf_audit::AnsweredCall;
 use sf_call::{BeginFault, JoinFault, Record, Request};
+use sf_field::HandleOp;
 use sf_noted::NotedCore;
 use sf_roll::{RollName, Seen};
 use std::alloc::Global;
@@ -56,7 +57,7 @@ impl Batch<'_> {
 fn is_large(request: &Request) -> bool {
     matches!(
         request,
-        Request::Read { .. } | Request::Write { .. } | Request::ReadDir(_)
+        Request::ByHandle(HandleOp::Read { .. } | HandleOp::ReadDir, _) | Request::Write { .. }
     )
 }
 

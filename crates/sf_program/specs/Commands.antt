@@ -6,6 +6,8 @@ use Rattle.sf_field.specs.declared.attrs.Attrs.{Attrs}
 use Rattle.sf_field.specs.declared.attrs.Owner.{Owner}
 use Rattle.sf_field.specs.declared.attrs.Times.{Times}
 use Rattle.sf_request.specs.declared.request.WireRequest.{WireRequest}
+use Rattle.sf_field.specs.declared.operation.PathOp.TheVariants as path_op
+use Rattle.sf_field.specs.declared.operation.PairOp.TheVariants as pair_op
 use Rattle.sf_request.specs.declared.request.WireRequest.TheVariants as request
 use Rattle.sf_reply.specs.declared.reply.Entry.{Entry}
 use Rattle.sf_reply.specs.declared.reply.Reply.TheVariants as reply
@@ -55,13 +57,13 @@ Succeeds v q w = Exchanged v (asked q (reply.Status Success) ∷ []) w
 -- STAT of the path was answered by attributes, which were printed
 abbrev pub PrintsAttrs : List ℕ → List ℕ → ClientView → ClientView → Type 0
 PrintsAttrs path printed v w = (attrs : Attrs)
-    × Exchanged v (asked (request.Stat path) (reply.Attrs attrs) ∷ []) w
+    × Exchanged v (asked (request.OnPath path_op.Stat path) (reply.Attrs attrs) ∷ []) w
     × (printed ≡ stat_text attrs)
 
 -- the directory was listed, and its lines printed
 abbrev pub Lists : List ℕ → List ℕ → ClientView → ClientView → Type 0
 Lists path printed v w = (entries : List Entry)
-    × DoesCall (ByHandle (request.OpenDir path) ListsAll) v (Ok entries) w
+    × DoesCall (ByHandle (request.OnPath path_op.OpenDir path) ListsAll) v (Ok entries) w
     × AreLinesOf entries printed
 
 -- A command was done by these requests and their replies, and printed these bytes.
@@ -69,21 +71,24 @@ abbrev pub RunsCommand : ClientCommand → List ℕ → List ℕ → ClientView 
 RunsCommand (command.Stat path) bytes printed v w = PrintsAttrs path.now printed v w
 RunsCommand (command.List path) bytes printed v w = Lists path.now printed v w
 RunsCommand (command.Get path) bytes printed v w =
-    DoesCall (ByHandle (request.Open path.now to_read no_attrs) ReadsAll) v (Ok printed) w
+    DoesCall (ByHandle (request.OnPath (path_op.Open to_read no_attrs) path.now) ReadsAll) v
+    (Ok printed) w
 RunsCommand (command.Put path) bytes printed v w = (printed ≡ [])
-    × DoesCall (ByHandle (request.Open path.now to_write no_attrs) (WritesAll bytes)) v (Ok tt) w
+    × DoesCall
+    (ByHandle (request.OnPath (path_op.Open to_write no_attrs) path.now) (WritesAll bytes)) v
+    (Ok tt) w
 RunsCommand (command.Mkdir path) bytes printed v w =
-    (printed ≡ []) × Succeeds v (request.Mkdir path.now no_attrs) w
+    (printed ≡ []) × Succeeds v (request.OnPath (path_op.Mkdir no_attrs) path.now) w
 RunsCommand (command.Rmdir path) bytes printed v w =
-    (printed ≡ []) × Succeeds v (request.Rmdir path.now) w
+    (printed ≡ []) × Succeeds v (request.OnPath path_op.Rmdir path.now) w
 RunsCommand (command.Remove path) bytes printed v w =
-    (printed ≡ []) × Succeeds v (request.Remove path.now) w
+    (printed ≡ []) × Succeeds v (request.OnPath path_op.Remove path.now) w
 RunsCommand (command.Rename old new) bytes printed v w =
-    (printed ≡ []) × Succeeds v (request.Rename old.now new.now) w
+    (printed ≡ []) × Succeeds v (request.OnPaths pair_op.Rename old.now new.now) w
 RunsCommand (command.PosixRename old new) bytes printed v w =
-    (printed ≡ []) × Succeeds v (request.PosixRename old.now new.now) w
+    (printed ≡ []) × Succeeds v (request.OnPaths pair_op.PosixRename old.now new.now) w
 RunsCommand (command.Link old new) bytes printed v w =
-    (printed ≡ []) × Succeeds v (request.Link old.now new.now) w
+    (printed ≡ []) × Succeeds v (request.OnPaths pair_op.Link old.now new.now) w
 
 -- The same of a session that was opened over a line, by what the line gives and has taken.
 abbrev pub IsDoneOver : ClientCommand → List ℕ → List ℕ → Option (List ℕ) → Option (List ℕ) → Type 0

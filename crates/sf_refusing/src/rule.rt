@@ -3,6 +3,7 @@
 ghost use Rattle.std.specs.Prelude.{◌≡◌, ◌++◌, IfOk, OnOk};
 ghost use Rattle.sf_refusing.specs.Rules.{kind_asked, paths_of, path_in, names_path, fits};
 
+use sf_field::{HandleOp, PairOp, PathOp};
 use sf_path::{Path, PathFault};
 use sf_reply::StatusCode;
 use sf_request::WireRequest;
@@ -60,24 +61,24 @@ fn kind_asked(request: &WireRequest) -> RequestKind
     ensures { result ≡ kind_asked request.now }
 {
     match request {
-        WireRequest::Open { .. } => RequestKind::Open,
-        WireRequest::Close { .. } => RequestKind::Close,
-        WireRequest::Read { .. } => RequestKind::Read,
+        WireRequest::OnPath(PathOp::Open(..), _) => RequestKind::Open,
+        WireRequest::ByHandle(HandleOp::Close, _) => RequestKind::Close,
+        WireRequest::ByHandle(HandleOp::Read { .. }, _) => RequestKind::Read,
         WireRequest::Write { .. } => RequestKind::Write,
-        WireRequest::LStat { .. } => RequestKind::LStat,
-        WireRequest::FStat { .. } => RequestKind::FStat,
-        WireRequest::SetStat { .. } => RequestKind::SetStat,
-        WireRequest::FSetStat { .. } => RequestKind::FSetStat,
-        WireRequest::OpenDir { .. } => RequestKind::OpenDir,
-        WireRequest::ReadDir { .. } => RequestKind::ReadDir,
-        WireRequest::Remove { .. } => RequestKind::Remove,
-        WireRequest::Mkdir { .. } => RequestKind::Mkdir,
-        WireRequest::Rmdir { .. } => RequestKind::Rmdir,
-        WireRequest::RealPath { .. } => RequestKind::RealPath,
-        WireRequest::Stat { .. } => RequestKind::Stat,
-        WireRequest::Rename { .. } => RequestKind::Rename,
-        WireRequest::PosixRename { .. } => RequestKind::PosixRename,
-        WireRequest::Link { .. } => RequestKind::Link,
+        WireRequest::LStat(_) => RequestKind::LStat,
+        WireRequest::ByHandle(HandleOp::FStat, _) => RequestKind::FStat,
+        WireRequest::OnPath(PathOp::SetStat(_), _) => RequestKind::SetStat,
+        WireRequest::ByHandle(HandleOp::FSetStat(_), _) => RequestKind::FSetStat,
+        WireRequest::OnPath(PathOp::OpenDir, _) => RequestKind::OpenDir,
+        WireRequest::ByHandle(HandleOp::ReadDir, _) => RequestKind::ReadDir,
+        WireRequest::OnPath(PathOp::Remove, _) => RequestKind::Remove,
+        WireRequest::OnPath(PathOp::Mkdir(_), _) => RequestKind::Mkdir,
+        WireRequest::OnPath(PathOp::Rmdir, _) => RequestKind::Rmdir,
+        WireRequest::RealPath(_) => RequestKind::RealPath,
+        WireRequest::OnPath(PathOp::Stat, _) => RequestKind::Stat,
+        WireRequest::OnPaths(PairOp::Rename, _, _) => RequestKind::Rename,
+        WireRequest::OnPaths(PairOp::PosixRename, _, _) => RequestKind::PosixRename,
+        WireRequest::OnPaths(PairOp::Link, _, _) => RequestKind::Link,
     }
 }
 
@@ -98,27 +99,13 @@ fn paths_of(alloc: Global, request: &WireRequest) -> Result<Vec<Path>, AllocErro
 {
     let mut paths = Vec::new(alloc);
     match request {
-        WireRequest::Open { filename, .. } => push_path(alloc, filename.as_slice(), &mut paths)?,
-        WireRequest::LStat { path }
-        | WireRequest::SetStat { path, .. }
-        | WireRequest::OpenDir { path }
-        | WireRequest::Remove { path }
-        | WireRequest::Mkdir { path, .. }
-        | WireRequest::Rmdir { path }
-        | WireRequest::RealPath { path }
-        | WireRequest::Stat { path } => push_path(alloc, path.as_slice(), &mut paths)?,
-        WireRequest::Rename { old, new }
-        | WireRequest::PosixRename { old, new }
-        | WireRequest::Link { old, new } => {
+        WireRequest::OnPath(_, path) | WireRequest::LStat(path) | WireRequest::RealPath(path) =>
+            push_path(alloc, path.as_slice(), &mut paths)?,
+        WireRequest::OnPaths(_, old, new) => {
             push_path(alloc, old.as_slice(), &mut paths)?;
             push_path(alloc, new.as_slice(), &mut paths)?;
         }
-        WireRequest::Close { .. }
-        | WireRequest::Read { .. }
-        | WireRequest::Write { .. }
-        | WireRequest::FStat { .. }
-        | WireRequest::FSetStat { .. }
-        | WireRequest::ReadDir { .. } => {}
+        WireRequest::ByHandle(_, _) | WireRequest::Write { .. } => {}
     }
     Ok(paths)
 }

@@ -9,8 +9,11 @@ use Rattle.sf_field.specs.Fields.{string}
 use Rattle.sf_field.specs.Reading.{string_at}
 use Rattle.sf_field.proofs.Laws.{IsBytes, some_is, reads_string}
 use Rattle.sf_request.specs.declared.request.WireRequest.{WireRequest}
+use Rattle.sf_field.specs.declared.operation.PathOp.TheVariants as path_op
+use Rattle.sf_field.specs.declared.operation.PairOp.TheVariants as pair_op
+use Rattle.sf_field.specs.declared.operation.HandleOp.TheVariants as handle_op
 use Rattle.sf_request.specs.declared.request.WireRequest.TheVariants as request
-use Rattle.sf_request.specs.Requests.{Shape, Values, SpellsShape, request_with, requests, shape_in, shape_of, HasName, HasRequest, IsShort, RequestFits}
+use Rattle.sf_request.specs.Requests.{Shape, Values, SpellsShape, request_with, set_at, set_open, requests, shape_in, shape_of, HasName, HasRequest, IsShort, RequestFits}
 use Rattle.sf_request.specs.Requests.Shape.{OneText, TextAndAttrs, TwoTexts, OpenFields, ReadFields, WriteFields}
 use Rattle.sf_request.specs.Reading.{fields, values_at, request_at, name_at}
 use Rattle.sf_request.proofs.SpelledFields.{ReadsAs, as_u32, as_u64, as_string, as_attrs, as_flags, as_both, fields_take, fields_again}
@@ -95,8 +98,8 @@ RowFits row = ShapeFits row.2
 text_fits : (make : List ℕ → WireRequest) → ((s : List ℕ) → IsShort s → RequestFits (make s)) → ShapeFits (OneText make)
 text_fits make fits x text h = fits x h.short
 
-attrs_fit : (make : List ℕ → Attrs → WireRequest) → ((s : List ℕ) (a : Attrs) → IsShort s → AttrsFit a → RequestFits (make s a)) → ShapeFits (TextAndAttrs make)
-attrs_fit make fits x text h = fits x.0 x.1 h.first.short h.second.fits
+attrs_fit : (make : Attrs → List ℕ → WireRequest) → ((a : Attrs) (s : List ℕ) → IsShort s → AttrsFit a → RequestFits (make a s)) → ShapeFits (TextAndAttrs make)
+attrs_fit make fits x text h = fits x.1 x.0 h.first.short h.second.fits
 
 texts_fit : (make : List ℕ → List ℕ → WireRequest) → ((s t : List ℕ) → IsShort s → IsShort t → RequestFits (make s t)) → ShapeFits (TwoTexts make)
 texts_fit make fits x text h = fits x.0 x.1 h.first.short h.second.short
@@ -108,25 +111,25 @@ a ▹ b = (a, b)
 all_fit : AllByRecursion RowFits requests
 all_fit =
     (λ x text h. (h.first.short, h.second.second.fits))
-    ▹ text_fits request.Close (λ s h. h)
+    ▹ text_fits (request.ByHandle handle_op.Close) (λ s h. h)
     ▹ (λ x text h. (h.first.short, h.second.first.fits, h.second.second.fits))
     ▹ (λ x text h. (h.first.short, h.second.first.fits, h.second.second.short))
     ▹ text_fits request.LStat (λ s h. h)
-    ▹ text_fits request.FStat (λ s h. h)
-    ▹ attrs_fit request.SetStat (λ s a h k. (h, k))
-    ▹ attrs_fit request.FSetStat (λ s a h k. (h, k))
-    ▹ text_fits request.OpenDir (λ s h. h)
-    ▹ text_fits request.ReadDir (λ s h. h)
-    ▹ text_fits request.Remove (λ s h. h)
-    ▹ attrs_fit request.Mkdir (λ s a h k. (h, k))
-    ▹ text_fits request.Rmdir (λ s h. h)
+    ▹ text_fits (request.ByHandle handle_op.FStat) (λ s h. h)
+    ▹ attrs_fit set_at (λ a s h k. (h, k))
+    ▹ attrs_fit set_open (λ a s h k. (h, k))
+    ▹ text_fits (request.OnPath path_op.OpenDir) (λ s h. h)
+    ▹ text_fits (request.ByHandle handle_op.ReadDir) (λ s h. h)
+    ▹ text_fits (request.OnPath path_op.Remove) (λ s h. h)
+    ▹ attrs_fit (λ attrs. request.OnPath (path_op.Mkdir attrs)) (λ a s h k. (h, k))
+    ▹ text_fits (request.OnPath path_op.Rmdir) (λ s h. h)
     ▹ text_fits request.RealPath (λ s h. h)
-    ▹ text_fits request.Stat (λ s h. h)
-    ▹ texts_fit request.Rename (λ s t h k. (h, k))
-    ▹ texts_fit request.PosixRename (λ s t h k. (h, k))
-    ▹ texts_fit request.Link (λ s t h k. (h, k))
-    ▹ text_fits (λ handle. request.FSetStat handle no_attrs) (λ s h. (h, record { size = tt; owner = tt; permissions = tt; times = tt }))
-    ▹ attrs_fit request.SetStat (λ s a h k. (h, k))
+    ▹ text_fits (request.OnPath path_op.Stat) (λ s h. h)
+    ▹ texts_fit (request.OnPaths pair_op.Rename) (λ s t h k. (h, k))
+    ▹ texts_fit (request.OnPaths pair_op.PosixRename) (λ s t h k. (h, k))
+    ▹ texts_fit (request.OnPaths pair_op.Link) (λ s t h k. (h, k))
+    ▹ text_fits (set_open no_attrs) (λ s h. (h, record { size = tt; owner = tt; permissions = tt; times = tt }))
+    ▹ attrs_fit set_at (λ a s h k. (h, k))
     ▹ tt
 
 picked_by : (row : Row) (rows : List Row) (kind : ℕ) (name : List ℕ) (shape : Shape) (same : Bool) → RowFits row → (shape_in rows kind name ≡ Some shape → ShapeFits shape)

@@ -1,5 +1,5 @@
 -- The encoding that is sent is in the grammar.
-use Rattle.std.proofs.Common.{◌≡◌, ℕ, ◌<◌, ◌^◌, Bool, false, cond, eqb, List, [], ◌∷◌, ◌++◌, length, Some, refl, append_assoc, append-nil, ap, sym, subst, ◌∙◌, lit<}
+use Rattle.std.proofs.Common.{◌≡◌, ℕ, ◌<◌, ◌^◌, Bool, false, cond, eqb, List, [], ◌++◌, length, Some, refl, append_assoc, append-nil, ap, sym, subst, ◌∙◌, lit<}
 use Rattle.std.specs.Prelude.{codes}
 use Rattle.sf_field.specs.declared.open_flags.OpenFlags.{OpenFlags}
 use Rattle.sf_field.specs.Fields.{be32, be64, string}
@@ -7,9 +7,12 @@ use Rattle.sf_field.specs.OpenFlags.{bits_of}
 use Rattle.sf_field.proofs.Laws.{sent_is_spelled}
 use Rattle.sf_field.proofs.Laws.{bits_say}
 use Rattle.sf_request.specs.declared.request.WireRequest.{WireRequest}
+use Rattle.sf_field.specs.declared.operation.PathOp.TheVariants as path_op
+use Rattle.sf_field.specs.declared.operation.PairOp.TheVariants as pair_op
+use Rattle.sf_field.specs.declared.operation.HandleOp.TheVariants as handle_op
 use Rattle.sf_request.specs.declared.request.WireRequest.TheVariants as request
 use Rattle.sf_request.specs.declared.request.Asked.TheVariants.{Init, Request}
-use Rattle.sf_request.specs.Requests.{IsU32, IsU64, IsString, IsFlags, ◌⨾◌, Shape, Values, SpellsShape, request_with, shape_of, HasRequest, Asks, kind_of, fields_text, request_body, init_body, IsShort, RequestFits}
+use Rattle.sf_request.specs.Requests.{IsU32, IsU64, IsString, IsFlags, ◌⨾◌, Shape, Values, SpellsShape, request_with, set_at, set_open, shape_of, HasRequest, Asks, kind_of, fields_text, request_body, init_body, IsShort, RequestFits}
 use Rattle.sf_request.specs.Requests.Shape.{OneText, TextAndAttrs, TwoTexts, OpenFields, ReadFields, WriteFields}
 
 a_string : (s : List ℕ) → IsShort s → IsString s (string s)
@@ -72,30 +75,30 @@ with_paths name make old new short row p q =
 
 sent : (r : WireRequest) → RequestFits r → HasRequest (kind_of r) (fields_text r) r
 unfolding shape_of
-sent (request.Open filename flags attrs) fits =
+sent (request.OnPath (path_op.Open flags attrs) filename) fits =
     plainly 3 OpenFields (filename, (flags, attrs)) _ refl refl (three _ _ _ (a_string filename fits.0) (the_flags flags) (sent_is_spelled attrs fits.1))
-sent (request.Close handle) fits = plainly 4 (OneText request.Close) handle _ refl refl (a_string handle fits)
-sent (request.Read handle offset len) fits =
+sent (request.ByHandle handle_op.Close handle) fits = plainly 4 (OneText (request.ByHandle handle_op.Close)) handle _ refl refl (a_string handle fits)
+sent (request.ByHandle (handle_op.Read offset len) handle) fits =
     plainly 5 ReadFields (handle, (offset, len)) _ refl refl (three _ _ _ (a_string handle fits.0) (a_u64 offset fits.1) (a_u32 len fits.2))
 sent (request.Write handle offset bytes) fits =
     plainly 6 WriteFields (handle, (offset, bytes)) _ refl refl (three _ _ _ (a_string handle fits.0) (a_u64 offset fits.1) (a_string bytes fits.2))
 sent (request.LStat path) fits = plainly 7 (OneText request.LStat) path _ refl refl (a_string path fits)
-sent (request.FStat handle) fits = plainly 8 (OneText request.FStat) handle _ refl refl (a_string handle fits)
-sent (request.SetStat path attrs) fits =
-    plainly 9 (TextAndAttrs request.SetStat) (path, attrs) _ refl refl (then _ _ (a_string path fits.0) (sent_is_spelled attrs fits.1))
-sent (request.FSetStat handle attrs) fits =
-    plainly 10 (TextAndAttrs request.FSetStat) (handle, attrs) _ refl refl (then _ _ (a_string handle fits.0) (sent_is_spelled attrs fits.1))
-sent (request.OpenDir path) fits = plainly 11 (OneText request.OpenDir) path _ refl refl (a_string path fits)
-sent (request.ReadDir handle) fits = plainly 12 (OneText request.ReadDir) handle _ refl refl (a_string handle fits)
-sent (request.Remove path) fits = plainly 13 (OneText request.Remove) path _ refl refl (a_string path fits)
-sent (request.Mkdir path attrs) fits =
-    plainly 14 (TextAndAttrs request.Mkdir) (path, attrs) _ refl refl (then _ _ (a_string path fits.0) (sent_is_spelled attrs fits.1))
-sent (request.Rmdir path) fits = plainly 15 (OneText request.Rmdir) path _ refl refl (a_string path fits)
+sent (request.ByHandle handle_op.FStat handle) fits = plainly 8 (OneText (request.ByHandle handle_op.FStat)) handle _ refl refl (a_string handle fits)
+sent (request.OnPath (path_op.SetStat attrs) path) fits =
+    plainly 9 (TextAndAttrs set_at) (path, attrs) _ refl refl (then _ _ (a_string path fits.0) (sent_is_spelled attrs fits.1))
+sent (request.ByHandle (handle_op.FSetStat attrs) handle) fits =
+    plainly 10 (TextAndAttrs set_open) (handle, attrs) _ refl refl (then _ _ (a_string handle fits.0) (sent_is_spelled attrs fits.1))
+sent (request.OnPath path_op.OpenDir path) fits = plainly 11 (OneText (request.OnPath path_op.OpenDir)) path _ refl refl (a_string path fits)
+sent (request.ByHandle handle_op.ReadDir handle) fits = plainly 12 (OneText (request.ByHandle handle_op.ReadDir)) handle _ refl refl (a_string handle fits)
+sent (request.OnPath path_op.Remove path) fits = plainly 13 (OneText (request.OnPath path_op.Remove)) path _ refl refl (a_string path fits)
+sent (request.OnPath (path_op.Mkdir attrs) path) fits =
+    plainly 14 (TextAndAttrs (λ attrs. request.OnPath (path_op.Mkdir attrs))) (path, attrs) _ refl refl (then _ _ (a_string path fits.0) (sent_is_spelled attrs fits.1))
+sent (request.OnPath path_op.Rmdir path) fits = plainly 15 (OneText (request.OnPath path_op.Rmdir)) path _ refl refl (a_string path fits)
 sent (request.RealPath path) fits = plainly 16 (OneText request.RealPath) path _ refl refl (a_string path fits)
-sent (request.Stat path) fits = plainly 17 (OneText request.Stat) path _ refl refl (a_string path fits)
-sent (request.Rename old new) fits = plainly 18 (TwoTexts request.Rename) (old, new) _ refl refl (then _ _ (a_string old fits.0) (a_string new fits.1))
-sent (request.PosixRename old new) fits = with_paths (codes "posix-rename@openssh.com") request.PosixRename old new (lit< tt) refl fits.0 fits.1
-sent (request.Link old new) fits = with_paths (codes "hardlink@openssh.com") request.Link old new (lit< tt) refl fits.0 fits.1
+sent (request.OnPath path_op.Stat path) fits = plainly 17 (OneText (request.OnPath path_op.Stat)) path _ refl refl (a_string path fits)
+sent (request.OnPaths pair_op.Rename old new) fits = plainly 18 (TwoTexts (request.OnPaths pair_op.Rename)) (old, new) _ refl refl (then _ _ (a_string old fits.0) (a_string new fits.1))
+sent (request.OnPaths pair_op.PosixRename old new) fits = with_paths (codes "posix-rename@openssh.com") (request.OnPaths pair_op.PosixRename) old new (lit< tt) refl fits.0 fits.1
+sent (request.OnPaths pair_op.Link old new) fits = with_paths (codes "hardlink@openssh.com") (request.OnPaths pair_op.Link) old new (lit< tt) refl fits.0 fits.1
 
 pub sent_asks : (id : ℕ) (r : WireRequest) → id < 2 ^ 32 → RequestFits r → Asks (request_body id r) (Request id r)
 sent_asks id r id_fits fits = (kind_of r, fields_text r, record { fits = id_fits; parts = refl }, sent r fits)

@@ -4,6 +4,9 @@ use Rattle.std.specs.Str.{bytes_eq}
 use Rattle.sf_field.specs.declared.attrs.Attrs.{Attrs}
 use Rattle.sf_field.specs.declared.open_flags.OpenFlags.{OpenFlags}
 use Rattle.sf_request.specs.declared.request.WireRequest.{WireRequest}
+use Rattle.sf_field.specs.declared.operation.PathOp.TheVariants as path_op
+use Rattle.sf_field.specs.declared.operation.PairOp.TheVariants as pair_op
+use Rattle.sf_field.specs.declared.operation.HandleOp.TheVariants as handle_op
 use Rattle.sf_request.specs.declared.request.WireRequest.TheVariants as request
 use Rattle.sf_request.specs.declared.request.Asked.{Asked}
 use Rattle.sf_request.specs.declared.request.Asked.TheVariants.{Init, Request, Limits, BadFields, Unknown, NoVersion, NoId}
@@ -13,24 +16,24 @@ use Rattle.sf_field.specs.OpenFlags.{open_flags, bits_of}
 
 -- the type byte of a request as a client sends it
 abbrev pub kind_of : WireRequest → ℕ
-kind_of (request.Open filename flags attrs) = 3
-kind_of (request.Close handle) = 4
-kind_of (request.Read handle offset len) = 5
+kind_of (request.OnPath (path_op.Open flags attrs) filename) = 3
+kind_of (request.ByHandle handle_op.Close handle) = 4
+kind_of (request.ByHandle (handle_op.Read offset len) handle) = 5
 kind_of (request.Write handle offset bytes) = 6
 kind_of (request.LStat path) = 7
-kind_of (request.FStat handle) = 8
-kind_of (request.SetStat path attrs) = 9
-kind_of (request.FSetStat handle attrs) = 10
-kind_of (request.OpenDir path) = 11
-kind_of (request.ReadDir handle) = 12
-kind_of (request.Remove path) = 13
-kind_of (request.Mkdir path attrs) = 14
-kind_of (request.Rmdir path) = 15
+kind_of (request.ByHandle handle_op.FStat handle) = 8
+kind_of (request.OnPath (path_op.SetStat attrs) path) = 9
+kind_of (request.ByHandle (handle_op.FSetStat attrs) handle) = 10
+kind_of (request.OnPath path_op.OpenDir path) = 11
+kind_of (request.ByHandle handle_op.ReadDir handle) = 12
+kind_of (request.OnPath path_op.Remove path) = 13
+kind_of (request.OnPath (path_op.Mkdir attrs) path) = 14
+kind_of (request.OnPath path_op.Rmdir path) = 15
 kind_of (request.RealPath path) = 16
-kind_of (request.Stat path) = 17
-kind_of (request.Rename old new) = 18
-kind_of (request.PosixRename old new) = 200
-kind_of (request.Link old new) = 200
+kind_of (request.OnPath path_op.Stat path) = 17
+kind_of (request.OnPaths pair_op.Rename old new) = 18
+kind_of (request.OnPaths pair_op.PosixRename old new) = 200
+kind_of (request.OnPaths pair_op.Link old new) = 200
 
 -- the encodings of one field
 pub record IsU32 (n : ℕ) (text : List ℕ) : Type 0 where
@@ -66,7 +69,7 @@ pub record ◌⨾◌ (First Second : List ℕ → Type 0) (text : List ℕ) : Ty
 -- The shapes of a request's fields. A text is a path or a handle.
 pub data Shape : Type 0 where
   OneText : (make : List ℕ → WireRequest) → Shape
-  TextAndAttrs : (make : List ℕ → Attrs → WireRequest) → Shape
+  TextAndAttrs : (make : Attrs → List ℕ → WireRequest) → Shape
   TwoTexts : (make : List ℕ → List ℕ → WireRequest) → Shape
   OpenFields : Shape
   ReadFields : Shape
@@ -93,35 +96,42 @@ SpellsShape WriteFields x = IsString x.0 ⨾ IsU64 x.1.0 ⨾ IsString x.1.1
 -- the request with these values
 abbrev pub request_with : (shape : Shape) → Values shape → WireRequest
 request_with (OneText make) x = make x
-request_with (TextAndAttrs make) x = make x.0 x.1
+request_with (TextAndAttrs make) x = make x.1 x.0
 request_with (TwoTexts make) x = make x.0 x.1
-request_with OpenFields x = request.Open x.0 x.1.0 x.1.1
-request_with ReadFields x = request.Read x.0 x.1.0 x.1.1
+request_with OpenFields x = request.OnPath (path_op.Open x.1.0 x.1.1) x.0
+request_with ReadFields x = request.ByHandle (handle_op.Read x.1.0 x.1.1) x.0
 request_with WriteFields x = request.Write x.0 x.1.0 x.1.1
+
+-- SETSTAT and FSETSTAT, which extensions ask for too
+abbrev pub set_at : Attrs → List ℕ → WireRequest
+set_at attrs = request.OnPath (path_op.SetStat attrs)
+
+abbrev pub set_open : Attrs → List ℕ → WireRequest
+set_open attrs = request.ByHandle (handle_op.FSetStat attrs)
 
 -- The table of requests: the type, the name of an extension, and the shape.
 abbrev pub requests : List (ℕ × Option (List ℕ) × Shape)
 requests =
     (3, None, OpenFields)
-    ∷ (4, None, OneText request.Close)
+    ∷ (4, None, OneText (request.ByHandle handle_op.Close))
     ∷ (5, None, ReadFields)
     ∷ (6, None, WriteFields)
     ∷ (7, None, OneText request.LStat)
-    ∷ (8, None, OneText request.FStat)
-    ∷ (9, None, TextAndAttrs request.SetStat)
-    ∷ (10, None, TextAndAttrs request.FSetStat)
-    ∷ (11, None, OneText request.OpenDir)
-    ∷ (12, None, OneText request.ReadDir)
-    ∷ (13, None, OneText request.Remove)
-    ∷ (14, None, TextAndAttrs request.Mkdir)
-    ∷ (15, None, OneText request.Rmdir)
+    ∷ (8, None, OneText (request.ByHandle handle_op.FStat))
+    ∷ (9, None, TextAndAttrs set_at)
+    ∷ (10, None, TextAndAttrs set_open)
+    ∷ (11, None, OneText (request.OnPath path_op.OpenDir))
+    ∷ (12, None, OneText (request.ByHandle handle_op.ReadDir))
+    ∷ (13, None, OneText (request.OnPath path_op.Remove))
+    ∷ (14, None, TextAndAttrs (λ attrs. request.OnPath (path_op.Mkdir attrs)))
+    ∷ (15, None, OneText (request.OnPath path_op.Rmdir))
     ∷ (16, None, OneText request.RealPath)
-    ∷ (17, None, OneText request.Stat)
-    ∷ (18, None, TwoTexts request.Rename)
-    ∷ (200, Some (codes "posix-rename@openssh.com"), TwoTexts request.PosixRename)
-    ∷ (200, Some (codes "hardlink@openssh.com"), TwoTexts request.Link)
-    ∷ (200, Some (codes "fsync@openssh.com"), OneText (λ handle. request.FSetStat handle no_attrs))
-    ∷ (200, Some (codes "lsetstat@openssh.com"), TextAndAttrs request.SetStat)
+    ∷ (17, None, OneText (request.OnPath path_op.Stat))
+    ∷ (18, None, TwoTexts (request.OnPaths pair_op.Rename))
+    ∷ (200, Some (codes "posix-rename@openssh.com"), TwoTexts (request.OnPaths pair_op.PosixRename))
+    ∷ (200, Some (codes "hardlink@openssh.com"), TwoTexts (request.OnPaths pair_op.Link))
+    ∷ (200, Some (codes "fsync@openssh.com"), OneText (set_open no_attrs))
+    ∷ (200, Some (codes "lsetstat@openssh.com"), TextAndAttrs set_at)
     ∷ []
 
 -- the shape of a request of this type; an extension also has this name
@@ -183,7 +193,8 @@ Asks body (Request id request) =
 Asks body (Limits id) =
     (kind : ℕ) × (rest : List ℕ) × HasId body kind id rest × AsksLimits kind rest
 Asks body (BadFields id) = (kind : ℕ) × (rest : List ℕ) × HasId body kind id rest × (kind ≢ 1)
-    × (AsksLimits kind rest → ⊥) × (IsUnknown kind rest → ⊥) × ((request : WireRequest) → HasRequest kind rest request → ⊥)
+    × (AsksLimits kind rest → ⊥) × (IsUnknown kind rest → ⊥)
+    × ((request : WireRequest) → HasRequest kind rest request → ⊥)
 Asks body (Unknown id) = (kind : ℕ) × (rest : List ℕ) × HasId body kind id rest × (kind ≢ 1)
     × (AsksLimits kind rest → ⊥) × IsUnknown kind rest
 Asks body NoVersion = (length body < 5) × BeginsInit body
@@ -192,26 +203,28 @@ Asks body NoId = (length body < 5) × (BeginsInit body → ⊥)
 -- The encoding that a client sends: only the bits of known flags, and attributes without unknown
 -- flags and extended pairs.
 abbrev pub fields_text : WireRequest → List ℕ
-fields_text (request.Open filename flags attrs) =
+fields_text (request.OnPath (path_op.Open flags attrs) filename) =
     string filename ++ be32 (bits_of flags) ++ attrs_text attrs
-fields_text (request.Close handle) = string handle
-fields_text (request.Read handle offset len) = string handle ++ be64 offset ++ be32 len
+fields_text (request.ByHandle handle_op.Close handle) = string handle
+fields_text (request.ByHandle (handle_op.Read offset len) handle) =
+    string handle ++ be64 offset ++ be32 len
 fields_text (request.Write handle offset bytes) = string handle ++ be64 offset ++ string bytes
 fields_text (request.LStat path) = string path
-fields_text (request.FStat handle) = string handle
-fields_text (request.SetStat path attrs) = string path ++ attrs_text attrs
-fields_text (request.FSetStat handle attrs) = string handle ++ attrs_text attrs
-fields_text (request.OpenDir path) = string path
-fields_text (request.ReadDir handle) = string handle
-fields_text (request.Remove path) = string path
-fields_text (request.Mkdir path attrs) = string path ++ attrs_text attrs
-fields_text (request.Rmdir path) = string path
+fields_text (request.ByHandle handle_op.FStat handle) = string handle
+fields_text (request.OnPath (path_op.SetStat attrs) path) = string path ++ attrs_text attrs
+fields_text (request.ByHandle (handle_op.FSetStat attrs) handle) = string handle ++ attrs_text attrs
+fields_text (request.OnPath path_op.OpenDir path) = string path
+fields_text (request.ByHandle handle_op.ReadDir handle) = string handle
+fields_text (request.OnPath path_op.Remove path) = string path
+fields_text (request.OnPath (path_op.Mkdir attrs) path) = string path ++ attrs_text attrs
+fields_text (request.OnPath path_op.Rmdir path) = string path
 fields_text (request.RealPath path) = string path
-fields_text (request.Stat path) = string path
-fields_text (request.Rename old new) = string old ++ string new
-fields_text (request.PosixRename old new) =
+fields_text (request.OnPath path_op.Stat path) = string path
+fields_text (request.OnPaths pair_op.Rename old new) = string old ++ string new
+fields_text (request.OnPaths pair_op.PosixRename old new) =
     string (codes "posix-rename@openssh.com") ++ string old ++ string new
-fields_text (request.Link old new) = string (codes "hardlink@openssh.com") ++ string old ++ string new
+fields_text (request.OnPaths pair_op.Link old new) =
+    string (codes "hardlink@openssh.com") ++ string old ++ string new
 
 -- the body of a request: its type, its id, and its fields
 abbrev pub request_body : ℕ → WireRequest → List ℕ
@@ -226,21 +239,20 @@ abbrev pub IsShort : List ℕ → Type 0
 IsShort bytes = length bytes < 2 ^ 32
 
 abbrev pub RequestFits : WireRequest → Type 0
-RequestFits (request.Open filename flags attrs) = IsShort filename × AttrsFit attrs
-RequestFits (request.Close handle) = IsShort handle
-RequestFits (request.Read handle offset len) = IsShort handle × (offset < 2 ^ 64) × (len < 2 ^ 32)
+RequestFits (request.OnPath (path_op.Open flags attrs) filename) = IsShort filename × AttrsFit attrs
+RequestFits (request.ByHandle handle_op.Close handle) = IsShort handle
+RequestFits (request.ByHandle (handle_op.Read offset len) handle) =
+    IsShort handle × (offset < 2 ^ 64) × (len < 2 ^ 32)
 RequestFits (request.Write handle offset bytes) = IsShort handle × (offset < 2 ^ 64) × IsShort bytes
 RequestFits (request.LStat path) = IsShort path
-RequestFits (request.FStat handle) = IsShort handle
-RequestFits (request.SetStat path attrs) = IsShort path × AttrsFit attrs
-RequestFits (request.FSetStat handle attrs) = IsShort handle × AttrsFit attrs
-RequestFits (request.OpenDir path) = IsShort path
-RequestFits (request.ReadDir handle) = IsShort handle
-RequestFits (request.Remove path) = IsShort path
-RequestFits (request.Mkdir path attrs) = IsShort path × AttrsFit attrs
-RequestFits (request.Rmdir path) = IsShort path
+RequestFits (request.ByHandle handle_op.FStat handle) = IsShort handle
+RequestFits (request.OnPath (path_op.SetStat attrs) path) = IsShort path × AttrsFit attrs
+RequestFits (request.ByHandle (handle_op.FSetStat attrs) handle) = IsShort handle × AttrsFit attrs
+RequestFits (request.OnPath path_op.OpenDir path) = IsShort path
+RequestFits (request.ByHandle handle_op.ReadDir handle) = IsShort handle
+RequestFits (request.OnPath path_op.Remove path) = IsShort path
+RequestFits (request.OnPath (path_op.Mkdir attrs) path) = IsShort path × AttrsFit attrs
+RequestFits (request.OnPath path_op.Rmdir path) = IsShort path
 RequestFits (request.RealPath path) = IsShort path
-RequestFits (request.Stat path) = IsShort path
-RequestFits (request.Rename old new) = IsShort old × IsShort new
-RequestFits (request.PosixRename old new) = IsShort old × IsShort new
-RequestFits (request.Link old new) = IsShort old × IsShort new
+RequestFits (request.OnPath path_op.Stat path) = IsShort path
+RequestFits (request.OnPaths op old new) = IsShort old × IsShort new

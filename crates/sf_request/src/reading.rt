@@ -3,14 +3,17 @@
 
 ghost use Rattle.std.specs.Prelude.{◌≡◌, option_map};
 ghost use Rattle.sf_request.specs.declared.request.Asked.{Asked};
-ghost use Rattle.sf_request.specs.Requests.{Asks, shape_of};
-ghost use Rattle.sf_request.specs.Requests.Shape.{OpenFields, ReadFields, WriteFields};
+ghost use Rattle.sf_request.specs.Requests.{Asks, set_at, shape_of};
+ghost use Rattle.sf_request.specs.Requests.Shape.{OneText, TextAndAttrs, TwoTexts, OpenFields, ReadFields, WriteFields};
+ghost use Rattle.sf_request.specs.declared.request.WireRequest.TheVariants as request;
 ghost use Rattle.sf_field.specs.Reading.{Gives, string_at, attrs_at};
 ghost use Rattle.sf_request.specs.Reading.{fields, both_at, request_at, name_at, asked_named, asked_of};
 
 use crate::byte_str::ByteStr;
 use crate::request::{Asked, WireRequest};
-use sf_field::{Attrs, NO_ATTRS, OpenFlags, attrs_of, bytes_at, u32_at, u64_at};
+use sf_field::{
+    Attrs, HandleOp, NO_ATTRS, OpenFlags, PairOp, PathOp, attrs_of, bytes_at, u32_at, u64_at,
+};
 
 // The types of the packets that a client sends. All from OPEN to RENAME are requests.
 pub(crate) const INIT: u8 = 1;
@@ -90,11 +93,8 @@ fn open(bytes: &[u8]) -> Option<WireRequest<'_>>
     let (filename, rest) = bytes_at(bytes)?;
     let (bits, rest) = u32_at(rest)?;
     let (attrs, _) = attrs_of(rest)?;
-    Some(WireRequest::Open {
-        filename: ByteStr::new(filename),
-        flags: OpenFlags::from_bits(bits),
-        attrs,
-    })
+    let op = PathOp::Open(OpenFlags::from_bits(bits), attrs);
+    Some(WireRequest::OnPath(op, ByteStr::new(filename)))
 }
 
 #[tactic(auto, unfolding(crate::specs::Reading::fields))]
@@ -105,11 +105,8 @@ fn read(bytes: &[u8]) -> Option<WireRequest<'_>>
     let (handle, rest) = bytes_at(bytes)?;
     let (offset, rest) = u64_at(rest)?;
     let (len, _) = u32_at(rest)?;
-    Some(WireRequest::Read {
-        handle: ByteStr::new(handle),
-        offset,
-        len,
-    })
+    let op = HandleOp::Read { offset, len };
+    Some(WireRequest::ByHandle(op, ByteStr::new(handle)))
 }
 
 #[tactic(auto, unfolding(crate::specs::Reading::fields))]
@@ -127,6 +124,35 @@ fn write(bytes: &[u8]) -> Option<WireRequest<'_>>
     })
 }
 
+#[inline(always)]
+fn on_path(op: PathOp, bytes: &[u8]) -> Option<WireRequest<'_>>
+    ensures { result ≡ request_at (OneText (request.OnPath op)) bytes.now }
+{
+    string(bytes).map(|path| WireRequest::OnPath(op, path))
+}
+
+#[inline(always)]
+fn by_handle(op: HandleOp, bytes: &[u8]) -> Option<WireRequest<'_>>
+    ensures { result ≡ request_at (OneText (request.ByHandle op)) bytes.now }
+{
+    string(bytes).map(|handle| WireRequest::ByHandle(op, handle))
+}
+
+#[inline(always)]
+fn on_paths(op: PairOp, bytes: &[u8]) -> Option<WireRequest<'_>>
+    ensures { result ≡ request_at (TwoTexts (request.OnPaths op)) bytes.now }
+{
+    two_strings(bytes).map(|(old, new)| WireRequest::OnPaths(op, old, new))
+}
+
+/// SETSTAT, and `lsetstat@openssh.com`, as there are no symbolic links.
+#[inline(always)]
+fn set_stat(bytes: &[u8]) -> Option<WireRequest<'_>>
+    ensures { result ≡ request_at (TextAndAttrs set_at) bytes.now }
+{
+    string_and_attrs(bytes).map(|(path, attrs)| WireRequest::OnPath(PathOp::SetStat(attrs), path))
+}
+
 /// The table of requests: the type, the name of an extension, and the shape of the fields. `None` for
 /// what has no row, and `Some(None)` for incomplete fields.
 #[tactic(auto, unfolding(crate::specs::Requests::shape_of))]
@@ -136,43 +162,35 @@ fn request<'a>(kind: u8, name: &[u8], bytes: &'a [u8]) -> Option<Option<WireRequ
 {
     match kind {
         OPEN => Some(open(bytes)),
-        CLOSE => Some(string(bytes).map(|handle| WireRequest::Close { handle })),
+        CLOSE => Some(by_handle(HandleOp::Close, bytes)),
         READ => Some(read(bytes)),
         WRITE => Some(write(bytes)),
-        LSTAT => Some(string(bytes).map(|path| WireRequest::LStat { path })),
-        FSTAT => Some(string(bytes).map(|handle| WireRequest::FStat { handle })),
-        SETSTAT => Some(string_and_attrs(bytes).map(|(path, attrs)| WireRequest::SetStat {
-            path,
-            attrs,
+        LSTAT => Some(string(bytes).map(WireRequest::LStat)),
+        FSTAT => Some(by_handle(HandleOp::FStat, bytes)),
+        SETSTAT => Some(set_stat(bytes)),
+        FSETSTAT => Some(string_and_attrs(bytes).map(|(handle, attrs)| {
+            WireRequest::ByHandle(HandleOp::FSetStat(attrs), handle)
         })),
-        FSETSTAT => Some(string_and_attrs(bytes).map(|(handle, attrs)| WireRequest::FSetStat {
-            handle,
-            attrs,
+        OPENDIR => Some(on_path(PathOp::OpenDir, bytes)),
+        READDIR => Some(by_handle(HandleOp::ReadDir, bytes)),
+        REMOVE => Some(on_path(PathOp::Remove, bytes)),
+        MKDIR => Some(string_and_attrs(bytes).map(|(path, attrs)| {
+            WireRequest::OnPath(PathOp::Mkdir(attrs), path)
         })),
-        OPENDIR => Some(string(bytes).map(|path| WireRequest::OpenDir { path })),
-        READDIR => Some(string(bytes).map(|handle| WireRequest::ReadDir { handle })),
-        REMOVE => Some(string(bytes).map(|path| WireRequest::Remove { path })),
-        MKDIR => Some(string_and_attrs(bytes).map(|(path, attrs)| WireRequest::Mkdir {
-            path,
-            attrs,
-        })),
-        RMDIR => Some(string(bytes).map(|path| WireRequest::Rmdir { path })),
-        REALPATH => Some(string(bytes).map(|path| WireRequest::RealPath { path })),
-        STAT => Some(string(bytes).map(|path| WireRequest::Stat { path })),
-        RENAME => Some(two_strings(bytes).map(|(old, new)| WireRequest::Rename { old, new })),
+        RMDIR => Some(on_path(PathOp::Rmdir, bytes)),
+        REALPATH => Some(string(bytes).map(WireRequest::RealPath)),
+        STAT => Some(on_path(PathOp::Stat, bytes)),
+        RENAME => Some(on_paths(PairOp::Rename, bytes)),
         EXTENDED if name == b"posix-rename@openssh.com".as_slice() => {
-            Some(two_strings(bytes).map(|(old, new)| WireRequest::PosixRename { old, new }))
+            Some(on_paths(PairOp::PosixRename, bytes))
         }
         EXTENDED if name == b"hardlink@openssh.com".as_slice() => {
-            Some(two_strings(bytes).map(|(old, new)| WireRequest::Link { old, new }))
+            Some(on_paths(PairOp::Link, bytes))
         }
         EXTENDED if name == b"fsync@openssh.com".as_slice() => {
-            let attrs = NO_ATTRS;
-            Some(string(bytes).map(|handle| WireRequest::FSetStat { handle, attrs }))
+            Some(by_handle(HandleOp::FSetStat(NO_ATTRS), bytes))
         }
-        EXTENDED if name == b"lsetstat@openssh.com".as_slice() => Some(string_and_attrs(bytes).map(
-            |(path, attrs)| WireRequest::SetStat { path, attrs },
-        )),
+        EXTENDED if name == b"lsetstat@openssh.com".as_slice() => Some(set_stat(bytes)),
         _ => None,
     }
 }

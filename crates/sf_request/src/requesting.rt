@@ -4,7 +4,8 @@
 ghost use Rattle.std.specs.Prelude.{◌≡◌, ◌+◌, ◌<◌, ◌≤◌, ◌^◌, ◌++◌, length, OnOk, OnErr, IsOk};
 ghost use Rattle.bytes.specs.Filled.{UsesSpare};
 ghost use Rattle.sf_request.specs.Requests.{kind_of, fields_text, request_body, init_body};
-ghost use Rattle.sf_request.specs.declared.request.WireRequest.TheVariants.{Close};
+ghost use Rattle.sf_request.specs.declared.request.WireRequest.TheVariants.{OnPaths, ByHandle};
+ghost use Rattle.sf_field.specs.declared.operation.HandleOp.TheVariants.{Close};
 ghost use Rattle.sf_field.specs.Attributes.{attrs_text};
 ghost use Rattle.sf_field.specs.Fields.{be64, packet, string};
 
@@ -15,7 +16,9 @@ use crate::reading::{
 };
 use crate::request::WireRequest;
 use bytes::BytesMut;
-use sf_field::{Attrs, attrs_len, put_attrs, put_string, put_u32, put_u64};
+use sf_field::{
+    Attrs, HandleOp, PairOp, PathOp, attrs_len, put_attrs, put_string, put_u32, put_u64,
+};
 use std::alloc::AllocError;
 
 /// The length of the encoded fields, in bytes.
@@ -24,28 +27,30 @@ fn fields_len(request: &WireRequest) -> usize
     ensures { result ≡ length (fields_text request.now) }
 {
     match request {
-        WireRequest::Open {
-            filename,
-            attrs,
-            ..
-        } => 4 + filename.len() + 4 + attrs_len(attrs),
-        WireRequest::Close { handle } => 4 + handle.len(),
-        WireRequest::Read { handle, .. } => 4 + handle.len() + 12,
+        WireRequest::OnPath(PathOp::Open(_, attrs), path) => 8 + path.len() + attrs_len(attrs),
+        WireRequest::OnPath(PathOp::SetStat(attrs) | PathOp::Mkdir(attrs), path) => {
+            4 + path.len() + attrs_len(attrs)
+        }
+        WireRequest::OnPath(
+            PathOp::Stat | PathOp::Rmdir | PathOp::Remove | PathOp::OpenDir,
+            path,
+        ) => 4 + path.len(),
+        WireRequest::OnPaths(PairOp::Rename, old, new) => 8 + old.len() + new.len(),
+        WireRequest::OnPaths(PairOp::PosixRename, old, new) => {
+            12 + POSIX_RENAME.len() + old.len() + new.len()
+        }
+        WireRequest::OnPaths(PairOp::Link, old, new) => {
+            12 + HARDLINK.len() + old.len() + new.len()
+        }
+        WireRequest::ByHandle(HandleOp::FSetStat(attrs), handle) => {
+            4 + handle.len() + attrs_len(attrs)
+        }
+        WireRequest::ByHandle(HandleOp::Read { .. }, handle) => 4 + handle.len() + 12,
+        WireRequest::ByHandle(HandleOp::Close | HandleOp::FStat | HandleOp::ReadDir, handle) => {
+            4 + handle.len()
+        }
         WireRequest::Write { handle, data, .. } => 4 + handle.len() + 12 + data.len(),
-        WireRequest::LStat { path } => 4 + path.len(),
-        WireRequest::FStat { handle } => 4 + handle.len(),
-        WireRequest::SetStat { path, attrs } => 4 + path.len() + attrs_len(attrs),
-        WireRequest::FSetStat { handle, attrs } => 4 + handle.len() + attrs_len(attrs),
-        WireRequest::OpenDir { path } => 4 + path.len(),
-        WireRequest::ReadDir { handle } => 4 + handle.len(),
-        WireRequest::Remove { path } => 4 + path.len(),
-        WireRequest::Mkdir { path, attrs } => 4 + path.len() + attrs_len(attrs),
-        WireRequest::Rmdir { path } => 4 + path.len(),
-        WireRequest::RealPath { path } => 4 + path.len(),
-        WireRequest::Stat { path } => 4 + path.len(),
-        WireRequest::Rename { old, new } => 8 + old.len() + new.len(),
-        WireRequest::PosixRename { old, new } => { 12 + POSIX_RENAME.len() + old.len() + new.len() }
-        WireRequest::Link { old, new } => 12 + HARDLINK.len() + old.len() + new.len(),
+        WireRequest::LStat(path) | WireRequest::RealPath(path) => 4 + path.len(),
     }
 }
 
@@ -72,6 +77,27 @@ fn put_both(out: &mut BytesMut, old: &ByteStr, new: &ByteStr)
     put_string(out, new.as_slice());
 }
 
+/// Appends two paths, for an extension after its name.
+fn put_paths(out: &mut BytesMut, op: PairOp, old: &ByteStr, new: &ByteStr)
+    requires room { length (fields_text (OnPaths op old.now new.now)) ≤ out.old.spare }
+    requires short { length (fields_text (OnPaths op old.now new.now)) < 2 ^ 32 }
+    ensures items { out.new.items ≡ out.old.items ++ fields_text (OnPaths op old.now new.now) }
+    ensures spare { out.new.spare + length (fields_text (OnPaths op old.now new.now))
+        ≡ out.old.spare }
+{
+    match op {
+        PairOp::Rename => put_both(out, old, new),
+        PairOp::PosixRename => {
+            put_string(out, POSIX_RENAME);
+            put_both(out, old, new);
+        }
+        PairOp::Link => {
+            put_string(out, HARDLINK);
+            put_both(out, old, new);
+        }
+    }
+}
+
 /// Appends a handle and an offset in its file.
 fn put_place(out: &mut BytesMut, handle: &ByteStr, offset: u64)
     requires room { length (string handle.now ++ be64 offset) ≤ out.old.spare }
@@ -90,20 +116,12 @@ fn put_fields(out: &mut BytesMut, request: &WireRequest)
     ensures spare { out.new.spare + length (fields_text request.now) ≡ out.old.spare }
 {
     match request {
-        WireRequest::Open {
-            filename,
-            flags,
-            attrs,
-        } => {
-            put_string(out, filename.as_slice());
+        WireRequest::OnPath(PathOp::Open(flags, attrs), path) => {
+            put_string(out, path.as_slice());
             put_u32(out, flags.bits());
             put_attrs(out, attrs);
         }
-        WireRequest::Read {
-            handle,
-            offset,
-            len,
-        } => {
+        WireRequest::ByHandle(HandleOp::Read { offset, len }, handle) => {
             put_place(out, handle, *offset);
             put_u32(out, *len);
         }
@@ -115,27 +133,15 @@ fn put_fields(out: &mut BytesMut, request: &WireRequest)
             put_place(out, handle, *offset);
             put_string(out, data.as_slice());
         }
-        WireRequest::SetStat { path, attrs } => put_with_attrs(out, path, attrs),
-        WireRequest::FSetStat { handle, attrs } => put_with_attrs(out, handle, attrs),
-        WireRequest::Mkdir { path, attrs } => put_with_attrs(out, path, attrs),
-        WireRequest::Rename { old, new } => put_both(out, old, new),
-        WireRequest::PosixRename { old, new } => {
-            put_string(out, POSIX_RENAME);
-            put_both(out, old, new);
+        WireRequest::OnPath(PathOp::SetStat(attrs) | PathOp::Mkdir(attrs), text)
+        | WireRequest::ByHandle(HandleOp::FSetStat(attrs), text) => {
+            put_with_attrs(out, text, attrs)
         }
-        WireRequest::Link { old, new } => {
-            put_string(out, HARDLINK);
-            put_both(out, old, new);
-        }
-        WireRequest::Close { handle: text }
-        | WireRequest::FStat { handle: text }
-        | WireRequest::ReadDir { handle: text }
-        | WireRequest::LStat { path: text }
-        | WireRequest::OpenDir { path: text }
-        | WireRequest::Remove { path: text }
-        | WireRequest::Rmdir { path: text }
-        | WireRequest::RealPath { path: text }
-        | WireRequest::Stat { path: text } => put_string(out, text.as_slice()),
+        WireRequest::OnPaths(op, old, new) => put_paths(out, *op, old, new),
+        WireRequest::OnPath(PathOp::Stat | PathOp::Rmdir | PathOp::Remove | PathOp::OpenDir, text)
+        | WireRequest::ByHandle(HandleOp::Close | HandleOp::FStat | HandleOp::ReadDir, text)
+        | WireRequest::LStat(text)
+        | WireRequest::RealPath(text) => put_string(out, text.as_slice()),
     }
 }
 
@@ -143,23 +149,23 @@ fn kind(request: &WireRequest) -> u8
     ensures { result ≡ kind_of request.now }
 {
     match request {
-        WireRequest::Open { .. } => OPEN,
-        WireRequest::Close { .. } => CLOSE,
-        WireRequest::Read { .. } => READ,
+        WireRequest::OnPath(PathOp::Open(_, _), _) => OPEN,
+        WireRequest::ByHandle(HandleOp::Close, _) => CLOSE,
+        WireRequest::ByHandle(HandleOp::Read { .. }, _) => READ,
         WireRequest::Write { .. } => WRITE,
-        WireRequest::LStat { .. } => LSTAT,
-        WireRequest::FStat { .. } => FSTAT,
-        WireRequest::SetStat { .. } => SETSTAT,
-        WireRequest::FSetStat { .. } => FSETSTAT,
-        WireRequest::OpenDir { .. } => OPENDIR,
-        WireRequest::ReadDir { .. } => READDIR,
-        WireRequest::Remove { .. } => REMOVE,
-        WireRequest::Mkdir { .. } => MKDIR,
-        WireRequest::Rmdir { .. } => RMDIR,
-        WireRequest::RealPath { .. } => REALPATH,
-        WireRequest::Stat { .. } => STAT,
-        WireRequest::Rename { .. } => RENAME,
-        WireRequest::PosixRename { .. } | WireRequest::Link { .. } => EXTENDED,
+        WireRequest::LStat(_) => LSTAT,
+        WireRequest::ByHandle(HandleOp::FStat, _) => FSTAT,
+        WireRequest::OnPath(PathOp::SetStat(_), _) => SETSTAT,
+        WireRequest::ByHandle(HandleOp::FSetStat(_), _) => FSETSTAT,
+        WireRequest::OnPath(PathOp::OpenDir, _) => OPENDIR,
+        WireRequest::ByHandle(HandleOp::ReadDir, _) => READDIR,
+        WireRequest::OnPath(PathOp::Remove, _) => REMOVE,
+        WireRequest::OnPath(PathOp::Mkdir(_), _) => MKDIR,
+        WireRequest::OnPath(PathOp::Rmdir, _) => RMDIR,
+        WireRequest::RealPath(_) => REALPATH,
+        WireRequest::OnPath(PathOp::Stat, _) => STAT,
+        WireRequest::OnPaths(PairOp::Rename, _, _) => RENAME,
+        WireRequest::OnPaths(PairOp::PosixRename | PairOp::Link, _, _) => EXTENDED,
     }
 }
 
@@ -185,7 +191,7 @@ pub fn write_request(id: u32, request: &WireRequest, out: &mut BytesMut) -> Resu
 
 /// The packet `SSH_FXP_CLOSE` for a handle of this server, which is 8 bytes. It allocates nothing.
 pub fn close_packet(id: u32, handle: u64) -> [u8; 21]
-    ensures { result ≡ packet (request_body id (Close (be64 handle))) }
+    ensures { result ≡ packet (request_body id (ByHandle Close (be64 handle))) }
 {
     let i = id.to_be_bytes();
     let h = handle.to_be_bytes();

@@ -8,6 +8,7 @@ use Rattle.sf_reply.specs.declared.reply.Reply.{Reply}
 use Rattle.sf_reply.specs.declared.reply.Reply.TheVariants as reply
 use Rattle.sf_reply.specs.declared.reply.StatusCode.TheVariants.{Failure, BadMessage, OpUnsupported}
 use Rattle.sf_request.specs.declared.request.WireRequest.{WireRequest}
+use Rattle.sf_field.specs.declared.operation.PathOp.TheVariants as path_op
 use Rattle.sf_request.specs.declared.request.WireRequest.TheVariants as wire
 use Rattle.sf_request.specs.declared.request.Asked.{Asked}
 use Rattle.sf_request.specs.declared.request.Asked.TheVariants as asked
@@ -44,37 +45,17 @@ abbrev pub paths_at : List ℕ → List ℕ → Option (Path × Path)
 paths_at old new =
     option_and_then (λ from. option_map (λ to. (from, to)) (path_at new)) (path_at old)
 
--- the call of a request with a handle, if the handle is valid
-abbrev pub handle_call : WireRequest → Option Request
-handle_call (wire.Close handle) = option_map call.Close (handle_number handle)
-handle_call (wire.Read handle offset len) =
-    option_map (λ number. call.Read number offset len) (handle_number handle)
-handle_call (wire.Write handle offset bytes) =
-    option_map (λ number. call.Write number offset bytes) (handle_number handle)
-handle_call (wire.FStat handle) = option_map call.FStat (handle_number handle)
-handle_call (wire.FSetStat handle attrs) =
-    option_map (λ number. call.FSetStat number attrs) (handle_number handle)
-handle_call (wire.ReadDir handle) = option_map call.ReadDir (handle_number handle)
-handle_call request = None
-
 -- The call that a request requires, if its paths and its handle are valid. LSTAT is STAT: there are
 -- no symbolic links. REALPATH requires none.
 abbrev pub call_of : WireRequest → Option Request
-call_of (wire.Open text flags attrs) =
-    option_map (λ path. call.Open path flags attrs) (path_at text)
-call_of (wire.LStat text) = option_map call.Stat (path_at text)
-call_of (wire.SetStat text attrs) = option_map (λ path. call.SetStat path attrs) (path_at text)
-call_of (wire.OpenDir text) = option_map call.OpenDir (path_at text)
-call_of (wire.Remove text) = option_map call.Remove (path_at text)
-call_of (wire.Mkdir text attrs) = option_map (λ path. call.Mkdir path attrs) (path_at text)
-call_of (wire.Rmdir text) = option_map call.Rmdir (path_at text)
+call_of (wire.OnPath op text) = option_map (call.OnPath op) (path_at text)
+call_of (wire.OnPaths op old new) =
+    option_map (λ paths. call.OnPaths op paths.0 paths.1) (paths_at old new)
+call_of (wire.ByHandle op handle) = option_map (call.ByHandle op) (handle_number handle)
+call_of (wire.Write handle offset bytes) =
+    option_map (λ number. call.Write number offset bytes) (handle_number handle)
+call_of (wire.LStat text) = option_map (call.OnPath path_op.Stat) (path_at text)
 call_of (wire.RealPath text) = None
-call_of (wire.Stat text) = option_map call.Stat (path_at text)
-call_of (wire.Rename old new) = option_map (λ paths. call.Rename paths.0 paths.1) (paths_at old new)
-call_of (wire.PosixRename old new) =
-    option_map (λ paths. call.PosixRename paths.0 paths.1) (paths_at old new)
-call_of (wire.Link old new) = option_map (λ paths. call.Link paths.0 paths.1) (paths_at old new)
-call_of request = handle_call request
 
 -- an invalid path or handle is answered FAILURE
 abbrev pub failure : ℕ → Ask

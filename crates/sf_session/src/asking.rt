@@ -70,7 +70,7 @@ fn request_ask(alloc: Global, id: u32, request: WireRequest<'_>) -> Result<Ask, 
     ensures { IfOk result (λ ask. ask ≡ request_ask id request.entry) }
 {
     match request {
-        WireRequest::RealPath { path } => real_path(alloc, id, path.as_slice()),
+        WireRequest::RealPath(path) => real_path(alloc, id, path.as_slice()),
         request => Ok(call_ask(id, call_of(alloc, request)?)),
     }
 }

@@ -1,11 +1,11 @@
 //! The file-system calls of requests.
 
 ghost use Rattle.std.specs.Prelude.{◌≡◌, IfOk};
-ghost use Rattle.sf_request.specs.declared.request.WireRequest.TheVariants.{Write};
-ghost use Rattle.sf_session.specs.Asking.{path_at, handle_number, paths_at, call_of, handle_call};
+ghost use Rattle.sf_request.specs.declared.request.WireRequest.TheVariants.{OnPath, Write};
+ghost use Rattle.sf_session.specs.Asking.{path_at, handle_number, paths_at, call_of};
 
 use sf_call::Request;
-use sf_field::ByteString;
+use sf_field::{ByteString, PathOp};
 use sf_path::{Path, PathFault};
 use sf_request::WireRequest;
 use std::alloc::{AllocError, Global};
@@ -37,70 +37,28 @@ pub(crate) fn call_of(
     ensures { IfOk result (λ call. call ≡ call_of request.entry) }
 {
     match request {
-        WireRequest::RealPath { path: _path } => Ok(None),
-        WireRequest::Stat { path } => Ok(path_of(alloc, path.as_slice())?.map(Request::Stat)),
-        WireRequest::LStat { path } => Ok(path_of(alloc, path.as_slice())?.map(Request::Stat)),
-        WireRequest::SetStat { path, attrs } => {
-            Ok(path_of(alloc, path.as_slice())?.map(|path| Request::SetStat(path, attrs)))
-        }
-        WireRequest::Mkdir { path, attrs } => {
-            Ok(path_of(alloc, path.as_slice())?.map(|path| Request::Mkdir(path, attrs)))
-        }
-        WireRequest::Rmdir { path } => Ok(path_of(alloc, path.as_slice())?.map(Request::Rmdir)),
-        WireRequest::Remove { path } => Ok(path_of(alloc, path.as_slice())?.map(Request::Remove)),
-        WireRequest::OpenDir { path } => Ok(path_of(alloc, path.as_slice())?.map(Request::OpenDir)),
-        WireRequest::Open {
-            filename,
-            flags,
-            attrs,
-        } => {
-            Ok(path_of(alloc, filename.as_slice())?.map(|path| Request::Open(path, flags, attrs)))
-        }
-        WireRequest::Rename { old, new } => {
+        WireRequest::OnPath(op, path) => on_path(alloc, op, path.as_slice()),
+        WireRequest::LStat(path) => on_path(alloc, PathOp::Stat, path.as_slice()),
+        WireRequest::OnPaths(op, old, new) => {
             let paths = paths_of(alloc, old.as_slice(), new.as_slice())?;
-            Ok(paths.map(|(old, new)| Request::Rename(old, new)))
+            Ok(paths.map(|(old, new)| Request::OnPaths(op, old, new)))
         }
-        WireRequest::PosixRename { old, new } => {
-            let paths = paths_of(alloc, old.as_slice(), new.as_slice())?;
-            Ok(paths.map(|(old, new)| Request::PosixRename(old, new)))
-        }
-        WireRequest::Link { old, new } => {
-            let paths = paths_of(alloc, old.as_slice(), new.as_slice())?;
-            Ok(paths.map(|(old, new)| Request::Link(old, new)))
-        }
-        request => handle_call(alloc, request),
-    }
-}
-
-/// The call of a request with a handle, if the handle is valid; none for other requests.
-fn handle_call(alloc: Global, request: WireRequest<'_>) -> Result<Option<Request>, AllocError>
-    ensures { IfOk result (λ call. call ≡ handle_call request.entry) }
-{
-    match request {
-        WireRequest::Close { handle } => Ok(handle_of(handle.as_slice()).map(Request::Close)),
-        WireRequest::FStat { handle } => Ok(handle_of(handle.as_slice()).map(Request::FStat)),
-        WireRequest::FSetStat { handle, attrs } => {
-            Ok(handle_of(handle.as_slice()).map(|handle| Request::FSetStat(handle, attrs)))
-        }
-        WireRequest::ReadDir { handle } => Ok(handle_of(handle.as_slice()).map(Request::ReadDir)),
-        WireRequest::Read {
-            handle,
-            offset,
-            len,
-        } => {
-            Ok(handle_of(handle.as_slice()).map(|handle| Request::Read {
-                handle,
-                offset,
-                len,
-            }))
+        WireRequest::ByHandle(op, handle) => {
+            Ok(handle_of(handle.as_slice()).map(|handle| Request::ByHandle(op, handle)))
         }
         WireRequest::Write {
             handle,
             offset,
             data,
         } => write_call(alloc, handle.as_slice(), offset, data.as_slice()),
-        _ => Ok(None),
+        WireRequest::RealPath(_) => Ok(None),
     }
+}
+
+fn on_path(alloc: Global, op: PathOp, text: &[u8]) -> Result<Option<Request>, AllocError>
+    ensures { IfOk result (λ call. call ≡ call_of (OnPath op text.now)) }
+{
+    Ok(path_of(alloc, text)?.map(|path| Request::OnPath(op, path)))
 }
 
 /// Copies the data, the only copy of it.
@@ -110,7 +68,7 @@ fn write_call(
     offset: u64,
     bytes: &[u8],
 ) -> Result<Option<Request>, AllocError>
-    ensures { IfOk result (λ call. call ≡ handle_call (Write handle.now offset bytes.now)) }
+    ensures { IfOk result (λ call. call ≡ call_of (Write handle.now offset bytes.now)) }
 {
     let Some(handle) = handle_of(handle) else {
         return Ok(None);

@@ -1,5 +1,5 @@
 -- The length of a request, for any server.
-use Rattle.std.specs.Prelude.{◌+◌, ℕ, List, length}
+use Rattle.std.specs.Prelude.{◌+◌, ℕ, length}
 use Rattle.sf_request.specs.declared.request.WireRequest.{WireRequest}
 use Rattle.sf_request.specs.declared.request.WireRequest.TheVariants as request
 
@@ -9,24 +9,12 @@ id = 1
 
 -- the number of bytes in the strings of a request
 abbrev pub strings_of : WireRequest → ℕ
-strings_of (request.Open filename flags attrs) = length filename
-strings_of (request.Close handle) = length handle
-strings_of (request.Read handle offset len) = length handle
+strings_of (request.OnPath op path) = length path
+strings_of (request.OnPaths op old new) = length old + length new
+strings_of (request.ByHandle op handle) = length handle
 strings_of (request.Write handle offset bytes) = length handle + length bytes
 strings_of (request.LStat path) = length path
-strings_of (request.FStat handle) = length handle
-strings_of (request.SetStat path attrs) = length path
-strings_of (request.FSetStat handle attrs) = length handle
-strings_of (request.OpenDir path) = length path
-strings_of (request.ReadDir handle) = length handle
-strings_of (request.Remove path) = length path
-strings_of (request.Mkdir path attrs) = length path
-strings_of (request.Rmdir path) = length path
 strings_of (request.RealPath path) = length path
-strings_of (request.Stat path) = length path
-strings_of (request.Rename old new) = length old + length new
-strings_of (request.PosixRename old new) = length old + length new
-strings_of (request.Link old new) = length old + length new
 
 -- the most bytes in a request's strings: a packet has up to 262144, and its other fields take less
 -- than 64

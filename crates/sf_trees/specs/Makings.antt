@@ -4,6 +4,9 @@ use Rattle.sf_field.specs.Fields.{be64}
 use Rattle.sf_field.specs.Attributes.{no_attrs}
 use Rattle.sf_field.specs.declared.attrs.Attrs.{Attrs}
 use Rattle.sf_field.specs.declared.open_flags.OpenFlags.{OpenFlags}
+use Rattle.sf_field.specs.declared.operation.PathOp.TheVariants as path_op
+use Rattle.sf_field.specs.declared.operation.PairOp.TheVariants as pair_op
+use Rattle.sf_field.specs.declared.operation.HandleOp.TheVariants as handle_op
 use Rattle.sf_request.specs.declared.request.WireRequest.TheVariants as request
 use Rattle.sf_reply.specs.declared.reply.Reply.{Reply}
 use Rattle.sf_reply.specs.declared.reply.Reply.TheVariants as reply
@@ -46,8 +49,8 @@ finds_by place (Err why) = Err (refused_at place why)
 
 abbrev pub Mkdirs : ℕ → List ℕ → List Operation → Result (Unit {0}) Refused → Type 0
 Mkdirs session path operations result =
-    IsAsked session (request.Mkdir path no_attrs) (done_by (request_place 14 (length path)))
-    operations result
+    IsAsked session (request.OnPath (path_op.Mkdir no_attrs) path)
+    (done_by (request_place 14 (length path))) operations result
 
 -- a directory is made, unless it exists
 abbrev pub MakesUnless : ℕ → List ℕ → Bool → List Operation → Result (Unit {0}) Refused → Type 0
@@ -57,7 +60,9 @@ MakesUnless session path false operations result = Mkdirs session path operation
 -- A directory is made, unless STAT finds it.
 abbrev pub MakesOne : ℕ → List ℕ → List Operation → Result (Unit {0}) Refused → Type 0
 MakesOne session path operations result =
-    Then (IsAsked session (request.Stat path) (finds_by (request_place 17 (length path))))
+    Then
+    (IsAsked session (request.OnPath path_op.Stat path)
+    (finds_by (request_place 17 (length path))))
     (MakesUnless session path) operations result
 
 abbrev pub MakesIf : ℕ → List ℕ → Bool → List Operation → Result (Unit {0}) Refused → Type 0
@@ -113,7 +118,8 @@ WritesPieces session handle len contents operations result =
 
 abbrev pub ClosesHandle : ℕ → ℕ → ℕ → List Operation → Result (Unit {0}) Refused → Type 0
 ClosesHandle session handle len operations result =
-    IsAsked session (request.Close (be64 handle)) (done_by (request_place 4 len)) operations result
+    IsAsked session (request.ByHandle handle_op.Close (be64 handle)) (done_by (request_place 4 len))
+    operations result
 
 -- All contents are written, and the handle is closed.
 abbrev pub WritesContents : ℕ → ℕ → List ℕ → ℕ → List Operation → Result (Unit {0}) Refused → Type 0
@@ -134,8 +140,8 @@ to_create = record {
 
 abbrev pub OpensFile : ℕ → List ℕ → OpenFlags → ℕ → List Operation → Result ℕ Refused → Type 0
 OpensFile session path flags len operations result =
-    IsAsked session (request.Open path flags no_attrs) (handle_by (request_place 3 len))
-    operations result
+    IsAsked session (request.OnPath (path_op.Open flags no_attrs) path)
+    (handle_by (request_place 3 len)) operations result
 
 -- A file is opened for writing and truncated, written and closed.
 abbrev pub Fills : ℕ → List ℕ → List ℕ → List Operation → Result (Unit {0}) Refused → Type 0
@@ -159,8 +165,8 @@ WritesFile path contents operations result =
 
 abbrev pub LinksAlone : ℕ → List ℕ → List ℕ → List Operation → Result (Unit {0}) Refused → Type 0
 LinksAlone session old new operations result =
-    IsAsked session (request.Link old new) (done_by (request_place 202 (length new))) operations
-    result
+    IsAsked session (request.OnPaths pair_op.Link old new)
+    (done_by (request_place 202 (length new))) operations result
 
 abbrev pub LinksOn : List ℕ → List ℕ → ℕ → List Operation → Result (Unit {0}) Refused → Type 0
 LinksOn old new session operations result = Then (MakesWay session false new)

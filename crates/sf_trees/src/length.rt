@@ -14,24 +14,12 @@ fn strings_of(request: &WireRequest) -> usize
     ensures { result ≡ min (strings_of request.now) (2 ^ 64 - 1) }
 {
     match request {
-        WireRequest::Open { filename, .. } => filename.len(),
+        WireRequest::OnPath(_, text)
+        | WireRequest::ByHandle(_, text)
+        | WireRequest::LStat(text)
+        | WireRequest::RealPath(text) => text.len(),
+        WireRequest::OnPaths(_, old, new) => old.len().saturating_add(new.len()),
         WireRequest::Write { handle, data, .. } => handle.len().saturating_add(data.len()),
-        WireRequest::Close { handle }
-        | WireRequest::Read { handle, .. }
-        | WireRequest::FStat { handle }
-        | WireRequest::FSetStat { handle, .. }
-        | WireRequest::ReadDir { handle } => handle.len(),
-        WireRequest::LStat { path }
-        | WireRequest::SetStat { path, .. }
-        | WireRequest::OpenDir { path }
-        | WireRequest::Remove { path }
-        | WireRequest::Mkdir { path, .. }
-        | WireRequest::Rmdir { path }
-        | WireRequest::RealPath { path }
-        | WireRequest::Stat { path } => path.len(),
-        WireRequest::Rename { old, new }
-        | WireRequest::PosixRename { old, new }
-        | WireRequest::Link { old, new } => old.len().saturating_add(new.len()),
     }
 }
 

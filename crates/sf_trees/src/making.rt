@@ -1,13 +1,14 @@
 //! Making directories, files and links.
 
 ghost use Rattle.std.specs.Prelude.{◌≡◌, ◌≤◌, ◌<◌, ◌+◌, ◌*◌, ◌^◌, length};
+ghost use Rattle.sf_field.specs.declared.operation.PathOp.TheVariants as path_op;
 ghost use Rattle.sf_request.specs.declared.request.WireRequest.TheVariants as request;
 ghost use Rattle.sf_trees.specs.Operations.{Does, IsAsked, request_place};
 ghost use Rattle.sf_trees.specs.Makings.{is_of_name, goes_on_by, ends_name, is_directory_attrs, finds_by, Mkdirs, MakesOne, MakesAt, MakesWay, piece, pieces_in, piece_at, WritesPiece, WritesPieces, ClosesHandle, WritesContents, OpensFile, Fills, MakesDirectory, WritesMore, WritesFile, LinksAlone, LinksOn, Links};
 
 use crate::fault::{Place, Refused, TreeFault};
 use crate::server::{Server, begin, open, refusal_of, succeed};
-use sf_field::{Attrs, NO_ATTRS, OpenFlags};
+use sf_field::{Attrs, HandleOp, NO_ATTRS, OpenFlags, PairOp, PathOp};
 use sf_reply::{Reply, StatusCode};
 use sf_request::{ByteStr, WireRequest};
 
@@ -84,16 +85,12 @@ fn finds_by(place: Place, outcome: &Result<Reply, TreeFault>) -> Result<bool, Re
 /// Whether a path leads to a directory.
 fn finds<S: Server>(server: &mut S, session: u64, path: &[u8]) -> Result<bool, Refused>
     ensures { Does S.reaches server.old server.new
-        (IsAsked session (request.Stat path.now) (finds_by (request_place 17 (length path.now))))
-        result }
+        (IsAsked session (request.OnPath path_op.Stat path.now)
+        (finds_by (request_place 17 (length path.now)))) result }
 {
     let length = path.len();
-    let outcome = server.ask(
-        session,
-        &WireRequest::Stat {
-            path: ByteStr::new(path),
-        },
-    );
+    let request = WireRequest::OnPath(PathOp::Stat, ByteStr::new(path));
+    let outcome = server.ask(session, &request);
     finds_by(Place { kind: 17, length }, &outcome)
 }
 
@@ -102,10 +99,7 @@ fn mkdir<S: Server>(server: &mut S, session: u64, path: &[u8]) -> Result<(), Ref
     ensures { Does S.reaches server.old server.new (Mkdirs session path.now) result }
 {
     let length = path.len();
-    let request = WireRequest::Mkdir {
-        path: ByteStr::new(path),
-        attrs: NO_ATTRS,
-    };
+    let request = WireRequest::OnPath(PathOp::Mkdir(NO_ATTRS), ByteStr::new(path));
     succeed(server, session, &request, Place { kind: 14, length })
 }
 
@@ -223,9 +217,7 @@ fn close<S: Server>(server: &mut S, session: u64, named: usize, handle: u64) -> 
     ensures { Does S.reaches server.old server.new (ClosesHandle session handle named) result }
 {
     let text = handle.to_be_bytes();
-    let request = WireRequest::Close {
-        handle: ByteStr::new(&text),
-    };
+    let request = WireRequest::ByHandle(HandleOp::Close, ByteStr::new(&text));
     succeed(
         server,
         session,
@@ -264,11 +256,7 @@ fn open_file<S: Server>(
     ensures { Does S.reaches server.old server.new
         (OpensFile session path.now flags named) result }
 {
-    let request = WireRequest::Open {
-        filename: ByteStr::new(path),
-        flags,
-        attrs: NO_ATTRS,
-    };
+    let request = WireRequest::OnPath(PathOp::Open(flags, NO_ATTRS), ByteStr::new(path));
     open(
         server,
         session,
@@ -319,11 +307,8 @@ fn link_alone<S: Server>(
 ) -> Result<(), Refused>
     ensures { Does S.reaches server.old server.new (LinksAlone session old.now new.now) result }
 {
-    let request = WireRequest::Link {
-        old: ByteStr::new(old),
-        new: ByteStr::new(new),
-    };
     let length = new.len();
+    let request = WireRequest::OnPaths(PairOp::Link, ByteStr::new(old), ByteStr::new(new));
     succeed(server, session, &request, Place { kind: 202, length })
 }
 

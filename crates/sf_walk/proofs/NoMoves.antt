@@ -9,6 +9,9 @@ use Rattle.sf_reply.specs.declared.reply.Entry.{Entry}
 use Rattle.sf_call.specs.declared.limits.TheConstants.{MAX_FILE_SIZE}
 use Rattle.sf_call.specs.declared.metadata.Metadata.{Metadata}
 use Rattle.sf_call.specs.declared.request.Request.{Request}
+use Rattle.sf_field.specs.declared.operation.PathOp.TheVariants as path_op
+use Rattle.sf_field.specs.declared.operation.PairOp.TheVariants as pair_op
+use Rattle.sf_field.specs.declared.operation.HandleOp.TheVariants as handle_op
 use Rattle.sf_call.specs.declared.request.Request.TheVariants as request
 use Rattle.sf_call.specs.declared.lookup.Lookup.{Lookup}
 use Rattle.sf_call.specs.declared.lookup.Lookup.TheVariants as lookup
@@ -109,23 +112,23 @@ module _ (t : Tree) (session number moment : ℕ) where
   list_stays (Some (handle, Directory m)) = lists_stays handle (listing_of t handle.listed (path_of t.names handle.label))
   list_stays _ = refl
 
-pub others_stay : (t : Tree) (session number moment : ℕ) (r : Request) → ((old new : Path) → r ≡ request.Rename old new → ⊥) → ((old new : Path) → r ≡ request.PosixRename old new → ⊥) → moved_by (answer_to t session number moment r).changes ≡ None
-others_stay t session number moment (request.Stat p) a b = stat_stays (found_at t p)
-others_stay t session number moment (request.SetStat p attrs) a b = rooted p _ (set_stat_stays moment attrs (found_at t p))
-others_stay t session number moment (request.Mkdir p attrs) a b = rooted p _ (make_stays t session number moment p attrs (look_up t p))
-others_stay t session number moment (request.Rmdir p) a b = rooted p _ (remove_directory_stays t session number moment p (found_at t p))
-others_stay t session number moment (request.Remove p) a b = rooted p _ (remove_stays t session number moment p (found_at t p))
-others_stay t session number moment (request.OpenDir p) a b = open_directory_stays t session number moment (found_at t p)
-others_stay t session number moment (request.Open p flags attrs) a b = rooted p _ (open_stays t session number moment p flags attrs (look_up t p))
-others_stay t session number moment (request.Close handle) a b = close_stays t session handle moment (handle_in t session handle)
-others_stay t session number moment (request.FStat handle) a b = stat_opened_stays t session number moment (opened t session handle)
-others_stay t session number moment (request.FSetStat handle attrs) a b = set_opened_stays t session number moment attrs (opened t session handle)
-others_stay t session number moment (request.Read handle offset len) a b = read_stays t session number moment offset len (opened t session handle)
+pub others_stay : (t : Tree) (session number moment : ℕ) (r : Request) → ((old new : Path) → r ≡ request.OnPaths pair_op.Rename old new → ⊥) → ((old new : Path) → r ≡ request.OnPaths pair_op.PosixRename old new → ⊥) → moved_by (answer_to t session number moment r).changes ≡ None
+others_stay t session number moment (request.OnPath path_op.Stat p) a b = stat_stays (found_at t p)
+others_stay t session number moment (request.OnPath (path_op.SetStat attrs) p) a b = rooted p _ (set_stat_stays moment attrs (found_at t p))
+others_stay t session number moment (request.OnPath (path_op.Mkdir attrs) p) a b = rooted p _ (make_stays t session number moment p attrs (look_up t p))
+others_stay t session number moment (request.OnPath path_op.Rmdir p) a b = rooted p _ (remove_directory_stays t session number moment p (found_at t p))
+others_stay t session number moment (request.OnPath path_op.Remove p) a b = rooted p _ (remove_stays t session number moment p (found_at t p))
+others_stay t session number moment (request.OnPath path_op.OpenDir p) a b = open_directory_stays t session number moment (found_at t p)
+others_stay t session number moment (request.OnPath (path_op.Open flags attrs) p) a b = rooted p _ (open_stays t session number moment p flags attrs (look_up t p))
+others_stay t session number moment (request.ByHandle handle_op.Close handle) a b = close_stays t session handle moment (handle_in t session handle)
+others_stay t session number moment (request.ByHandle handle_op.FStat handle) a b = stat_opened_stays t session number moment (opened t session handle)
+others_stay t session number moment (request.ByHandle (handle_op.FSetStat attrs) handle) a b = set_opened_stays t session number moment attrs (opened t session handle)
+others_stay t session number moment (request.ByHandle (handle_op.Read offset len) handle) a b = read_stays t session number moment offset len (opened t session handle)
 others_stay t session number moment (request.Write handle offset bytes) a b = write_stays t session number moment offset bytes (opened t session handle)
-others_stay t session number moment (request.ReadDir handle) a b = list_stays t session handle moment (opened t session handle)
-others_stay t session number moment (request.Rename old new) a b = absurd (a old new refl)
-others_stay t session number moment (request.PosixRename old new) a b = absurd (b old new refl)
-others_stay t session number moment (request.Link old new) a b =
+others_stay t session number moment (request.ByHandle handle_op.ReadDir handle) a b = list_stays t session handle moment (opened t session handle)
+others_stay t session number moment (request.OnPaths pair_op.Rename old new) a b = absurd (a old new refl)
+others_stay t session number moment (request.OnPaths pair_op.PosixRename old new) a b = absurd (b old new refl)
+others_stay t session number moment (request.OnPaths pair_op.Link old new) a b =
     link_cases Stays (λ code. refl) t moment old new
     (λ label _ _ _. link_to_cases Stays (λ code. refl) t moment new label (look_up t new) refl (λ _ _. touches moment (directory_at t (parent new)))) session number
 

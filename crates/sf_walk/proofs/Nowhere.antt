@@ -8,6 +8,7 @@ use Rattle.sf_reply.specs.declared.reply.StatusCode.TheVariants.{Failure}
 use Rattle.sf_call.specs.declared.lookup.Lookup.{Lookup}
 use Rattle.sf_call.specs.declared.lookup.Lookup.TheVariants as lookup
 use Rattle.sf_call.specs.declared.request.Request.{Request}
+use Rattle.sf_field.specs.declared.operation.PairOp.TheVariants as pair_op
 use Rattle.sf_call.specs.declared.request.Request.TheVariants as request
 use Rattle.sf_call.specs.Tree.{Tree, look_up, found_at}
 use Rattle.sf_call.specs.Changes.{moved_by}
@@ -82,6 +83,6 @@ module _ (s : StoreState) (t : Tree) (k : Keeps s t) (moment : ℕ) (old new : P
   ] refl
 
 pub nowhere_stays : {s : StoreState} {t : Tree} → Keeps s t → (session number moment : ℕ) (r : Request) (ways : Ways) → IsLocated s r ways → ways.new ≡ located.NoWay → Stays (answer_to t session number moment r)
-nowhere_stays {s = s} {t = t} k session number moment (request.Rename old new) ways are none = rename_stays s t k moment old new ways are none
-nowhere_stays {s = s} {t = t} k session number moment (request.PosixRename old new) ways are none = posix_stays s t k moment old new ways are none
+nowhere_stays {s = s} {t = t} k session number moment (request.OnPaths pair_op.Rename old new) ways are none = rename_stays s t k moment old new ways are none
+nowhere_stays {s = s} {t = t} k session number moment (request.OnPaths pair_op.PosixRename old new) ways are none = posix_stays s t k moment old new ways are none
 nowhere_stays {t = t} k session number moment r ways are none = others_stay t session number moment r (λ old new e. cc) (λ old new e. cc)

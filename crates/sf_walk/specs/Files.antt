@@ -4,6 +4,8 @@ use Rattle.std.specs.Option.{option_and_then}
 use Rattle.sf_block.specs.Contents.{blocks_of}
 use Rattle.sf_call.specs.declared.call.Call.{Call}
 use Rattle.sf_call.specs.declared.request.Request.{Request}
+use Rattle.sf_field.specs.declared.operation.PathOp.TheVariants as path_op
+use Rattle.sf_field.specs.declared.operation.HandleOp.TheVariants as handle_op
 use Rattle.sf_call.specs.declared.request.Request.TheVariants as request
 use Rattle.sf_inode.specs.declared.handle.OpenHandle.{OpenHandle}
 use Rattle.sf_inode.specs.declared.node.Node.{Node}
@@ -16,20 +18,22 @@ use Rattle.sf_walk.specs.declared.files.Writer.{Writer}
 
 -- the handle by which a call reads, writes or sets its file
 abbrev pub file_handle : Request → Option ℕ
-file_handle (request.Read handle offset len) = Some handle
+file_handle (request.ByHandle (handle_op.FSetStat attrs) handle) = Some handle
+file_handle (request.ByHandle (handle_op.Read offset len) handle) = Some handle
 file_handle (request.Write handle offset bytes) = Some handle
-file_handle (request.FSetStat handle attrs) = Some handle
 file_handle other = None
 
 -- a WRITE
 abbrev pub IsWriteRequest : Request → Type 0
+IsWriteRequest (request.OnPath op path) = ⊥
+IsWriteRequest (request.OnPaths op old new) = ⊥
+IsWriteRequest (request.ByHandle op handle) = ⊥
 IsWriteRequest (request.Write handle offset bytes) = Unit {0}
-IsWriteRequest other = ⊥
 
 -- whether a call truncates or extends the file of its path
 abbrev pub cuts_file : Request → Bool
-cuts_file (request.SetStat path attrs) = is_some attrs.size
-cuts_file (request.Open path flags attrs) = flags.truncate && flags.write
+cuts_file (request.OnPath (path_op.SetStat attrs) path) = is_some attrs.size
+cuts_file (request.OnPath (path_op.Open flags attrs) path) = flags.truncate && flags.write
 cuts_file other = false
 
 -- A file that the call reads, writes, truncates or extends has no blocks left to copy. This holds

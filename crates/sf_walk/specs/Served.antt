@@ -7,6 +7,8 @@ use Rattle.sf_reply.specs.declared.reply.StatusCode.{StatusCode}
 use Rattle.sf_reply.specs.declared.reply.StatusCode.TheVariants.{Success}
 use Rattle.sf_path.specs.Order.{same_path}
 use Rattle.sf_call.specs.declared.request.Request.{Request}
+use Rattle.sf_field.specs.declared.operation.PathOp.TheVariants as path_op
+use Rattle.sf_field.specs.declared.operation.PairOp.TheVariants as pair_op
 use Rattle.sf_call.specs.declared.request.Request.TheVariants as request
 use Rattle.sf_call.specs.Requests.{Wanted, wanted_by}
 use Rattle.sf_call.specs.Requests.Wanted.{StatusAlone, Attributes, NewHandle, Bytes, Entries}
@@ -104,11 +106,11 @@ wants_room Bytes = true
 wants_room Entries = true
 
 abbrev pub takes_memory : Request → Bool
-takes_memory (request.Mkdir path attrs) = true
+takes_memory (request.OnPath (path_op.Mkdir attrs) path) = true
+takes_memory (request.OnPaths pair_op.Rename old new) = true
+takes_memory (request.OnPaths pair_op.PosixRename old new) = not (same_path old new)
+takes_memory (request.OnPaths pair_op.Link old new) = true
 takes_memory (request.Write handle offset bytes) = not (is_nil bytes)
-takes_memory (request.Rename old new) = true
-takes_memory (request.PosixRename old new) = not (same_path old new)
-takes_memory (request.Link old new) = true
 takes_memory other = wants_room (wanted_by other)
 
 -- whether "Out of memory" may replace this reply to the request

@@ -21,6 +21,7 @@ use crate::opening::{open, open_directory};
 use crate::path_calls::{mkdir, remove, rmdir, set_stat, stat};
 use crate::renames::{posix_rename, rename};
 use sf_call::{Call, Request};
+use sf_field::{HandleOp, PairOp, PathOp};
 use sf_inode::Store;
 use sf_reply::Reply;
 use std::alloc::AllocError;
@@ -84,34 +85,34 @@ fn answer(store: &mut Store, call: &Call, ways: Ways) -> Result<(Reply, Reply), 
     let (session, number, moment) = (call.session, call.number, call.moment);
     let located = ways.path;
     match &call.request {
-        Request::Stat(_) => Ok(twice(stat(store, located))),
-        Request::SetStat(path, attrs) => Ok(twice(set_stat(store, moment, path, attrs, located))),
-        Request::Mkdir(path, attrs) => {
-            twice_ok(mkdir(store, number, moment, path, attrs, located))
-        }
-        Request::Rmdir(path) => Ok(twice(rmdir(store, moment, path, located))),
-        Request::Remove(path) => Ok(twice(remove(store, moment, path, located))),
-        Request::OpenDir(_) => twice_ok(open_directory(store, session, number, located)),
-        Request::Open(path, flags, attrs) => {
-            let opened = open(store, session, number, moment, path, *flags, attrs, located);
-            twice_ok(opened)
-        }
-        Request::Close(handle) => Ok(twice(close(store, session, *handle))),
-        Request::FStat(handle) => Ok(twice(stat_handle(store, session, *handle))),
-        Request::FSetStat(handle, attrs) => {
-            let set = set_stat_handle(store, session, moment, *handle, attrs);
-            Ok(twice(set))
-        }
-        Request::Read {
-            handle,
-            offset,
-            len,
-        } => read_twice(store, session, *handle, *offset, *len),
+        Request::OnPath(op, path) => match op {
+            PathOp::Stat => Ok(twice(stat(store, located))),
+            PathOp::SetStat(attrs) => Ok(twice(set_stat(store, moment, path, attrs, located))),
+            PathOp::Mkdir(attrs) => twice_ok(mkdir(store, number, moment, path, attrs, located)),
+            PathOp::Rmdir => Ok(twice(rmdir(store, moment, path, located))),
+            PathOp::Remove => Ok(twice(remove(store, moment, path, located))),
+            PathOp::OpenDir => twice_ok(open_directory(store, session, number, located)),
+            PathOp::Open(flags, attrs) => {
+                let opened = open(store, session, number, moment, path, *flags, attrs, located);
+                twice_ok(opened)
+            }
+        },
+        Request::OnPaths(op, old, new) => match op {
+            PairOp::Rename => twice_ok(rename(store, moment, old, new, ways)),
+            PairOp::PosixRename => twice_ok(posix_rename(store, moment, old, new, ways)),
+            PairOp::Link => twice_ok(link(store, moment, old, new, ways)),
+        },
+        Request::ByHandle(op, handle) => match op {
+            HandleOp::Close => Ok(twice(close(store, session, *handle))),
+            HandleOp::FStat => Ok(twice(stat_handle(store, session, *handle))),
+            HandleOp::FSetStat(attrs) => {
+                let set = set_stat_handle(store, session, moment, *handle, attrs);
+                Ok(twice(set))
+            }
+            HandleOp::Read { offset, len } => read_twice(store, session, *handle, *offset, *len),
+            HandleOp::ReadDir => read_directory(store, session, *handle),
+        },
         Request::Write { .. } => unreachable!(),
-        Request::ReadDir(handle) => read_directory(store, session, *handle),
-        Request::Rename(old, new) => twice_ok(rename(store, moment, old, new, ways)),
-        Request::PosixRename(old, new) => twice_ok(posix_rename(store, moment, old, new, ways)),
-        Request::Link(old, new) => twice_ok(link(store, moment, old, new, ways)),
     }
 }
 

@@ -18,6 +18,7 @@ use crate::finding::Located;
 use crate::handle_calls::start_write;
 use crate::looking::other_holder;
 use sf_call::{Call, Request};
+use sf_field::{HandleOp, PathOp};
 use sf_inode::{NodeId, Store};
 use sf_reply::Reply;
 
@@ -61,8 +62,8 @@ fn file_handle(request: &Request) -> Option<u64>
     ensures { result ≡ file_handle request.now }
 {
     match request {
-        Request::Read { handle, .. } | Request::Write { handle, .. } => Some(*handle),
-        Request::FSetStat(handle, _) => Some(*handle),
+        Request::ByHandle(HandleOp::Read { .. } | HandleOp::FSetStat(_), handle) => Some(*handle),
+        Request::Write { handle, .. } => Some(*handle),
         _ => None,
     }
 }
@@ -151,8 +152,8 @@ fn cuts_file(request: &Request) -> bool
     ensures { result ≡ cuts_file request.now }
 {
     match request {
-        Request::SetStat(_, attrs) => attrs.size.is_some(),
-        Request::Open(_, flags, _) => flags.truncate && flags.write,
+        Request::OnPath(PathOp::SetStat(attrs), _) => attrs.size.is_some(),
+        Request::OnPath(PathOp::Open(flags, _), _) => flags.truncate && flags.write,
         _ => false,
     }
 }

@@ -16,6 +16,7 @@ ghost use Rattle.sf_walk.specs.Renames.{does_move, may_replace, IsCourse, AreNam
 
 use crate::finding::{Located, Ways};
 use sf_call::{Call, Request, RouteKind};
+use sf_field::PairOp;
 use sf_inode::{NodeId, Store};
 use sf_path::Path;
 use sf_reply::{Reply, StatusCode};
@@ -38,10 +39,13 @@ pub fn is_move(store: &Store, call: &Call, ways: Ways) -> bool
         ≡ is_some (moved_by (answer_to t call.now.session call.now.number call.now.moment
         call.now.request).changes) }
 {
-    match &call.request {
-        Request::Rename(_, _) => does_move(rename_course(ways)),
-        Request::PosixRename(old, new) => does_move(posix_course(store, old, new, ways)),
-        _ => false,
+    let Request::OnPaths(op, old, new) = &call.request else {
+        return false;
+    };
+    match op {
+        PairOp::Rename => does_move(rename_course(ways)),
+        PairOp::PosixRename => does_move(posix_course(store, old, new, ways)),
+        PairOp::Link => false,
     }
 }
 

@@ -136,8 +136,8 @@ fn old_path(request: &Request) -> Option<&Path>
     ensures { option_copied result ≡ old_at (target_of request.now) }
 {
     match request {
-        Request::Rename(old, _) | Request::PosixRename(old, _) | Request::Link(old, _) => Some(old),
-        _ => None,
+        Request::OnPaths(_, old, _) => Some(old),
+        Request::OnPath(_, _) | Request::ByHandle(_, _) | Request::Write { .. } => None,
     }
 }
 

@@ -1,5 +1,6 @@
 use Rattle.std.proofs.lemmas.Result.{err_from_is_err_and}
 use Rattle.sf_field.specs.Attributes.{no_attrs}
+use Rattle.sf_field.specs.declared.operation.PathOp.TheVariants as path_op
 use Rattle.sf_request.specs.declared.request.WireRequest.TheVariants as request
 use Rattle.sf_client.specs.Calls.{to_write, WritesAll}
 use Rattle.sf_client.proofs.Runs.{by_handle_unopened, by_handle_done}
@@ -8,7 +9,7 @@ use Rattle.sf_client.proofs.client.Client.put.Goals as goal
 pub returns-in_err-handle : goal.returns-in_err-handle
 returns-in_err-handle g c =
     let p = err_from_is_err_and c.from_residual.result c.from_residual.ensures.1 in
-    rw (p.1, p.2) (by_handle_unopened (WritesAll c.args.bytes.now) (request.Open c.args.path.now to_write no_attrs) _ _ c.in_err-handle.field-0.0 c.in_err-handle.ensures)
+    rw (p.1, p.2) (by_handle_unopened (WritesAll c.args.bytes.now) (request.OnPath (path_op.Open to_write no_attrs) c.args.path.now) _ _ c.in_err-handle.field-0.0 c.in_err-handle.ensures)
 
 pub returns : goal.returns
 returns g c = by_handle_done (WritesAll c.args.bytes.now) (record { number = c.in_ok-handle.handle; client = c.open_file.new.self; exchanged = c.in_ok-handle.ensures }) c.write_pieces-written.result _ c.closed.result _ c.write_pieces-written.ensures c.closed.ensures
