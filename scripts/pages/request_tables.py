@@ -121,4 +121,5 @@ def page(sources):
     )
     head = ["# Tables of requests", "", *wrapped(head), ""]
     titles = ["File", "Table", *(f"`{enum}`" for enum in ENUMS)]
-    return head + table(titles, [(*key, *(row.get(enum, "") for enum in ENUMS)) for key, row in rows.items()])
+    cells = [(*key, *(row.get(enum, "") for enum in ENUMS)) for key, row in rows.items()]
+    return head + table(titles, cells)
